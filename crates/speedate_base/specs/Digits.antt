@@ -1,0 +1,35 @@
+-- Digits, and numbers of two and of four digits at fixed places of a text.
+use Rattle.std.specs.Prelude.{ℕ, ◌+◌, ◌-◌, ◌*◌, ◌/◌, ◌%◌, Bool, ◌&&◌, List, [], ◌∷◌, ◌++◌, nat_le, slice_index}
+
+-- a byte from `0` to `9` (RFC 3339 5.6, DIGIT)
+abbrev pub is_digit : ℕ → Bool
+is_digit byte = nat_le 48 byte && nat_le byte 57
+
+-- what a digit stands for
+abbrev pub digit_value : ℕ → ℕ
+digit_value byte = byte - 48
+
+-- both bytes from a place on are digits
+abbrev pub two_digits_at : List ℕ → ℕ → Bool
+two_digits_at text place = is_digit (slice_index text place) && is_digit (slice_index text (place + 1))
+
+-- the number that they spell
+abbrev pub two_digit_value : List ℕ → ℕ → ℕ
+two_digit_value text place =
+    10 * digit_value (slice_index text place) + digit_value (slice_index text (place + 1))
+
+-- all four bytes from a place on are digits
+abbrev pub four_digits_at : List ℕ → ℕ → Bool
+four_digits_at text place = two_digits_at text place && two_digits_at text (place + 2)
+
+-- the number that they spell
+abbrev pub four_digit_value : List ℕ → ℕ → ℕ
+four_digit_value text place = 100 * two_digit_value text place + two_digit_value text (place + 2)
+
+-- a number below 100 in two digits
+abbrev pub two_digit_text : ℕ → List ℕ
+two_digit_text n = (48 + n / 10) ∷ (48 + n % 10) ∷ []
+
+-- a number below 10,000 in four digits
+abbrev pub four_digit_text : ℕ → List ℕ
+four_digit_text n = two_digit_text (n / 100) ++ two_digit_text (n % 100)

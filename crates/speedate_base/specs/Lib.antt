@@ -1,0 +1,5 @@
+pub mod Requirement
+pub mod RequirementLaws
+pub mod Fault
+pub mod Digits
+pub mod DigitLaws

@@ -1,0 +1,158 @@
+//! The faults: why a text or a number was refused.
+
+ghost use Rattle.std.specs.Prelude.{◌≡◌};
+
+use std::fmt;
+
+/// Why a text or a number was refused. Every refusal has exactly one of these.
+///
+/// It is printed by its snake-case name, as `too_short` for `TooShort`.
+#[derive(Clone, Copy, Debug, PartialEq, Eq)]
+pub enum ParseError {
+    /// The text ends before what it must hold.
+    TooShort,
+    /// Bytes are left over after a whole value.
+    ExtraCharacters,
+    /// Between date and time stands none of `T`, `t`, `_` and space.
+    InvalidCharDateTimeSep,
+    /// A `-` is missing between year, month and day.
+    InvalidCharDateSep,
+    /// A timestamp that was to be a date is no midnight.
+    DateNotExact,
+    /// The year is not four digits.
+    InvalidCharYear,
+    /// The month is not two digits.
+    InvalidCharMonth,
+    /// The day is not two digits.
+    InvalidCharDay,
+    /// The `:` between hour and minute is missing.
+    InvalidCharTimeSep,
+    /// The hour is not made of digits.
+    InvalidCharHour,
+    /// The minute is not two digits.
+    InvalidCharMinute,
+    /// The second is not two digits.
+    InvalidCharSecond,
+    /// Kept for the sake of its name: no call answers it.
+    InvalidCharSecondFraction,
+    /// What follows a time is no beginning of an offset.
+    InvalidCharTzSign,
+    /// The hour of an offset is not two digits.
+    InvalidCharTzHour,
+    /// The minute of an offset is not two digits.
+    InvalidCharTzMinute,
+    /// The minute of an offset is over 59.
+    OutOfRangeTzMinute,
+    /// An offset is of 24 hours or more.
+    OutOfRangeTz,
+    /// A value without offset cannot be moved to another one.
+    TzRequired,
+    /// The clock has no time to tell.
+    SystemTimeError,
+    /// The month is not 1 to 12.
+    OutOfRangeMonth,
+    /// The month has no such day.
+    OutOfRangeDay,
+    /// The hour is over 23.
+    OutOfRangeHour,
+    /// The minute is over 59.
+    OutOfRangeMinute,
+    /// The second is over 59.
+    OutOfRangeSecond,
+    /// A fraction of a second has more than six digits.
+    SecondFractionTooLong,
+    /// No digit follows the point after a second.
+    SecondFractionMissing,
+    /// A fraction of a millisecond has more than three digits.
+    MillisecondFractionTooLong,
+    /// A number of a duration does not begin with a digit.
+    DurationInvalidNumber,
+    /// A duration has a second `T`.
+    DurationTRepeated,
+    /// A quantity follows one with a fraction.
+    DurationInvalidFraction,
+    /// A quantity after `T` has no unit of time.
+    DurationInvalidTimeUnit,
+    /// A quantity before `T` has no unit of days.
+    DurationInvalidDateUnit,
+    /// The days of a duration are not followed by a form of `day`.
+    DurationInvalidDays,
+    /// A number or a sum of a duration is over 4,294,967,295.
+    DurationValueTooLarge,
+    /// The hours of a duration are too many.
+    DurationHourValueTooLarge,
+    /// A duration has more than 999,999,999 days.
+    DurationDaysTooLarge,
+    /// A timestamp lies before the year 0000.
+    DateTooSmall,
+    /// A timestamp lies after the year 9999.
+    DateTooLarge,
+    /// A time of day, or a sum on the way to it, is too large.
+    TimeTooLarge,
+}
+
+impl ParseError {
+    ghost use Rattle.speedate_base.specs.Fault.{fault_name};
+
+    /// The snake-case name, as `too_short` for `ParseError::TooShort`.
+    #[inline]
+    pub fn name(&self) -> &'static str
+        ensures name { result.now ≡ fault_name self.now }
+    {
+        match self {
+            ParseError::TooShort => "too_short",
+            ParseError::ExtraCharacters => "extra_characters",
+            ParseError::InvalidCharDateTimeSep => "invalid_char_date_time_sep",
+            ParseError::InvalidCharDateSep => "invalid_char_date_sep",
+            ParseError::DateNotExact => "date_not_exact",
+            ParseError::InvalidCharYear => "invalid_char_year",
+            ParseError::InvalidCharMonth => "invalid_char_month",
+            ParseError::InvalidCharDay => "invalid_char_day",
+            ParseError::InvalidCharTimeSep => "invalid_char_time_sep",
+            ParseError::InvalidCharHour => "invalid_char_hour",
+            ParseError::InvalidCharMinute => "invalid_char_minute",
+            ParseError::InvalidCharSecond => "invalid_char_second",
+            ParseError::InvalidCharSecondFraction => "invalid_char_second_fraction",
+            ParseError::InvalidCharTzSign => "invalid_char_tz_sign",
+            ParseError::InvalidCharTzHour => "invalid_char_tz_hour",
+            ParseError::InvalidCharTzMinute => "invalid_char_tz_minute",
+            ParseError::OutOfRangeTzMinute => "out_of_range_tz_minute",
+            ParseError::OutOfRangeTz => "out_of_range_tz",
+            ParseError::TzRequired => "tz_required",
+            ParseError::SystemTimeError => "system_time_error",
+            ParseError::OutOfRangeMonth => "out_of_range_month",
+            ParseError::OutOfRangeDay => "out_of_range_day",
+            ParseError::OutOfRangeHour => "out_of_range_hour",
+            ParseError::OutOfRangeMinute => "out_of_range_minute",
+            ParseError::OutOfRangeSecond => "out_of_range_second",
+            ParseError::SecondFractionTooLong => "second_fraction_too_long",
+            ParseError::SecondFractionMissing => "second_fraction_missing",
+            ParseError::MillisecondFractionTooLong => "millisecond_fraction_too_long",
+            ParseError::DurationInvalidNumber => "duration_invalid_number",
+            ParseError::DurationTRepeated => "duration_t_repeated",
+            ParseError::DurationInvalidFraction => "duration_invalid_fraction",
+            ParseError::DurationInvalidTimeUnit => "duration_invalid_time_unit",
+            ParseError::DurationInvalidDateUnit => "duration_invalid_date_unit",
+            ParseError::DurationInvalidDays => "duration_invalid_days",
+            ParseError::DurationValueTooLarge => "duration_value_too_large",
+            ParseError::DurationHourValueTooLarge => "duration_hour_value_too_large",
+            ParseError::DurationDaysTooLarge => "duration_days_too_large",
+            ParseError::DateTooSmall => "date_too_small",
+            ParseError::DateTooLarge => "date_too_large",
+            ParseError::TimeTooLarge => "time_too_large",
+        }
+    }
+}
+
+impl fmt::Display for ParseError {
+    ghost use Rattle.std.specs.Prelude.{Some};
+    ghost use Rattle.speedate_base.specs.Fault.{fault_name};
+
+    ghost output = { λ fault. Some (fault_name fault) };
+
+    fn fmt<W: fmt::Write>(&self, f: &mut fmt::Formatter<W>) -> fmt::Result {
+        f.write_str(self.name())
+    }
+}
+
+impl std::error::Error for ParseError {}

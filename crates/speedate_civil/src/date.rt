@@ -1,0 +1,144 @@
+//! Dates of the Gregorian calendar, from 0000-01-01 to 9999-12-31.
+
+ghost use Rattle.std.specs.Prelude.{◌≡◌, ◌<◌, ◌≤◌, Ok, Some, length, if◌then◌else◌};
+ghost use Rattle.std.specs.Int.{IsInRange};
+ghost use Rattle.speedate_base.specs.Digits.{two_digit_text};
+ghost use Rattle.speedate_civil.specs.Calendar.{month_length, is_leap_year};
+
+use arrayvec::ArrayString;
+use speedate_base::faults::ParseError;
+use speedate_base::numbers::{four_digits, two_digits};
+use std::fmt;
+
+/// How many bytes the text of a date has.
+const TEXT_LENGTH: usize = 10;
+
+/// A day of the Gregorian calendar, which is carried back to the year 0.
+#[derive(Clone, Copy, Debug, PartialEq, Eq)]
+pub struct Date {
+    /// The year, 0 to 9999.
+    pub year: u16,
+    /// The month, 1 to 12.
+    pub month: u8,
+    /// The day of the month, 1 to the month's length.
+    pub day: u8,
+    pub ghost year_in_range: { year ≤ 9999 },
+    pub ghost month_in_range: { IsInRange 1 12 month },
+    pub ghost day_in_range: { IsInRange 1 (month_length year month) day },
+}
+
+/// Whether the year has a 29 February.
+#[inline]
+fn is_leap_year(year: u16) -> bool
+    ensures { result ≡ is_leap_year year }
+{
+    if year % 100 == 0 {
+        year % 400 == 0
+    } else {
+        year % 4 == 0
+    }
+}
+
+/// The number of days of a month of a year.
+#[inline]
+fn month_length(year: u16, month: u8) -> u8
+    ensures { result ≡ month_length year month }
+{
+    match month {
+        2 => if is_leap_year(year) { 29 } else { 28 },
+        4 | 6 | 9 | 11 => 30,
+        _ => 31,
+    }
+}
+
+impl Date {
+    ghost use Rattle.speedate_civil.specs.Date.{parts, answered};
+    ghost use Rattle.speedate_civil.specs.DateText.{date_front, date_answer, date_text};
+
+    /// Reads a date from a text.
+    #[inline]
+    pub fn parse_str_rfc3339(text: &str) -> Result<Self, ParseError>
+        ensures answer { answered result ≡ date_answer text.now }
+    {
+        Self::parse_bytes_rfc3339(text.as_bytes())
+    }
+
+    /// Reads a date from the bytes of a text.
+    #[inline]
+    pub fn parse_bytes_rfc3339(bytes: &[u8]) -> Result<Self, ParseError>
+        ensures answer { answered result ≡ date_answer bytes.now }
+    {
+        let date = Self::parse_front(bytes)?;
+        if bytes.len() > TEXT_LENGTH {
+            return Err(ParseError::ExtraCharacters);
+        }
+        Ok(date)
+    }
+
+    /// Reads the date at the front of a text, whatever follows it.
+    #[inline]
+    pub(crate) fn parse_front(bytes: &[u8]) -> Result<Self, ParseError>
+        ensures front { answered result ≡ date_front bytes.now }
+    {
+        if bytes.len() < TEXT_LENGTH {
+            return Err(ParseError::TooShort);
+        }
+        let year = four_digits(bytes, 0).ok_or(ParseError::InvalidCharYear)?;
+        if bytes[4] != b'-' {
+            return Err(ParseError::InvalidCharDateSep);
+        }
+        let month = two_digits(bytes, 5).ok_or(ParseError::InvalidCharMonth)?;
+        if bytes[7] != b'-' {
+            return Err(ParseError::InvalidCharDateSep);
+        }
+        let day = two_digits(bytes, 8).ok_or(ParseError::InvalidCharDay)?;
+        if month < 1 || month > 12 {
+            return Err(ParseError::OutOfRangeMonth);
+        }
+        if day < 1 || day > month_length(year, month) {
+            return Err(ParseError::OutOfRangeDay);
+        }
+        Ok(Date { year, month, day })
+    }
+
+    /// The canonical text, `YYYY-MM-DD`.
+    #[inline]
+    pub fn to_text(&self) -> ArrayString<TEXT_LENGTH>
+        ensures text { result.bytes ≡ date_text (parts self.now) }
+        ensures reads_back { date_answer result.bytes ≡ Ok (parts self.now) }
+    {
+        ArrayString::from_byte_string(&self.text_bytes()).unwrap()
+    }
+
+    /// The bytes of the canonical text.
+    #[inline]
+    fn text_bytes(&self) -> [u8; TEXT_LENGTH]
+        ensures bytes { result ≡ date_text (parts self.now) }
+    {
+        let [y1, y2] = two_digit_text((self.year / 100) as u8);
+        let [y3, y4] = two_digit_text((self.year % 100) as u8);
+        let [m1, m2] = two_digit_text(self.month);
+        let [d1, d2] = two_digit_text(self.day);
+        [y1, y2, y3, y4, b'-', m1, m2, b'-', d1, d2]
+    }
+}
+
+/// The two digits of a number below 100.
+#[inline]
+fn two_digit_text(number: u8) -> [u8; 2]
+    requires { number < 100 }
+    ensures { result ≡ two_digit_text number }
+{
+    [b'0' + number / 10, b'0' + number % 10]
+}
+
+impl fmt::Display for Date {
+    ghost use Rattle.speedate_civil.specs.Date.{parts};
+    ghost use Rattle.speedate_civil.specs.DateText.{date_text};
+
+    ghost output = { λ date. Some (date_text (parts date)) };
+
+    fn fmt<W: fmt::Write>(&self, f: &mut fmt::Formatter<W>) -> fmt::Result {
+        f.write_str(self.to_text().as_str())
+    }
+}
