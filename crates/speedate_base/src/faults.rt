@@ -4,6 +4,9 @@ ghost use Rattle.std.specs.Prelude.{◌≡◌};
 
 use std::fmt;
 
+/// How many bytes the longest name of a fault has.
+pub const NAME_MAX: usize = 29;
+
 /// Why a text or a number was refused. Every refusal has exactly one of these.
 ///
 /// It is printed by its snake-case name, as `too_short` for `TooShort`.
@@ -92,12 +95,14 @@ pub enum ParseError {
 }
 
 impl ParseError {
+    ghost use Rattle.std.specs.Prelude.{◌≤◌, length};
     ghost use Rattle.speedate_base.specs.Fault.{fault_name};
 
     /// The snake-case name, as `too_short` for `ParseError::TooShort`.
     #[inline]
     pub fn name(&self) -> &'static str
         ensures name { result.now ≡ fault_name self.now }
+        ensures short { length result.now ≤ NAME_MAX }
     {
         match self {
             ParseError::TooShort => "too_short",

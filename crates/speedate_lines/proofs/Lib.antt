@@ -1,0 +1,5 @@
+pub mod AnswerLemmas
+pub mod LineLemmas
+pub mod CarryLemmas
+pub mod BlockLemmas
+pub mod SentLemmas

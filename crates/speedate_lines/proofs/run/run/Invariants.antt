@@ -1,0 +1,20 @@
+use Rattle.std.proofs.Common.{◌≡◌, ◌-◌, ◌≤◌, ◌^◌, [], ℕ, List, length, take}
+use Rattle.std.specs.Io.KnownBytes.{Appends, Consumes}
+use Rattle.speedate_lines.specs.Lines.{complete, unfinished}
+use Rattle.speedate_lines.specs.Answer.{answers}
+use Rattle.speedate_lines.specs.Block.{kept_of}
+use Rattle.speedate_lines.proofs.run.run.Given as goal
+
+-- the complete lines of what has been read are answered, and the front of the block is what is kept of its unfinished line
+abbrev pub invariant-loop-filled : goal.invariant-loop-filled
+invariant-loop-filled g l = record {
+  empty : l.pending.items ≡ [];
+  short : l.kept ≤ 4097;
+  answered : (read : List ℕ)
+      × Consumes (g.R.Read.remaining l.initial.input.inner) (g.R.Read.remaining l.input.inner) read
+      × Appends (g.W.Write.contents l.initial.output.inner) (g.W.Write.contents l.output.inner) (answers (complete read))
+      × (take l.kept l.block ≡ kept_of (unfinished read));
+}
+
+abbrev pub decreases-loop-filled : goal.decreases-loop-filled
+decreases-loop-filled g l = 2 ^ 64 - l.input.reads

@@ -1,0 +1,5 @@
+pub mod Lines
+pub mod Answer
+pub mod Watch
+pub mod Block
+pub mod Outcome

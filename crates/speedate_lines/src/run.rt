@@ -1,0 +1,174 @@
+//! Lines in, answers out.
+
+ghost use Rattle.std.specs.Prelude.{◌≡◌, ◌+◌, ◌-◌, ◌^◌, ◌<◌, ◌≤◌, [], length, take, drop, min, Ok, IfSome, IfOk, OnOk};
+ghost use Rattle.std.specs.Io.KnownBytes.{Appends, Keeps, IsAtEnd};
+ghost use Rattle.arrayvec.specs.ArrayVec.{array_vec_len};
+ghost use Rattle.speedate_lines.specs.Lines.{IsOneLine, complete, unfinished, last_line, lines};
+ghost use Rattle.speedate_lines.specs.Answer.{answers};
+ghost use Rattle.speedate_lines.specs.Block.{held, kept_of, ReadsBehind};
+
+use crate::answer::{ANSWER_MAX, PENDING_MAX, Pending, answer_line};
+use crate::line_end::line_end;
+use crate::watched::Watched;
+use std::io::{Read, Write};
+
+/// Of a line that is too long to be answered, so many bytes are kept: they tell that it is.
+const KEPT_MAX: usize = 4097;
+
+/// How many bytes of input lie in memory: an unfinished line, and what one read gives.
+const BLOCK: usize = KEPT_MAX + 65536;
+
+/// Why a run ended before its input.
+#[derive(Clone, Copy, Debug, PartialEq, Eq)]
+pub enum RunError {
+    /// The input failed: the answers to all complete lines that were read have been written.
+    Read,
+    /// The output failed: what was written is a beginning of the answers.
+    Write,
+}
+
+/// Answers each line of the input, up to its end.
+///
+/// A line is ended by byte 10 or by the end of the input, and its answer by byte 10. `date TEXT`
+/// is answered by `ok` and the canonical text of the date, or by `err` and the name of the fault;
+/// a line of more than 4,096 bytes by `err line_too_long`, any other by `err unknown_kind`. Every
+/// complete line that was read is answered before the next read.
+pub fn run<R: Read, W: Write>(
+    input: &mut Watched<R>,
+    output: &mut Watched<W>,
+) -> Result<(), RunError>
+    // All input was read, and what was written is the answers to its lines.
+    ensures read { OnOk result (IsAtEnd (R.remaining input.new.inner)) }
+    ensures answered { OnOk result (IfSome (R.remaining input.old.inner) (λ text.
+        Appends (W.contents output.old.inner) (W.contents output.new.inner) (answers (lines text)))) }
+{
+    let mut block = [0; BLOCK];
+    let mut pending = Pending::new();
+    let mut kept = 0;
+    loop {
+        let filled = fill(input, &mut block, kept)?;
+        if filled == kept {
+            break;
+        }
+        let start = answer_lines(&block[..filled], kept, &mut pending, output)?;
+        send(&mut pending, output)?;
+        kept = carry(&mut block, start, filled);
+    }
+    finish(&block[..kept], &mut pending, output)
+}
+
+/// Reads once, behind the first `kept` bytes of the block, and returns how many bytes of it are
+/// then filled: no more than before at the end of the input.
+fn fill<R: Read>(
+    input: &mut Watched<R>,
+    block: &mut [u8; BLOCK],
+    kept: usize,
+) -> Result<usize, RunError>
+    requires { kept ≤ KEPT_MAX }
+    ensures counted { OnOk result (input.new.reads ≡ input.old.reads + 1) }
+    ensures limited { input.new.reads < 2 ^ 64 }
+    ensures filled { IfOk result (λ filled. ReadsBehind (R.remaining input.old.inner)
+        (R.remaining input.new.inner) kept filled block.old block.new) }
+{
+    match input.read(&mut block[kept..]) {
+        Ok(count) => Ok(kept + count),
+        Err(_) => Err(RunError::Read),
+    }
+}
+
+/// Answers the complete lines of a text whose first bytes, `seen` of them, hold no byte 10, and
+/// returns where the unfinished line begins.
+fn answer_lines<W: Write>(
+    text: &[u8],
+    seen: usize,
+    pending: &mut Pending,
+    output: &mut Watched<W>,
+) -> Result<usize, RunError>
+    requires within { seen ≤ length text.now }
+    requires one_line { IsOneLine text.now 0 seen }
+    ensures start { IfOk result (λ start. start ≤ length text.now) }
+    ensures unfinished { IfOk result (λ start. drop start text.now ≡ unfinished text.now) }
+    ensures answered { OnOk result (Appends (held W.contents output.old pending.old.items)
+        (held W.contents output.new pending.new.items) (answers (complete text.now))) }
+{
+    let mut start = 0;
+    let mut searched = seen;
+    while let Some(end) = line_end(text, searched) {
+        make_room(pending, output)?;
+        answer_line(&text[start..end], pending);
+        start = end + 1;
+        searched = start;
+    }
+    Ok(start)
+}
+
+/// Writes the answers that wait, where there is no room for a further one.
+fn make_room<W: Write>(pending: &mut Pending, output: &mut Watched<W>) -> Result<(), RunError>
+    ensures room { OnOk result (array_vec_len pending.new + ANSWER_MAX ≤ PENDING_MAX) }
+    ensures kept { OnOk result (Keeps (held W.contents output.old pending.old.items)
+        (held W.contents output.new pending.new.items)) }
+{
+    if pending.remaining_capacity() < ANSWER_MAX {
+        send(pending, output)?;
+    }
+    Ok(())
+}
+
+/// Writes all answers that wait.
+fn send<W: Write>(pending: &mut Pending, output: &mut Watched<W>) -> Result<(), RunError>
+    ensures empty { OnOk result (pending.new.items ≡ []) }
+    ensures sent { OnOk result (Appends (W.contents output.old.inner)
+        (W.contents output.new.inner) pending.old.items) }
+{
+    write_all(pending.as_slice(), output)?;
+    pending.clear();
+    Ok(())
+}
+
+/// Writes all of `bytes`.
+fn write_all<W: Write>(bytes: &[u8], output: &mut Watched<W>) -> Result<(), RunError>
+    ensures sent { OnOk result (Appends (W.contents output.old.inner)
+        (W.contents output.new.inner) bytes.now) }
+{
+    let mut rest = bytes;
+    while !rest.is_empty() {
+        let Ok(count) = output.write(rest) else {
+            return Err(RunError::Write);
+        };
+        rest = &rest[count..];
+    }
+    Ok(())
+}
+
+/// Moves the unfinished line, which stands from `start` up to `filled`, to the front of the block,
+/// and returns how much of it is kept.
+fn carry(block: &mut [u8; BLOCK], start: usize, filled: usize) -> usize
+    requires ordered { start ≤ filled }
+    requires within { filled ≤ BLOCK }
+    ensures short { result ≤ KEPT_MAX }
+    ensures kept { take result block.new ≡ kept_of (drop start (take filled block.old)) }
+{
+    let kept = (filled - start).min(KEPT_MAX);
+    block.copy_within(start..start + kept, 0);
+    kept
+}
+
+/// Answers a last line that no byte 10 ends, if there is one.
+fn finish<W: Write>(
+    last: &[u8],
+    pending: &mut Pending,
+    output: &mut Watched<W>,
+) -> Result<(), RunError>
+    requires { pending.old.items ≡ [] }
+    ensures answered { OnOk result (Appends (W.contents output.old.inner)
+        (W.contents output.new.inner) (answers (last_line last.now))) }
+{
+    if !last.is_empty() {
+        answer_line(last, pending);
+        send(pending, output)?;
+    }
+    match output.flush() {
+        Ok(()) => Ok(()),
+        Err(_) => Err(RunError::Write),
+    }
+}

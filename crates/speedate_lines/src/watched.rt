@@ -1,0 +1,132 @@
+//! Readers and writers that remember whether they have failed.
+
+ghost use Rattle.std.specs.Prelude.{◌≡◌, ◌+◌, ◌-◌, ◌^◌, ◌<◌, ◌||◌, false, length, is_err, IsErr, IfOk, OnOk};
+ghost use Rattle.std.specs.Io.{ReadsAtMost, WritesAtMost};
+ghost use Rattle.std.specs.Io.KnownBytes.{ReadConsumes, WriteAppends, Keeps};
+
+use std::io::{Read, Write};
+use std::marker::Model;
+
+/// What a [`Watched`] answers to a call that could not be carried out.
+#[derive(Clone, Copy, Debug, PartialEq, Eq)]
+pub struct Failed;
+
+/// A reader or a writer that remembers whether a call of it has failed, and counts its reads.
+#[derive(Drop)]
+pub struct Watched<T> {
+    inner: T,
+    failed: bool,
+    reads: u64,
+}
+
+impl<T> Model for Watched<T> {
+    ghost use Rattle.speedate_lines.specs.Watch.{Watch};
+
+    ghost Value = { Watch T };
+
+    ghost view = { λ w. record { inner = w.inner; failed = w.failed; reads = w.reads } };
+}
+
+impl<T> Watched<T> {
+    /// Watches `inner`, which has not failed and has not been read.
+    pub fn new(inner: T) -> Self
+        ensures new { result ≡ record { inner = inner; failed = false; reads = 0 } }
+    {
+        Watched {
+            inner,
+            failed: false,
+            reads: 0,
+        }
+    }
+
+    /// Whether a call has answered [`Failed`].
+    pub fn failed(&self) -> bool
+        ensures failed { result ≡ self.now.failed }
+    {
+        self.failed
+    }
+
+    /// What was watched.
+    pub fn into_inner(self) -> T
+        ensures inner { result ≡ self.inner }
+    {
+        let Watched {
+            inner,
+            failed: _,
+            reads: _,
+        } = self;
+        inner
+    }
+}
+
+impl<R: Read> Watched<R> {
+    /// Reads into `buffer`, and answers how many bytes were read: 0 at the end of the input.
+    ///
+    /// It answers `Failed` where the reader answers an error, and after `u64::MAX` reads, where
+    /// the reader is not called.
+    pub fn read(&mut self, buffer: &mut [u8]) -> Result<usize, Failed>
+        ensures bound { ReadsAtMost result buffer.new }
+        ensures bytes { ReadConsumes (R.remaining self.old.inner) (R.remaining self.new.inner)
+            result buffer.new }
+        ensures failed { self.new.failed ≡ (self.old.failed || is_err result) }
+        ensures counted { OnOk result (self.new.reads ≡ self.old.reads + 1) }
+        ensures limited { self.new.reads < 2 ^ 64 }
+        ensures refused { self.old.reads ≡ 2 ^ 64 - 1 →
+            IsErr result × (self.new.inner ≡ self.old.inner) }
+    {
+        if self.reads == u64::MAX {
+            self.failed = true;
+            return Err(Failed);
+        }
+        self.reads += 1;
+        match self.inner.read(buffer) {
+            Ok(count) => Ok(count),
+            Err(_) => {
+                self.failed = true;
+                Err(Failed)
+            }
+        }
+    }
+}
+
+impl<W: Write> Watched<W> {
+    /// Writes some of `bytes`, and answers how many.
+    ///
+    /// It answers `Failed` where the writer answers an error, or takes nothing of bytes that are
+    /// not empty.
+    pub fn write(&mut self, bytes: &[u8]) -> Result<usize, Failed>
+        ensures bound { WritesAtMost result bytes.now }
+        ensures bytes { WriteAppends (W.contents self.old.inner) (W.contents self.new.inner)
+            result bytes.now }
+        ensures progress { IfOk result (λ count. 0 < length bytes.now → 0 < count) }
+        ensures failed { self.new.failed ≡ (self.old.failed || is_err result) }
+        ensures reads { self.new.reads ≡ self.old.reads }
+    {
+        match self.inner.write(bytes) {
+            Ok(0) if !bytes.is_empty() => {
+                self.failed = true;
+                Err(Failed)
+            }
+            Ok(count) => Ok(count),
+            Err(_) => {
+                self.failed = true;
+                Err(Failed)
+            }
+        }
+    }
+
+    /// Flushes the writer, and answers `Failed` where it answers an error.
+    pub fn flush(&mut self) -> Result<(), Failed>
+        ensures bytes { Keeps (W.contents self.old.inner) (W.contents self.new.inner) }
+        ensures failed { self.new.failed ≡ (self.old.failed || is_err result) }
+        ensures reads { self.new.reads ≡ self.old.reads }
+    {
+        match self.inner.flush() {
+            Ok(()) => Ok(()),
+            Err(_) => {
+                self.failed = true;
+                Err(Failed)
+            }
+        }
+    }
+}
