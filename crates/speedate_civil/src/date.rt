@@ -5,6 +5,7 @@ ghost use Rattle.std.specs.Int.{IsInRange};
 ghost use Rattle.speedate_base.specs.Digits.{two_digit_text};
 ghost use Rattle.speedate_civil.specs.Calendar.{month_length, is_leap_year};
 
+use crate::text::ascii_text;
 use arrayvec::ArrayString;
 use speedate_base::faults::ParseError;
 use speedate_base::numbers::{four_digits, two_digits};
@@ -107,7 +108,7 @@ impl Date {
         ensures text { result.bytes ≡ date_text (parts self.now) }
         ensures reads_back { date_answer result.bytes ≡ Ok (parts self.now) }
     {
-        ArrayString::from_byte_string(&self.text_bytes()).unwrap()
+        ascii_text(&self.text_bytes())
     }
 
     /// The bytes of the canonical text.

@@ -3,3 +3,4 @@ pub mod LineLemmas
 pub mod CarryLemmas
 pub mod BlockLemmas
 pub mod SentLemmas
+pub mod MarkLemmas

@@ -45,7 +45,8 @@ IsOneLine-from_free front more n free within k after below same =
 is_newline : (byte : ℕ) → byte ≡ 10 → (byte == 10) ≡ true
 is_newline byte same = grind (arith, nat_tests)
 
-not_newline : (byte : ℕ) → (byte == 10) ≡ false → byte ≢ 10
+-- a byte that is not tested to be byte 10
+pub not_newline : (byte : ℕ) → (byte == 10) ≡ false → byte ≢ 10
 not_newline byte other same = let yes = is_newline byte same in cc
 
 -- what stands after the last byte 10 holds none
@@ -97,7 +98,8 @@ part-free text from to within one =
       one (from + k) (omega arith) (omega arith)
         (sym (get_or-drop from text k 0) ∙ sym (get_or-take (to - from) (drop from text) k 0 inside) ∙ same))
 
-joined_one_line : (text : List ℕ) (start searched end : ℕ) → IsOneLine text start searched → IsOneLine text searched end → IsOneLine text start end
+-- one after the other
+pub joined_one_line : (text : List ℕ) (start searched end : ℕ) → IsOneLine text start searched → IsOneLine text searched end → IsOneLine text start end
 joined_one_line text start searched end first second k after before = elim (cases_lt k searched) [
     inl below ↦ first k after below
   | inr above ↦ second k above before

@@ -1,5 +1,5 @@
 -- The lines of a text: each is ended by byte 10 or by the end of the text.
-use Rattle.std.specs.Prelude.{◌≡◌, ◌≢◌, ℕ, ◌<◌, ◌≤◌, ◌==◌, length, slice_index, List, [], ◌∷◌, ◌++◌, if◌then◌else◌}
+use Rattle.std.specs.Prelude.{◌≡◌, ◌≢◌, ℕ, ◌<◌, ◌≤◌, ◌==◌, Bool, length, slice_index, List, [], ◌∷◌, ◌++◌, if◌then◌else◌}
 
 -- the pieces of a text between its bytes 10
 pub record Pieces : Type 0 where
@@ -35,6 +35,10 @@ last_line (byte ∷ bytes) = (byte ∷ bytes) ∷ []
 -- all lines of a text
 abbrev pub lines : List ℕ → List (List ℕ)
 lines text = complete text ++ last_line (unfinished text)
+
+-- byte 10, which ends a line
+abbrev pub is_newline : ℕ → Bool
+is_newline byte = byte == 10
 
 -- no byte 10 stands from one place up to another
 abbrev pub IsOneLine : List ℕ → ℕ → ℕ → Type 0

@@ -1,11 +1,34 @@
 //! The ends of lines.
 
-ghost use Rattle.std.specs.Prelude.{◌≤◌, length, MatchOption};
-ghost use Rattle.speedate_lines.specs.Lines.{IsLineEnd, IsOneLine};
+ghost use Rattle.std.specs.Prelude.{◌≡◌, ◌≤◌, length, map, MatchOption};
+ghost use Rattle.std.specs.Simd.Lanes.{mask_l};
+ghost use Rattle.speedate_lines.specs.Lines.{is_newline, IsLineEnd, IsOneLine};
+
+use std::simd::prelude::*;
+
+/// How many bytes are looked at together.
+const LANES: usize = 16;
 
 /// The place of the first byte 10 at `from` or behind it.
 #[inline]
 pub fn line_end(text: &[u8], from: usize) -> Option<usize>
+    requires { from ≤ length text.now }
+    ensures found { MatchOption result (IsOneLine text.now from (length text.now))
+        (IsLineEnd text.now from) }
+{
+    let mut place = from;
+    while text.len() - place >= LANES {
+        let marks = newlines(u8x16::from_slice(&text[place..]));
+        if marks != 0 {
+            return Some(place + marks.trailing_zeros() as usize);
+        }
+        place += LANES;
+    }
+    line_end_in_rest(text, place)
+}
+
+/// The same, byte by byte: for the bytes that fill no vector.
+fn line_end_in_rest(text: &[u8], from: usize) -> Option<usize>
     requires { from ≤ length text.now }
     ensures found { MatchOption result (IsOneLine text.now from (length text.now))
         (IsLineEnd text.now from) }
@@ -16,4 +39,12 @@ pub fn line_end(text: &[u8], from: usize) -> Option<usize>
         }
     }
     None
+}
+
+/// Bit k tells whether lane k is byte 10.
+#[inline(always)]
+fn newlines(lanes: u8x16) -> u64
+    ensures marks { result ≡ mask_l (map is_newline lanes) }
+{
+    lanes.simd_eq(u8x16::splat(b'\n')).to_bitmask()
 }

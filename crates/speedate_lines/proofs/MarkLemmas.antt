@@ -1,0 +1,51 @@
+-- What the marks of a vector of bytes tell of the places of a text.
+use Rattle.std.proofs.Common.{◌≡◌, ◌≢◌, ◌∙◌, ap, sym, ℕ, ◌+◌, ◌*◌, ◌<◌, ◌≤◌, Bool, true, false, not, List, [], ◌∷◌, length, map, get_or, ◌==◌, arith, ◌⊎◌, inl, inr, refl}
+use Rattle.std.proofs.lemmas.Bool.{cases_lt}
+use Rattle.std.proofs.lemmas.Bool.Decides.{nat_tests}
+use Rattle.std.proofs.lemmas.Simd.{length-chunk, get_or-chunk, trailing_mask_l, run_in_chunk_le, run_in_chunk_fails, run_in_chunk_stops, none_from_empty_mask}
+use Rattle.std.specs.List.{prefix_len}
+use lib.Lanes.{chunk, mask_l}
+use lib.Count.{count_trailing_zeros}
+use Rattle.speedate_lines.specs.Lines.{is_newline, IsOneLine, IsLineEnd}
+use Rattle.speedate_lines.proofs.LineLemmas.{IsFree, IsFree-from, is_other, not_newline}
+
+newline : (byte : ℕ) → is_newline byte ≡ true → byte ≡ 10
+newline byte marked = grind (arith, nat_tests)
+
+-- the marks of a part of a text
+abbrev pub marks_at : List ℕ → ℕ → ℕ
+marks_at text place = mask_l (map is_newline (chunk place 16 text))
+
+-- where no byte is marked, no line ends
+pub IsOneLine-from_marks : (text : List ℕ) (place : ℕ) → place + 16 ≤ length text → marks_at text place ≡ 0 → IsOneLine text place (place + 16)
+IsOneLine-from_marks text place room none k after before =
+    not_newline (get_or text k 0) (none_from_empty_mask is_newline text place 16 0 room none k after before)
+
+marks-free : (bytes : List ℕ) → IsFree bytes → mask_l (map is_newline bytes) ≡ 0
+marks-free [] free = refl
+marks-free (byte ∷ bytes) free = rw (is_other byte free.0, marks-free bytes free.1) refl
+
+-- the lowest mark is at the first end of a line
+pub IsLineEnd-from_marks : (text : List ℕ) (place : ℕ) → place + 16 ≤ length text → 0 < marks_at text place
+    → IsLineEnd text place (place + count_trailing_zeros 64 (marks_at text place))
+IsLineEnd-from_marks text place room some =
+    let part = chunk place 16 text in
+    let long = length-chunk place 16 text room in
+    let first = count_trailing_zeros 64 (marks_at text place) in
+    let counted = trailing_mask_l is_newline 64 part (omega (arith, long)) some in
+    let clear : IsOneLine text place (place + first) = λ k after before.
+      not_newline (get_or text k 0) (run_in_chunk_fails is_newline text place 16 first 0 room counted k after before) in
+    let within : first < 16 = elim (cases_lt first 16) [
+        inl below ↦ below
+      | inr above ↦
+        let free = IsFree-from part (λ k below same.
+          let inside : k < 16 = omega (arith, long) in
+          clear (place + k) (omega arith) (omega arith) (sym (get_or-chunk place 16 text k 0 inside) ∙ same)) in
+        absurd (omega (arith, marks-free part free))
+      ] in
+    record {
+      after = omega arith;
+      within = omega arith;
+      newline = newline (get_or text (place + first) 0) (run_in_chunk_stops is_newline text place 16 first 0 room counted within);
+      first = clear;
+    }
