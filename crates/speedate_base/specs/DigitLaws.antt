@@ -1,8 +1,8 @@
 -- What is printed in two or in four digits is digits, and spells the number that was printed.
-use Rattle.std.specs.Prelude.{◌≡◌, ℕ, ◌+◌, ◌-◌, ◌*◌, ◌/◌, ◌%◌, ◌<◌, ◌≤◌, ◌&&◌, Bool, true, List, ◌∷◌, [], nat_le, refl}
+use Rattle.std.specs.Prelude.{◌≡◌, ℕ, ◌+◌, ◌/◌, ◌%◌, ◌<◌, ◌&&◌, Bool, true, refl}
 use Rattle.std.proofs.Common.{arith}
 use Rattle.std.proofs.lemmas.Bool.Decides.{nat_tests}
-use Rattle.speedate_base.specs.Digits.{is_digit, digit_value, two_digit_text, two_digit_value, two_digits_at, four_digit_text, four_digits_at, four_digit_value}
+use Rattle.speedate_base.specs.Digits.{is_digit, digit_value, two_digit_text, two_digit_value, four_digit_text, four_digits_at, four_digit_value}
 
 both_true : (a b : Bool) → a ≡ true → b ≡ true → (a && b) ≡ true
 both_true a b p q = rw (p, q) refl

@@ -1,5 +1,5 @@
 -- A grammar as an ordered table: each row is a test of the text and the fault of a text that fails it.
-use Rattle.std.specs.Prelude.{Bool, List, [], ◌∷◌, Result, Ok, Err, if◌then◌else◌}
+use Rattle.std.specs.Prelude.{Bool, List, [], ◌∷◌, Result, Err, if◌then◌else◌}
 use Rattle.speedate_base.specs.declared.faults.ParseError.{ParseError}
 
 -- what a text has to meet, and the fault of one that does not

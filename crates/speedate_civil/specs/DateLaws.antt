@@ -1,5 +1,5 @@
 -- Laws of the texts of dates.
-use Rattle.std.specs.Prelude.{◌≡◌, ℕ, ◌+◌, ◌/◌, ◌%◌, List, [], ◌∷◌, ◌++◌, ◌<◌, ◌≤◌, ◌&&◌, Bool, true, nat_le, refl, Ok}
+use Rattle.std.specs.Prelude.{◌≡◌, ℕ, ◌+◌, ◌/◌, ◌%◌, List, [], ◌∷◌, ◌++◌, ◌<◌, ◌≤◌, true, refl, Ok}
 use Rattle.std.specs.Int.{IsInRange}
 use Rattle.std.proofs.lemmas.Str.Ascii.{IsAscii-nil, IsAscii-cons}
 use Rattle.speedate_base.specs.Digits.{two_digit_text}
@@ -49,33 +49,48 @@ two_digit_text-IsAscii n rest small tail =
 pub date_text-reads : (date : Ymd) → IsDate date → date_answer (date_text date) ≡ Ok date
 unfolding IsPrintable
 date_text-reads date valid =
-  let fields = date_fields-printed date in
-  let small = is_printable date valid in
-  meets-all (date_table (date_text date)) _ (
-    refl, (
-    four_digits-printed date.year small.0, (
-    refl, (
-    two_digits-printed date.month small.1, (
-    refl, (
-    two_digits-printed date.day small.2, (
-    subst (λ (read : Ymd). is_within 1 12 read.month ≡ true) (sym fields)
-      (is_within-range 1 12 date.month valid.month), (
-    subst (λ (read : Ymd). is_within 1 (month_length read.year read.month) read.day ≡ true) (sym fields)
-      (is_within-range 1 (month_length date.year date.month) date.day valid.day),
-    tt))))))))
-  ∙ meets-all (date_end (date_text date)) (Ok (date_fields (date_text date))) (refl, tt)
-  ∙ ap Ok fields
+    let fields = date_fields-printed date in
+    let small = is_printable date valid in
+    meets-all (date_table (date_text date)) _ (
+      refl,
+      (
+        four_digits-printed date.year small.0,
+        (
+          refl,
+          (
+            two_digits-printed date.month small.1,
+            (
+              refl,
+              (
+                two_digits-printed date.day small.2,
+                (
+                  subst (λ (read : Ymd). is_within 1 12 read.month ≡ true) (sym fields)
+                      (is_within-range 1 12 date.month valid.month),
+                  (
+                    subst (λ (read : Ymd). is_within 1 (month_length read.year read.month) read.day ≡ true) (sym fields)
+                        (is_within-range 1 (month_length date.year date.month) date.day valid.day),
+                    tt,
+                  ),
+                ),
+              ),
+            ),
+          ),
+        ),
+      ),
+    )
+    ∙ meets-all (date_end (date_text date)) (Ok (date_fields (date_text date))) (refl, tt)
+    ∙ ap Ok fields
 
 -- and is ASCII
 pub date_text-IsAscii : (date : Ymd) → IsDate date → IsAscii (date_text date)
 unfolding IsPrintable
 date_text-IsAscii date valid =
-  let small = is_printable date valid in
-  let days : List ℕ = two_digit_text date.day in
-  let months : List ℕ = two_digit_text date.month ++ 45 ∷ days in
-  two_digit_text-IsAscii (date.year / 100) (two_digit_text (date.year % 100) ++ 45 ∷ months) (omega (arith, small.0))
-  (two_digit_text-IsAscii (date.year % 100) (45 ∷ months) (omega arith)
-  (IsAscii-cons 45 months (lit< tt)
-  (two_digit_text-IsAscii date.month (45 ∷ days) small.1
-  (IsAscii-cons 45 days (lit< tt)
-  (two_digit_text-IsAscii date.day [] small.2 IsAscii-nil)))))
+    let small = is_printable date valid in
+    let days : List ℕ = two_digit_text date.day in
+    let months : List ℕ = two_digit_text date.month ++ 45 ∷ days in
+    two_digit_text-IsAscii (date.year / 100) (two_digit_text (date.year % 100) ++ 45 ∷ months) (omega (arith, small.0))
+    (two_digit_text-IsAscii (date.year % 100) (45 ∷ months) (omega arith)
+    (IsAscii-cons 45 months (lit< tt)
+    (two_digit_text-IsAscii date.month (45 ∷ days) small.1
+    (IsAscii-cons 45 days (lit< tt)
+    (two_digit_text-IsAscii date.day [] small.2 IsAscii-nil)))))

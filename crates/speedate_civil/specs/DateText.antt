@@ -21,14 +21,14 @@ is_within low high n = nat_le low n && nat_le n high
 -- what the first ten bytes of a text have to meet to be a date; 45 is `-`
 abbrev pub date_table : List ℕ → List Requirement
 date_table text = let date = date_fields text in
-    (nat_le 10 (length text)                                     else_fault fault.TooShort)
-    ∷ (four_digits_at text 0                                     else_fault fault.InvalidCharYear)
-    ∷ (slice_index text 4 == 45                                  else_fault fault.InvalidCharDateSep)
-    ∷ (two_digits_at text 5                                      else_fault fault.InvalidCharMonth)
-    ∷ (slice_index text 7 == 45                                  else_fault fault.InvalidCharDateSep)
-    ∷ (two_digits_at text 8                                      else_fault fault.InvalidCharDay)
-    ∷ (is_within 1 12 date.month                                 else_fault fault.OutOfRangeMonth)
-    ∷ (is_within 1 (month_length date.year date.month) date.day  else_fault fault.OutOfRangeDay)
+    (nat_le 10 (length text) else_fault fault.TooShort)
+    ∷ (four_digits_at text 0 else_fault fault.InvalidCharYear)
+    ∷ (slice_index text 4 == 45 else_fault fault.InvalidCharDateSep)
+    ∷ (two_digits_at text 5 else_fault fault.InvalidCharMonth)
+    ∷ (slice_index text 7 == 45 else_fault fault.InvalidCharDateSep)
+    ∷ (two_digits_at text 8 else_fault fault.InvalidCharDay)
+    ∷ (is_within 1 12 date.month else_fault fault.OutOfRangeMonth)
+    ∷ (is_within 1 (month_length date.year date.month) date.day else_fault fault.OutOfRangeDay)
     ∷ []
 
 -- what a text has to meet to end with its date

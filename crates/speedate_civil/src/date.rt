@@ -15,6 +15,9 @@ use std::fmt;
 const TEXT_LENGTH: usize = 10;
 
 /// A day of the Gregorian calendar, which is carried back to the year 0.
+///
+/// It is read by [`Date::parse_str_rfc3339`] and printed as `YYYY-MM-DD`, as `2020-02-29`. The
+/// ranges of the fields are part of the type.
 #[derive(Clone, Copy, Debug, PartialEq, Eq)]
 pub struct Date {
     /// The year, 0 to 9999.
@@ -56,7 +59,19 @@ impl Date {
     ghost use Rattle.speedate_civil.specs.Date.{parts, answered};
     ghost use Rattle.speedate_civil.specs.DateText.{date_front, date_answer, date_text};
 
-    /// Reads a date from a text.
+    /// Reads a date from a text: the date that the text is, as 29 February 2020 for
+    /// `"2020-02-29"`, or the text's one fault.
+    ///
+    /// The form is RFC 3339's full-date, `YYYY-MM-DD`. The faults, in the order in which they are
+    /// looked for:
+    ///
+    /// - `TooShort` where the text has less than ten bytes;
+    /// - `InvalidCharYear`, `InvalidCharDateSep`, `InvalidCharMonth`, `InvalidCharDateSep` and
+    ///   `InvalidCharDay` for the first part, from the left, that is not made of digits or is not
+    ///   a `-`;
+    /// - `OutOfRangeMonth` where the month is not 1 to 12;
+    /// - `OutOfRangeDay` where the month has no such day;
+    /// - `ExtraCharacters` where more than ten bytes are there.
     #[inline]
     pub fn parse_str_rfc3339(text: &str) -> Result<Self, ParseError>
         ensures answer { answered result ≡ date_answer text.now }
@@ -64,7 +79,8 @@ impl Date {
         Self::parse_bytes_rfc3339(text.as_bytes())
     }
 
-    /// Reads a date from the bytes of a text.
+    /// Reads a date from the bytes of a text, as [`Date::parse_str_rfc3339`] does: 29 February 2020
+    /// from `b"2020-02-29"`. The bytes need not be text.
     #[inline]
     pub fn parse_bytes_rfc3339(bytes: &[u8]) -> Result<Self, ParseError>
         ensures answer { answered result ≡ date_answer bytes.now }
@@ -102,7 +118,8 @@ impl Date {
         Ok(Date { year, month, day })
     }
 
-    /// The canonical text, `YYYY-MM-DD`.
+    /// The canonical text, `YYYY-MM-DD`: `2020-02-29` for 29 February 2020. It reads back as the
+    /// date.
     #[inline]
     pub fn to_text(&self) -> ArrayString<TEXT_LENGTH>
         ensures text { result.bytes ≡ date_text (parts self.now) }
@@ -143,3 +160,6 @@ impl fmt::Display for Date {
         f.write_str(self.to_text().as_str())
     }
 }
+
+#[cfg(test)]
+mod tests;

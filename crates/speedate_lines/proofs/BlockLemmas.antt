@@ -1,5 +1,5 @@
 -- What stands in a block of which a part was written.
-use Rattle.std.proofs.Common.{◌≡◌, ◌∙◌, ap, sym, ℕ, ◌+◌, ◌-◌, ◌≤◌, List, ◌++◌, length, take, drop, min, arith, ◌⊎◌, inl, inr}
+use Rattle.std.proofs.Common.{◌≡◌, ◌∙◌, ap, sym, ℕ, ◌+◌, ◌-◌, ◌≤◌, List, ◌++◌, length, take, drop, min, arith, inl, inr}
 use Rattle.std.proofs.lemmas.List.{length-take, length-take-le, length-drop, length-append, take-append-le, take-take, take_all, take_at}
 use Rattle.std.proofs.lemmas.Bool.{cases_lt}
 use Rattle.std.proofs.lemmas.Slice.{between_is}
@@ -25,21 +25,21 @@ length-filled kept count old buffer post first second =
 
 take-min : (n m : ℕ) (rest : List ℕ) → n ≡ min m 4097 → take n rest ≡ kept_of (take m rest)
 take-min n m rest is = elim (cases_lt 4097 m) [
-    inl long ↦
-    let same : n ≡ 4097 = omega (arith, is) in
-    ap (λ (k : ℕ). take k rest) same ∙ sym (take-take 4097 m rest (omega arith))
+  | inl long ↦
+      let same : n ≡ 4097 = omega (arith, is) in
+      ap (λ (k : ℕ). take k rest) same ∙ sym (take-take 4097 m rest (omega arith))
   | inr short ↦
-    let same : n ≡ m = omega (arith, is) in
-    let fits : length (take m rest) ≤ 4097 = omega (arith, length-take m rest) in
-    ap (λ (k : ℕ). take k rest) same ∙ sym (take_all 4097 (take m rest) fits)
-  ]
+      let same : n ≡ m = omega (arith, is) in
+      let fits : length (take m rest) ≤ 4097 = omega (arith, length-take m rest) in
+      ap (λ (k : ℕ). take k rest) same ∙ sym (take_all 4097 (take m rest) fits)
+]
 
 -- what was moved to the front of a block is what is kept of its unfinished line
 pub take-moved : (old after : List ℕ) (start filled n : ℕ) → start ≤ filled → filled ≤ length old → n ≡ min (filled - start) 4097
     → take n (take n (drop start old) ++ after) ≡ kept_of (drop start (take filled old))
 take-moved old after start filled n ordered within is =
     let long : length (take n (drop start old)) ≡ n =
-      length-take-le n (drop start old) (omega (arith, length-drop start old, is)) in
+    length-take-le n (drop start old) (omega (arith, length-drop start old, is)) in
     take_at (take n (drop start old)) after n long
     ∙ take-min n (filled - start) (drop start old) is
     ∙ ap kept_of (between_is old start filled)

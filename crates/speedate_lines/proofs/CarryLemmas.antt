@@ -1,5 +1,5 @@
 -- Of a line that is too long, its first 4,097 bytes tell that it is.
-use Rattle.std.proofs.Common.{◌≡◌, ◌≢◌, ◌∙◌, ap, sym, subst, refl, ℕ, zero, suc, ◌+◌, ◌-◌, ◌<◌, ◌≤◌, Bool, true, false, List, [], ◌∷◌, ◌++◌, length, take, drop, min, if◌then◌else◌, append_assoc, append-nil, arith, ◌⊎◌, inl, inr}
+use Rattle.std.proofs.Common.{◌≡◌, ◌∙◌, ap, sym, refl, ℕ, zero, suc, List, [], ◌∷◌, ◌++◌, length, take, append-nil, arith, inl, inr}
 use Rattle.std.proofs.lemmas.Bool.{cases_lt}
 use Rattle.std.proofs.lemmas.List.{take_all, length-take, length-append, take-append-le}
 use Rattle.std.proofs.lemmas.Grind.{flat_map-append}
@@ -7,27 +7,27 @@ use Rattle.speedate_lines.specs.Lines.{Pieces, pieces, with_byte, complete, unfi
 use Rattle.speedate_lines.specs.Block.{kept_of}
 use Rattle.speedate_lines.specs.Answer.{answer, answers}
 use Rattle.speedate_lines.proofs.AnswerLemmas.{answer-long}
-use Rattle.speedate_lines.proofs.LineLemmas.{IsFree, is_other, unfinished-free, pieces-free, pieces-append, behind}
+use Rattle.speedate_lines.proofs.LineLemmas.{IsFree, is_other, unfinished-free, pieces-append}
 
 -- a line answers as its kept part does
 answer-kept : (line more : List ℕ) → answer (kept_of line ++ more) ≡ answer (line ++ more)
 answer-kept line more = elim (cases_lt 4097 (length line)) [
-    inr short ↦ ap (λ (front : List ℕ). answer (front ++ more)) (take_all 4097 line short)
+  | inr short ↦ ap (λ (front : List ℕ). answer (front ++ more)) (take_all 4097 line short)
   | inl long ↦
-    let kept : length (kept_of line) ≡ 4097 = omega (arith, length-take 4097 line) in
-    answer-long (kept_of line ++ more) (omega (arith, length-append (kept_of line) more))
-    ∙ sym (answer-long (line ++ more) (omega (arith, length-append line more)))
-  ]
+      let kept : length (kept_of line) ≡ 4097 = omega (arith, length-take 4097 line) in
+      answer-long (kept_of line ++ more) (omega (arith, length-append (kept_of line) more))
+      ∙ sym (answer-long (line ++ more) (omega (arith, length-append line more)))
+]
 
 take-kept : (line more : List ℕ) → take 4097 (kept_of line ++ more) ≡ take 4097 (line ++ more)
 take-kept line more = elim (cases_lt 4097 (length line)) [
-    inr short ↦ ap (λ (front : List ℕ). take 4097 (front ++ more)) (take_all 4097 line short)
+  | inr short ↦ ap (λ (front : List ℕ). take 4097 (front ++ more)) (take_all 4097 line short)
   | inl long ↦
-    let kept : length (kept_of line) ≡ 4097 = omega (arith, length-take 4097 line) in
-    take-append-le 4097 (kept_of line) more (omega arith)
-    ∙ take_all 4097 (kept_of line) (omega arith)
-    ∙ sym (take-append-le 4097 line more (omega arith))
-  ]
+      let kept : length (kept_of line) ≡ 4097 = omega (arith, length-take 4097 line) in
+      take-append-le 4097 (kept_of line) more (omega arith)
+      ∙ take_all 4097 (kept_of line) (omega arith)
+      ∙ sym (take-append-le 4097 line more (omega arith))
+]
 
 answers-append : (xs ys : List (List ℕ)) → answers (xs ++ ys) ≡ answers xs ++ answers ys
 answers-append xs ys = flat_map-append (λ (line : List ℕ). answer line ++ 10 ∷ []) xs ys
@@ -70,9 +70,10 @@ pieces-kept : (line more : List ℕ) → IsFree line
 pieces-kept line more free =
     let cut = pieces-before (kept_of line) more (kept_of-free 4097 line free) in
     let whole = pieces-before line more free in
-    let same = before-kept line (complete more) (unfinished more) in
-    (ap (λ (all : Pieces). answers all.complete) cut ∙ same.0 ∙ sym (ap (λ (all : Pieces). answers all.complete) whole),
-     ap (λ (all : Pieces). kept_of all.unfinished) cut ∙ same.1 ∙ sym (ap (λ (all : Pieces). kept_of all.unfinished) whole))
+    let same = before-kept line (complete more) (unfinished more) in (
+      ap (λ (all : Pieces). answers all.complete) cut ∙ same.0 ∙ sym (ap (λ (all : Pieces). answers all.complete) whole),
+      ap (λ (all : Pieces). kept_of all.unfinished) cut ∙ same.1 ∙ sym (ap (λ (all : Pieces). kept_of all.unfinished) whole),
+    )
 
 -- what is answered when more of a text has come
 pub answers-more : (text more : List ℕ)

@@ -1,5 +1,5 @@
 -- How the lines of a text are found from place to place, and from block to block.
-use Rattle.std.proofs.Common.{◌≡◌, ◌≢◌, ◌∙◌, ap, sym, subst, refl, ℕ, zero, suc, ◌+◌, ◌-◌, ◌<◌, ◌≤◌, Bool, true, false, List, [], ◌∷◌, ◌++◌, length, take, drop, get_or, if◌then◌else◌, ◌==◌, append_assoc, append-nil, arith, ◌⊎◌, inl, inr}
+use Rattle.std.proofs.Common.{◌≡◌, ◌≢◌, ◌∙◌, ap, sym, subst, refl, ℕ, zero, suc, ◌+◌, ◌-◌, ◌<◌, ◌≤◌, Bool, true, false, List, [], ◌∷◌, ◌++◌, length, take, drop, get_or, if◌then◌else◌, ◌==◌, arith, inl, inr}
 use Rattle.std.proofs.lemmas.Bool.Decides.{nat_tests}
 use Rattle.std.proofs.lemmas.Bool.{cases_lt}
 use Rattle.std.proofs.lemmas.List.{take_rest, length-take, get_or-take, get_or-drop, take-append-drop, drop_more, drop-drop}
@@ -76,9 +76,9 @@ with_byte-behind byte (line ∷ lines) last more other = refl
 
 first-behind : (byte : ℕ) (test : Bool) (lines : List (List ℕ)) (last more : List ℕ) → (byte == 10) ≡ test
     → (if test then record { complete = [] ∷ (lines ++ complete (last ++ more)); unfinished = unfinished (last ++ more) }
-      else with_byte byte (lines ++ complete (last ++ more)) (unfinished (last ++ more)))
+    else with_byte byte (lines ++ complete (last ++ more)) (unfinished (last ++ more)))
     ≡ behind (if test then record { complete = [] ∷ lines; unfinished = last } else with_byte byte lines last).complete
-      (pieces ((if test then record { complete = [] ∷ lines; unfinished = last } else with_byte byte lines last).unfinished ++ more))
+    (pieces ((if test then record { complete = [] ∷ lines; unfinished = last } else with_byte byte lines last).unfinished ++ more))
 first-behind byte true lines last more is = refl
 first-behind byte false lines last more is = with_byte-behind byte lines last more (not_newline byte is)
 
@@ -94,16 +94,16 @@ part-free text from to within one =
     let part = take (to - from) (drop from text) in
     let long : length part ≤ to - from = omega (arith, length-take (to - from) (drop from text)) in
     IsFree-from part (λ k below same.
-      let inside : k < to - from = omega arith in
-      one (from + k) (omega arith) (omega arith)
-        (sym (get_or-drop from text k 0) ∙ sym (get_or-take (to - from) (drop from text) k 0 inside) ∙ same))
+    let inside : k < to - from = omega arith in
+    one (from + k) (omega arith) (omega arith)
+    (sym (get_or-drop from text k 0) ∙ sym (get_or-take (to - from) (drop from text) k 0 inside) ∙ same))
 
 -- one after the other
 pub joined_one_line : (text : List ℕ) (start searched end : ℕ) → IsOneLine text start searched → IsOneLine text searched end → IsOneLine text start end
 joined_one_line text start searched end first second k after before = elim (cases_lt k searched) [
-    inl below ↦ first k after below
+  | inl below ↦ first k after below
   | inr above ↦ second k above before
-  ]
+]
 
 -- the first line from a place on, where the next byte 10 is known
 pub pieces-from : (text : List ℕ) (start searched end : ℕ) → start ≤ searched → IsOneLine text start searched → IsLineEnd text searched end
@@ -114,9 +114,9 @@ pieces-from text start searched end ordered one found =
     let free = part-free text start end (omega (arith, found.within)) (joined_one_line text start searched end one found.first) in
     let place : start + (end - start) ≡ end = omega (arith, found.after) in
     let tail = drop-drop (end - start) start text
-        ∙ ap (λ (n : ℕ). drop n text) place
-        ∙ drop_more text end 0 found.within
-        ∙ ap (λ (byte : ℕ). byte ∷ drop (end + 1) text) found.newline in
+    ∙ ap (λ (n : ℕ). drop n text) place
+    ∙ drop_more text end 0 found.within
+    ∙ ap (λ (byte : ℕ). byte ∷ drop (end + 1) text) found.newline in
     ap pieces (sym (take-append-drop (end - start) (drop start text)) ∙ ap (λ (rest : List ℕ). line ++ rest) tail)
     ∙ pieces-line line (drop (end + 1) text) free
 

@@ -1,9 +1,8 @@
 -- What the marks of a vector of bytes tell of the places of a text.
-use Rattle.std.proofs.Common.{◌≡◌, ◌≢◌, ◌∙◌, ap, sym, ℕ, ◌+◌, ◌*◌, ◌<◌, ◌≤◌, Bool, true, false, not, List, [], ◌∷◌, length, map, get_or, ◌==◌, arith, ◌⊎◌, inl, inr, refl}
+use Rattle.std.proofs.Common.{◌≡◌, ◌∙◌, sym, ℕ, ◌+◌, ◌<◌, ◌≤◌, true, List, [], ◌∷◌, length, map, get_or, arith, inl, inr, refl}
 use Rattle.std.proofs.lemmas.Bool.{cases_lt}
 use Rattle.std.proofs.lemmas.Bool.Decides.{nat_tests}
-use Rattle.std.proofs.lemmas.Simd.{length-chunk, get_or-chunk, trailing_mask_l, run_in_chunk_le, run_in_chunk_fails, run_in_chunk_stops, none_from_empty_mask}
-use Rattle.std.specs.List.{prefix_len}
+use Rattle.std.proofs.lemmas.Simd.{length-chunk, get_or-chunk, trailing_mask_l, run_in_chunk_fails, run_in_chunk_stops, none_from_empty_mask}
 use lib.Lanes.{chunk, mask_l}
 use lib.Count.{count_trailing_zeros}
 use Rattle.speedate_lines.specs.Lines.{is_newline, IsOneLine, IsLineEnd}
@@ -34,15 +33,15 @@ IsLineEnd-from_marks text place room some =
     let first = count_trailing_zeros 64 (marks_at text place) in
     let counted = trailing_mask_l is_newline 64 part (omega (arith, long)) some in
     let clear : IsOneLine text place (place + first) = λ k after before.
-      not_newline (get_or text k 0) (run_in_chunk_fails is_newline text place 16 first 0 room counted k after before) in
+    not_newline (get_or text k 0) (run_in_chunk_fails is_newline text place 16 first 0 room counted k after before) in
     let within : first < 16 = elim (cases_lt first 16) [
-        inl below ↦ below
+      | inl below ↦ below
       | inr above ↦
-        let free = IsFree-from part (λ k below same.
+          let free = IsFree-from part (λ k below same.
           let inside : k < 16 = omega (arith, long) in
           clear (place + k) (omega arith) (omega arith) (sym (get_or-chunk place 16 text k 0 inside) ∙ same)) in
-        absurd (omega (arith, marks-free part free))
-      ] in
+          absurd (omega (arith, marks-free part free))
+    ] in
     record {
       after = omega arith;
       within = omega arith;

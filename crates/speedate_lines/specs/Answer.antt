@@ -1,5 +1,5 @@
 -- What the program answers to a line, and to lines.
-use Rattle.std.specs.Prelude.{ℕ, ◌<◌, Bool, List, [], ◌∷◌, ◌++◌, length, drop, codes, nat_lt, nat_eq, if◌then◌else◌, Result, Ok, Err}
+use Rattle.std.specs.Prelude.{ℕ, List, [], ◌∷◌, ◌++◌, length, drop, codes, nat_lt, nat_eq, if◌then◌else◌, Result, Ok, Err}
 use Rattle.std.specs.List.{starts_with, flat_map}
 use Rattle.speedate.specs.declared.ParseError.{ParseError}
 use Rattle.speedate.specs.Fault.{fault_name}

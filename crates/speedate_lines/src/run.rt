@@ -1,15 +1,16 @@
 //! Lines in, answers out.
 
-ghost use Rattle.std.specs.Prelude.{◌≡◌, ◌+◌, ◌-◌, ◌^◌, ◌<◌, ◌≤◌, [], length, take, drop, min, Ok, IfSome, IfOk, OnOk};
+ghost use Rattle.std.specs.Prelude.{◌≡◌, ◌+◌, ◌-◌, ◌^◌, ◌<◌, ◌≤◌, [], length, take, drop, min, ◌||◌, false, is_err, Ok, IfSome, IfOk, OnOk};
 ghost use Rattle.std.specs.Io.KnownBytes.{Appends, Keeps, IsAtEnd};
 ghost use Rattle.arrayvec.specs.ArrayVec.{array_vec_len};
 ghost use Rattle.speedate_lines.specs.Lines.{IsOneLine, complete, unfinished, last_line, lines};
 ghost use Rattle.speedate_lines.specs.Answer.{answers};
+ghost use Rattle.speedate_lines.specs.Outcome.{EndsBy};
 ghost use Rattle.speedate_lines.specs.Block.{held, kept_of, ReadsBehind};
 
 use crate::answer::{ANSWER_MAX, PENDING_MAX, Pending, answer_line};
 use crate::line_end::line_end;
-use crate::watched::Watched;
+use crate::watched::{Failed, Watched};
 use std::io::{Read, Write};
 
 /// Of a line that is too long to be answered, so many bytes are kept: they tell that it is.
@@ -32,11 +33,18 @@ pub enum RunError {
 /// A line is ended by byte 10 or by the end of the input, and its answer by byte 10. `date TEXT`
 /// is answered by `ok` and the canonical text of the date, or by `err` and the name of the fault;
 /// a line of more than 4,096 bytes by `err line_too_long`, any other by `err unknown_kind`. Every
-/// complete line that was read is answered before the next read.
+/// complete line that was read is answered before the next read. For the input
+/// `date 2020-02-29` the output is `ok 2020-02-29` and byte 10.
+///
+/// `RunError::Read` comes where a read fails, `RunError::Write` where a write or the one flush at
+/// the end does. Neither end may have failed before.
 pub fn run<R: Read, W: Write>(
     input: &mut Watched<R>,
     output: &mut Watched<W>,
 ) -> Result<(), RunError>
+    // An end that had not failed has failed exactly if the answer says so.
+    ensures failed { input.old.failed ≡ false → output.old.failed ≡ false →
+        EndsBy result input.new.failed output.new.failed }
     // All input was read, and what was written is the answers to its lines.
     ensures read { OnOk result (IsAtEnd (R.remaining input.new.inner)) }
     ensures answered { OnOk result (IfSome (R.remaining input.old.inner) (λ text.
@@ -46,15 +54,21 @@ pub fn run<R: Read, W: Write>(
     let mut pending = Pending::new();
     let mut kept = 0;
     loop {
-        let filled = fill(input, &mut block, kept)?;
+        let Ok(filled) = fill(input, &mut block, kept) else {
+            return Err(RunError::Read);
+        };
         if filled == kept {
             break;
         }
-        let start = answer_lines(&block[..filled], kept, &mut pending, output)?;
-        send(&mut pending, output)?;
+        let Ok(start) = answer_block(&block[..filled], kept, &mut pending, output) else {
+            return Err(RunError::Write);
+        };
         kept = carry(&mut block, start, filled);
     }
-    finish(&block[..kept], &mut pending, output)
+    match finish(&block[..kept], &mut pending, output) {
+        Ok(()) => Ok(()),
+        Err(_) => Err(RunError::Write),
+    }
 }
 
 /// Reads once, behind the first `kept` bytes of the block, and returns how many bytes of it are
@@ -63,17 +77,38 @@ fn fill<R: Read>(
     input: &mut Watched<R>,
     block: &mut [u8; BLOCK],
     kept: usize,
-) -> Result<usize, RunError>
+) -> Result<usize, Failed>
     requires { kept ≤ KEPT_MAX }
     ensures counted { OnOk result (input.new.reads ≡ input.old.reads + 1) }
     ensures limited { input.new.reads < 2 ^ 64 }
+    ensures failed { input.new.failed ≡ (input.old.failed || is_err result) }
     ensures filled { IfOk result (λ filled. ReadsBehind (R.remaining input.old.inner)
         (R.remaining input.new.inner) kept filled block.old block.new) }
 {
-    match input.read(&mut block[kept..]) {
-        Ok(count) => Ok(kept + count),
-        Err(_) => Err(RunError::Read),
-    }
+    let count = input.read(&mut block[kept..])?;
+    Ok(kept + count)
+}
+
+/// Answers the complete lines of a text, as `answer_lines` does, and writes all answers.
+fn answer_block<W: Write>(
+    text: &[u8],
+    seen: usize,
+    pending: &mut Pending,
+    output: &mut Watched<W>,
+) -> Result<usize, Failed>
+    requires within { seen ≤ length text.now }
+    requires one_line { IsOneLine text.now 0 seen }
+    requires empty { pending.old.items ≡ [] }
+    ensures failed { output.new.failed ≡ (output.old.failed || is_err result) }
+    ensures empty { OnOk result (pending.new.items ≡ []) }
+    ensures start { IfOk result (λ start. start ≤ length text.now) }
+    ensures unfinished { IfOk result (λ start. drop start text.now ≡ unfinished text.now) }
+    ensures answered { OnOk result (Appends (W.contents output.old.inner)
+        (W.contents output.new.inner) (answers (complete text.now))) }
+{
+    let start = answer_lines(text, seen, pending, output)?;
+    send(pending, output)?;
+    Ok(start)
 }
 
 /// Answers the complete lines of a text whose first bytes, `seen` of them, hold no byte 10, and
@@ -83,9 +118,10 @@ fn answer_lines<W: Write>(
     seen: usize,
     pending: &mut Pending,
     output: &mut Watched<W>,
-) -> Result<usize, RunError>
+) -> Result<usize, Failed>
     requires within { seen ≤ length text.now }
     requires one_line { IsOneLine text.now 0 seen }
+    ensures failed { output.new.failed ≡ (output.old.failed || is_err result) }
     ensures start { IfOk result (λ start. start ≤ length text.now) }
     ensures unfinished { IfOk result (λ start. drop start text.now ≡ unfinished text.now) }
     ensures answered { OnOk result (Appends (held W.contents output.old pending.old.items)
@@ -103,7 +139,8 @@ fn answer_lines<W: Write>(
 }
 
 /// Writes the answers that wait, where there is no room for a further one.
-fn make_room<W: Write>(pending: &mut Pending, output: &mut Watched<W>) -> Result<(), RunError>
+fn make_room<W: Write>(pending: &mut Pending, output: &mut Watched<W>) -> Result<(), Failed>
+    ensures failed { output.new.failed ≡ (output.old.failed || is_err result) }
     ensures room { OnOk result (array_vec_len pending.new + ANSWER_MAX ≤ PENDING_MAX) }
     ensures kept { OnOk result (Keeps (held W.contents output.old pending.old.items)
         (held W.contents output.new pending.new.items)) }
@@ -115,7 +152,8 @@ fn make_room<W: Write>(pending: &mut Pending, output: &mut Watched<W>) -> Result
 }
 
 /// Writes all answers that wait.
-fn send<W: Write>(pending: &mut Pending, output: &mut Watched<W>) -> Result<(), RunError>
+fn send<W: Write>(pending: &mut Pending, output: &mut Watched<W>) -> Result<(), Failed>
+    ensures failed { output.new.failed ≡ (output.old.failed || is_err result) }
     ensures empty { OnOk result (pending.new.items ≡ []) }
     ensures sent { OnOk result (Appends (W.contents output.old.inner)
         (W.contents output.new.inner) pending.old.items) }
@@ -126,15 +164,14 @@ fn send<W: Write>(pending: &mut Pending, output: &mut Watched<W>) -> Result<(), 
 }
 
 /// Writes all of `bytes`.
-fn write_all<W: Write>(bytes: &[u8], output: &mut Watched<W>) -> Result<(), RunError>
+fn write_all<W: Write>(bytes: &[u8], output: &mut Watched<W>) -> Result<(), Failed>
+    ensures failed { output.new.failed ≡ (output.old.failed || is_err result) }
     ensures sent { OnOk result (Appends (W.contents output.old.inner)
         (W.contents output.new.inner) bytes.now) }
 {
     let mut rest = bytes;
     while !rest.is_empty() {
-        let Ok(count) = output.write(rest) else {
-            return Err(RunError::Write);
-        };
+        let count = output.write(rest)?;
         rest = &rest[count..];
     }
     Ok(())
@@ -158,8 +195,9 @@ fn finish<W: Write>(
     last: &[u8],
     pending: &mut Pending,
     output: &mut Watched<W>,
-) -> Result<(), RunError>
+) -> Result<(), Failed>
     requires { pending.old.items ≡ [] }
+    ensures failed { output.new.failed ≡ (output.old.failed || is_err result) }
     ensures answered { OnOk result (Appends (W.contents output.old.inner)
         (W.contents output.new.inner) (answers (last_line last.now))) }
 {
@@ -167,8 +205,8 @@ fn finish<W: Write>(
         answer_line(last, pending);
         send(pending, output)?;
     }
-    match output.flush() {
-        Ok(()) => Ok(()),
-        Err(_) => Err(RunError::Write),
-    }
+    output.flush()
 }
+
+#[cfg(test)]
+mod tests;

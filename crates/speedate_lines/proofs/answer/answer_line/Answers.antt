@@ -19,7 +19,7 @@ returns-then-starts_with c =
     let line = c.args.line.now in
     let date = sym c.starts_with.ensures.value ∙ c.if-starts_with.true in
     let same = answer-date line c.if-line-gt-LINE_MAX.false date
-        ∙ ap (λ (text : List ℕ). reply date_text (date_answer text)) (sym (take_rest line 5)) in
+    ∙ ap (λ (text : List ℕ). reply date_text (date_answer text)) (sym (take_rest line 5)) in
     record { answered = appended _ _ _ _ c.answer_date.ensures.answered same }
 
 pub returns-else-starts_with : goal.returns-else-starts_with

@@ -1,4 +1,4 @@
-use Rattle.std.proofs.Common.{◌≡◌, ◌<◌, ◌≤◌, sym, subst, ℕ, ◌+◌, length, arith, ◌∙◌}
+use Rattle.std.proofs.Common.{◌<◌, ◌≤◌, sym, subst, ℕ, ◌+◌, length, arith, ◌∙◌}
 use lib.Count.{count_trailing_zeros}
 use Rattle.speedate_lines.specs.Lines.{IsLineEnd}
 use Rattle.speedate_lines.proofs.LineLemmas.{joined_one_line}
@@ -13,13 +13,15 @@ returns-then-marks-ne0 c =
     let room : place + 16 ≤ length text = omega (arith, before.within) in
     let some : 0 < marks_at text place = omega (arith, c.newlines-marks.ensures.marks) in
     let found = subst (λ (marks : ℕ). IsLineEnd text place (place + count_trailing_zeros 64 marks))
-      (sym c.newlines-marks.ensures.marks) (IsLineEnd-from_marks text place room some) in
-    record { found = record {
-      after = omega (arith, before.after, found.after);
-      within = found.within;
-      newline = found.newline;
-      first = joined_one_line text c.args.from place _ before.one_line found.first;
-    } }
+    (sym c.newlines-marks.ensures.marks) (IsLineEnd-from_marks text place room some) in
+    record {
+      found = record {
+        after = omega (arith, before.after, found.after);
+        within = found.within;
+        newline = found.newline;
+        first = joined_one_line text c.args.from place _ before.one_line found.first;
+      };
+    }
 
 pub loop-place-preserved : goal.loop-place-preserved
 loop-place-preserved c =

@@ -1,10 +1,11 @@
-use Rattle.std.proofs.Common.{◌≡◌, ◌∙◌, ap, sym, ℕ, ◌+◌, ◌-◌, ◌<◌, ◌≤◌, List, [], ◌∷◌, ◌++◌, take, drop, append_assoc, append-nil, arith, subst}
+use Rattle.std.proofs.Common.{◌∙◌, ap, sym, ℕ, ◌+◌, ◌-◌, List, [], ◌∷◌, ◌++◌, take, drop, append_assoc, append-nil, arith, subst}
 use Rattle.std.specs.Io.KnownBytes.{Appends}
 use Rattle.std.proofs.KnownBytes.{Appends-trans, append_known-grown}
 use Rattle.speedate_lines.specs.Lines.{Pieces, complete}
 use Rattle.speedate_lines.specs.Answer.{answer, answers}
 use Rattle.speedate_lines.specs.Block.{held}
 use Rattle.speedate_lines.proofs.LineLemmas.{pieces-from, pieces-rest}
+use Rattle.speedate_lines.proofs.SentLemmas.{or-false}
 use Rattle.speedate_lines.proofs.run.answer_lines.Goals as goal
 
 pub loop-end-preserved : goal.loop-end-preserved
@@ -21,11 +22,14 @@ loop-end-preserved g c =
       ordered = omega arith;
       within = omega (arith, c.in-Some.ensures.found.within);
       one_line = λ k after below same. absurd (omega arith);
-      answered = (before.answered.0 ++ new,
+      answered = (
+        before.answered.0 ++ new,
         Appends-trans _ _ _ before.answered.0 new before.answered.1 appended,
         before.answered.2
-        ∙ ap (λ (all : Pieces). before.answered.0 ++ answers all.complete) here
-        ∙ sym (append_assoc before.answered.0 new (answers (complete next))));
+            ∙ ap (λ (all : Pieces). before.answered.0 ++ answers all.complete) here
+            ∙ sym (append_assoc before.answered.0 new (answers (complete next))),
+      );
+      failed = c.in_ok-make_room.ensures.failed ∙ or-false c.loop-end.output.failed ∙ before.failed;
       rest = before.rest ∙ ap (λ (all : Pieces). all.unfinished) here;
     }
 
@@ -41,4 +45,4 @@ returns-clause-answered g c =
     let here = pieces-rest c.args.text.now c.loop-end.start c.loop-end.searched before.one_line c.in_default.ensures.found in
     let all = before.answered.2 ∙ ap (λ (left : Pieces). before.answered.0 ++ answers left.complete) here ∙ append-nil before.answered.0 in
     subst (Appends (held g.W.Write.contents c.args.output.now c.args.pending.now.items) (held g.W.Write.contents c.loop-end.output c.loop-end.pending.items))
-      (sym all) before.answered.1
+    (sym all) before.answered.1

@@ -13,8 +13,9 @@ invariant-loop-end g l = record {
   one_line : IsOneLine l.text l.start l.searched;
   answered : (done : List ℕ)
       × Appends (held g.W.Write.contents l.initial.output l.initial.pending.items)
-          (held g.W.Write.contents l.output l.pending.items) done
+      (held g.W.Write.contents l.output l.pending.items) done
       × (answers (complete l.text) ≡ done ++ answers (complete (drop l.start l.text)));
+  failed : l.output.failed ≡ l.initial.output.failed;
   rest : unfinished l.text ≡ unfinished (drop l.start l.text);
 }
 

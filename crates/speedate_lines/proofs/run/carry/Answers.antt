@@ -1,6 +1,4 @@
-use Rattle.std.proofs.Common.{◌≡◌, ◌∙◌, ap, sym, subst, ℕ, ◌+◌, ◌-◌, List, ◌++◌, drop, take, min, arith}
-use Rattle.std.specs.List.{copy_within}
-use Rattle.speedate_lines.specs.Block.{kept_of}
+use Rattle.std.proofs.Common.{◌≡◌, ◌∙◌, ap, ℕ, ◌+◌, ◌-◌, List, ◌++◌, drop, take, arith}
 use Rattle.speedate_lines.proofs.BlockLemmas.{take-moved}
 use Rattle.speedate_lines.proofs.run.carry.Goals as goal
 

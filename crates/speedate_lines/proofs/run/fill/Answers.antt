@@ -3,23 +3,23 @@ use Rattle.std.proofs.lemmas.List.{length-take, length-drop}
 use Rattle.speedate_lines.proofs.BlockLemmas.{take-filled, length-filled}
 use Rattle.speedate_lines.proofs.run.fill.Goals as goal
 
-pub returns-in-Ok-clause-filled : goal.returns-in-Ok-clause-filled
-returns-in-Ok-clause-filled g c =
-  let old : List ℕ = c.args.block.now in
-  let buffer : List ℕ = c.read.new.buffer in
-  let count = c.in-Ok.count in
-  let fits : c.args.kept ≤ length old = omega (arith, c.told-block, c.requires) in
-  let taken : count ≤ length buffer = c.in-Ok.ensures.bound.0 in
-  let room : 0 < length buffer =
-      omega (arith, c.requires, c.told-block, c.read.auto.buffer, length-take (69633 - c.args.kept) (drop c.args.kept old), length-drop c.args.kept old) in
-  record {
-    more = take count buffer;
-    consumed = c.in-Ok.ensures.bytes.0;
-    room = fits;
-    ordered = omega arith;
-    within = length-filled c.args.kept count old buffer _ fits taken;
-    text = take-filled c.args.kept count old buffer _ fits taken;
-    nothing = λ same.
-      let none : count ≡ 0 = omega arith in
-      (ap (λ (n : ℕ). take n buffer) none, c.in-Ok.ensures.bytes.1 none room);
-  }
+pub returns-clause-filled : goal.returns-clause-filled
+returns-clause-filled g c =
+    let old : List ℕ = c.args.block.now in
+    let buffer : List ℕ = c.read.new.buffer in
+    let count = c.in_ok-count.count in
+    let fits : c.args.kept ≤ length old = omega (arith, c.told-block, c.requires) in
+    let taken : count ≤ length buffer = c.in_ok-count.ensures.bound.0 in
+    let room : 0 < length buffer =
+    omega (arith, c.requires, c.told-block, c.read.auto.buffer, length-take (69633 - c.args.kept) (drop c.args.kept old), length-drop c.args.kept old) in
+    record {
+      more = take count buffer;
+      consumed = c.in_ok-count.ensures.bytes.0;
+      room = fits;
+      ordered = omega arith;
+      within = length-filled c.args.kept count old buffer _ fits taken;
+      text = take-filled c.args.kept count old buffer _ fits taken;
+      nothing = λ same.
+          let none : count ≡ 0 = omega arith in
+          (ap (λ (n : ℕ). take n buffer) none, c.in_ok-count.ensures.bytes.1 none room);
+    }

@@ -1,6 +1,5 @@
-use Rattle.std.proofs.Common.{◌≡◌, ◌∙◌, ap, sym, subst, ℕ, ◌+◌, ◌<◌, ◌≤◌, List, [], ◌++◌, length, take, drop, append-nil, arith}
+use Rattle.std.proofs.Common.{◌≡◌, ◌∙◌, ap, sym, subst, ℕ, List, ◌++◌, length, take, append-nil, arith}
 use Rattle.std.proofs.lemmas.List.{length-take-le}
-use Rattle.std.proofs.lemmas.Result.{on_ok_weaker}
 use Rattle.std.specs.Io.KnownBytes.{Appends, Consumes}
 use Rattle.std.proofs.KnownBytes.{Appends-trans, Consumes-trans, Consumes-whole}
 use Rattle.speedate_lines.specs.Lines.{IsOneLine, complete, unfinished, last_line, lines}
@@ -8,16 +7,16 @@ use Rattle.speedate_lines.specs.Answer.{answers}
 use Rattle.speedate_lines.specs.Block.{kept_of}
 use Rattle.speedate_lines.proofs.LineLemmas.{IsFree, IsOneLine-from_free, unfinished-free}
 use Rattle.speedate_lines.proofs.CarryLemmas.{kept_of-free, answers-more, kept-more, answers-all}
-use Rattle.speedate_lines.proofs.SentLemmas.{Appends-sent}
+use Rattle.speedate_lines.proofs.SentLemmas.{or-false}
 use Rattle.speedate_lines.proofs.run.run.Goals as goal
 
-pub answer_lines-requires-clause-one_line : goal.answer_lines-requires-clause-one_line
-answer_lines-requires-clause-one_line g c =
+pub answer_block-requires-clause-one_line : goal.answer_block-requires-clause-one_line
+answer_block-requires-clause-one_line g c =
     let kept = c.loop-filled.kept in
     let front : List ℕ = take kept c.loop-filled.block in
     let before = c.loop-filled.invariant in
     let read = before.answered.0 in
-    let filled = c.in_ok-filled.ensures.filled in
+    let filled = c.in-Ok.ensures.filled in
     let free = subst IsFree (sym before.answered.3) (kept_of-free 4097 (unfinished read) (unfinished-free read)) in
     let long : length front ≡ kept = length-take-le kept c.loop-filled.block filled.room in
     subst (λ (text : List ℕ). IsOneLine text 0 kept) (sym filled.text) (IsOneLine-from_free front filled.more kept free (omega arith))
@@ -26,35 +25,37 @@ pub loop-filled-preserved : goal.loop-filled-preserved
 loop-filled-preserved g c =
     let before = c.loop-filled.invariant in
     let read = before.answered.0 in
-    let filled = c.in_ok-filled.ensures.filled in
+    let filled = c.in-Ok.ensures.filled in
     let text = filled.text ∙ ap (λ (front : List ℕ). front ++ filled.more) before.answered.3 in
-    let new = Appends-sent _ _ _ _ _ _ before.empty c.in_ok-start.ensures.answered c.in_ok-send.ensures.sent in
+    let done = c.in-Ok-answer_block.ensures in
     let all = answers-more read filled.more ∙ ap (λ (block : List ℕ). answers (complete read) ++ answers (complete block)) (sym text) in
     record {
-      empty = c.in_ok-send.ensures.empty;
+      empty = done.empty;
+      input_failed = c.in-Ok.ensures.failed ∙ or-false c.loop-filled.input.failed ∙ before.input_failed;
+      output_failed = done.failed ∙ or-false c.loop-filled.output.failed ∙ before.output_failed;
       short = c.carry-kept.ensures.short;
-      answered = (read ++ filled.more,
+      answered = (
+        read ++ filled.more,
         Consumes-trans _ _ _ read filled.more before.answered.1 filled.consumed,
-        subst (Appends _ _) (sym all) (Appends-trans _ _ _ (answers (complete read)) _ before.answered.2 new),
-        c.carry-kept.ensures.kept ∙ ap kept_of c.in_ok-start.ensures.unfinished
-        ∙ ap (λ (block : List ℕ). kept_of (unfinished block)) text ∙ sym (kept-more read filled.more));
+        subst (Appends _ _) (sym all) (Appends-trans _ _ _ (answers (complete read)) _ before.answered.2 done.answered),
+        c.carry-kept.ensures.kept ∙ ap kept_of done.unfinished
+            ∙ ap (λ (block : List ℕ). kept_of (unfinished block)) text ∙ sym (kept-more read filled.more),
+      );
     }
 
-pub returns-clause-answered : goal.returns-clause-answered
-returns-clause-answered g c =
+pub returns-in-Ok-finish-clause-answered : goal.returns-in-Ok-finish-clause-answered
+returns-in-Ok-finish-clause-answered g c =
     let before = c.loop-filled.invariant in
     let read = before.answered.0 in
-    let filled = c.in_ok-filled.ensures.filled in
+    let filled = c.in-Ok.ensures.filled in
     let ended = filled.nothing c.if-filled-kept.true in
     let whole : read ++ filled.more ≡ read = ap (λ (more : List ℕ). read ++ more) ended.0 ∙ append-nil read in
     let consumed = subst (Consumes (g.R.Read.remaining c.args.input.now.inner) (g.R.Read.remaining c.fill.new.input.inner)) whole
-      (Consumes-trans _ _ _ read filled.more before.answered.1 filled.consumed) in
+    (Consumes-trans _ _ _ read filled.more before.answered.1 filled.consumed) in
     let last : take c.loop-filled.kept c.fill.new.block ≡ kept_of (unfinished read) =
-      ap (λ (n : ℕ). take n c.fill.new.block) (sym c.if-filled-kept.true) ∙ filled.text
-      ∙ ap (λ (more : List ℕ). take c.loop-filled.kept c.loop-filled.block ++ more) ended.0
-      ∙ append-nil (take c.loop-filled.kept c.loop-filled.block) ∙ before.answered.3 in
+    ap (λ (n : ℕ). take n c.fill.new.block) (sym c.if-filled-kept.true) ∙ filled.text
+    ∙ ap (λ (more : List ℕ). take c.loop-filled.kept c.loop-filled.block ++ more) ended.0
+    ∙ append-nil (take c.loop-filled.kept c.loop-filled.block) ∙ before.answered.3 in
     let all = ap (λ (line : List ℕ). answers (complete read) ++ answers (last_line line)) last ∙ answers-all read in
-    on_ok_weaker c.finish.result
-      (λ written. Consumes-whole _ _ read (λ text. Appends (g.W.Write.contents c.args.output.now.inner) (g.W.Write.contents c.finish.new.output.inner) (answers (lines text)))
-        consumed ended.1 (subst (Appends _ _) all (Appends-trans _ _ _ (answers (complete read)) _ before.answered.2 written)))
-      c.finish.ensures.answered
+    Consumes-whole _ _ read (λ text. Appends (g.W.Write.contents c.args.output.now.inner) (g.W.Write.contents c.finish.new.output.inner) (answers (lines text)))
+    consumed ended.1 (subst (Appends _ _) all (Appends-trans _ _ _ (answers (complete read)) _ before.answered.2 c.in-Ok-finish.ensures.answered))

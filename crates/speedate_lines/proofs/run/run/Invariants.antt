@@ -1,4 +1,4 @@
-use Rattle.std.proofs.Common.{◌≡◌, ◌-◌, ◌≤◌, ◌^◌, [], ℕ, List, length, take}
+use Rattle.std.proofs.Common.{◌≡◌, ◌-◌, ◌≤◌, ◌^◌, [], ℕ, List, take}
 use Rattle.std.specs.Io.KnownBytes.{Appends, Consumes}
 use Rattle.speedate_lines.specs.Lines.{complete, unfinished}
 use Rattle.speedate_lines.specs.Answer.{answers}
@@ -9,6 +9,8 @@ use Rattle.speedate_lines.proofs.run.run.Given as goal
 abbrev pub invariant-loop-filled : goal.invariant-loop-filled
 invariant-loop-filled g l = record {
   empty : l.pending.items ≡ [];
+  input_failed : l.input.failed ≡ l.initial.input.failed;
+  output_failed : l.output.failed ≡ l.initial.output.failed;
   short : l.kept ≤ 4097;
   answered : (read : List ℕ)
       × Consumes (g.R.Read.remaining l.initial.input.inner) (g.R.Read.remaining l.input.inner) read

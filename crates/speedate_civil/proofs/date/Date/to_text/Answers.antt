@@ -1,4 +1,4 @@
-use Rattle.std.proofs.Common.{◌≡◌, ◌∙◌, sym, subst, ap, lit<, length, arith}
+use Rattle.std.proofs.Common.{◌∙◌, sym, subst, ap, lit<, length, arith}
 use Rattle.std.specs.Str.{IsAscii}
 use Rattle.speedate_civil.specs.declared.date.Date.{Date}
 use Rattle.speedate_civil.specs.Date.{parts}
