@@ -1,5 +1,11 @@
-//! Exact dates: read from bytes, printed in one canonical form.
+//! Exact dates and numbers: read from bytes, dates printed in one canonical form.
 #![tactic(auto)]
 
+pub use speedate_base::config::{
+    MicrosecondsPrecisionOverflowBehavior, TimeConfig, TimeConfigBuilder,
+};
 pub use speedate_base::faults::ParseError;
+pub use speedate_base::numbers::{
+    Decimal, IntFloat, float_parse_bytes, float_parse_str, int_parse_bytes, int_parse_str,
+};
 pub use speedate_civil::date::Date;

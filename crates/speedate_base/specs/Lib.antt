@@ -3,3 +3,10 @@ pub mod RequirementLaws
 pub mod Fault
 pub mod Digits
 pub mod DigitLaws
+pub mod DigitRuns
+pub mod Numbers
+pub mod DigitRunLaws
+pub mod IntFloat
+pub mod NumberLaws
+pub mod Offset
+pub mod TimeConfig

@@ -1,5 +1,7 @@
-//! What the readers and printers of the library stand on: the faults, and numbers in digits.
+//! What the readers and printers of the library stand on: the faults, configurations, and
+//! numbers.
 #![tactic(auto)]
 
+pub mod config;
 pub mod faults;
 pub mod numbers;

@@ -1,33 +1,131 @@
-//! Numbers in decimal digits.
+//! Whole numbers and decimals, and the digits that they are made of.
 
-ghost use Rattle.std.specs.Prelude.{◌≡◌, ◌+◌, ◌≤◌, length, Some, None, if◌then◌else◌};
-ghost use Rattle.speedate_base.specs.Digits.{two_digits_at, two_digit_value, four_digits_at, four_digit_value};
+ghost use Rattle.std.specs.Prelude.{◌≡◌, ◌<◌, ◌≤◌, length, Some, None, if◌then◌else◌};
+ghost use Rattle.speedate_base.specs.Numbers.{is_negative, sign_length, with_sign, fits_i64, whole_number, point_place, decimal_answer, number_answer};
+ghost use Rattle.speedate_base.specs.IntFloat.{answered, JoinsToFloat};
 
-/// The number that the two digits from `place` on spell, or `None` where a byte of them is no
-/// digit: 7 for `b"07"` at place 0.
+mod digits;
+mod number;
+
+use digits::{EXACT_DIGITS, few_digits};
+pub use digits::{DigitRun, digit_run, four_digits, run_end, two_digits};
+pub use number::{Decimal, IntFloat};
+
+/// The whole number that a text is, or `None`: -12 for `"-012"`.
+///
+/// A whole number is one optional `+` or `-` and one or more digits, leading zeros included, whose
+/// value fits an `i64`.
 #[inline]
-pub fn two_digits(bytes: &[u8], place: usize) -> Option<u8>
-    requires { place + 2 ≤ length bytes.now }
-    ensures value { result ≡ (if two_digits_at bytes.now place
-        then Some (two_digit_value bytes.now place) else None) }
+pub fn int_parse_str(text: &str) -> Option<i64>
+    ensures answer { result ≡ whole_number text.now }
 {
-    let (tens, ones) = (bytes[place], bytes[place + 1]);
-    if tens.is_ascii_digit() && ones.is_ascii_digit() {
-        Some(10 * (tens - b'0') + (ones - b'0'))
-    } else {
-        None
+    int_parse_bytes(text.as_bytes())
+}
+
+/// The whole number that the bytes are, or `None`: see [`int_parse_str`].
+#[inline]
+pub fn int_parse_bytes(bytes: &[u8]) -> Option<i64>
+    ensures answer { result ≡ whole_number bytes.now }
+{
+    let (negative, start) = sign(bytes);
+    let digits = &bytes[start..];
+    if digits.is_empty() {
+        return None;
+    }
+    if digits.len() <= EXACT_DIGITS {
+        return signed(negative, few_digits(digits)?);
+    }
+    let run = digit_run(bytes, start);
+    if start + run.length != bytes.len() {
+        return None;
+    }
+    signed(negative, run.value)
+}
+
+/// The number that a text is: a whole number as for [`int_parse_str`], a decimal, or none.
+///
+/// A decimal is one optional `+` or `-`, digits, one `.` and digits, with a digit on one side at
+/// least: the decimal of `"-1.50"` has the digits `1` and `50`. Its slices are the text's own. There
+/// is no exponent. A whole number that does not fit an `i64` is `Err`, as is every other text.
+#[inline]
+pub fn float_parse_str(text: &str) -> IntFloat<'_>
+    ensures answer { answered result ≡ number_answer text.now }
+    ensures joined { JoinsToFloat result text.now }
+{
+    float_parse_bytes(text.as_bytes())
+}
+
+/// The number that the bytes are: see [`float_parse_str`].
+#[inline]
+pub fn float_parse_bytes(bytes: &[u8]) -> IntFloat<'_>
+    ensures answer { answered result ≡ number_answer bytes.now }
+    ensures joined { JoinsToFloat result bytes.now }
+{
+    let (negative, start) = sign(bytes);
+    let run = digit_run(bytes, start);
+    let point = start + run.length;
+    if point < bytes.len() {
+        return decimal(bytes, negative, start, point);
+    }
+    if run.length == 0 {
+        return IntFloat::Err;
+    }
+    match signed(negative, run.value) {
+        Some(number) => IntFloat::Int(number),
+        None => IntFloat::Err,
     }
 }
 
-/// The number that the four digits from `place` on spell, or `None` where a byte of them is no
-/// digit: 2024 for `b"2024"` at place 0.
+/// The decimal whose digits begin at `start`, and whose point is at `point` if there is one.
 #[inline]
-pub fn four_digits(bytes: &[u8], place: usize) -> Option<u16>
-    requires { place + 4 ≤ length bytes.now }
-    ensures value { result ≡ (if four_digits_at bytes.now place
-        then Some (four_digit_value bytes.now place) else None) }
+fn decimal(bytes: &[u8], negative: bool, start: usize, point: usize) -> IntFloat<'_>
+    requires negative { negative ≡ is_negative bytes.now }
+    requires start { start ≡ sign_length bytes.now }
+    requires point { point ≡ point_place bytes.now }
+    requires within { point < length bytes.now }
+    ensures answer { answered result ≡ decimal_answer bytes.now }
 {
-    let hundreds = two_digits(bytes, place)?;
-    let rest = two_digits(bytes, place + 2)?;
-    Some(100 * u16::from(hundreds) + u16::from(rest))
+    if bytes[point] != b'.' {
+        return IntFloat::Err;
+    }
+    if run_end(bytes, point + 1) != bytes.len() {
+        return IntFloat::Err;
+    }
+    if bytes.len() == start + 1 {
+        return IntFloat::Err;
+    }
+    IntFloat::Float(Decimal {
+        negative,
+        whole: &bytes[start..point],
+        fraction: &bytes[point + 1..],
+    })
+}
+
+/// Whether a text begins with `-`, and how many bytes its sign has.
+#[inline]
+fn sign(bytes: &[u8]) -> (bool, usize)
+    ensures negative { result.0 ≡ is_negative bytes.now }
+    ensures len { result.1 ≡ sign_length bytes.now }
+    ensures within { result.1 ≤ length bytes.now }
+{
+    match bytes {
+        [b'-', ..] => (true, 1),
+        [b'+', ..] => (false, 1),
+        _ => (false, 0),
+    }
+}
+
+/// A size with its sign, where it fits.
+#[inline]
+fn signed(negative: bool, size: u64) -> Option<i64>
+    ensures value { result ≡ (if fits_i64 negative size then Some (with_sign negative size) else None) }
+{
+    if size <= i64::MAX as u64 {
+        let value = size as i64;
+        Some(if negative { -value } else { value })
+    } else if negative && size == 1 << 63 {
+        Some(i64::MIN)
+    } else {
+        None
+    }
 }

@@ -1,0 +1,87 @@
+-- Whole numbers and decimals, as texts.
+use Rattle.std.specs.Prelude.{◌≡◌, ◌⊎◌, MatchBool, codes, ℕ, ◌+◌, ◌^◌, Bool, ◌&&◌, ◌||◌, List, [], ◌∷◌, ◌++◌, length, slice_index, nat_lt, nat_le, ◌==◌, if◌then◌else◌, Option, Some, None, ℤ, pos, neg_ℤ}
+use Rattle.speedate_base.specs.DigitRuns.{run_length, run_digits, run_value}
+
+-- a text begins with `-`
+abbrev pub is_negative : List ℕ → Bool
+is_negative text = slice_index text 0 == 45
+
+-- how many bytes its sign has: none, or one `+` or `-`
+abbrev pub sign_length : List ℕ → ℕ
+sign_length text = if (slice_index text 0 == 43) || is_negative text then 1 else 0
+
+-- a size with its sign
+abbrev pub with_sign : Bool → ℕ → ℤ
+with_sign negative size = if negative then neg_ℤ (pos size) else pos size
+
+-- the size of a whole number fits 64 bits with a sign
+abbrev pub fits_i64 : Bool → ℕ → Bool
+fits_i64 negative size = if negative then nat_le size (2 ^ 63) else nat_lt size (2 ^ 63)
+
+-- the text is an optional sign and one or more digits
+abbrev pub is_integer : List ℕ → Bool
+is_integer text =
+    let start = sign_length text in
+    let digits = run_length text start in
+    nat_lt 0 digits && (start + digits == length text)
+
+-- the whole number that a text is, if it is one and fits
+abbrev pub whole_number : List ℕ → Option ℤ
+whole_number text =
+    let size = run_value text (sign_length text) in
+    if is_integer text && fits_i64 (is_negative text) size
+    then Some (with_sign (is_negative text) size) else None
+
+-- a decimal by its parts
+pub record DecimalParts : Type 0 where
+  pub negative : Bool
+  pub whole : List ℕ
+  pub fraction : List ℕ
+
+-- the place of a decimal's point, behind its sign and the digits before it; 46 is `.`
+abbrev pub point_place : List ℕ → ℕ
+point_place text = sign_length text + run_length text (sign_length text)
+
+-- the text is an optional sign, digits, one point and digits, with a digit on one side at least
+abbrev pub is_decimal : List ℕ → Bool
+is_decimal text =
+    let whole = run_length text (sign_length text) in
+    let point = point_place text in
+    let fraction = run_length text (point + 1) in
+    (slice_index text point == 46) && (point + 1 + fraction == length text) && nat_lt 0 (whole + fraction)
+
+-- its parts
+abbrev pub decimal_parts : List ℕ → DecimalParts
+decimal_parts text = record {
+  negative = is_negative text;
+  whole = run_digits text (sign_length text);
+  fraction = run_digits text (point_place text + 1);
+}
+
+-- a number as a text: a whole one, a decimal, or none
+pub data Number : Type 0 where
+  Whole : ℤ → Number
+  Fractional : DecimalParts → Number
+  NoNumber : Number
+
+-- the decimal that a text is, if it is one
+abbrev pub decimal_answer : List ℕ → Number
+decimal_answer text = if is_decimal text then Fractional (decimal_parts text) else NoNumber
+
+-- a whole number, and otherwise what is asked next
+abbrev pub whole_or : Option ℤ → Number → Number
+whole_or (Some number) next = Whole number
+whole_or None next = next
+
+-- the number that a text is
+abbrev pub number_answer : List ℕ → Number
+number_answer text = whole_or (whole_number text) (decimal_answer text)
+
+-- a sign as it stands in a text: `-` exactly if it is negative, otherwise `+` or nothing
+abbrev pub IsSign : Bool → List ℕ → Type 0
+IsSign negative sign = MatchBool negative (sign ≡ codes "-") ((sign ≡ []) ⊎ (sign ≡ codes "+"))
+
+-- the text is the sign, the digits, the point and the digits of the decimal
+abbrev pub JoinsTo : DecimalParts → List ℕ → Type 0
+JoinsTo decimal text =
+    (sign : List ℕ) × IsSign decimal.negative sign × (text ≡ sign ++ decimal.whole ++ 46 ∷ decimal.fraction)

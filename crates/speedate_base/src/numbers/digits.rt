@@ -1,0 +1,144 @@
+//! Digits, at fixed places and in runs.
+
+ghost use Rattle.std.specs.Prelude.{◌≡◌, ◌+◌, ◌-◌, ◌^◌, ◌<◌, ◌≤◌, length, take, min, ◌==◌, Some, None, if◌then◌else◌};
+ghost use Rattle.std.specs.List.{prefix_len};
+ghost use Rattle.speedate_base.specs.Digits.{is_digit, two_digits_at, two_digit_value, four_digits_at, four_digit_value};
+ghost use Rattle.speedate_base.specs.DigitRuns.{run_length, run_value, digits_value};
+ghost use Rattle.speedate_base.specs.DigitRunLaws.{AreDigits};
+
+/// The number that the two digits from `place` on spell, or `None` where a byte of them is no
+/// digit: 7 for `b"07"` at place 0.
+#[inline]
+pub fn two_digits(bytes: &[u8], place: usize) -> Option<u8>
+    requires { place + 2 ≤ length bytes.now }
+    ensures value { result ≡ (if two_digits_at bytes.now place
+        then Some (two_digit_value bytes.now place) else None) }
+{
+    let (tens, ones) = (bytes[place], bytes[place + 1]);
+    if tens.is_ascii_digit() && ones.is_ascii_digit() {
+        Some(10 * (tens - b'0') + (ones - b'0'))
+    } else {
+        None
+    }
+}
+
+/// The number that the four digits from `place` on spell, or `None` where a byte of them is no
+/// digit: 2024 for `b"2024"` at place 0.
+#[inline]
+pub fn four_digits(bytes: &[u8], place: usize) -> Option<u16>
+    requires { place + 4 ≤ length bytes.now }
+    ensures value { result ≡ (if four_digits_at bytes.now place
+        then Some (four_digit_value bytes.now place) else None) }
+{
+    let hundreds = two_digits(bytes, place)?;
+    let rest = two_digits(bytes, place + 2)?;
+    Some(100 * u16::from(hundreds) + u16::from(rest))
+}
+
+/// A run of digits: how many they are, and what they spell.
+#[derive(Clone, Copy, Debug, PartialEq, Eq)]
+pub struct DigitRun {
+    /// How many digits.
+    pub length: usize,
+    /// The number that they spell, or `u64::MAX` where it is larger.
+    pub value: u64,
+}
+
+/// No number of so many digits passes a `u64`.
+pub(crate) const EXACT_DIGITS: usize = 19;
+
+/// The run of digits that begins at `place`: 3 digits that spell 120 for `b"x120."` at place 1.
+#[inline]
+pub fn digit_run(bytes: &[u8], place: usize) -> DigitRun
+    requires { place ≤ length bytes.now }
+    ensures length { result.length ≡ run_length bytes.now place }
+    ensures value { result.value ≡ min (run_value bytes.now place) (2 ^ 64 - 1) }
+{
+    let rest = &bytes[place..];
+    let front = front_run(rest);
+    if front.length < EXACT_DIGITS {
+        return front;
+    }
+    longer_run(rest, front.value)
+}
+
+/// The run of digits at the front of some bytes, or its first `EXACT_DIGITS` digits.
+#[inline]
+fn front_run(bytes: &[u8]) -> DigitRun
+    ensures within { result.length ≤ length bytes.now }
+    ensures short { result.length ≤ EXACT_DIGITS }
+    ensures digits { AreDigits bytes.now result.length }
+    ensures ended { result.length < EXACT_DIGITS → prefix_len is_digit bytes.now ≡ result.length }
+    ensures value { result.value ≡ digits_value (take result.length bytes.now) }
+{
+    let most = bytes.len().min(EXACT_DIGITS);
+    let mut value = 0;
+    for length in 0..most {
+        if !bytes[length].is_ascii_digit() {
+            return DigitRun { length, value };
+        }
+        value = 10 * value + u64::from(bytes[length] - b'0');
+    }
+    DigitRun {
+        length: most,
+        value,
+    }
+}
+
+/// The run of digits at the front of bytes that begin with `EXACT_DIGITS` digits, which spell `front`.
+fn longer_run(bytes: &[u8], front: u64) -> DigitRun
+    requires within { EXACT_DIGITS ≤ length bytes.now }
+    requires digits { AreDigits bytes.now EXACT_DIGITS }
+    requires value { front ≡ digits_value (take EXACT_DIGITS bytes.now) }
+    ensures length { result.length ≡ prefix_len is_digit bytes.now }
+    ensures value { result.value ≡ min (digits_value (take result.length bytes.now)) (2 ^ 64 - 1) }
+{
+    let mut value = front;
+    for place in EXACT_DIGITS..bytes.len() {
+        if !bytes[place].is_ascii_digit() {
+            return DigitRun {
+                length: place,
+                value,
+            };
+        }
+        value = value
+            .saturating_mul(10)
+            .saturating_add(u64::from(bytes[place] - b'0'));
+    }
+    DigitRun {
+        length: bytes.len(),
+        value,
+    }
+}
+
+/// The place at which the run of digits ends that begins at `place`: 4 for `b"x120."` at place 1.
+#[inline]
+pub fn run_end(bytes: &[u8], place: usize) -> usize
+    requires { place ≤ length bytes.now }
+    ensures end { result ≡ place + run_length bytes.now place }
+{
+    for end in place..bytes.len() {
+        if !bytes[end].is_ascii_digit() {
+            return end;
+        }
+    }
+    bytes.len()
+}
+
+/// The number that a few digits spell, or `None` where a byte of them is no digit: 120 for
+/// `b"120"`, 0 for no bytes.
+#[inline]
+pub(crate) fn few_digits(digits: &[u8]) -> Option<u64>
+    requires { length digits.now ≤ EXACT_DIGITS }
+    ensures value { result ≡ (if run_length digits.now 0 == length digits.now
+        then Some (digits_value digits.now) else None) }
+{
+    let mut value = 0;
+    for digit in digits {
+        if !digit.is_ascii_digit() {
+            return None;
+        }
+        value = 10 * value + u64::from(*digit - b'0');
+    }
+    Some(value)
+}

@@ -1,0 +1,44 @@
+//! Numbers as they stand in texts.
+
+ghost use Rattle.std.specs.Prelude.{◌+◌, ◌<◌, length, IsTrue};
+ghost use Rattle.std.specs.List.{list_all};
+ghost use Rattle.speedate_base.specs.Digits.{is_digit};
+
+/// A decimal: the digits before and after its point, as they stand in the text that it was read
+/// from. The decimal of `"-1.50"` has the sign, and the digits `1` and `50`.
+#[derive(Clone, Copy, Debug)]
+pub struct Decimal<'a> {
+    /// Whether the text begins with `-`.
+    pub negative: bool,
+    /// The digits before the point.
+    pub whole: &'a [u8],
+    /// The digits after the point.
+    pub fraction: &'a [u8],
+    pub ghost whole_digits: { IsTrue (list_all is_digit whole.now) },
+    pub ghost fraction_digits: { IsTrue (list_all is_digit fraction.now) },
+    pub ghost some_digit: { 0 < length whole.now + length fraction.now },
+}
+
+/// A number as it stands in a text: see [`float_parse_str`](super::float_parse_str).
+#[derive(Clone, Copy, Debug)]
+pub enum IntFloat<'a> {
+    /// A whole number.
+    Int(i64),
+    /// A decimal.
+    Float(Decimal<'a>),
+    /// No number, or a whole number that does not fit.
+    Err,
+}
+
+impl IntFloat<'_> {
+    ghost use Rattle.std.specs.Prelude.{◌≡◌};
+    ghost use Rattle.speedate_base.specs.IntFloat.{is_no_number};
+
+    /// Whether the text was no number that is read: true for the answer to `"1.5e3"`.
+    #[inline]
+    pub fn is_err(&self) -> bool
+        ensures tells { result ≡ is_no_number self.now }
+    {
+        matches!(self, IntFloat::Err)
+    }
+}

@@ -1,0 +1,207 @@
+//! Whole numbers and decimals.
+
+use speedate::{IntFloat, float_parse_bytes, float_parse_str, int_parse_bytes, int_parse_str};
+use std::alloc::{AllocError, Global};
+use std::process::Abort;
+use std::test::Fail;
+
+/// What a text is to be read as.
+#[derive(Clone, Copy)]
+enum Want {
+    Int(i64),
+    /// Whether it is negative, and the digits before and after the point.
+    Float(bool, &'static str, &'static str),
+    Err,
+}
+
+fn expect_number<R: Abort>(rt: &R, text: &str, want: Want) {
+    let read = float_parse_str(text);
+    assert_eq!(rt; read.is_err(), matches!(want, Want::Err), "{text}");
+    match (read, want) {
+        (IntFloat::Int(number), Want::Int(wanted)) => assert_eq!(rt; number, wanted, "{text}"),
+        (IntFloat::Float(decimal), Want::Float(negative, whole, fraction)) => {
+            assert_eq!(rt; decimal.negative, negative, "{text}");
+            assert_eq!(rt; decimal.whole, whole.as_bytes(), "{text}");
+            assert_eq!(rt; decimal.fraction, fraction.as_bytes(), "{text}");
+        }
+        (IntFloat::Err, Want::Err) => {}
+        _ => assert!(rt; false, "{text}"),
+    }
+}
+
+#[test]
+fn whole_numbers(rt: HostRuntime) {
+    let cases = [
+        ("0", Some(0)),
+        ("-0", Some(0)),
+        ("1", Some(1)),
+        ("-123", Some(-123)),
+        ("+123", Some(123)),
+        ("1585201087123789", Some(1_585_201_087_123_789)),
+        ("00000000000000000001", Some(1)),
+        ("-09223372036854775808", Some(i64::MIN)),
+        ("9223372036854775807", Some(i64::MAX)),
+        ("9223372036854775808", None),
+        ("-9223372036854775809", None),
+        ("18446744073709551615", None),
+        ("18446744073709551616", None),
+        ("18446745728355951616", None),
+        ("20000000000000000000", None),
+        ("92233720368547758089", None),
+        ("", None),
+        ("+", None),
+        ("-", None),
+        ("--1", None),
+        ("+-1", None),
+        ("1-", None),
+        (" 1", None),
+        ("1 ", None),
+        ("xxx", None),
+        ("1.0", None),
+        ("1e3", None),
+    ];
+    for (text, want) in cases {
+        assert_eq!(rt; int_parse_str(text), want, "{text}");
+        assert_eq!(rt; int_parse_bytes(text.as_bytes()), want, "{text}");
+    }
+}
+
+#[test]
+fn numbers_and_decimals(rt: HostRuntime) {
+    let cases = [
+        ("1", Want::Int(1)),
+        ("-0", Want::Int(0)),
+        ("+12", Want::Int(12)),
+        ("-9223372036854775808", Want::Int(i64::MIN)),
+        ("9223372036854775808", Want::Err),
+        ("092233720368547758089", Want::Err),
+        (
+            "9223372036854775808.0",
+            Want::Float(false, "9223372036854775808", "0"),
+        ),
+        ("1.0", Want::Float(false, "1", "0")),
+        ("-1.50", Want::Float(true, "1", "50")),
+        ("+1.5", Want::Float(false, "1", "5")),
+        ("-1.5", Want::Float(true, "1", "5")),
+        ("1.", Want::Float(false, "1", "")),
+        (".5", Want::Float(false, "", "5")),
+        ("-.5", Want::Float(true, "", "5")),
+        ("00.00", Want::Float(false, "00", "00")),
+        ("111111111.11111", Want::Float(false, "111111111", "11111")),
+        (
+            "1111111111111111111111111111.11111",
+            Want::Float(false, "1111111111111111111111111111", "11111"),
+        ),
+        (".", Want::Err),
+        ("-.", Want::Err),
+        ("+.", Want::Err),
+        ("..", Want::Err),
+        ("1..5", Want::Err),
+        ("1.5.", Want::Err),
+        ("--1.5", Want::Err),
+        ("1.-5", Want::Err),
+        ("1.5 ", Want::Err),
+        ("123.12 ", Want::Err),
+        ("1.5e3", Want::Err),
+        ("1,5", Want::Err),
+        ("123.XX", Want::Err),
+        ("inf", Want::Err),
+        ("xxx", Want::Err),
+        ("", Want::Err),
+        ("-", Want::Err),
+    ];
+    for (text, want) in cases {
+        expect_number(&rt, text, want);
+    }
+}
+
+/// A sign, leading zeros, and digits.
+fn padded(alloc: Global, sign: &str, zeros: usize, digits: &str) -> Result<Vec<u8>, AllocError> {
+    let mut text = Vec::new(alloc);
+    text.extend_from_slice(sign.as_bytes())?;
+    for _ in 0..zeros {
+        text.push(b'0')?;
+    }
+    text.extend_from_slice(digits.as_bytes())?;
+    Ok(text)
+}
+
+#[test]
+fn ends_of_the_range_behind_zeros(rt: HostRuntime) -> Result<(), Fail> {
+    let cases = [
+        ("", "9223372036854775807", Some(i64::MAX)),
+        ("+", "9223372036854775807", Some(i64::MAX)),
+        ("-", "9223372036854775807", Some(-i64::MAX)),
+        ("", "9223372036854775808", None),
+        ("+", "9223372036854775808", None),
+        ("-", "9223372036854775808", Some(i64::MIN)),
+        ("", "9223372036854775809", None),
+        ("-", "9223372036854775809", None),
+        ("-", "18446744073709551615", None),
+        ("-", "18446744073709551616", None),
+        ("", "99999999999999999999", None),
+    ];
+    for (sign, digits, want) in cases {
+        for zeros in [0, 1, 18, 19, 20, 400] {
+            let text = padded(rt.alloc(), sign, zeros, digits)?;
+            assert_eq!(rt;
+                int_parse_bytes(&text),
+                want,
+                "{sign}{digits} behind {zeros}"
+            );
+            let read = float_parse_bytes(&text);
+            assert_eq!(rt;
+                read.is_err(),
+                want.is_none(),
+                "{sign}{digits} behind {zeros}"
+            );
+        }
+    }
+    Ok(())
+}
+
+#[test]
+fn digits_beside_every_byte(rt: HostRuntime) {
+    for byte in 0..=255u8 {
+        let (before, after) = ([byte, b'7'], [b'7', byte]);
+        let want_before = match byte {
+            b'+' => Some(7),
+            b'-' => Some(-7),
+            b'0'..=b'9' => Some(10 * i64::from(byte - b'0') + 7),
+            _ => None,
+        };
+        let want_after = match byte {
+            b'0'..=b'9' => Some(70 + i64::from(byte - b'0')),
+            _ => None,
+        };
+        assert_eq!(rt; int_parse_bytes(&before), want_before, "{byte} before");
+        assert_eq!(rt; int_parse_bytes(&after), want_after, "{byte} after");
+        let is_number = |want: Option<i64>| want.is_some() || byte == b'.';
+        assert_eq!(rt;
+            !float_parse_bytes(&before).is_err(),
+            is_number(want_before),
+            "{byte} before"
+        );
+        assert_eq!(rt;
+            !float_parse_bytes(&after).is_err(),
+            is_number(want_after),
+            "{byte} after"
+        );
+    }
+}
+
+#[test]
+fn long_runs_are_read_whole(rt: HostRuntime) -> Result<(), Fail> {
+    let zeros = padded(rt.alloc(), "", 1_048_576, "1")?;
+    assert_eq!(rt; int_parse_bytes(&zeros), Some(1));
+    let decimal = padded(rt.alloc(), "-0.", 1_048_576, "10")?;
+    match float_parse_bytes(&decimal) {
+        IntFloat::Float(read) => {
+            assert!(rt; read.negative);
+            assert_eq!(rt; read.whole, b"0".as_slice());
+            assert_eq!(rt; read.fraction.len(), 1_048_578);
+        }
+        _ => assert!(rt; false),
+    }
+    Ok(())
+}
