@@ -33,3 +33,7 @@ two_digit_text n = (48 + n / 10) ∷ (48 + n % 10) ∷ []
 -- a number below 10,000 in four digits
 abbrev pub four_digit_text : ℕ → List ℕ
 four_digit_text n = two_digit_text (n / 100) ++ two_digit_text (n % 100)
+
+-- a number below 1,000,000 in six digits
+abbrev pub six_digit_text : ℕ → List ℕ
+six_digit_text n = two_digit_text (n / 10000) ++ four_digit_text (n % 10000)

@@ -81,6 +81,12 @@ date_text-reads date valid =
     ∙ meets-all (date_end (date_text date)) (Ok (date_fields (date_text date))) (refl, tt)
     ∙ ap Ok fields
 
+-- two dates with one text are one date
+pub date_text-distinct : (first second : Ymd) → IsDate first → IsDate second → date_text first ≡ date_text second → first ≡ second
+date_text-distinct first second one two same =
+    let read = sym (date_text-reads first one) ∙ ap date_answer same ∙ date_text-reads second two in
+    cc
+
 -- and is ASCII
 pub date_text-IsAscii : (date : Ymd) → IsDate date → IsAscii (date_text date)
 unfolding IsPrintable

@@ -2,3 +2,10 @@ pub mod Calendar
 pub mod DateText
 pub mod Date
 pub mod DateLaws
+pub mod TimeOfDay
+pub mod ClockText
+pub mod OffsetText
+pub mod TimeText
+pub mod Time
+pub mod FractionLaws
+pub mod TimeLaws

@@ -2,10 +2,9 @@
 
 ghost use Rattle.std.specs.Prelude.{◌≡◌, ◌<◌, ◌≤◌, Ok, Some, length, if◌then◌else◌};
 ghost use Rattle.std.specs.Int.{IsInRange};
-ghost use Rattle.speedate_base.specs.Digits.{two_digit_text};
 ghost use Rattle.speedate_civil.specs.Calendar.{month_length, is_leap_year};
 
-use crate::text::ascii_text;
+use crate::text::{ascii_text, two_digit_text};
 use arrayvec::ArrayString;
 use speedate_base::faults::ParseError;
 use speedate_base::numbers::{four_digits, two_digits};
@@ -56,6 +55,7 @@ fn month_length(year: u16, month: u8) -> u8
 }
 
 impl Date {
+    ghost use Rattle.speedate_civil.specs.declared.date.Date.{Date};
     ghost use Rattle.speedate_civil.specs.Date.{parts, answered};
     ghost use Rattle.speedate_civil.specs.DateText.{date_front, date_answer, date_text};
 
@@ -124,6 +124,7 @@ impl Date {
     pub fn to_text(&self) -> ArrayString<TEXT_LENGTH>
         ensures text { result.bytes ≡ date_text (parts self.now) }
         ensures reads_back { date_answer result.bytes ≡ Ok (parts self.now) }
+        ensures distinct { (other : Date) → result.bytes ≡ date_text (parts other) → parts self.now ≡ parts other }
     {
         ascii_text(&self.text_bytes())
     }
@@ -139,15 +140,6 @@ impl Date {
         let [d1, d2] = two_digit_text(self.day);
         [y1, y2, y3, y4, b'-', m1, m2, b'-', d1, d2]
     }
-}
-
-/// The two digits of a number below 100.
-#[inline]
-fn two_digit_text(number: u8) -> [u8; 2]
-    requires { number < 100 }
-    ensures { result ≡ two_digit_text number }
-{
-    [b'0' + number / 10, b'0' + number % 10]
 }
 
 impl fmt::Display for Date {

@@ -1,5 +1,6 @@
-//! Dates: their values, their texts, and the calendar that they lie in.
+//! Dates and times of day: their values, their texts, and the calendar that dates lie in.
 #![tactic(auto)]
 
 pub mod date;
 mod text;
+pub mod time;

@@ -1,0 +1,81 @@
+-- The offset behind a time (RFC 3339 5.6, time-offset; its `:` may be left out, and ISO 8601 allows the sign U+2212).
+-- `rest` is what follows the time, and `numbers` what follows the sign.
+use Rattle.std.specs.Prelude.{ℕ, ◌+◌, ◌*◌, ◌/◌, ◌%◌, Bool, ◌&&◌, ◌||◌, List, [], ◌∷◌, ◌++◌, length, drop, nat_le, nat_lt, ◌==◌, slice_index, if◌then◌else◌, Option, Some, None, ℤ, pos, unsigned_abs, Result, Ok}
+use Rattle.std.specs.Int.{is_negative}
+use Rattle.speedate_base.specs.declared.faults.ParseError.{ParseError}
+use Rattle.speedate_base.specs.declared.faults.ParseError.TheVariants as fault
+use Rattle.speedate_base.specs.Requirement.{Requirement, ◌else_fault◌, meets}
+use Rattle.speedate_base.specs.Digits.{two_digits_at, two_digit_value, two_digit_text}
+use Rattle.speedate_base.specs.Numbers.{with_sign}
+
+-- the three bytes of U+2212, the minus sign
+abbrev pub has_minus_sign : List ℕ → Bool
+has_minus_sign rest = (slice_index rest 0 == 226) && (slice_index rest 1 == 136) && (slice_index rest 2 == 146)
+
+-- the offset is west of UTC; 45 is `-`
+abbrev pub is_west : List ℕ → Bool
+is_west rest = (slice_index rest 0 == 45) || has_minus_sign rest
+
+-- how many bytes its sign has; 43 is `+`
+abbrev pub sign_length : List ℕ → ℕ
+sign_length rest =
+    if has_minus_sign rest then 3
+    else (if (slice_index rest 0 == 43) || (slice_index rest 0 == 45) then 1 else 0)
+
+-- the place of its minute, behind the hour and an optional `:`
+abbrev pub offset_minute_place : List ℕ → ℕ
+offset_minute_place numbers = if slice_index numbers 2 == 58 then 3 else 2
+
+-- its minute
+abbrev pub offset_minute : List ℕ → ℕ
+offset_minute numbers = two_digit_value numbers (offset_minute_place numbers)
+
+-- its size in seconds
+abbrev pub offset_size : List ℕ → ℕ
+offset_size numbers = 3600 * two_digit_value numbers 0 + 60 * offset_minute numbers
+
+-- what follows a sign has to meet
+abbrev pub signed_table : List ℕ → List Requirement
+signed_table numbers =
+    (two_digits_at numbers 0 else_fault fault.InvalidCharTzHour)
+    ∷ (two_digits_at numbers (offset_minute_place numbers) else_fault fault.InvalidCharTzMinute)
+    ∷ (nat_le (offset_minute numbers) 59 else_fault fault.OutOfRangeTzMinute)
+    ∷ (nat_lt (offset_size numbers) 86400 else_fault fault.OutOfRangeTz)
+    ∷ (length numbers == offset_minute_place numbers + 2 else_fault fault.ExtraCharacters)
+    ∷ []
+
+-- the offset is UTC itself, `Z` or `z`
+abbrev pub is_utc : List ℕ → Bool
+is_utc rest = (slice_index rest 0 == 90) || (slice_index rest 0 == 122)
+
+-- what a text without a sign has to meet
+abbrev pub unsigned_table : List ℕ → List Requirement
+unsigned_table rest =
+    ((length rest == 0) || is_utc rest else_fault fault.InvalidCharTzSign)
+    ∷ (nat_le (length rest) 1 else_fault fault.ExtraCharacters)
+    ∷ []
+
+-- the offset that stands behind a sign, or the fault
+abbrev pub signed_answer : Bool → List ℕ → Result (Option ℤ) ParseError
+signed_answer west numbers = meets (signed_table numbers) (Ok (Some (with_sign west (offset_size numbers))))
+
+-- the offset that a text without a sign is, if any, or the fault
+abbrev pub unsigned_answer : List ℕ → Result (Option ℤ) ParseError
+unsigned_answer rest = meets (unsigned_table rest) (Ok (if is_utc rest then Some (pos 0) else None))
+
+-- the offset that follows a time, if any, or the fault of what follows it
+abbrev pub offset_answer : List ℕ → Result (Option ℤ) ParseError
+offset_answer rest =
+    if nat_lt 0 (sign_length rest) then signed_answer (is_west rest) (drop (sign_length rest) rest)
+    else unsigned_answer rest
+
+-- hours and minutes in print
+abbrev pub offset_size_text : ℕ → List ℕ
+offset_size_text size = two_digit_text (size / 3600) ++ 58 ∷ two_digit_text (size / 60 % 60)
+
+-- the one text by which an offset is printed: nothing, `Z`, or a sign, hours and minutes
+abbrev pub offset_text : Option ℤ → List ℕ
+offset_text None = []
+offset_text (Some offset) = let size = unsigned_abs offset in
+    if size == 0 then 90 ∷ []
+    else (if is_negative offset then 45 else 43) ∷ offset_size_text size

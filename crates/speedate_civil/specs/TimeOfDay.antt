@@ -1,0 +1,41 @@
+-- The time of day.
+use Rattle.std.specs.Prelude.{ℕ, ◌+◌, ◌*◌, ◌/◌, ◌%◌, Option, ℤ, Result, Ok, [], ◌∷◌, nat_lt}
+use Rattle.speedate_base.specs.declared.faults.ParseError.{ParseError}
+use Rattle.speedate_base.specs.declared.faults.ParseError.TheVariants as fault
+use Rattle.speedate_base.specs.Requirement.{◌else_fault◌, meets}
+
+-- a time of day by its numbers, and its offset from UTC in seconds, if it has one
+pub record TimeOfDay : Type 0 where
+  pub hour : ℕ
+  pub minute : ℕ
+  pub second : ℕ
+  pub microsecond : ℕ
+  pub offset : Option ℤ
+
+-- the seconds since midnight
+abbrev pub second_of_day : TimeOfDay → ℕ
+second_of_day time = 3600 * time.hour + 60 * time.minute + time.second
+
+-- the milliseconds since midnight, rounded down
+abbrev pub millisecond_of_day : TimeOfDay → ℕ
+millisecond_of_day time = 1000 * second_of_day time + time.microsecond / 1000
+
+-- the microseconds since midnight
+abbrev pub microsecond_of_day : TimeOfDay → ℕ
+microsecond_of_day time = 1000000 * second_of_day time + time.microsecond
+
+-- the time so many seconds and less than a million microseconds after midnight
+abbrev pub time_at : ℕ → ℕ → Option ℤ → TimeOfDay
+time_at second microsecond offset = record {
+  hour = second / 3600;
+  minute = second / 60 % 60;
+  second = second % 60;
+  microsecond = microsecond;
+  offset = offset;
+}
+
+-- the time so many seconds and microseconds after midnight, with the offset attached, if it is still that day
+abbrev pub timestamp_answer : ℕ → ℕ → Option ℤ → Result TimeOfDay ParseError
+timestamp_answer second microsecond offset =
+    let seconds = second + microsecond / 1000000 in
+    meets ((nat_lt seconds 86400 else_fault fault.TimeTooLarge) ∷ []) (Ok (time_at seconds (microsecond % 1000000) offset))

@@ -1,0 +1,256 @@
+//! Times of day, with or without an offset from UTC.
+
+ghost use Rattle.std.specs.Prelude.{◌≡◌, ◌≤◌, ◌∷◌, Some};
+ghost use Rattle.speedate_base.specs.Digits.{six_digit_text};
+ghost use Rattle.std.specs.Option.{ForSome};
+ghost use Rattle.speedate_base.specs.Offset.{IsOffset};
+
+mod fraction;
+mod offset;
+mod places;
+mod pure;
+
+use crate::text::{push_ascii, two_digit_text};
+use arrayvec::ArrayString;
+use offset::{push_offset, read_offset};
+pub use pure::PureTime;
+use speedate_base::config::{MicrosecondsPrecisionOverflowBehavior, TimeConfig};
+use speedate_base::faults::ParseError;
+use std::fmt;
+
+/// How many bytes the longest text of a time has.
+const TEXT_MAX: usize = 21;
+
+/// A time of day, with an offset from UTC or without one.
+///
+/// It is read by [`Time::parse_str`] and printed as `HH:MM:SS`, with `.` and six digits where the
+/// microsecond is not 0, and with the offset where there is one: `12:13:14.500000+01:30`. The
+/// ranges of the fields are part of the type.
+#[derive(Clone, Copy, Debug, PartialEq, Eq)]
+pub struct Time {
+    /// The hour, 0 to 23.
+    pub hour: u8,
+    /// The minute, 0 to 59.
+    pub minute: u8,
+    /// The second, 0 to 59.
+    pub second: u8,
+    /// The microsecond, 0 to 999,999.
+    pub microsecond: u32,
+    /// The offset from UTC in seconds, within 24 hours, if there is one.
+    pub tz_offset: Option<i32>,
+    pub ghost hour_in_range: { hour ≤ 23 },
+    pub ghost minute_in_range: { minute ≤ 59 },
+    pub ghost second_in_range: { second ≤ 59 },
+    pub ghost microsecond_in_range: { microsecond ≤ 999999 },
+    pub ghost offset_in_range: { ForSome tz_offset IsOffset },
+}
+
+impl Time {
+    ghost use Rattle.std.specs.Prelude.{◌+◌, ◌*◌, ◌++◌, IfOk, drop, length, Ok, None};
+    ghost use Rattle.arrayvec.specs.ArrayString.{array_string_len};
+    ghost use Rattle.speedate_base.specs.Offset.{IsWholeMinutes};
+    ghost use Rattle.speedate_base.specs.declared.config.TimeConfig.{TimeConfig};
+    ghost use Rattle.speedate_civil.specs.declared.time.Time.{Time};
+    ghost use Rattle.speedate_base.specs.declared.config.MicrosecondsPrecisionOverflowBehavior.TheVariants as behavior;
+    ghost use Rattle.speedate_civil.specs.Time.{parts, answered};
+    ghost use Rattle.speedate_civil.specs.TimeOfDay.{second_of_day, millisecond_of_day, microsecond_of_day, timestamp_answer};
+    ghost use Rattle.speedate_civil.specs.TimeText.{time_answer, clock_text, time_text};
+
+    /// Reads a time from a text: the time that the text is, as 12:13:14 and a half, an hour east
+    /// of UTC, for `"12:13:14.5+01:00"`, or the text's one fault.
+    ///
+    /// The form is that of RFC 3339, `HH:MM:SS` with an optional fraction and an offset, relaxed:
+    /// the second, the offset and the `:` in it may be left out, the point may be a comma, and a
+    /// negative offset may have the sign U+2212. The faults, in the order in which they are looked
+    /// for:
+    ///
+    /// - `TooShort` where the text has less than five bytes;
+    /// - `InvalidCharHour`, `InvalidCharTimeSep` and `InvalidCharMinute` for the first part, from
+    ///   the left, that is not two digits or is not a `:`;
+    /// - `OutOfRangeHour` where the hour is over 23, and `OutOfRangeMinute` where the minute is
+    ///   over 59;
+    /// - `InvalidCharSecond` where a second `:` is not followed by two digits, and
+    ///   `OutOfRangeSecond` where they are over 59;
+    /// - `SecondFractionMissing` where no digit follows a point, and `SecondFractionTooLong` where
+    ///   more than six do;
+    /// - `InvalidCharTzSign` where something else follows that begins no offset;
+    /// - `InvalidCharTzHour` and `InvalidCharTzMinute` where the sign of an offset is not followed
+    ///   by two digits, an optional `:` and two digits;
+    /// - `OutOfRangeTzMinute` where the minutes of the offset are over 59, and `OutOfRangeTz` where
+    ///   it is of 24 hours or more;
+    /// - `ExtraCharacters` where something follows the offset.
+    #[inline]
+    pub fn parse_str(text: &str) -> Result<Self, ParseError>
+        ensures answer { answered result ≡ time_answer behavior.Error text.now }
+    {
+        Self::parse_bytes(text.as_bytes())
+    }
+
+    /// Reads a time from the bytes of a text, as [`Time::parse_str`] does: 12:13:00 from
+    /// `b"12:13"`. The bytes need not be text.
+    #[inline]
+    pub fn parse_bytes(bytes: &[u8]) -> Result<Self, ParseError>
+        ensures answer { answered result ≡ time_answer behavior.Error bytes.now }
+    {
+        Self::parse_at(bytes, 0, MicrosecondsPrecisionOverflowBehavior::Error)
+    }
+
+    /// Reads a time from the bytes of a text, as [`Time::parse_str`] does, but for the digits of a
+    /// second past the sixth: with the behavior `Truncate` they are dropped, so that
+    /// `b"12:13:12.1234567"` is 12:13:12.123456. The offset of the configuration does not matter.
+    #[inline]
+    pub fn parse_bytes_with_config(bytes: &[u8], config: &TimeConfig) -> Result<Self, ParseError>
+        ensures answer { answered result
+            ≡ time_answer config.now.microseconds_precision_overflow_behavior bytes.now }
+    {
+        Self::parse_at(bytes, 0, config.microseconds_precision_overflow_behavior)
+    }
+
+    /// Reads the time that begins at `place` and takes all the bytes from there on.
+    #[inline]
+    pub(crate) fn parse_at(
+        bytes: &[u8],
+        place: usize,
+        behavior: MicrosecondsPrecisionOverflowBehavior,
+    ) -> Result<Self, ParseError>
+        requires { place ≤ length bytes.now }
+        ensures answer { answered result ≡ time_answer behavior (drop place bytes.now) }
+    {
+        let clock = PureTime::parse(bytes, place, behavior)?;
+        let tz_offset = read_offset(&bytes[place + clock.end..])?;
+        Ok(Time {
+            hour: clock.hour,
+            minute: clock.minute,
+            second: clock.second,
+            microsecond: clock.microsecond,
+            tz_offset,
+        })
+    }
+
+    /// The time so many seconds and microseconds after midnight, without an offset: 10:00:06.5 for
+    /// 36,005 seconds and 1,500,000 microseconds. `TimeTooLarge` where that is not the same day.
+    #[inline]
+    pub fn from_timestamp(
+        timestamp_second: u32,
+        timestamp_microsecond: u32,
+    ) -> Result<Self, ParseError>
+        ensures answer { answered result ≡ timestamp_answer timestamp_second timestamp_microsecond None }
+        ensures instant { IfOk result (λ time. microsecond_of_day (parts time)
+            ≡ 1000000 * timestamp_second + timestamp_microsecond) }
+    {
+        Self::from_timestamp_with_config(
+            timestamp_second,
+            timestamp_microsecond,
+            &TimeConfig::default(),
+        )
+    }
+
+    /// The time so many seconds and microseconds after midnight, as [`Time::from_timestamp`] gives
+    /// it, with the configured offset: 00:00:01Z for one second and the offset 0. The offset is
+    /// attached and shifts nothing.
+    #[inline]
+    pub fn from_timestamp_with_config(
+        timestamp_second: u32,
+        timestamp_microsecond: u32,
+        config: &TimeConfig,
+    ) -> Result<Self, ParseError>
+        ensures answer { answered result
+            ≡ timestamp_answer timestamp_second timestamp_microsecond config.now.unix_timestamp_offset }
+        ensures instant { IfOk result (λ time. microsecond_of_day (parts time)
+            ≡ 1000000 * timestamp_second + timestamp_microsecond) }
+    {
+        let second = u64::from(timestamp_second) + u64::from(timestamp_microsecond / 1_000_000);
+        if second >= 86_400 {
+            return Err(ParseError::TimeTooLarge);
+        }
+        Ok(Time {
+            hour: (second / 3600) as u8,
+            minute: (second / 60 % 60) as u8,
+            second: (second % 60) as u8,
+            microsecond: timestamp_microsecond % 1_000_000,
+            tz_offset: config.unix_timestamp_offset,
+        })
+    }
+
+    /// The seconds since midnight, whatever the offset: 43,994 for 12:13:14.5.
+    #[inline]
+    pub fn total_seconds(&self) -> u32
+        ensures seconds { result ≡ second_of_day (parts self.now) }
+    {
+        3600 * u32::from(self.hour) + 60 * u32::from(self.minute) + u32::from(self.second)
+    }
+
+    /// The milliseconds since midnight, rounded down, whatever the offset: 43,994,500 for
+    /// 12:13:14.5.
+    #[inline]
+    pub fn total_ms(&self) -> u32
+        ensures milliseconds { result ≡ millisecond_of_day (parts self.now) }
+    {
+        1000 * self.total_seconds() + self.microsecond / 1000
+    }
+
+    /// The canonical text, `HH:MM:SS`, a point and six digits where the microsecond is not 0, and
+    /// the offset where there is one: `Z`, or a sign, hours and minutes, as `12:13:14.500000+01:30`.
+    ///
+    /// It reads back as the time, under every configuration, where the offset is absent or whole
+    /// minutes. The seconds of another offset are not printed.
+    #[inline]
+    pub fn to_text(&self) -> ArrayString<TEXT_MAX>
+        ensures text { result.bytes ≡ time_text (parts self.now) }
+        ensures reads_back { IsWholeMinutes self.now.tz_offset → (config : TimeConfig)
+            → time_answer config.microseconds_precision_overflow_behavior result.bytes ≡ Ok (parts self.now) }
+        ensures distinct { IsWholeMinutes self.now.tz_offset → (other : Time) → IsWholeMinutes other.tz_offset
+            → result.bytes ≡ time_text (parts other) → parts self.now ≡ parts other }
+    {
+        let mut text = ArrayString::new();
+        self.push_onto(&mut text);
+        text
+    }
+
+    /// Appends the canonical text.
+    #[inline]
+    pub(crate) fn push_onto<const LENGTH: usize>(&self, text: &mut ArrayString<LENGTH>)
+        requires room { array_string_len text.old + TEXT_MAX ≤ LENGTH }
+        ensures text { text.new.bytes ≡ text.old.bytes ++ time_text (parts self.now) }
+    {
+        push_ascii(&self.clock_text(), text);
+        if self.microsecond != 0 {
+            push_ascii(&fraction_text(self.microsecond), text);
+        }
+        push_offset(self.tz_offset, text);
+    }
+
+    /// The hour, minute and second in the canonical text.
+    #[inline]
+    fn clock_text(&self) -> [u8; 8]
+        ensures { result ≡ clock_text (parts self.now) }
+    {
+        let [h1, h2] = two_digit_text(self.hour);
+        let [m1, m2] = two_digit_text(self.minute);
+        let [s1, s2] = two_digit_text(self.second);
+        [h1, h2, b':', m1, m2, b':', s1, s2]
+    }
+}
+
+/// A point and the six digits of a microsecond.
+#[inline]
+fn fraction_text(microsecond: u32) -> [u8; 7]
+    requires { microsecond ≤ 999999 }
+    ensures { result ≡ 46 ∷ six_digit_text microsecond }
+{
+    let [f1, f2] = two_digit_text((microsecond / 10_000) as u8);
+    let [f3, f4] = two_digit_text((microsecond / 100 % 100) as u8);
+    let [f5, f6] = two_digit_text((microsecond % 100) as u8);
+    [b'.', f1, f2, f3, f4, f5, f6]
+}
+
+impl fmt::Display for Time {
+    ghost use Rattle.speedate_civil.specs.Time.{parts};
+    ghost use Rattle.speedate_civil.specs.TimeText.{time_text};
+
+    ghost output = { λ time. Some (time_text (parts time)) };
+
+    fn fmt<W: fmt::Write>(&self, f: &mut fmt::Formatter<W>) -> fmt::Result {
+        f.write_str(self.to_text().as_str())
+    }
+}

@@ -1,0 +1,100 @@
+//! Offsets from UTC, behind a time.
+
+ghost use Rattle.std.specs.Prelude.{◌≡◌, ◌≤◌, ◌+◌, ◌<◌, ◌∷◌, ◌++◌, IfOk, length, if◌then◌else◌, unsigned_abs};
+ghost use Rattle.std.specs.Int.{is_negative};
+ghost use Rattle.std.specs.Option.{ForSome};
+ghost use Rattle.arrayvec.specs.ArrayString.{array_string_len};
+ghost use Rattle.speedate_base.specs.Numbers.{with_sign};
+ghost use Rattle.speedate_base.specs.Offset.{IsOffset};
+ghost use Rattle.speedate_civil.specs.OffsetText.{offset_answer, signed_answer, offset_minute_place, offset_size_text, offset_text};
+
+use crate::text::{push_ascii, two_digit_text};
+use crate::time::places::{byte_at, two_digits_there};
+use arrayvec::ArrayString;
+use speedate_base::faults::ParseError;
+
+/// The offset in seconds that follows a time: none for no bytes, 0 for `Z` or `z`, 5,400 for
+/// `+01:30`.
+#[inline]
+pub(crate) fn read_offset(rest: &[u8]) -> Result<Option<i32>, ParseError>
+    ensures answer { result ≡ offset_answer rest.now }
+    ensures range { IfOk result (λ offset. ForSome offset IsOffset) }
+{
+    match rest {
+        [] => Ok(None),
+        [b'Z' | b'z'] => Ok(Some(0)),
+        [b'Z' | b'z', ..] => Err(ParseError::ExtraCharacters),
+        [b'+', numbers @ ..] => signed_offset(false, numbers),
+        [b'-', numbers @ ..] => signed_offset(true, numbers),
+        [0xe2, 0x88, 0x92, numbers @ ..] => signed_offset(true, numbers),
+        _ => Err(ParseError::InvalidCharTzSign),
+    }
+}
+
+/// The offset whose sign says whether it is west of UTC, and whose hour and minute follow.
+#[inline]
+fn signed_offset(west: bool, numbers: &[u8]) -> Result<Option<i32>, ParseError>
+    ensures answer { result ≡ signed_answer west numbers.now }
+    ensures range { IfOk result (λ offset. ForSome offset IsOffset) }
+{
+    let hour = two_digits_there(numbers, 0).ok_or(ParseError::InvalidCharTzHour)?;
+    let place = minute_place(numbers);
+    let minute = two_digits_there(numbers, place).ok_or(ParseError::InvalidCharTzMinute)?;
+    if minute > 59 {
+        return Err(ParseError::OutOfRangeTzMinute);
+    }
+    let size = 3600 * u32::from(hour) + 60 * u32::from(minute);
+    if size >= 86_400 {
+        return Err(ParseError::OutOfRangeTz);
+    }
+    if numbers.len() > place + 2 {
+        return Err(ParseError::ExtraCharacters);
+    }
+    Ok(Some(with_sign(west, size)))
+}
+
+/// An offset of this size, with its sign.
+#[inline]
+fn with_sign(west: bool, size: u32) -> i32
+    requires { size < 86400 }
+    ensures value { result ≡ with_sign west size }
+    ensures range { IsOffset result }
+{
+    if west { -(size as i32) } else { size as i32 }
+}
+
+/// The place of the minute behind an hour of two digits and an optional `:`.
+#[inline]
+fn minute_place(numbers: &[u8]) -> usize
+    ensures place { result ≡ offset_minute_place numbers.now }
+    ensures few { result ≤ 3 }
+{
+    if byte_at(numbers, 2) == b':' { 3 } else { 2 }
+}
+
+/// Appends the text of an offset, if there is one.
+#[inline]
+pub(crate) fn push_offset<const LENGTH: usize>(offset: Option<i32>, text: &mut ArrayString<LENGTH>)
+    requires range { ForSome offset IsOffset }
+    requires room { array_string_len text.old + 6 ≤ LENGTH }
+    ensures text { text.new.bytes ≡ text.old.bytes ++ offset_text offset }
+{
+    match offset {
+        None => {}
+        Some(0) => push_ascii(b"Z", text),
+        Some(seconds) => push_ascii(&signed_text(seconds), text),
+    }
+}
+
+/// The sign, hours and minutes of an offset.
+#[inline]
+fn signed_text(offset: i32) -> [u8; 6]
+    requires { IsOffset offset }
+    ensures { result ≡ (if is_negative offset then 45 else 43) ∷ offset_size_text (unsigned_abs offset) }
+{
+    let size = offset.unsigned_abs();
+    let sign = if offset < 0 { b'-' } else { b'+' };
+    let [h1, h2] = two_digit_text((size / 3600) as u8);
+    let [m1, m2] = two_digit_text((size / 60 % 60) as u8);
+    [sign, h1, h2, b':', m1, m2]
+}

@@ -1,0 +1,157 @@
+//! Times of day without their offsets, at the front of a text.
+
+ghost use Rattle.std.specs.Prelude.{◌≡◌, ◌+◌, ◌<◌, ◌≤◌, ◌||◌, ◌==◌, IfOk, IfSome, IsTrue, Some, None, length, drop, slice_index, nat_le, if◌then◌else◌};
+ghost use Rattle.speedate_base.specs.Digits.{two_digits_at, two_digit_value};
+ghost use Rattle.speedate_civil.specs.ClockText.{refuses_digits, ◌implies◌};
+
+use crate::time::fraction::Fraction;
+use crate::time::places::{byte_at, two_digits_there};
+use speedate_base::config::MicrosecondsPrecisionOverflowBehavior;
+use speedate_base::faults::ParseError;
+use speedate_base::numbers::two_digits;
+
+/// A time of day that was read at the front of a text, without what follows it there.
+#[derive(Clone, Copy, Debug, PartialEq, Eq)]
+pub struct PureTime {
+    /// The hour, 0 to 23.
+    pub hour: u8,
+    /// The minute, 0 to 59.
+    pub minute: u8,
+    /// The second, 0 to 59.
+    pub second: u8,
+    /// The microsecond, 0 to 999,999.
+    pub microsecond: u32,
+    /// How many bytes of the text were read.
+    pub end: usize,
+    pub ghost hour_in_range: { hour ≤ 23 },
+    pub ghost minute_in_range: { minute ≤ 59 },
+    pub ghost second_in_range: { second ≤ 59 },
+    pub ghost microsecond_in_range: { microsecond ≤ 999999 },
+}
+
+impl PureTime {
+    ghost use Rattle.speedate_civil.specs.ClockText.{clock_answer, time_front, minute_front};
+    ghost use Rattle.speedate_civil.specs.Time.{answered_fields};
+
+    /// Reads the time that begins at `place`.
+    #[inline]
+    pub fn parse(
+        bytes: &[u8],
+        place: usize,
+        behavior: MicrosecondsPrecisionOverflowBehavior,
+    ) -> Result<Self, ParseError>
+        requires { place ≤ length bytes.now }
+        ensures answer { answered_fields result ≡ time_front behavior (drop place bytes.now) }
+        ensures within { IfOk result (λ time. place + time.end ≤ length bytes.now) }
+    {
+        let text = &bytes[place..];
+        if text.len() < 5 {
+            return Err(ParseError::TooShort);
+        }
+        let hour = two_digits(text, 0).ok_or(ParseError::InvalidCharHour)?;
+        if text[2] != b':' {
+            return Err(ParseError::InvalidCharTimeSep);
+        }
+        let rest = &text[3..];
+        let minute = two_digits(rest, 0).ok_or(ParseError::InvalidCharMinute)?;
+        if hour > 23 {
+            return Err(ParseError::OutOfRangeHour);
+        }
+        Self::after_minute(3, hour, minute, rest, behavior)
+    }
+
+    /// Reads a time of hour 0 from its minute on, which begins at `place`.
+    #[inline]
+    pub fn parse_from_minute(
+        bytes: &[u8],
+        place: usize,
+        behavior: MicrosecondsPrecisionOverflowBehavior,
+    ) -> Result<Self, ParseError>
+        requires { place ≤ length bytes.now }
+        ensures answer { answered_fields result ≡ minute_front behavior (drop place bytes.now) }
+        ensures within { IfOk result (λ time. place + time.end ≤ length bytes.now) }
+    {
+        let rest = &bytes[place..];
+        let minute = two_digits_there(rest, 0).ok_or(ParseError::InvalidCharMinute)?;
+        Self::after_minute(0, 0, minute, rest, behavior)
+    }
+
+    /// Reads the second and the fraction behind the minute with which `rest` begins, and which
+    /// `start` bytes stand before.
+    #[inline]
+    fn after_minute(
+        start: usize,
+        hour: u8,
+        minute: u8,
+        rest: &[u8],
+        behavior: MicrosecondsPrecisionOverflowBehavior,
+    ) -> Result<Self, ParseError>
+        requires start { start ≤ 3 }
+        requires hour { hour ≤ 23 }
+        requires minute { minute ≡ two_digit_value rest.now 0 }
+        requires within { 2 ≤ length rest.now }
+        ensures answer { answered_fields result ≡ clock_answer behavior start hour rest.now }
+        ensures within { IfOk result (λ time. time.end ≤ start + length rest.now) }
+    {
+        if minute > 59 {
+            return Err(ParseError::OutOfRangeMinute);
+        }
+        if byte_at(rest, 2) != b':' {
+            return Ok(PureTime {
+                hour,
+                minute,
+                second: 0,
+                microsecond: 0,
+                end: start + 2,
+            });
+        }
+        let second = two_digits_there(rest, 3).ok_or(ParseError::InvalidCharSecond)?;
+        if second > 59 {
+            return Err(ParseError::OutOfRangeSecond);
+        }
+        if !has_point(rest) {
+            return Ok(PureTime {
+                hour,
+                minute,
+                second,
+                microsecond: 0,
+                end: start + 5,
+            });
+        }
+        let fraction = Fraction::read(rest, 6);
+        if fraction.length == 0 {
+            return Err(ParseError::SecondFractionMissing);
+        }
+        if !takes_digits(behavior, fraction.length) {
+            return Err(ParseError::SecondFractionTooLong);
+        }
+        Ok(PureTime {
+            hour,
+            minute,
+            second,
+            microsecond: fraction.microsecond,
+            end: start + 6 + fraction.length,
+        })
+    }
+}
+
+/// Whether a point or a comma follows the second of a time that is given from its minute on.
+#[inline]
+fn has_point(rest: &[u8]) -> bool
+    ensures value { result ≡ ((slice_index rest.now 5 == 46) || (slice_index rest.now 5 == 44)) }
+    ensures there { IsTrue result → 6 ≤ length rest.now }
+{
+    let byte = byte_at(rest, 5);
+    byte == b'.' || byte == b','
+}
+
+/// Whether so many digits of a second are taken.
+#[inline]
+fn takes_digits(behavior: MicrosecondsPrecisionOverflowBehavior, count: usize) -> bool
+    ensures { result ≡ (refuses_digits behavior implies nat_le count 6) }
+{
+    match behavior {
+        MicrosecondsPrecisionOverflowBehavior::Truncate => true,
+        MicrosecondsPrecisionOverflowBehavior::Error => count <= 6,
+    }
+}
