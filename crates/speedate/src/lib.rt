@@ -1,4 +1,5 @@
-//! Exact dates and numbers: read from bytes, dates printed in one canonical form.
+//! Exact dates, times of day and numbers: read from bytes, dates and times printed in one canonical
+//! form.
 #![tactic(auto)]
 
 pub use speedate_base::config::{
@@ -9,3 +10,4 @@ pub use speedate_base::numbers::{
     Decimal, IntFloat, float_parse_bytes, float_parse_str, int_parse_bytes, int_parse_str,
 };
 pub use speedate_civil::date::Date;
+pub use speedate_civil::time::Time;

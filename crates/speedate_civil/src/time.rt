@@ -254,3 +254,6 @@ impl fmt::Display for Time {
         f.write_str(self.to_text().as_str())
     }
 }
+
+#[cfg(test)]
+mod tests;

@@ -3,10 +3,12 @@
 ghost use Rattle.std.specs.Prelude.{◌≡◌, ◌+◌, ◌≤◌, length, [], ◌∷◌, ◌++◌};
 ghost use Rattle.arrayvec.specs.ArrayVec.{array_vec_len};
 ghost use Rattle.speedate_lines.specs.Answer.{answer, reply, accepted, refused};
+ghost use Rattle.speedate.specs.declared.MicrosecondsPrecisionOverflowBehavior.TheVariants as behavior;
 ghost use Rattle.speedate.specs.DateText.{date_answer, date_text};
+ghost use Rattle.speedate.specs.TimeText.{time_answer, time_text};
 
 use arrayvec::ArrayVec;
-use speedate::Date;
+use speedate::{Date, Time};
 
 /// A longer line is answered without being looked at.
 const LINE_MAX: usize = 4096;
@@ -30,11 +32,14 @@ pub fn answer_line(line: &[u8], pending: &mut Pending)
         refuse("line_too_long", pending)
     } else if line.starts_with(b"date ") {
         answer_date(&line[5..], pending)
+    } else if line.starts_with(b"time ") {
+        answer_time(&line[5..], pending)
     } else {
         refuse("unknown_kind", pending)
     }
 }
 
+/// Appends the answer to the text of a date.
 #[inline]
 fn answer_date(text: &[u8], pending: &mut Pending)
     requires { array_vec_len pending.old + ANSWER_MAX ≤ PENDING_MAX }
@@ -43,6 +48,19 @@ fn answer_date(text: &[u8], pending: &mut Pending)
 {
     match Date::parse_bytes_rfc3339(text) {
         Ok(date) => accept(&date.to_text(), pending),
+        Err(fault) => refuse(fault.name(), pending),
+    }
+}
+
+/// Appends the answer to the text of a time.
+#[inline]
+fn answer_time(text: &[u8], pending: &mut Pending)
+    requires { array_vec_len pending.old + ANSWER_MAX ≤ PENDING_MAX }
+    ensures answered { pending.new.items ≡ pending.old.items
+        ++ (reply time_text (time_answer behavior.Error text.now) ++ 10 ∷ []) }
+{
+    match Time::parse_bytes(text) {
+        Ok(time) => accept(&time.to_text(), pending),
         Err(fault) => refuse(fault.name(), pending),
     }
 }

@@ -1,0 +1,9 @@
+use Rattle.std.proofs.Common.{◌∙◌}
+use Rattle.speedate.specs.TimeText.{time_text}
+use Rattle.speedate_lines.proofs.AnswerLemmas.{reply-printed}
+use Rattle.speedate_lines.proofs.answer.answer_time.Goals as goal
+
+pub returns-in-Ok : goal.returns-in-Ok
+returns-in-Ok c = record {
+  answered = reply-printed time_text _ _ _ _ _ c.accept.ensures.accepted (c.deref.ensures.0 ∙ c.to_text.ensures.text) c.in-Ok.ensures.answer;
+}
