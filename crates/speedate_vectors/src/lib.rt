@@ -6,3 +6,5 @@
 mod config;
 #[cfg(test)]
 mod numbers;
+#[cfg(test)]
+mod times;

@@ -10,7 +10,8 @@ use std::fmt::{self, Write};
 use std::process::Abort;
 use std::test::Fail;
 
-const REFUSING: MicrosecondsPrecisionOverflowBehavior = MicrosecondsPrecisionOverflowBehavior::Error;
+const REFUSING: MicrosecondsPrecisionOverflowBehavior =
+    MicrosecondsPrecisionOverflowBehavior::Error;
 
 const TRUNCATING: MicrosecondsPrecisionOverflowBehavior =
     MicrosecondsPrecisionOverflowBehavior::Truncate;
@@ -223,7 +224,10 @@ fn reads_a_time_within_a_text(rt: HostRuntime) {
         microsecond: 500_000,
         end: 7,
     };
-    assert_eq!(rt; PureTime::parse_from_minute(bytes, 4, REFUSING), Ok(from_minute));
+    assert_eq!(rt;
+        PureTime::parse_from_minute(bytes, 4, REFUSING),
+        Ok(from_minute)
+    );
     let faults = [
         ("", ParseError::InvalidCharMinute),
         ("1", ParseError::InvalidCharMinute),
@@ -235,10 +239,20 @@ fn reads_a_time_within_a_text(rt: HostRuntime) {
         ("59:59.1234567", ParseError::SecondFractionTooLong),
     ];
     for (text, fault) in faults {
-        assert_eq!(rt; PureTime::parse_from_minute(text.as_bytes(), 0, REFUSING), Err(fault), "{text}");
+        assert_eq!(rt;
+            PureTime::parse_from_minute(text.as_bytes(), 0, REFUSING),
+            Err(fault),
+            "{text}"
+        );
     }
-    assert_eq!(rt; PureTime::parse(bytes, 12, REFUSING), Err(ParseError::TooShort));
-    assert_eq!(rt; PureTime::parse(b"12:13:14.1234567", 0, TRUNCATING).map(|time| time.end), Ok(16));
+    assert_eq!(rt;
+        PureTime::parse(bytes, 12, REFUSING),
+        Err(ParseError::TooShort)
+    );
+    assert_eq!(rt;
+        PureTime::parse(b"12:13:14.1234567", 0, TRUNCATING).map(|time| time.end),
+        Ok(16)
+    );
 }
 
 #[test]

@@ -146,7 +146,7 @@ fn padded(alloc: Global, front: &[u8], byte: u8, count: usize) -> Result<Vec<u8>
 
 #[test]
 fn answers_each_line(rt: HostRuntime) {
-    let cases: [(&[u8], &[u8]); 12] = [
+    let cases: [(&[u8], &[u8]); 21] = [
         (INPUT, OUTPUT),
         (b"", b""),
         (b"\n", b"err unknown_kind\n"),
@@ -162,6 +162,18 @@ fn answers_each_line(rt: HostRuntime) {
             b"date \xff\xff\xff\xff\xff\xff\xff\xff\xff\xff",
             b"err invalid_char_year\n",
         ),
+        (b"time 12:13", b"ok 12:13:00\n"),
+        (b"time 12:00:00+0130", b"ok 12:00:00+01:30\n"),
+        (b"time 12:13:14,5z", b"ok 12:13:14.500000Z\n"),
+        (b"time 24:00", b"err out_of_range_hour\n"),
+        (b"time 12345", b"err invalid_char_time_sep\n"),
+        (b"time ", b"err too_short\n"),
+        (b"time", b"err unknown_kind\n"),
+        (b"time 12:13\r\n", b"err invalid_char_tz_sign\n"),
+        (
+            b"time 23:59\ndate 2000-02-29\ntime 2000-02-29\ndate 23:59",
+            b"ok 23:59:00\nok 2000-02-29\nerr invalid_char_time_sep\nerr too_short\n",
+        ),
     ];
     for (input, output) in cases {
         for step in [1, 2, 7, usize::MAX] {
@@ -176,7 +188,7 @@ fn answers_each_line(rt: HostRuntime) {
 
 #[test]
 fn limits_a_line(rt: HostRuntime) -> Result<(), Fail> {
-    let cases: [(&[u8], u8, usize, &[u8]); 8] = [
+    let cases: [(&[u8], u8, usize, &[u8]); 10] = [
         (b"date ", b'1', 4091, b"err invalid_char_date_sep\n"),
         (b"date ", b'1', 4092, b"err line_too_long\n"),
         (b"", b'x', 4096, b"err unknown_kind\n"),
@@ -185,6 +197,13 @@ fn limits_a_line(rt: HostRuntime) -> Result<(), Fail> {
         (b"", b'x', 69_633, b"err line_too_long\n"),
         (b"", b'x', 200_000, b"err line_too_long\n"),
         (b"date 2020-01-01", b' ', 4081, b"err extra_characters\n"),
+        (
+            b"time 12:13:14.",
+            b'1',
+            4082,
+            b"err second_fraction_too_long\n",
+        ),
+        (b"time 12:13:14.", b'1', 4083, b"err line_too_long\n"),
     ];
     for (front, byte, count, want) in cases {
         let line = padded(rt.alloc(), front, byte, count)?;
