@@ -41,7 +41,7 @@ unfolding IsPrintable
 is_printable date valid =
     (omega (arith, valid.year), omega (arith, valid.month), omega (arith, valid.day, month_length-small date.year date.month))
 
-two_digit_text-IsAscii : (n : ℕ) (rest : List ℕ) → n < 100 → IsAscii rest → IsAscii (two_digit_text n ++ rest)
+pub two_digit_text-IsAscii : (n : ℕ) (rest : List ℕ) → n < 100 → IsAscii rest → IsAscii (two_digit_text n ++ rest)
 two_digit_text-IsAscii n rest small tail =
     IsAscii-cons (48 + n / 10) ((48 + n % 10) ∷ rest) (omega arith) (IsAscii-cons (48 + n % 10) rest (omega arith) tail)
 

@@ -1,14 +1,13 @@
 -- The digits of a fraction of a second, six of them or fewer.
-use Rattle.std.proofs.Common.{◌≡◌, ◌∙◌, ap, refl, ℕ, zero, suc, ◌+◌, ◌-◌, ◌*◌, ◌^◌, ◌<◌, ◌≤◌, Bool, true, false, ◌&&◌, List, [], ◌∷◌, length, min, arith, lit<}
-use Rattle.std.specs.Prelude.{nat_le, if◌then◌else◌, Some, None}
+use Rattle.std.proofs.Common.{◌≡◌, ◌∙◌, ap, sym, refl, ℕ, zero, suc, ◌+◌, ◌-◌, ◌*◌, ◌^◌, ◌<◌, ◌≤◌, Bool, true, false, ◌&&◌, List, [], ◌∷◌, length, take, get_or, inl, inr, arith, lit<}
+use Rattle.std.specs.Prelude.{nat_le}
 use Rattle.std.specs.List.{prefix_len}
-use Rattle.std.proofs.lemmas.Bool.{and_parts, leb-true}
+use Rattle.std.proofs.lemmas.Bool.{and_from, and_parts, cases_lt, false≢true, le-leb, leb-true}
+use Rattle.std.proofs.lemmas.List.{get_or_past, length-take-le}
 use Rattle.std.proofs.Math.Nat.{pow-le-pow_right}
-use Rattle.std.proofs.lemmas.List.Folds.{length-prefix_len}
-use Rattle.std.proofs.lemmas.List.Sums.{prefix_len-le-length, prefix_len_passes}
 use Rattle.speedate_base.specs.Digits.{is_digit, two_digits_at, two_digit_value, four_digits_at, four_digit_value}
-use Rattle.speedate_base.specs.DigitRuns.{run_length, run_digits, run_value, digits_value}
-use Rattle.speedate_base.specs.DigitRunLaws.{digits_value-front-lt}
+use Rattle.speedate_base.specs.DigitRuns.{run_length, run_digits, digits_value}
+use Rattle.speedate_base.specs.DigitRunLaws.{AreDigits, digits_value-front-lt}
 use Rattle.speedate_civil.specs.ClockText.{fraction_value}
 
 -- fewer digits are filled with zeros
@@ -32,26 +31,28 @@ filled-lt value (suc (suc (suc (suc zero)))) few small = omega arith
 filled-lt value (suc (suc (suc (suc (suc zero))))) few small = omega arith
 filled-lt value (suc (suc (suc (suc (suc (suc count)))))) few small = absurd (omega arith)
 
--- a run of fewer digits spells less than the power of ten, and so less than a machine number holds
-pub short_run-lt : (digits : List ℕ) → run_length digits 0 < 6 → run_value digits 0 < 10 ^ run_length digits 0
-short_run-lt digits few =
-    digits_value-front-lt digits (run_length digits 0) (prefix_len-le-length is_digit digits) (λ k below. prefix_len_passes is_digit digits k 0 below)
+-- what fewer digits than six mean, where the run ends behind them
+pub fraction_value-ended : (digits : List ℕ) (count : ℕ) → count < 6 → count ≤ length digits → run_length digits 0 ≡ count
+    → fraction_value (run_digits digits 0) ≡ digits_value (take count digits) * 10 ^ (6 - count)
+fraction_value-ended digits count few within ended =
+    let long = length-take-le count digits within in
+    ap (λ (n : ℕ). fraction_value (take n digits)) ended ∙ fraction_value-filled (take count digits) (omega arith)
+    ∙ ap (λ (n : ℕ). digits_value (take count digits) * 10 ^ (6 - n)) long
 
-pub short_run-small : (digits : List ℕ) → run_length digits 0 < 6 → run_value digits 0 < 1000000
-short_run-small digits few =
-    let most : run_length digits 0 ≤ 6 = omega arith in
-    let power : 10 ^ run_length digits 0 ≤ 10 ^ 6 = pow-le-pow_right {n = 10} (lit< tt) most in
-    omega (arith, short_run-lt digits few)
+-- a digit stands within its text
+pub digit-within : (bytes : List ℕ) (place : ℕ) → is_digit (get_or bytes place 0) ≡ true → place < length bytes
+digit-within bytes place is = elim (cases_lt place (length bytes)) [
+  | inl within ↦ within
+  | inr past ↦ absurd (false≢true (ap is_digit (sym (get_or_past bytes place 0 past)) ∙ is))
+]
 
-pub short_run : (digits : List ℕ) → run_length digits 0 < 6 → min (run_value digits 0) (2 ^ 64 - 1) ≡ run_value digits 0
-short_run digits few = omega (arith, short_run-small digits few)
-
--- and means that value, filled with zeros
-pub short_run-fraction : (digits : List ℕ) → run_length digits 0 < 6
-    → fraction_value (run_digits digits 0) ≡ run_value digits 0 * 10 ^ (6 - run_length digits 0)
-short_run-fraction digits few =
-    let long = length-prefix_len is_digit digits in
-    fraction_value-filled (run_digits digits 0) (omega arith) ∙ ap (λ (count : ℕ). run_value digits 0 * 10 ^ (6 - count)) long
+-- fewer digits than six spell a small number
+pub few_digits-lt : (digits : List ℕ) (count : ℕ) → count < 6 → count ≤ length digits → AreDigits digits count
+    → digits_value (take count digits) < 100000
+few_digits-lt digits count few within each =
+    let most : count ≤ 5 = omega arith in
+    let power : 10 ^ count ≤ 10 ^ 5 = pow-le-pow_right {n = 10} (lit< tt) most in
+    omega (arith, digits_value-front-lt digits count within each)
 
 -- six digits stand at the front
 abbrev pub six_digits_there : List ℕ → Bool
@@ -103,11 +104,6 @@ six_digits-long digits six =
     let tests = and_parts (nat_le 6 (length digits) && four_digits_at digits 0) (two_digits_at digits 4) six in
     leb-true 6 (length digits) (and_parts (nat_le 6 (length digits)) (four_digits_at digits 0) tests.0).0
 
--- a number that was asked for and found was there, and is what was found
-pub found : (test : Bool) (value read : ℕ) → (if test then Some value else None) ≡ Some read → (test ≡ true) × (value ≡ read)
-found true value read same = (refl, cc)
-found false value read same = cc
-
 -- a run of six digits or more goes on behind them
 pub run_length-six : (digits : List ℕ) → six_digits_there digits ≡ true → run_length digits 0 ≡ 6 + run_length digits 6
 run_length-six [] six = cc
@@ -119,3 +115,20 @@ run_length-six (a ∷ b ∷ c ∷ d ∷ e ∷ []) six = cc
 run_length-six (a ∷ b ∷ c ∷ d ∷ e ∷ f ∷ digits) six =
     let tests = six_tests a b c d e f digits six in
     rw (tests.0, tests.1, tests.2, tests.3, tests.4, tests.5) (omega arith)
+
+-- the first six bytes, where they are digits, are such digits
+pub six_digits-front : (digits : List ℕ) → 6 ≤ length digits → AreDigits digits 6 → six_digits_there digits ≡ true
+six_digits-front digits long each =
+    and_from _ _ (and_from _ _ (le-leb 6 (length digits) long)
+    (and_from _ _ (and_from _ _ (each 0 (lit< tt)) (each 1 (lit< tt))) (and_from _ _ (each 2 (lit< tt)) (each 3 (lit< tt)))))
+    (and_from _ _ (each 4 (lit< tt)) (each 5 (lit< tt)))
+
+-- and spell the same number
+pub six_digit_value-front : (digits : List ℕ) → 6 ≤ length digits → digits_value (take 6 digits) ≡ six_digit_value digits
+six_digit_value-front [] long = absurd (omega arith)
+six_digit_value-front (a ∷ []) long = absurd (omega arith)
+six_digit_value-front (a ∷ b ∷ []) long = absurd (omega arith)
+six_digit_value-front (a ∷ b ∷ c ∷ []) long = absurd (omega arith)
+six_digit_value-front (a ∷ b ∷ c ∷ d ∷ []) long = absurd (omega arith)
+six_digit_value-front (a ∷ b ∷ c ∷ d ∷ e ∷ []) long = absurd (omega arith)
+six_digit_value-front (a ∷ b ∷ c ∷ d ∷ e ∷ f ∷ digits) long = omega arith

@@ -1,7 +1,9 @@
 -- Laws of the texts of times.
 use Rattle.std.specs.Prelude.{◌≡◌, ℕ, zero, suc, ◌+◌, ◌*◌, ◌/◌, ◌%◌, ◌<◌, ◌≤◌, Bool, true, false, ◌||◌, List, [], ◌∷◌, ◌++◌, length, ◌==◌, slice_index, Option, Some, None, ℤ, pos, negsuc, Ok, refl}
 use Rattle.std.specs.Option.{ForSome}
-use Rattle.std.proofs.Common.{arith, ◌∙◌, ap, sym}
+use Rattle.std.specs.Str.{IsAscii}
+use Rattle.std.proofs.lemmas.Str.Ascii.{IsAscii-nil, IsAscii-cons}
+use Rattle.std.proofs.Common.{lit<, arith, ◌∙◌, ap, sym}
 use Rattle.std.proofs.lemmas.Bool.{and_from, le-leb, lt-ltb, le-ltb, ne_eqb, eqb-true}
 use Rattle.speedate_base.specs.declared.config.MicrosecondsPrecisionOverflowBehavior.{MicrosecondsPrecisionOverflowBehavior}
 use Rattle.speedate_base.specs.declared.config.MicrosecondsPrecisionOverflowBehavior.TheVariants as behavior
@@ -11,9 +13,10 @@ use Rattle.speedate_base.specs.DigitLaws.{two_digits-printed, two_digit_value-pr
 use Rattle.speedate_base.specs.Numbers.{with_sign}
 use Rattle.speedate_base.specs.Offset.{IsOffset, IsWholeMinutes}
 use Rattle.speedate_civil.specs.ClockText.{ClockFields, clock_answer, time_front, fraction_value, refuses_digits, ◌implies◌}
+use Rattle.speedate_civil.specs.DateLaws.{two_digit_text-IsAscii}
 use Rattle.speedate_civil.specs.FractionLaws.{six_digits_there, six_digit_value, fraction_value-six, run_length-six}
 use Rattle.speedate_civil.specs.TimeOfDay.{TimeOfDay}
-use Rattle.speedate_civil.specs.TimeText.{time_answer, time_text}
+use Rattle.speedate_civil.specs.TimeText.{time_answer, fraction_text, time_text}
 use Rattle.speedate_civil.specs.OffsetText.{offset_answer, offset_text, offset_size_text, signed_answer}
 
 -- a minute and a second in print, before a fraction and an offset
@@ -145,3 +148,46 @@ pub time_text-distinct : (first second : TimeOfDay) → IsTime first → IsTime 
 time_text-distinct first second one two whole_one whole_two same =
     let read = sym (time_text-reads behavior.Error first one whole_one) ∙ ap (time_answer behavior.Error) same ∙ time_text-reads behavior.Error second two whole_two in
     cc
+
+-- an offset is printed in ASCII
+offset_size_text-IsAscii : (sign size : ℕ) → sign < 128 → size < 86400 → IsAscii (sign ∷ offset_size_text size)
+offset_size_text-IsAscii sign size small_sign small =
+    let minutes : List ℕ = two_digit_text (size / 60 % 60) in
+    IsAscii-cons sign (offset_size_text size) small_sign
+    (two_digit_text-IsAscii (size / 3600) (58 ∷ minutes) (omega arith)
+    (IsAscii-cons 58 minutes (lit< tt)
+    (two_digit_text-IsAscii (size / 60 % 60) [] (omega arith) IsAscii-nil)))
+
+offset_text-IsAscii : (offset : Option ℤ) → ForSome offset IsOffset → IsAscii (offset_text offset)
+offset_text-IsAscii None valid = IsAscii-nil
+offset_text-IsAscii (Some (pos zero)) valid = IsAscii-cons 90 [] (lit< tt) IsAscii-nil
+offset_text-IsAscii (Some (pos (suc size))) valid =
+    rw (offset_text-east size) (offset_size_text-IsAscii 43 (suc size) (lit< tt) (valid (pos (suc size)) refl))
+offset_text-IsAscii (Some (negsuc size)) valid =
+    rw (offset_text-west size) (offset_size_text-IsAscii 45 (suc size) (lit< tt) (valid (negsuc size) refl))
+
+-- and so is a fraction
+fraction_text-IsAscii : (microsecond : ℕ) (tail : List ℕ) (none : Bool) → (microsecond == 0) ≡ none → microsecond ≤ 999999 → IsAscii tail
+    → IsAscii (fraction_text microsecond ++ tail)
+fraction_text-IsAscii microsecond tail true is small ascii = rw is ascii
+fraction_text-IsAscii microsecond tail false is small ascii =
+    let rest = microsecond % 10000 in
+    let last = two_digit_text (rest % 100) ++ tail in
+    rw is (IsAscii-cons 46 (six_digit_text microsecond ++ tail) (lit< tt)
+    (two_digit_text-IsAscii (microsecond / 10000) (two_digit_text (rest / 100) ++ last) (omega arith)
+    (two_digit_text-IsAscii (rest / 100) last (omega arith)
+    (two_digit_text-IsAscii (rest % 100) tail (omega arith) ascii))))
+
+-- so a time is printed in ASCII
+pub time_text-IsAscii : (time : TimeOfDay) → IsTime time → IsAscii (time_text time)
+time_text-IsAscii time valid =
+    let tail = fraction_text time.microsecond ++ offset_text time.offset in
+    let seconds = two_digit_text time.second ++ tail in
+    let minutes = two_digit_text time.minute ++ 58 ∷ seconds in
+    two_digit_text-IsAscii time.hour (58 ∷ minutes) (omega (arith, valid.hour))
+    (IsAscii-cons 58 minutes (lit< tt)
+    (two_digit_text-IsAscii time.minute (58 ∷ seconds) (omega (arith, valid.minute))
+    (IsAscii-cons 58 seconds (lit< tt)
+    (two_digit_text-IsAscii time.second tail (omega (arith, valid.second))
+    (fraction_text-IsAscii time.microsecond (offset_text time.offset) (time.microsecond == 0) refl valid.microsecond
+    (offset_text-IsAscii time.offset valid.offset))))))

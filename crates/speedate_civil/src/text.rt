@@ -2,10 +2,10 @@
 
 ghost use Rattle.std.specs.Prelude.{◌≡◌, ◌<◌, ◌≤◌, ◌+◌, ◌++◌, length};
 ghost use Rattle.std.specs.Str.{IsAscii};
-ghost use Rattle.arrayvec.specs.ArrayString.{array_string_len};
+ghost use Rattle.arrayvec.specs.ArrayVec.{array_vec_len};
 ghost use Rattle.speedate_base.specs.Digits.{two_digit_text};
 
-use arrayvec::ArrayString;
+use arrayvec::{ArrayString, ArrayVec};
 use std::str;
 
 /// The text of these ASCII bytes.
@@ -16,19 +16,18 @@ pub(crate) fn ascii_text<const LENGTH: usize>(bytes: &[u8]) -> ArrayString<LENGT
     ensures bytes { result.bytes ≡ bytes.now }
 {
     let mut text = ArrayString::new();
-    push_ascii(bytes, &mut text);
+    text.push_str(str::from_utf8(bytes).unwrap());
     text
 }
 
-/// Appends ASCII bytes to a text.
+/// Appends bytes, for which there must be room.
 #[inline]
-pub(crate) fn push_ascii<const LENGTH: usize>(bytes: &[u8], text: &mut ArrayString<LENGTH>)
-    requires ascii { IsAscii bytes.now }
-    requires fits { array_string_len text.old + length bytes.now ≤ LENGTH }
-    ensures bytes { text.new.bytes ≡ text.old.bytes ++ bytes.now }
-    ensures len { array_string_len text.new ≡ array_string_len text.old + length bytes.now }
+pub(crate) fn push<const LENGTH: usize>(piece: &[u8], bytes: &mut ArrayVec<u8, LENGTH>)
+    requires { array_vec_len bytes.old + length piece.now ≤ LENGTH }
+    ensures bytes { bytes.new.items ≡ bytes.old.items ++ piece.now }
+    ensures len { array_vec_len bytes.new ≡ array_vec_len bytes.old + length piece.now }
 {
-    text.push_str(str::from_utf8(bytes).unwrap());
+    bytes.try_extend_from_slice(piece).unwrap();
 }
 
 /// The two digits of a number below 100.

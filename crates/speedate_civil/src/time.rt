@@ -10,8 +10,8 @@ mod offset;
 mod places;
 mod pure;
 
-use crate::text::{push_ascii, two_digit_text};
-use arrayvec::ArrayString;
+use crate::text::{ascii_text, push, two_digit_text};
+use arrayvec::{ArrayString, ArrayVec};
 use offset::{push_offset, read_offset};
 pub use pure::PureTime;
 use speedate_base::config::{MicrosecondsPrecisionOverflowBehavior, TimeConfig};
@@ -47,7 +47,7 @@ pub struct Time {
 
 impl Time {
     ghost use Rattle.std.specs.Prelude.{◌+◌, ◌*◌, ◌++◌, IfOk, drop, length, Ok, None};
-    ghost use Rattle.arrayvec.specs.ArrayString.{array_string_len};
+    ghost use Rattle.arrayvec.specs.ArrayVec.{array_vec_len};
     ghost use Rattle.speedate_base.specs.Offset.{IsWholeMinutes};
     ghost use Rattle.speedate_base.specs.declared.config.TimeConfig.{TimeConfig};
     ghost use Rattle.speedate_civil.specs.declared.time.Time.{Time};
@@ -79,7 +79,7 @@ impl Time {
     /// - `OutOfRangeTzMinute` where the minutes of the offset are over 59, and `OutOfRangeTz` where
     ///   it is of 24 hours or more;
     /// - `ExtraCharacters` where something follows the offset.
-    #[inline]
+    #[inline(always)]
     pub fn parse_str(text: &str) -> Result<Self, ParseError>
         ensures answer { answered result ≡ time_answer behavior.Error text.now }
     {
@@ -88,7 +88,7 @@ impl Time {
 
     /// Reads a time from the bytes of a text, as [`Time::parse_str`] does: 12:13:00 from
     /// `b"12:13"`. The bytes need not be text.
-    #[inline]
+    #[inline(always)]
     pub fn parse_bytes(bytes: &[u8]) -> Result<Self, ParseError>
         ensures answer { answered result ≡ time_answer behavior.Error bytes.now }
     {
@@ -98,7 +98,7 @@ impl Time {
     /// Reads a time from the bytes of a text, as [`Time::parse_str`] does, but for the digits of a
     /// second past the sixth: with the behavior `Truncate` they are dropped, so that
     /// `b"12:13:12.1234567"` is 12:13:12.123456. The offset of the configuration does not matter.
-    #[inline]
+    #[inline(always)]
     pub fn parse_bytes_with_config(bytes: &[u8], config: &TimeConfig) -> Result<Self, ParseError>
         ensures answer { answered result
             ≡ time_answer config.now.microseconds_precision_overflow_behavior bytes.now }
@@ -107,7 +107,7 @@ impl Time {
     }
 
     /// Reads the time that begins at `place` and takes all the bytes from there on.
-    #[inline]
+    #[inline(always)]
     pub(crate) fn parse_at(
         bytes: &[u8],
         place: usize,
@@ -202,22 +202,22 @@ impl Time {
         ensures distinct { IsWholeMinutes self.now.tz_offset → (other : Time) → IsWholeMinutes other.tz_offset
             → result.bytes ≡ time_text (parts other) → parts self.now ≡ parts other }
     {
-        let mut text = ArrayString::new();
-        self.push_onto(&mut text);
-        text
+        let mut bytes: ArrayVec<u8, TEXT_MAX> = ArrayVec::new();
+        self.push_onto(&mut bytes);
+        ascii_text(&bytes)
     }
 
-    /// Appends the canonical text.
+    /// Appends the bytes of the canonical text.
     #[inline]
-    pub(crate) fn push_onto<const LENGTH: usize>(&self, text: &mut ArrayString<LENGTH>)
-        requires room { array_string_len text.old + TEXT_MAX ≤ LENGTH }
-        ensures text { text.new.bytes ≡ text.old.bytes ++ time_text (parts self.now) }
+    pub(crate) fn push_onto<const LENGTH: usize>(&self, bytes: &mut ArrayVec<u8, LENGTH>)
+        requires room { array_vec_len bytes.old + TEXT_MAX ≤ LENGTH }
+        ensures text { bytes.new.items ≡ bytes.old.items ++ time_text (parts self.now) }
     {
-        push_ascii(&self.clock_text(), text);
+        push(&self.clock_text(), bytes);
         if self.microsecond != 0 {
-            push_ascii(&fraction_text(self.microsecond), text);
+            push(&fraction_text(self.microsecond), bytes);
         }
-        push_offset(self.tz_offset, text);
+        push_offset(self.tz_offset, bytes);
     }
 
     /// The hour, minute and second in the canonical text.

@@ -2,7 +2,7 @@
 
 ghost use Rattle.std.specs.Prelude.{◌≡◌, ◌+◌, ◌-◌, ◌^◌, ◌<◌, ◌≤◌, length, take, min, ◌==◌, Some, None, if◌then◌else◌};
 ghost use Rattle.std.specs.List.{prefix_len};
-ghost use Rattle.speedate_base.specs.Digits.{is_digit, two_digits_at, two_digit_value, four_digits_at, four_digit_value};
+ghost use Rattle.speedate_base.specs.Digits.{is_digit, digit_value, two_digits_at, two_digit_value, four_digits_at, four_digit_value};
 ghost use Rattle.speedate_base.specs.DigitRuns.{run_length, run_value, digits_value};
 ghost use Rattle.speedate_base.specs.DigitRunLaws.{AreDigits};
 
@@ -14,9 +14,18 @@ pub fn two_digits(bytes: &[u8], place: usize) -> Option<u8>
     ensures value { result ≡ (if two_digits_at bytes.now place
         then Some (two_digit_value bytes.now place) else None) }
 {
-    let (tens, ones) = (bytes[place], bytes[place + 1]);
-    if tens.is_ascii_digit() && ones.is_ascii_digit() {
-        Some(10 * (tens - b'0') + (ones - b'0'))
+    let tens = digit(bytes[place])?;
+    let ones = digit(bytes[place + 1])?;
+    Some(10 * tens + ones)
+}
+
+/// What a digit stands for, or `None` where the byte is no digit.
+#[inline]
+fn digit(byte: u8) -> Option<u8>
+    ensures value { result ≡ (if is_digit byte then Some (digit_value byte) else None) }
+{
+    if byte.is_ascii_digit() {
+        Some(byte - b'0')
     } else {
         None
     }

@@ -3,36 +3,39 @@
 ghost use Rattle.std.specs.Prelude.{◌≡◌, ◌≤◌, ◌+◌, ◌<◌, ◌∷◌, ◌++◌, IfOk, length, if◌then◌else◌, unsigned_abs};
 ghost use Rattle.std.specs.Int.{is_negative};
 ghost use Rattle.std.specs.Option.{ForSome};
-ghost use Rattle.arrayvec.specs.ArrayString.{array_string_len};
+ghost use Rattle.arrayvec.specs.ArrayVec.{array_vec_len};
 ghost use Rattle.speedate_base.specs.Numbers.{with_sign};
 ghost use Rattle.speedate_base.specs.Offset.{IsOffset};
 ghost use Rattle.speedate_civil.specs.OffsetText.{offset_answer, signed_answer, offset_minute_place, offset_size_text, offset_text};
 
-use crate::text::{push_ascii, two_digit_text};
+use crate::text::{push, two_digit_text};
 use crate::time::places::{byte_at, two_digits_there};
-use arrayvec::ArrayString;
+use arrayvec::ArrayVec;
 use speedate_base::faults::ParseError;
 
 /// The offset in seconds that follows a time: none for no bytes, 0 for `Z` or `z`, 5,400 for
 /// `+01:30`.
-#[inline]
+#[inline(always)]
 pub(crate) fn read_offset(rest: &[u8]) -> Result<Option<i32>, ParseError>
     ensures answer { result ≡ offset_answer rest.now }
     ensures range { IfOk result (λ offset. ForSome offset IsOffset) }
 {
-    match rest {
-        [] => Ok(None),
-        [b'Z' | b'z'] => Ok(Some(0)),
-        [b'Z' | b'z', ..] => Err(ParseError::ExtraCharacters),
-        [b'+', numbers @ ..] => signed_offset(false, numbers),
-        [b'-', numbers @ ..] => signed_offset(true, numbers),
-        [0xe2, 0x88, 0x92, numbers @ ..] => signed_offset(true, numbers),
-        _ => Err(ParseError::InvalidCharTzSign),
-    }
+    let [sign, numbers @ ..] = rest else {
+        return Ok(None);
+    };
+    let (west, numbers) = match (sign, numbers) {
+        (b'+', numbers) => (false, numbers),
+        (b'-', numbers) => (true, numbers),
+        (0xe2, [0x88, 0x92, numbers @ ..]) => (true, numbers),
+        (b'Z' | b'z', []) => return Ok(Some(0)),
+        (b'Z' | b'z', _) => return Err(ParseError::ExtraCharacters),
+        _ => return Err(ParseError::InvalidCharTzSign),
+    };
+    signed_offset(west, numbers)
 }
 
 /// The offset whose sign says whether it is west of UTC, and whose hour and minute follow.
-#[inline]
+#[inline(always)]
 fn signed_offset(west: bool, numbers: &[u8]) -> Result<Option<i32>, ParseError>
     ensures answer { result ≡ signed_answer west numbers.now }
     ensures range { IfOk result (λ offset. ForSome offset IsOffset) }
@@ -74,15 +77,18 @@ fn minute_place(numbers: &[u8]) -> usize
 
 /// Appends the text of an offset, if there is one.
 #[inline]
-pub(crate) fn push_offset<const LENGTH: usize>(offset: Option<i32>, text: &mut ArrayString<LENGTH>)
+pub(crate) fn push_offset<const LENGTH: usize>(
+    offset: Option<i32>,
+    bytes: &mut ArrayVec<u8, LENGTH>,
+)
     requires range { ForSome offset IsOffset }
-    requires room { array_string_len text.old + 6 ≤ LENGTH }
-    ensures text { text.new.bytes ≡ text.old.bytes ++ offset_text offset }
+    requires room { array_vec_len bytes.old + 6 ≤ LENGTH }
+    ensures text { bytes.new.items ≡ bytes.old.items ++ offset_text offset }
 {
     match offset {
         None => {}
-        Some(0) => push_ascii(b"Z", text),
-        Some(seconds) => push_ascii(&signed_text(seconds), text),
+        Some(0) => push(b"Z", bytes),
+        Some(seconds) => push(&signed_text(seconds), bytes),
     }
 }
 

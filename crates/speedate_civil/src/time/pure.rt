@@ -34,7 +34,7 @@ impl PureTime {
     ghost use Rattle.speedate_civil.specs.Time.{answered_fields};
 
     /// Reads the time that begins at `place`.
-    #[inline]
+    #[inline(always)]
     pub fn parse(
         bytes: &[u8],
         place: usize,
@@ -78,7 +78,7 @@ impl PureTime {
 
     /// Reads the second and the fraction behind the minute with which `rest` begins, and which
     /// `start` bytes stand before.
-    #[inline]
+    #[inline(always)]
     fn after_minute(
         start: usize,
         hour: u8,

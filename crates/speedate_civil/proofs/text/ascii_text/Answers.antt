@@ -1,7 +1,7 @@
 use Rattle.std.proofs.Common.{Result, Ok, Err, refl}
 use Rattle.std.specs.Prelude.{IsOk, MatchResult}
 use Rattle.std.proofs.lemmas.Str.{IsUtf8-from_ascii}
-use Rattle.speedate_civil.proofs.text.push_ascii.Goals as goal
+use Rattle.speedate_civil.proofs.text.ascii_text.Goals as goal
 
 -- what is refused only where a fact fails is taken where it holds
 taken : {T E : Type 0} (r : Result T E) (P : T → Type 0) (Q : E → Type 0) (U : Type 0)
