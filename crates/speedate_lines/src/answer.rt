@@ -35,6 +35,7 @@ pub fn answer_line(line: &[u8], pending: &mut Pending)
     }
 }
 
+/// Appends the answer to a line of kind `date`, from its text, and a byte 10.
 #[inline]
 fn answer_date(text: &[u8], pending: &mut Pending)
     requires { array_vec_len pending.old + ANSWER_MAX ≤ PENDING_MAX }
