@@ -8,5 +8,7 @@ pub mod Numbers
 pub mod DigitRunLaws
 pub mod IntFloat
 pub mod NumberLaws
+pub mod Word
+pub mod WordLaws
 pub mod Offset
 pub mod TimeConfig
