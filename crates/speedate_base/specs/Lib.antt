@@ -8,5 +8,6 @@ pub mod Numbers
 pub mod DigitRunLaws
 pub mod IntFloat
 pub mod NumberLaws
+pub mod Word
 pub mod Offset
 pub mod TimeConfig

@@ -2,7 +2,7 @@
 use Rattle.std.specs.Prelude.{◌≡◌, ℕ, suc, ◌+◌, ◌<◌, Bool, true, false, ◌&&◌, ◌||◌, ◌==◌, List, [], ◌∷◌, ◌++◌, length, take, drop, slice_index, nat_lt, if◌then◌else◌, Option, Some, None, ℤ, refl}
 use Rattle.std.specs.List.{list_all, prefix_len}
 use Rattle.std.proofs.Common.{arith, ap, sym, subst, ◌∙◌, inl, inr, append_assoc}
-use Rattle.std.proofs.lemmas.Bool.Decides.{nat_tests}
+use Rattle.std.proofs.lemmas.Bool.{eqb-true, ne_eqb, and_parts}
 use Rattle.std.proofs.lemmas.List.{take-append-drop, drop-drop, drop_more, take_all, length-drop}
 use Rattle.speedate_base.specs.Digits.{is_digit}
 use Rattle.speedate_base.specs.DigitRuns.{run_length, run_digits, run_value}
@@ -25,14 +25,11 @@ pub run-digits : (bytes : List ℕ) → list_all is_digit (take (prefix_len is_d
 run-digits [] = refl
 run-digits (byte ∷ bytes) = first-digit byte bytes (is_digit byte) refl (run-digits bytes)
 
-is_byte : (byte value : ℕ) → (byte == value) ≡ true → byte ≡ value
-is_byte byte value same = grind (arith, nat_tests)
-
 first-sign : (byte : ℕ) (bytes : List ℕ) (plus minus : Bool) → (byte == 43) ≡ plus → (byte == 45) ≡ minus
     → IsSign minus (take (if plus || minus then 1 else 0) (byte ∷ bytes))
-first-sign byte bytes true true p m = ap (λ (b : ℕ). b ∷ []) (is_byte byte 45 m)
-first-sign byte bytes false true p m = ap (λ (b : ℕ). b ∷ []) (is_byte byte 45 m)
-first-sign byte bytes true false p m = inr (ap (λ (b : ℕ). b ∷ []) (is_byte byte 43 p))
+first-sign byte bytes true true p m = ap (λ (b : ℕ). b ∷ []) (eqb-true byte 45 m)
+first-sign byte bytes false true p m = ap (λ (b : ℕ). b ∷ []) (eqb-true byte 45 m)
+first-sign byte bytes true false p m = inr (ap (λ (b : ℕ). b ∷ []) (eqb-true byte 43 p))
 first-sign byte bytes false false p m = inl refl
 
 -- a text begins with its sign
@@ -40,19 +37,15 @@ pub sign-of_text : (text : List ℕ) → IsSign (is_negative text) (take (sign_l
 sign-of_text [] = inl refl
 sign-of_text (byte ∷ bytes) = first-sign byte bytes (byte == 43) (byte == 45) refl refl
 
-both : (a b : Bool) → (a && b) ≡ true → (a ≡ true) × (b ≡ true)
-both true b h = (refl, h)
-both false b h = cc
-
 -- a decimal's sign, digits, point and digits are its text
 pub decimal_parts-join : (text : List ℕ) → is_decimal text ≡ true → JoinsTo (decimal_parts text) text
 decimal_parts-join text is =
     let start = sign_length text in
     let point = point_place text in
-    let first = both ((slice_index text point == 46) && (point + 1 + run_length text (point + 1) == length text)) _ is in
-    let tests = both (slice_index text point == 46) _ first.0 in
-    let dot = is_byte (slice_index text point) 46 tests.0 in
-    let ends = is_byte (point + 1 + run_length text (point + 1)) (length text) tests.1 in
+    let first = and_parts ((slice_index text point == 46) && (point + 1 + run_length text (point + 1) == length text)) _ is in
+    let tests = and_parts (slice_index text point == 46) _ first.0 in
+    let dot = eqb-true (slice_index text point) 46 tests.0 in
+    let ends = eqb-true (point + 1 + run_length text (point + 1)) (length text) tests.1 in
     let within : point < length text = omega arith in
     let rest = drop (point + 1) text in
     let whole = run_digits text start in
@@ -84,9 +77,6 @@ never : (a b : Bool) (value : ℤ) → (if (a && false) && b then Some value els
 never true b value = refl
 never false b value = refl
 
-not_equal : (m n : ℕ) → m < n → (m == n) ≡ false
-not_equal m n below = grind (arith, nat_tests)
-
 -- a text that goes on behind its digits is no whole number
 pub whole_number-none : (text : List ℕ) → point_place text < length text → whole_number text ≡ None
 whole_number-none text within =
@@ -94,5 +84,5 @@ whole_number-none text within =
     let size = run_value text start in
     let value = with_sign (is_negative text) size in
     ap (λ (ends : Bool). if (nat_lt 0 (run_length text start) && ends) && fits_i64 (is_negative text) size then Some value else None)
-    (not_equal (point_place text) (length text) within)
+    (ne_eqb (point_place text) (length text) (λ same. absurd (omega arith)))
     ∙ never (nat_lt 0 (run_length text start)) (fits_i64 (is_negative text) size) value

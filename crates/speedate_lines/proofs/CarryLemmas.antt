@@ -1,13 +1,13 @@
 -- Of a line that is too long, its first 4,097 bytes tell that it is.
 use Rattle.std.proofs.Common.{◌≡◌, ◌∙◌, ap, sym, refl, ℕ, zero, suc, List, [], ◌∷◌, ◌++◌, length, take, append-nil, arith, inl, inr}
-use Rattle.std.proofs.lemmas.Bool.{cases_lt}
+use Rattle.std.proofs.lemmas.Bool.{cases_lt, ne_eqb}
 use Rattle.std.proofs.lemmas.List.{take_all, length-take, length-append, take-append-le}
 use Rattle.std.proofs.lemmas.Grind.{flat_map-append}
 use Rattle.speedate_lines.specs.Lines.{Pieces, pieces, with_byte, complete, unfinished, last_line, lines}
 use Rattle.speedate_lines.specs.Block.{kept_of}
 use Rattle.speedate_lines.specs.Answer.{answer, answers}
 use Rattle.speedate_lines.proofs.AnswerLemmas.{answer-long}
-use Rattle.speedate_lines.proofs.LineLemmas.{IsFree, is_other, unfinished-free, pieces-append}
+use Rattle.speedate_lines.proofs.LineLemmas.{IsFree, unfinished-free, pieces-append}
 
 -- a line answers as its kept part does
 answer-kept : (line more : List ℕ) → answer (kept_of line ++ more) ≡ answer (line ++ more)
@@ -49,7 +49,7 @@ before-cons byte front (line ∷ lines) last = refl
 pieces-before : (front more : List ℕ) → IsFree front → pieces (front ++ more) ≡ before front (complete more) (unfinished more)
 pieces-before [] more free = sym (before-nil (complete more) (unfinished more))
 pieces-before (byte ∷ bytes) more free =
-    rw (is_other byte free.0, pieces-before bytes more free.1) (before-cons byte bytes (complete more) (unfinished more))
+    rw (ne_eqb byte 10 free.0, pieces-before bytes more free.1) (before-cons byte bytes (complete more) (unfinished more))
 
 pub kept_of-free : (n : ℕ) (line : List ℕ) → IsFree line → IsFree (take n line)
 kept_of-free zero line free = tt

@@ -1,7 +1,6 @@
 -- How the lines of a text are found from place to place, and from block to block.
 use Rattle.std.proofs.Common.{◌≡◌, ◌≢◌, ◌∙◌, ap, sym, subst, refl, ℕ, zero, suc, ◌+◌, ◌-◌, ◌<◌, ◌≤◌, Bool, true, false, List, [], ◌∷◌, ◌++◌, length, take, drop, get_or, if◌then◌else◌, ◌==◌, arith, inl, inr}
-use Rattle.std.proofs.lemmas.Bool.Decides.{nat_tests}
-use Rattle.std.proofs.lemmas.Bool.{cases_lt}
+use Rattle.std.proofs.lemmas.Bool.{cases_lt, eqb-false, ne_eqb}
 use Rattle.std.proofs.lemmas.List.{take_rest, length-take, get_or-take, get_or-drop, take-append-drop, drop_more, drop-drop}
 use Rattle.std.proofs.Math.ListN.{get_or-append}
 use Rattle.speedate_lines.specs.Lines.{Pieces, pieces, with_byte, complete, unfinished, IsOneLine, IsLineEnd}
@@ -11,10 +10,6 @@ abbrev pub IsFree : List ℕ → Type 0
 IsFree [] = Unit {0}
 IsFree (byte ∷ bytes) = (byte ≢ 10) × IsFree bytes
 
--- another byte than byte 10
-pub is_other : (byte : ℕ) → byte ≢ 10 → (byte == 10) ≡ false
-is_other byte other = grind (arith, nat_tests)
-
 -- by the places of a text
 pub IsFree-from : (text : List ℕ) → ((k : ℕ) → k < length text → get_or text k 0 ≢ 10) → IsFree text
 IsFree-from [] each = tt
@@ -23,13 +18,13 @@ IsFree-from (byte ∷ bytes) each = (each 0 (omega arith), IsFree-from bytes (λ
 -- a text without byte 10 is an unfinished line
 pub pieces-free : (text : List ℕ) → IsFree text → pieces text ≡ record { complete = []; unfinished = text }
 pieces-free [] free = refl
-pieces-free (byte ∷ bytes) free = rw (is_other byte free.0, pieces-free bytes free.1) refl
+pieces-free (byte ∷ bytes) free = rw (ne_eqb byte 10 free.0, pieces-free bytes free.1) refl
 
 -- the line that a byte 10 ends comes first
 pub pieces-line : (line rest : List ℕ) → IsFree line
     → pieces (line ++ 10 ∷ rest) ≡ record { complete = line ∷ complete rest; unfinished = unfinished rest }
 pieces-line [] rest free = refl
-pieces-line (byte ∷ bytes) rest free = rw (is_other byte free.0, pieces-line bytes rest free.1) refl
+pieces-line (byte ∷ bytes) rest free = rw (ne_eqb byte 10 free.0, pieces-line bytes rest free.1) refl
 
 free_at : (text : List ℕ) (k : ℕ) → IsFree text → k < length text → get_or text k 0 ≢ 10
 free_at [] k free below = absurd (omega arith)
@@ -42,13 +37,6 @@ IsOneLine-from_free front more n free within k after below same =
     let inside : k < length front = omega arith in
     free_at front k free inside (sym (get_or-append front more 0 k inside) ∙ same)
 
-is_newline : (byte : ℕ) → byte ≡ 10 → (byte == 10) ≡ true
-is_newline byte same = grind (arith, nat_tests)
-
--- a byte that is not tested to be byte 10
-pub not_newline : (byte : ℕ) → (byte == 10) ≡ false → byte ≢ 10
-not_newline byte other same = let yes = is_newline byte same in cc
-
 -- what stands after the last byte 10 holds none
 with_byte-free : (byte : ℕ) (lines : List (List ℕ)) (last : List ℕ) → byte ≢ 10 → IsFree last → IsFree (with_byte byte lines last).unfinished
 with_byte-free byte [] last other free = (other, free)
@@ -57,7 +45,7 @@ with_byte-free byte (line ∷ lines) last other free = free
 first-free : (byte : ℕ) (test : Bool) (lines : List (List ℕ)) (last : List ℕ) → (byte == 10) ≡ test → IsFree last
     → IsFree (if test then record { complete = [] ∷ lines; unfinished = last } else with_byte byte lines last).unfinished
 first-free byte true lines last is free = free
-first-free byte false lines last is free = with_byte-free byte lines last (not_newline byte is) free
+first-free byte false lines last is free = with_byte-free byte lines last (eqb-false byte 10 is) free
 
 pub unfinished-free : (text : List ℕ) → IsFree (unfinished text)
 unfinished-free [] = tt
@@ -71,7 +59,7 @@ behind lines after = record { complete = lines ++ after.complete; unfinished = a
 with_byte-behind : (byte : ℕ) (lines : List (List ℕ)) (last more : List ℕ) → byte ≢ 10
     → with_byte byte (lines ++ complete (last ++ more)) (unfinished (last ++ more))
     ≡ behind (with_byte byte lines last).complete (pieces ((with_byte byte lines last).unfinished ++ more))
-with_byte-behind byte [] last more other = rw (is_other byte other) refl
+with_byte-behind byte [] last more other = rw (ne_eqb byte 10 other) refl
 with_byte-behind byte (line ∷ lines) last more other = refl
 
 first-behind : (byte : ℕ) (test : Bool) (lines : List (List ℕ)) (last more : List ℕ) → (byte == 10) ≡ test
@@ -80,7 +68,7 @@ first-behind : (byte : ℕ) (test : Bool) (lines : List (List ℕ)) (last more :
     ≡ behind (if test then record { complete = [] ∷ lines; unfinished = last } else with_byte byte lines last).complete
     (pieces ((if test then record { complete = [] ∷ lines; unfinished = last } else with_byte byte lines last).unfinished ++ more))
 first-behind byte true lines last more is = refl
-first-behind byte false lines last more is = with_byte-behind byte lines last more (not_newline byte is)
+first-behind byte false lines last more is = with_byte-behind byte lines last more (eqb-false byte 10 is)
 
 -- a text that goes on: its complete lines stay, and its unfinished one goes on
 pub pieces-append : (text more : List ℕ) → pieces (text ++ more) ≡ behind (complete text) (pieces (unfinished text ++ more))

@@ -1,15 +1,11 @@
 -- What the marks of a vector of bytes tell of the places of a text.
-use Rattle.std.proofs.Common.{◌≡◌, ◌∙◌, sym, ℕ, ◌+◌, ◌<◌, ◌≤◌, true, List, [], ◌∷◌, length, map, get_or, arith, inl, inr, refl}
-use Rattle.std.proofs.lemmas.Bool.{cases_lt}
-use Rattle.std.proofs.lemmas.Bool.Decides.{nat_tests}
+use Rattle.std.proofs.Common.{◌≡◌, ◌∙◌, sym, ℕ, ◌+◌, ◌<◌, ◌≤◌, List, [], ◌∷◌, length, map, get_or, arith, inl, inr, refl}
+use Rattle.std.proofs.lemmas.Bool.{cases_lt, eqb-true, eqb-false, ne_eqb}
 use Rattle.std.proofs.lemmas.Simd.{length-chunk, get_or-chunk, trailing_mask_l, run_in_chunk_fails, run_in_chunk_stops, none_from_empty_mask}
 use lib.Lanes.{chunk, mask_l}
 use lib.Count.{count_trailing_zeros}
 use Rattle.speedate_lines.specs.Lines.{is_newline, IsOneLine, IsLineEnd}
-use Rattle.speedate_lines.proofs.LineLemmas.{IsFree, IsFree-from, is_other, not_newline}
-
-newline : (byte : ℕ) → is_newline byte ≡ true → byte ≡ 10
-newline byte marked = grind (arith, nat_tests)
+use Rattle.speedate_lines.proofs.LineLemmas.{IsFree, IsFree-from}
 
 -- the marks of a part of a text
 abbrev pub marks_at : List ℕ → ℕ → ℕ
@@ -18,11 +14,11 @@ marks_at text place = mask_l (map is_newline (chunk place 16 text))
 -- where no byte is marked, no line ends
 pub IsOneLine-from_marks : (text : List ℕ) (place : ℕ) → place + 16 ≤ length text → marks_at text place ≡ 0 → IsOneLine text place (place + 16)
 IsOneLine-from_marks text place room none k after before =
-    not_newline (get_or text k 0) (none_from_empty_mask is_newline text place 16 0 room none k after before)
+    eqb-false (get_or text k 0) 10 (none_from_empty_mask is_newline text place 16 0 room none k after before)
 
 marks-free : (bytes : List ℕ) → IsFree bytes → mask_l (map is_newline bytes) ≡ 0
 marks-free [] free = refl
-marks-free (byte ∷ bytes) free = rw (is_other byte free.0, marks-free bytes free.1) refl
+marks-free (byte ∷ bytes) free = rw (ne_eqb byte 10 free.0, marks-free bytes free.1) refl
 
 -- the lowest mark is at the first end of a line
 pub IsLineEnd-from_marks : (text : List ℕ) (place : ℕ) → place + 16 ≤ length text → 0 < marks_at text place
@@ -33,7 +29,7 @@ IsLineEnd-from_marks text place room some =
     let first = count_trailing_zeros 64 (marks_at text place) in
     let counted = trailing_mask_l is_newline 64 part (omega (arith, long)) some in
     let clear : IsOneLine text place (place + first) = λ k after before.
-    not_newline (get_or text k 0) (run_in_chunk_fails is_newline text place 16 first 0 room counted k after before) in
+    eqb-false (get_or text k 0) 10 (run_in_chunk_fails is_newline text place 16 first 0 room counted k after before) in
     let within : first < 16 = elim (cases_lt first 16) [
       | inl below ↦ below
       | inr above ↦
@@ -45,6 +41,6 @@ IsLineEnd-from_marks text place room some =
     record {
       after = omega arith;
       within = omega arith;
-      newline = newline (get_or text (place + first) 0) (run_in_chunk_stops is_newline text place 16 first 0 room counted within);
+      newline = eqb-true (get_or text (place + first) 0) 10 (run_in_chunk_stops is_newline text place 16 first 0 room counted within);
       first = clear;
     }

@@ -1,6 +1,6 @@
 -- What a writer holds once all that waited has been written.
-use Rattle.std.proofs.Common.{◌≡◌, ◌∙◌, ap, List, [], ◌++◌, ℕ, None, Some, append-nil, refl, Bool, true, false}
-use Rattle.std.specs.Prelude.{Option, ◌||◌}
+use Rattle.std.proofs.Common.{◌≡◌, ◌∙◌, ap, List, [], ◌++◌, ℕ, None, Some, append-nil}
+use Rattle.std.specs.Prelude.{Option}
 use Rattle.std.specs.Io.KnownBytes.{Appends, append_known}
 
 -- nothing waited, then bytes did, then those were written
@@ -13,8 +13,3 @@ Appends-sent (Some x) (Some y) (Some z) pending waiting bytes none first second 
     second ∙ first
     ∙ ap (λ (waited : List ℕ). (x ++ waited) ++ bytes) none
     ∙ ap (λ (held : List ℕ). held ++ bytes) (append-nil x)
-
--- a call that did not fail leaves what had failed as it was
-pub or-false : (failed : Bool) → (failed || false) ≡ failed
-or-false true = refl
-or-false false = refl

@@ -1,6 +1,6 @@
 //! Readers and writers that remember whether they have failed.
 
-ghost use Rattle.std.specs.Prelude.{◌≡◌, ◌+◌, ◌-◌, ◌^◌, ◌<◌, ◌||◌, false, length, is_err, IsErr, IfOk, OnOk};
+ghost use Rattle.std.specs.Prelude.{◌≡◌, ◌+◌, ◌-◌, ◌^◌, ◌<◌, ◌≤◌, ◌||◌, false, length, is_err, IsErr, IfOk, OnOk};
 ghost use Rattle.std.specs.Io.{ReadsAtMost, WritesAtMost};
 ghost use Rattle.std.specs.Io.KnownBytes.{ReadConsumes, WriteAppends, Keeps};
 
@@ -69,9 +69,9 @@ impl<R: Read> Watched<R> {
         ensures bytes { ReadConsumes (R.remaining self.old.inner) (R.remaining self.new.inner)
             result buffer.new }
         ensures failed { self.new.failed ≡ (self.old.failed || is_err result) }
-        ensures counted { OnOk result (self.new.reads ≡ self.old.reads + 1) }
+        ensures counted { self.old.reads < 2 ^ 64 - 1 → self.new.reads ≡ self.old.reads + 1 }
         ensures limited { self.new.reads < 2 ^ 64 }
-        ensures refused { self.old.reads ≡ 2 ^ 64 - 1 →
+        ensures refused { 2 ^ 64 - 1 ≤ self.old.reads →
             IsErr result × (self.new.inner ≡ self.old.inner) }
     {
         if self.reads == u64::MAX {

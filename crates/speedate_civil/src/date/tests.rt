@@ -92,6 +92,24 @@ fn reads_bytes_that_are_no_text(rt: HostRuntime) {
 }
 
 #[test]
+fn equal_by_all_fields(rt: HostRuntime) {
+    let date = Date {
+        year: 2020,
+        month: 2,
+        day: 28,
+    };
+    let cases = [
+        ("2020-02-28", true),
+        ("2021-02-28", false),
+        ("2020-03-28", false),
+        ("2020-02-27", false),
+    ];
+    for (text, same) in cases {
+        assert_eq!(rt; Date::parse_str_rfc3339(text) == Ok(date), same, "{text}");
+    }
+}
+
+#[test]
 fn prints_without_regard_to_width(rt: HostRuntime) -> Result<(), Fail> {
     let date = Date {
         year: 33,

@@ -5,7 +5,7 @@ use Rattle.speedate_lines.specs.Lines.{Pieces, complete}
 use Rattle.speedate_lines.specs.Answer.{answer, answers}
 use Rattle.speedate_lines.specs.Block.{held}
 use Rattle.speedate_lines.proofs.LineLemmas.{pieces-from, pieces-rest}
-use Rattle.speedate_lines.proofs.SentLemmas.{or-false}
+use Rattle.std.proofs.Math.Bool.{or-false}
 use Rattle.speedate_lines.proofs.run.answer_lines.Goals as goal
 
 pub loop-end-preserved : goal.loop-end-preserved

@@ -1,4 +1,5 @@
-use Rattle.std.proofs.Common.{◌≡◌, ap, ℕ, ◌-◌, ◌<◌, ◌≤◌, List, length, take, drop, arith}
+use Rattle.std.proofs.Common.{◌≡◌, ap, ℕ, ◌-◌, ◌^◌, ◌<◌, ◌≤◌, List, length, take, drop, arith, inl, inr}
+use Rattle.std.proofs.lemmas.Bool.{false≢true, cases_lt}
 use Rattle.std.proofs.lemmas.List.{length-take, length-drop}
 use Rattle.speedate_lines.proofs.BlockLemmas.{take-filled, length-filled}
 use Rattle.speedate_lines.proofs.run.fill.Goals as goal
@@ -23,3 +24,9 @@ returns-clause-filled g c =
           let none : count ≡ 0 = omega arith in
           (ap (λ (n : ℕ). take n buffer) none, c.in_ok-count.ensures.bytes.1 none room);
     }
+
+pub returns-clause-counted : goal.returns-clause-counted
+returns-clause-counted g c = elim (cases_lt c.args.input.now.reads (2 ^ 64 - 1)) [
+  | inl few ↦ c.in_ok-count.ensures.counted few
+  | inr many ↦ absurd (false≢true (c.in_ok-count.ensures.refused many).0)
+]

@@ -7,7 +7,7 @@ use Rattle.speedate_lines.specs.Answer.{answers}
 use Rattle.speedate_lines.specs.Block.{kept_of}
 use Rattle.speedate_lines.proofs.LineLemmas.{IsFree, IsOneLine-from_free, unfinished-free}
 use Rattle.speedate_lines.proofs.CarryLemmas.{kept_of-free, answers-more, kept-more, answers-all}
-use Rattle.speedate_lines.proofs.SentLemmas.{or-false}
+use Rattle.std.proofs.Math.Bool.{or-false}
 use Rattle.speedate_lines.proofs.run.run.Goals as goal
 
 pub answer_block-requires-clause-one_line : goal.answer_block-requires-clause-one_line

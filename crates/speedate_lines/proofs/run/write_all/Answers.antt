@@ -1,7 +1,7 @@
 use Rattle.std.proofs.Common.{◌∙◌, ap, sym, ℕ, List, ◌++◌, take, append_assoc}
 use Rattle.std.proofs.lemmas.List.{take_rest, take-append-drop}
 use Rattle.std.proofs.KnownBytes.{Appends-trans}
-use Rattle.speedate_lines.proofs.SentLemmas.{or-false}
+use Rattle.std.proofs.Math.Bool.{or-false}
 use Rattle.speedate_lines.proofs.run.write_all.Goals as goal
 
 pub loop-rest-preserved : goal.loop-rest-preserved

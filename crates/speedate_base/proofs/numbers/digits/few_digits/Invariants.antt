@@ -1,10 +1,16 @@
-use Rattle.std.proofs.Common.{◌≡◌, take}
+use Rattle.std.proofs.Common.{◌≡◌, ◌-◌, ◌%◌, ◌≤◌, true, length, take}
+use Rattle.std.specs.List.{list_all}
+use Rattle.speedate_base.specs.Digits.{is_digit}
 use Rattle.speedate_base.specs.DigitRuns.{digits_value}
-use Rattle.speedate_base.specs.DigitRunLaws.{AreDigits}
 use Rattle.speedate_base.proofs.numbers.digits.few_digits.Given as goal
 
-abbrev pub invariant-loop-digit : goal.invariant-loop-digit
-invariant-loop-digit l = record {
-  digits : AreDigits l.digits l.digit-index;
-  value : l.value ≡ digits_value (take l.digit-index l.digits);
+abbrev pub invariant-loop-place : goal.invariant-loop-place
+invariant-loop-place l = record {
+  within : l.place ≤ length l.digits;
+  whole : (length l.digits - l.place) % 8 ≡ 0;
+  digits : list_all is_digit (take l.place l.digits) ≡ true;
+  value : l.value ≡ digits_value (take l.place l.digits);
 }
+
+abbrev pub decreases-loop-place : goal.decreases-loop-place
+decreases-loop-place l = length l.digits - l.place
