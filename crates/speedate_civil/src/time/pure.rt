@@ -33,7 +33,10 @@ impl PureTime {
     ghost use Rattle.speedate_civil.specs.ClockText.{clock_answer, time_front, minute_front};
     ghost use Rattle.speedate_civil.specs.Time.{answered_fields};
 
-    /// Reads the time that begins at `place`.
+    /// Reads the time that begins at `place`, whatever follows it: 12:13:14 and a half, in ten
+    /// bytes, from `b"P12:13:14.5Z"` at place 1. The faults are those of
+    /// [`Time::parse_str`](crate::time::Time::parse_str) up to `SecondFractionTooLong`, in that
+    /// order; more than six digits are refused only by the behavior `Error`.
     #[inline(always)]
     pub fn parse(
         bytes: &[u8],
@@ -60,7 +63,10 @@ impl PureTime {
         Self::after_minute(3, hour, minute, rest, behavior)
     }
 
-    /// Reads a time of hour 0 from its minute on, which begins at `place`.
+    /// Reads a time of hour 0 from its minute on, which begins at `place`, whatever follows it: 13
+    /// minutes and 14 seconds, in five bytes, from `b"12:13:14"` at place 3. The faults are
+    /// `InvalidCharMinute`, where two digits are not there too, and those of
+    /// [`PureTime::parse`] behind it but for the hour's.
     #[inline]
     pub fn parse_from_minute(
         bytes: &[u8],
