@@ -1,4 +1,5 @@
--- Digits, and numbers of two and of four digits at fixed places of a text.
+-- Digits, and numbers of two and of four digits at fixed places of a text. Behind the end of a text `slice_index` is 0,
+-- which is no digit, no sign and no separator.
 use Rattle.std.specs.Prelude.{ℕ, ◌+◌, ◌-◌, ◌*◌, ◌/◌, ◌%◌, Bool, ◌&&◌, List, [], ◌∷◌, ◌++◌, nat_le, slice_index}
 
 -- a byte from `0` to `9` (RFC 3339 5.6, DIGIT)

@@ -2,7 +2,7 @@
 use Rattle.std.specs.Prelude.{◌≡◌, ◌%◌, ◌<◌, Option, ℤ, unsigned_abs}
 use Rattle.std.specs.Option.{ForSome}
 
--- an offset lies strictly within 24 hours (RFC 3339 4.2)
+-- an offset is less than 24 hours (RFC 3339 4.2)
 abbrev pub IsOffset : ℤ → Type 0
 IsOffset offset = unsigned_abs offset < 86400
 

@@ -1,4 +1,4 @@
-//! Configurations: how times are read.
+//! Configurations: how times are read, and which offset the times of timestamps get.
 
 ghost use Rattle.std.specs.Option.{ForSome};
 ghost use Rattle.speedate_base.specs.Offset.{IsOffset};
@@ -15,13 +15,14 @@ pub enum MicrosecondsPrecisionOverflowBehavior {
     Error,
 }
 
-/// How times are read. The default refuses further digits of a second and gives timestamps no
-/// offset: `TimeConfig::builder().unix_timestamp_offset(Some(3600)).build()` gives them an hour.
+/// What is done with digits of a second past the sixth, and which offset the time of a timestamp
+/// gets. The default refuses such digits and attaches no offset;
+/// `TimeConfig::builder().unix_timestamp_offset(Some(3600)).build()` attaches one hour.
 #[derive(Clone, Copy, Debug, PartialEq, Eq)]
 pub struct TimeConfig {
     /// What is done with digits of a second past the sixth.
     pub microseconds_precision_overflow_behavior: MicrosecondsPrecisionOverflowBehavior,
-    /// The offset, in seconds, that a timestamp's value gets: none, or one within 24 hours.
+    /// The offset, in seconds, that a timestamp's value gets: none, or one of less than 24 hours.
     pub unix_timestamp_offset: Option<i32>,
     pub ghost offset_in_range: { ForSome unix_timestamp_offset IsOffset },
 }
@@ -72,7 +73,7 @@ impl TimeConfigBuilder {
     ghost use Rattle.std.specs.Prelude.{◌≡◌};
     ghost use Rattle.speedate_base.specs.TimeConfig.{IsDefault};
 
-    /// A builder of the default configuration.
+    /// A builder of the default configuration: `TimeConfigBuilder::new().build()` is that one.
     pub fn new() -> Self
         ensures default { IsDefault result }
     {
@@ -97,7 +98,8 @@ impl TimeConfigBuilder {
         }
     }
 
-    /// Sets the offset, in seconds, that a timestamp's value gets: none, or one within 24 hours.
+    /// Sets the offset, in seconds, that a timestamp's value gets: none, or one of less than 24
+    /// hours, as `Some(-3600)`.
     pub fn unix_timestamp_offset(self, offset: Option<i32>) -> Self
         requires { ForSome offset IsOffset }
         ensures offset { result.unix_timestamp_offset ≡ offset }
@@ -114,7 +116,7 @@ impl TimeConfigBuilder {
         }
     }
 
-    /// The configuration of the values that were set last.
+    /// The configuration of the values that were set last, and of defaults for the others.
     pub fn build(self) -> TimeConfig
         ensures built { result ≡ self }
     {
@@ -127,6 +129,7 @@ impl Default for TimeConfigBuilder {
 
     ghost is_default = { IsDefault };
 
+    /// A builder of the default configuration.
     fn default() -> Self {
         Self::new()
     }

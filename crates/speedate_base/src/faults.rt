@@ -30,7 +30,7 @@ pub enum ParseError {
     InvalidCharDay,
     /// The `:` between hour and minute is missing.
     InvalidCharTimeSep,
-    /// The hour is not made of digits.
+    /// The hour is not two digits.
     InvalidCharHour,
     /// The minute is not two digits.
     InvalidCharMinute,
@@ -62,7 +62,7 @@ pub enum ParseError {
     OutOfRangeMinute,
     /// The second is over 59.
     OutOfRangeSecond,
-    /// A fraction of a second has more than six digits.
+    /// A fraction of a second has more than six digits, and the configuration refuses them.
     SecondFractionTooLong,
     /// No digit follows the point after a second.
     SecondFractionMissing,

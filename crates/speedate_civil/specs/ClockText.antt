@@ -1,5 +1,5 @@
 -- A time of day at the front of a text, up to its offset (RFC 3339 5.6, partial-time; the second may be left out).
--- `text` begins with the hour, and `rest` with the minute.
+-- `text` begins with the hour, and `rest` with the minute; 58 is `:`, 46 `.`, 44 `,` and 48 `0`.
 use Rattle.std.specs.Prelude.{ℕ, ◌+◌, Bool, true, false, ◌&&◌, ◌||◌, List, [], ◌∷◌, ◌++◌, length, take, drop, replicate, nat_le, nat_lt, ◌==◌, slice_index, if◌then◌else◌, Result, Ok}
 use Rattle.speedate_base.specs.declared.config.MicrosecondsPrecisionOverflowBehavior.{MicrosecondsPrecisionOverflowBehavior}
 use Rattle.speedate_base.specs.declared.config.MicrosecondsPrecisionOverflowBehavior.TheVariants as behavior
@@ -49,7 +49,7 @@ infix 15 ◌implies◌
 abbrev pub ◌implies◌ : Bool → Bool → Bool
 there implies asked = if there then asked else true
 
--- what a text has to meet to begin with an hour; 58 is `:`
+-- what a text has to meet to begin with an hour
 abbrev pub hour_table : List ℕ → List Requirement
 hour_table text =
     (nat_le 5 (length text) else_fault fault.TooShort)
@@ -75,7 +75,7 @@ minute_table behavior rest =
     ∷ (((has_fraction rest && refuses_digits behavior) implies nat_le (run_length rest 6) 6) else_fault fault.SecondFractionTooLong)
     ∷ []
 
--- the clock whose minute, in digits, begins at `rest`, or its fault
+-- the clock with whose minute, in digits, `rest` begins, or its fault
 abbrev pub clock_answer : MicrosecondsPrecisionOverflowBehavior → ℕ → ℕ → List ℕ → Result ClockFields ParseError
 clock_answer behavior start hour rest = meets (minute_table behavior rest) (Ok (clock_fields start hour rest))
 

@@ -34,7 +34,7 @@ offset_minute numbers = two_digit_value numbers (offset_minute_place numbers)
 abbrev pub offset_size : List ℕ → ℕ
 offset_size numbers = 3600 * two_digit_value numbers 0 + 60 * offset_minute numbers
 
--- what follows a sign has to meet
+-- what the text behind a sign has to meet
 abbrev pub signed_table : List ℕ → List Requirement
 signed_table numbers =
     (two_digits_at numbers 0 else_fault fault.InvalidCharTzHour)

@@ -26,16 +26,16 @@ microsecond_of_day time = 1000000 * second_of_day time + time.microsecond
 
 -- the time so many seconds and less than a million microseconds after midnight
 abbrev pub time_at : ℕ → ℕ → Option ℤ → TimeOfDay
-time_at second microsecond offset = record {
-  hour = second / 3600;
-  minute = second / 60 % 60;
-  second = second % 60;
+time_at seconds microsecond offset = record {
+  hour = seconds / 3600;
+  minute = seconds / 60 % 60;
+  second = seconds % 60;
   microsecond = microsecond;
   offset = offset;
 }
 
 -- the time so many seconds and microseconds after midnight, with the offset attached, if it is still that day
 abbrev pub timestamp_answer : ℕ → ℕ → Option ℤ → Result TimeOfDay ParseError
-timestamp_answer second microsecond offset =
-    let seconds = second + microsecond / 1000000 in
-    meets ((nat_lt seconds 86400 else_fault fault.TimeTooLarge) ∷ []) (Ok (time_at seconds (microsecond % 1000000) offset))
+timestamp_answer seconds microseconds offset =
+    let whole = seconds + microseconds / 1000000 in
+    meets ((nat_lt whole 86400 else_fault fault.TimeTooLarge) ∷ []) (Ok (time_at whole (microseconds % 1000000) offset))

@@ -36,7 +36,7 @@ pub struct Time {
     pub second: u8,
     /// The microsecond, 0 to 999,999.
     pub microsecond: u32,
-    /// The offset from UTC in seconds, within 24 hours, if there is one.
+    /// The offset from UTC in seconds, less than 24 hours, if there is one.
     pub tz_offset: Option<i32>,
     pub ghost hour_in_range: { hour ≤ 23 },
     pub ghost minute_in_range: { minute ≤ 59 },
@@ -61,7 +61,8 @@ impl Time {
     ///
     /// The form is that of RFC 3339, `HH:MM:SS` with an optional fraction and an offset, relaxed:
     /// the second, the offset and the `:` in it may be left out, the point may be a comma, and a
-    /// negative offset may have the sign U+2212. The faults, in the order in which they are looked
+    /// negative offset may have the sign U+2212. It is narrower in two ways: a fraction has at most
+    /// six digits, and there is no second 60. The faults, in the order in which they are looked
     /// for:
     ///
     /// - `TooShort` where the text has less than five bytes;
@@ -69,11 +70,11 @@ impl Time {
     ///   the left, that is not two digits or is not a `:`;
     /// - `OutOfRangeHour` where the hour is over 23, and `OutOfRangeMinute` where the minute is
     ///   over 59;
-    /// - `InvalidCharSecond` where a second `:` is not followed by two digits, and
+    /// - `InvalidCharSecond` where a `:` follows the minute and two digits do not follow it, and
     ///   `OutOfRangeSecond` where they are over 59;
     /// - `SecondFractionMissing` where no digit follows a point, and `SecondFractionTooLong` where
     ///   more than six do;
-    /// - `InvalidCharTzSign` where something else follows that begins no offset;
+    /// - `InvalidCharTzSign` where what follows the clock begins no offset;
     /// - `InvalidCharTzHour` and `InvalidCharTzMinute` where the sign of an offset is not followed
     ///   by two digits, an optional `:` and two digits;
     /// - `OutOfRangeTzMinute` where the minutes of the offset are over 59, and `OutOfRangeTz` where

@@ -10,7 +10,9 @@ use speedate_base::numbers::run_end;
 /// A fraction of a second: how many digits it has, and the microsecond that they mean.
 #[derive(Clone, Copy)]
 pub(crate) struct Fraction {
+    /// How many digits.
     pub length: usize,
+    /// The microsecond, 0 to 999,999.
     pub microsecond: u32,
 }
 
@@ -42,7 +44,7 @@ impl Fraction {
             if !digit.is_ascii_digit() {
                 return Fraction {
                     length: place,
-                    microsecond: number * place_value(place),
+                    microsecond: number * last_place(place),
                 };
             }
             number = 10 * number + u32::from(digit - b'0');
@@ -54,13 +56,13 @@ impl Fraction {
     }
 }
 
-/// How many microseconds the last of so many digits counts.
+/// How many microseconds one counts in the last place of so many digits: 100,000 for one digit.
 #[inline]
-fn place_value(length: usize) -> u32
-    requires { length < 6 }
-    ensures { result ≡ 10 ^ (6 - length) }
+fn last_place(count: usize) -> u32
+    requires { count < 6 }
+    ensures { result ≡ 10 ^ (6 - count) }
 {
-    match length {
+    match count {
         0 => 1_000_000,
         1 => 100_000,
         2 => 10_000,

@@ -20,10 +20,10 @@ pub(crate) fn read_offset(rest: &[u8]) -> Result<Option<i32>, ParseError>
     ensures answer { result ≡ offset_answer rest.now }
     ensures range { IfOk result (λ offset. ForSome offset IsOffset) }
 {
-    let [sign, numbers @ ..] = rest else {
+    let [first, others @ ..] = rest else {
         return Ok(None);
     };
-    let (west, numbers) = match (sign, numbers) {
+    let (west, numbers) = match (first, others) {
         (b'+', numbers) => (false, numbers),
         (b'-', numbers) => (true, numbers),
         (0xe2, [0x88, 0x92, numbers @ ..]) => (true, numbers),

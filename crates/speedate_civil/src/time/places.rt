@@ -13,7 +13,8 @@ pub(crate) fn byte_at(bytes: &[u8], place: usize) -> u8
     if place < bytes.len() { bytes[place] } else { 0 }
 }
 
-/// The number that the two digits from `place` on spell, or `None` where they are not there.
+/// The number that the two digits from `place` on spell, or `None` where they are not there. No
+/// caller looks further than place 8.
 #[inline]
 pub(crate) fn two_digits_there(bytes: &[u8], place: usize) -> Option<u8>
     requires { place < 8 }

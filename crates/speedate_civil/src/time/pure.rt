@@ -21,7 +21,7 @@ pub struct PureTime {
     pub second: u8,
     /// The microsecond, 0 to 999,999.
     pub microsecond: u32,
-    /// How many bytes of the text were read.
+    /// How many bytes it takes, counted from where it begins.
     pub end: usize,
     pub ghost hour_in_range: { hour ≤ 23 },
     pub ghost minute_in_range: { minute ≤ 59 },
@@ -82,8 +82,8 @@ impl PureTime {
         Self::after_minute(0, 0, minute, rest, behavior)
     }
 
-    /// Reads the second and the fraction behind the minute with which `rest` begins, and which
-    /// `start` bytes stand before.
+    /// Tests the range of the minute with which `rest` begins, behind the first `start` bytes of
+    /// the time, and reads the second and the fraction that follow it.
     #[inline(always)]
     fn after_minute(
         start: usize,

@@ -40,7 +40,7 @@ six-lt digits count number six long each same =
 pub overflow_mul-result : goal.overflow_mul-result
 overflow_mul-result c =
     let before = c.loop-place.invariant in
-    omega (arith, product-lt c.args.digits.now _ _ c.loop-place.place (omega arith) (omega arith) before.digits before.value c.place_value.ensures)
+    omega (arith, product-lt c.args.digits.now _ _ c.loop-place.place (omega arith) (omega arith) before.digits before.value c.last_place.ensures)
 
 pub returns-then-not-is_ascii_digit-clause-length : goal.returns-then-not-is_ascii_digit-clause-length
 returns-then-not-is_ascii_digit-clause-length c =
@@ -54,13 +54,13 @@ returns-then-not-is_ascii_digit-clause-microsecond c =
     let before = c.loop-place.invariant in
     let ended = ap is_digit (sym c.byte_at-digit.ensures) ∙ sym c.is_ascii_digit.ensures.value ∙ c.if-not-is_ascii_digit.true in
     let run = run_length-ended digits c.loop-place.place before.within before.digits (λ _. ended) in
-    product _ _ _ c.loop-place.place before.value c.place_value.ensures
+    product _ _ _ c.loop-place.place before.value c.last_place.ensures
     ∙ sym (fraction_value-ended digits c.loop-place.place (omega arith) before.within run)
 
 pub returns-then-not-is_ascii_digit-clause-small : goal.returns-then-not-is_ascii_digit-clause-small
 returns-then-not-is_ascii_digit-clause-small c =
     let before = c.loop-place.invariant in
-    product-lt c.args.digits.now _ _ c.loop-place.place (omega arith) (omega arith) before.digits before.value c.place_value.ensures
+    product-lt c.args.digits.now _ _ c.loop-place.place (omega arith) (omega arith) before.digits before.value c.last_place.ensures
 
 pub overflow_mul-number : goal.overflow_mul-number
 overflow_mul-number c =
