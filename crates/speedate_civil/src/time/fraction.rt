@@ -19,7 +19,7 @@ pub(crate) struct Fraction {
 impl Fraction {
     /// The fraction whose digits begin at `place`: three digits that mean 120,000 microseconds for
     /// `b".120Z"` at place 1. Digits past the sixth are counted only.
-    #[inline]
+    #[inline(always)]
     pub(crate) fn read(bytes: &[u8], place: usize) -> Self
         requires { place ≤ length bytes.now }
         ensures length { result.length ≡ run_length bytes.now place }
@@ -31,7 +31,7 @@ impl Fraction {
     }
 
     /// The fraction whose digits stand at the front.
-    #[inline]
+    #[inline(always)]
     fn at_front(digits: &[u8]) -> Self
         ensures length { result.length ≡ run_length digits.now 0 }
         ensures microsecond { result.microsecond ≡ fraction_value (run_digits digits.now 0) }
