@@ -11,10 +11,13 @@ use arrayvec::ArrayVec;
 use speedate::{Date, Time};
 
 /// A longer line is answered without being looked at.
-const LINE_MAX: usize = 4096;
+pub const LINE_MAX: usize = 4096;
 
-/// No answer, with the byte 10 that ends it, has more bytes.
-pub const ANSWER_MAX: usize = 64;
+/// No printed value and no reason for a refusal has more bytes.
+const TEXT_MAX: usize = 32;
+
+/// No answer has more bytes: `ok ` or `err `, a text, and the byte 10 that ends it.
+pub const ANSWER_MAX: usize = 4 + TEXT_MAX + 1;
 
 /// How many bytes of answers are gathered before they are written.
 pub const PENDING_MAX: usize = 65536;
@@ -68,7 +71,7 @@ fn answer_time(text: &[u8], pending: &mut Pending)
 /// Appends the answer to a text that was read: the canonical text of its value.
 #[inline]
 fn accept(text: &str, pending: &mut Pending)
-    requires short { length text.now ≤ 32 }
+    requires short { length text.now ≤ TEXT_MAX }
     requires room { array_vec_len pending.old + ANSWER_MAX ≤ PENDING_MAX }
     ensures accepted { pending.new.items ≡ pending.old.items ++ (accepted text.now ++ 10 ∷ []) }
 {
@@ -80,7 +83,7 @@ fn accept(text: &str, pending: &mut Pending)
 /// Appends the answer to a line that was refused: the name of the reason.
 #[inline]
 fn refuse(name: &str, pending: &mut Pending)
-    requires short { length name.now ≤ 32 }
+    requires short { length name.now ≤ TEXT_MAX }
     requires room { array_vec_len pending.old + ANSWER_MAX ≤ PENDING_MAX }
     ensures refused { pending.new.items ≡ pending.old.items ++ (refused name.now ++ 10 ∷ []) }
 {

@@ -8,16 +8,19 @@ ghost use Rattle.speedate_lines.specs.Answer.{answers};
 ghost use Rattle.speedate_lines.specs.Outcome.{EndsBy};
 ghost use Rattle.speedate_lines.specs.Block.{held, kept_of, ReadsBehind};
 
-use crate::answer::{ANSWER_MAX, PENDING_MAX, Pending, answer_line};
+use crate::answer::{ANSWER_MAX, LINE_MAX, PENDING_MAX, Pending, answer_line};
 use crate::line_end::line_end;
 use crate::watched::{Failed, Watched};
 use std::io::{Read, Write};
 
 /// Of a line that is too long to be answered, so many bytes are kept: they tell that it is.
-const KEPT_MAX: usize = 4097;
+const KEPT_MAX: usize = LINE_MAX + 1;
+
+/// How many bytes one read gives at most.
+const READ_MAX: usize = 65536;
 
 /// How many bytes of input lie in memory: an unfinished line, and what one read gives.
-const BLOCK: usize = KEPT_MAX + 65536;
+const BLOCK: usize = KEPT_MAX + READ_MAX;
 
 /// Why a run ended before its input.
 #[derive(Clone, Copy, Debug, PartialEq, Eq)]
