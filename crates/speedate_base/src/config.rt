@@ -73,7 +73,7 @@ impl TimeConfigBuilder {
     ghost use Rattle.std.specs.Prelude.{◌≡◌};
     ghost use Rattle.speedate_base.specs.TimeConfig.{IsDefault};
 
-    /// A builder of the default configuration: `TimeConfigBuilder::new().build()` is that one.
+    /// A builder of the default configuration, as `TimeConfig::builder` gives it too.
     pub fn new() -> Self
         ensures default { IsDefault result }
     {
