@@ -46,7 +46,7 @@ impl Default for TimeConfig {
     /// Further digits are refused, and timestamps get no offset.
     fn default() -> Self {
         TimeConfig {
-            microseconds_precision_overflow_behavior: MicrosecondsPrecisionOverflowBehavior::Error,
+            microseconds_precision_overflow_behavior: MicrosecondsPrecisionOverflowBehavior::default(),
             unix_timestamp_offset: None,
         }
     }

@@ -155,6 +155,8 @@ impl fmt::Display for ParseError {
 
     ghost output = { λ fault. Some (fault_name fault) };
 
+    ghost styled_output = { λ fault _. Some (fault_name fault) };
+
     fn fmt<W: fmt::Write>(&self, f: &mut fmt::Formatter<W>) -> fmt::Result {
         f.write_str(self.name())
     }

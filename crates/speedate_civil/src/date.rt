@@ -148,6 +148,8 @@ impl fmt::Display for Date {
 
     ghost output = { λ date. Some (date_text (parts date)) };
 
+    ghost styled_output = { λ date _. Some (date_text (parts date)) };
+
     fn fmt<W: fmt::Write>(&self, f: &mut fmt::Formatter<W>) -> fmt::Result {
         f.write_str(self.to_text().as_str())
     }

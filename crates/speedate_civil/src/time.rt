@@ -251,6 +251,8 @@ impl fmt::Display for Time {
 
     ghost output = { λ time. Some (time_text (parts time)) };
 
+    ghost styled_output = { λ time _. Some (time_text (parts time)) };
+
     fn fmt<W: fmt::Write>(&self, f: &mut fmt::Formatter<W>) -> fmt::Result {
         f.write_str(self.to_text().as_str())
     }

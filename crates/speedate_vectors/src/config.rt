@@ -8,6 +8,10 @@ fn a_builder_gives_what_was_set_last(rt: HostRuntime) {
         microseconds_precision_overflow_behavior: MicrosecondsPrecisionOverflowBehavior::Error,
         unix_timestamp_offset: None,
     };
+    assert!(rt;
+        MicrosecondsPrecisionOverflowBehavior::default()
+            == MicrosecondsPrecisionOverflowBehavior::Error
+    );
     assert!(rt; TimeConfig::default() == plain);
     assert!(rt; TimeConfig::builder().build() == plain);
     assert!(rt; TimeConfigBuilder::new().build() == plain);

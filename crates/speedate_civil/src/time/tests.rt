@@ -380,6 +380,28 @@ fn prints_offsets_without_their_seconds(rt: HostRuntime) {
 }
 
 #[test]
+fn displays_what_it_prints(rt: HostRuntime) -> Result<(), Fail> {
+    let texts = [
+        "12:13:14",
+        "12:13:14.000500",
+        "12:13:14Z",
+        "12:13:14.500000Z",
+        "12:13:14+01:30",
+        "12:13:14.500000-01:30",
+    ];
+    for text in texts {
+        match Time::parse_str(text) {
+            Ok(time) => {
+                let displayed = format!(in rt.alloc(); "{time}")?;
+                assert_eq!(rt; displayed.as_str(), text);
+            }
+            Err(fault) => assert_eq!(rt; fault.name(), text),
+        }
+    }
+    Ok(())
+}
+
+#[test]
 fn prints_without_regard_to_width(rt: HostRuntime) -> Result<(), Fail> {
     let mut time = NOON;
     time.microsecond = 5;
