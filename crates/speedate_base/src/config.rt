@@ -120,7 +120,8 @@ impl TimeConfigBuilder {
     pub fn build(self) -> TimeConfig
         ensures built { result ≡ self }
     {
-        self.config
+        let TimeConfigBuilder { config } = self;
+        config
     }
 }
 

@@ -1,11 +1,14 @@
 pub mod Calendar
 pub mod DateText
 pub mod Date
-pub mod DateLaws
 pub mod TimeOfDay
 pub mod ClockText
 pub mod OffsetText
 pub mod TimeText
 pub mod Time
-pub mod FractionLaws
+pub mod PureTime
+pub mod StandardExamples
+pub mod DateLaws
+pub mod ClockLaws
+pub mod OffsetLaws
 pub mod TimeLaws

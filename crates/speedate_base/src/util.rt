@@ -1,0 +1,4 @@
+//! Units of time.
+
+/// The seconds of a day.
+pub const SECONDS_PER_DAY: u32 = 86_400;
