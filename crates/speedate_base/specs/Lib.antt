@@ -6,6 +6,9 @@ pub mod DigitRuns
 pub mod Numbers
 pub mod IntFloat
 pub mod Offset
+pub mod Timestamp
+pub mod UnixTime
+pub mod DateConfig
 pub mod TimeConfig
 pub mod RequirementLaws
 pub mod TextLaws

@@ -5,9 +5,13 @@ ghost use Rattle.std.specs.Prelude.{◌≡◌, ◌↔◌, IsTrue, Ok};
 ghost use Rattle.speedate_base.specs.Fault.{fault_name};
 ghost use Rattle.speedate_base.specs.declared.faults.ParseError.{ParseError};
 
-use crate::config::{MicrosecondsPrecisionOverflowBehavior, TimeConfig, TimeConfigBuilder};
+use crate::config::{
+    DateConfig, DateConfigBuilder, MicrosecondsPrecisionOverflowBehavior, TimeConfig,
+    TimeConfigBuilder, TimestampUnit,
+};
 use crate::faults::ParseError;
 use crate::numbers::{Decimal, DigitRun, IntFloat};
+use crate::util::UnixTime;
 use std::alloc::AllocError;
 
 /// Whether two faults are one: false for `TooShort` and `ExtraCharacters`.
@@ -29,6 +33,27 @@ pub fn same_behavior(
     first: &MicrosecondsPrecisionOverflowBehavior,
     second: &MicrosecondsPrecisionOverflowBehavior,
 ) -> bool
+    ensures same { IsTrue result ↔ (first.now ≡ second.now) }
+{
+    first == second
+}
+
+/// Whether two units are one: false for `Second` and `Infer`.
+pub fn same_timestamp_unit(first: &TimestampUnit, second: &TimestampUnit) -> bool
+    ensures same { IsTrue result ↔ (first.now ≡ second.now) }
+{
+    first == second
+}
+
+/// Whether two configurations of dates are one: false where their units differ.
+pub fn same_date_config(first: &DateConfig, second: &DateConfig) -> bool
+    ensures same { IsTrue result ↔ (first.now ≡ second.now) }
+{
+    first == second
+}
+
+/// Whether two instants are one: false where their microseconds differ.
+pub fn same_unix_time(first: &UnixTime, second: &UnixTime) -> bool
     ensures same { IsTrue result ↔ (first.now ≡ second.now) }
 {
     first == second
@@ -62,6 +87,36 @@ pub fn clone_behavior(
     ensures clone { result ≡ Ok behavior.now }
 {
     behavior.clone()
+}
+
+/// A second unit that is the same: `Infer` for `Infer`.
+pub fn clone_timestamp_unit(unit: &TimestampUnit) -> Result<TimestampUnit, AllocError>
+    ensures clone { result ≡ Ok unit.now }
+{
+    unit.clone()
+}
+
+/// A second configuration of dates that is the same.
+pub fn clone_date_config(config: &DateConfig) -> Result<DateConfig, AllocError>
+    ensures clone { result ≡ Ok config.now }
+{
+    config.clone()
+}
+
+/// A second builder in the same state.
+pub fn clone_date_config_builder(
+    builder: &DateConfigBuilder,
+) -> Result<DateConfigBuilder, AllocError>
+    ensures clone { result ≡ Ok builder.now }
+{
+    builder.clone()
+}
+
+/// A second instant that is the same.
+pub fn clone_unix_time(time: &UnixTime) -> Result<UnixTime, AllocError>
+    ensures clone { result ≡ Ok time.now }
+{
+    time.clone()
 }
 
 /// A second configuration that is the same, offset and all.
@@ -106,4 +161,11 @@ pub fn default_behavior() -> MicrosecondsPrecisionOverflowBehavior
     ensures default { result ≡ MicrosecondsPrecisionOverflowBehavior.Error }
 {
     MicrosecondsPrecisionOverflowBehavior::default()
+}
+
+/// The default unit: it is inferred.
+pub fn default_timestamp_unit() -> TimestampUnit
+    ensures default { result ≡ TimestampUnit.Infer }
+{
+    TimestampUnit::default()
 }

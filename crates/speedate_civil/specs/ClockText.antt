@@ -8,7 +8,7 @@ use Rattle.speedate_base.specs.declared.config.MicrosecondsPrecisionOverflowBeha
 use Rattle.speedate_base.specs.declared.faults.ParseError.{ParseError}
 use Rattle.speedate_base.specs.declared.faults.ParseError.TheVariants as fault
 use Rattle.speedate_base.specs.Ascii.{colon, comma, full_stop}
-use Rattle.speedate_base.specs.Requirement.{Requirement, ◌else_fault◌, meets, result_map}
+use Rattle.speedate_base.specs.Requirement.{Requirement, ◌else_fault◌, ◌implies◌, meets, result_map}
 use Rattle.speedate_base.specs.Digits.{two_digits_at, two_digit_value, two_digit_text, six_digit_text}
 use Rattle.speedate_base.specs.DigitRuns.{run_length, run_digits, fraction_value}
 
@@ -50,11 +50,6 @@ at_hour hour clock = record clock { hour = hour; size = 3 + clock.size }
 abbrev pub refuses_digits : MicrosecondsPrecisionOverflowBehavior → Bool
 refuses_digits behavior.Truncate = false
 refuses_digits behavior.Error = true
-
-infix 15 ◌implies◌
--- a test that is asked only where something is there
-abbrev pub ◌implies◌ : Bool → Bool → Bool
-there implies asked = if there then asked else true
 
 -- what a text has to meet to begin with an hour
 abbrev pub hour_table : List ℕ → List Requirement

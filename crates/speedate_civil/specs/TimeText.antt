@@ -1,10 +1,10 @@
 -- The text of a time of day, `HH:MM:SS` with a fraction and an offset (RFC 3339 5.6, full-time).
 -- Departs from it: as a clock and an offset do.
-use Rattle.std.specs.Prelude.{ℕ, List, ◌∷◌, ◌++◌, drop, Option, ℤ, Result, Ok, Err}
+use Rattle.std.specs.Prelude.{ℕ, List, ◌∷◌, ◌++◌, drop, Option, ℤ, Result}
 use Rattle.speedate_base.specs.declared.config.MicrosecondsPrecisionOverflowBehavior.{MicrosecondsPrecisionOverflowBehavior}
 use Rattle.speedate_base.specs.declared.faults.ParseError.{ParseError}
 use Rattle.speedate_base.specs.Ascii.{colon}
-use Rattle.speedate_base.specs.Requirement.{result_map}
+use Rattle.speedate_base.specs.Requirement.{result_map, result_and_then}
 use Rattle.speedate_base.specs.Digits.{two_digit_text}
 use Rattle.speedate_civil.specs.TimeOfDay.{TimeOfDay}
 use Rattle.speedate_civil.specs.ClockText.{Clock, time_front, minute_text, fraction_text}
@@ -20,14 +20,13 @@ time_of clock offset = record {
   offset = offset;
 }
 
--- the time of a clock that was read at the front of a text, and of the offset that follows it there
-abbrev pub time_after : List ℕ → Result Clock ParseError → Result TimeOfDay ParseError
-time_after text (Ok clock) = result_map (time_of clock) (offset_answer (drop clock.size text))
-time_after text (Err fault) = Err fault
+-- the time of a clock at the front of a text, and of the offset that follows it there
+abbrev pub with_offset : List ℕ → Clock → Result TimeOfDay ParseError
+with_offset text clock = result_map (time_of clock) (offset_answer (drop clock.size text))
 
 -- the time that a text is, or the text's fault
 abbrev pub time_answer : MicrosecondsPrecisionOverflowBehavior → List ℕ → Result TimeOfDay ParseError
-time_answer behavior text = time_after text (time_front behavior text)
+time_answer behavior text = result_and_then (with_offset text) (time_front behavior text)
 
 -- an hour, a minute and a second in print
 abbrev pub clock_text : TimeOfDay → List ℕ

@@ -2,7 +2,8 @@
 
 ghost use Rattle.std.specs.Prelude.{◌≡◌, ◌+◌, ◌≤◌, IfOk, IsTrue, length, drop, nat_le};
 ghost use Rattle.speedate_base.specs.Digits.{two_digit_value};
-ghost use Rattle.speedate_civil.specs.ClockText.{has_point, refuses_digits, ◌implies◌};
+ghost use Rattle.speedate_base.specs.Requirement.{◌implies◌};
+ghost use Rattle.speedate_civil.specs.ClockText.{has_point, refuses_digits};
 
 use crate::time::fraction::Fraction;
 use speedate_base::config::MicrosecondsPrecisionOverflowBehavior;

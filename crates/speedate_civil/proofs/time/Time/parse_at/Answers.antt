@@ -3,20 +3,20 @@ use Rattle.std.specs.Prelude.{ℤ}
 use Rattle.std.proofs.lemmas.List.{drop-drop, take_rest}
 use Rattle.std.proofs.lemmas.Result.{err_from_is_err_and}
 use Rattle.speedate_base.specs.declared.faults.ParseError.{ParseError}
-use Rattle.speedate_base.specs.Requirement.{result_map}
+use Rattle.speedate_base.specs.Requirement.{result_map, result_and_then}
 use Rattle.speedate_civil.specs.ClockText.{Clock}
 use Rattle.speedate_civil.specs.OffsetText.{offset_answer}
 use Rattle.speedate_civil.specs.PureTime.{parts}
-use Rattle.speedate_civil.specs.TimeText.{time_of, time_after}
+use Rattle.speedate_civil.specs.TimeText.{time_of, with_offset}
 use Rattle.speedate_civil.proofs.time.Time.parse_at.Goals as goal
 
 -- what follows a clock was looked at from its end on
 joined : (bytes rest : List ℕ) (place : ℕ) (clock : Clock) (front : Result Clock ParseError) (offset : Result (Option ℤ) ParseError)
     → Ok clock ≡ front → rest ≡ drop (place + clock.size) bytes → offset ≡ offset_answer rest
-    → result_map (time_of clock) offset ≡ time_after (drop place bytes) front
+    → result_map (time_of clock) offset ≡ result_and_then (with_offset (drop place bytes)) front
 joined bytes rest place clock front offset read place_is answer =
     ap (result_map (time_of clock)) (answer ∙ ap offset_answer (place_is ∙ sym (drop-drop clock.size place bytes)))
-    ∙ ap (time_after (drop place bytes)) read
+    ∙ ap (result_and_then (with_offset (drop place bytes))) read
 
 pub returns-in_err-tz_offset : goal.returns-in_err-tz_offset
 returns-in_err-tz_offset c =
