@@ -1,7 +1,11 @@
 pub mod Calendar
+pub mod DayNumber
+pub mod DateOrder
 pub mod DateText
 pub mod Date
 pub mod DateLaws
+pub mod DayNumberLaws
+pub mod DateOrderLaws
 pub mod TimeOfDay
 pub mod ClockText
 pub mod OffsetText

@@ -4,6 +4,9 @@ ghost use Rattle.std.specs.Prelude.{◌≡◌, ◌<◌, ◌≤◌, Ok, Some, len
 ghost use Rattle.std.specs.Int.{IsInRange};
 ghost use Rattle.speedate_civil.specs.Calendar.{month_length, is_leap_year};
 
+mod day_number;
+mod order;
+
 use crate::text::{ascii_text, two_digit_text};
 use arrayvec::ArrayString;
 use speedate_base::faults::ParseError;
