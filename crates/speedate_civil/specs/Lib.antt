@@ -6,6 +6,7 @@ pub mod Date
 pub mod DateLaws
 pub mod DayNumberLaws
 pub mod DateOrderLaws
+pub mod DateNumberedLaws
 pub mod TimeOfDay
 pub mod ClockText
 pub mod OffsetText

@@ -91,6 +91,8 @@ impl Date {
         if number > LAST_DAY_NUMBER {
             return None;
         }
+        // In quarters of a day a century has 146,097 and a year 1,461, if the last century of each
+        // four and the last year of each four are the longer ones: so rounding down finds them.
         let scaled = 4 * (number + DAYS_BEFORE_YEAR_0) + 3;
         let in_century = scaled % 146_097 / 4 * 4 + 3;
         let year = 100 * (scaled / 146_097) + in_century / 1461 - 399;

@@ -1,6 +1,7 @@
 use Rattle.std.proofs.Common.{arith}
 use Rattle.speedate_civil.specs.Date.{parts}
-use Rattle.speedate_civil.specs.DayNumberLaws.{days_before_year-is, date_numbered-is}
+use Rattle.speedate_civil.specs.DayNumberLaws.{days_before_year-is}
+use Rattle.speedate_civil.specs.DateNumberedLaws.{date_numbered-is}
 use Rattle.speedate_civil.proofs.DateFacts.{is_day}
 use Rattle.speedate_civil.proofs.date.Date.day_number.Goals as goal
 

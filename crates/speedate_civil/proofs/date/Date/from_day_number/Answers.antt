@@ -1,6 +1,7 @@
 use Rattle.std.proofs.Common.{sym}
 use Rattle.speedate_civil.specs.Date.{parts}
-use Rattle.speedate_civil.specs.DayNumberLaws.{year_numbered-is, year_numbered-date, date_numbered-is}
+use Rattle.speedate_civil.proofs.YearOfDay.{year_numbered-is, year_numbered-date}
+use Rattle.speedate_civil.specs.DateNumberedLaws.{date_numbered-is}
 use Rattle.speedate_civil.proofs.DateFacts.{is_day}
 use Rattle.speedate_civil.proofs.date.Date.from_day_number.Goals as goal
 
