@@ -1,5 +1,5 @@
 -- The month of a day of the year, and the days before a month, by a line through the months of a year whose February has 30 days.
-use Rattle.std.specs.Prelude.{◌≡◌, ℕ, ◌+◌, ◌-◌, ◌*◌, ◌/◌, ◌<◌, ◌≤◌, ◌==◌, false, if◌then◌else◌, nat_lt, refl}
+use Rattle.std.specs.Prelude.{◌≡◌, ℕ, ◌+◌, ◌-◌, ◌*◌, ◌/◌, ◌%◌, ◌<◌, ◌≤◌, ◌==◌, false, if◌then◌else◌, nat_lt, refl}
 use Rattle.std.specs.Int.{IsInRange}
 use Rattle.std.proofs.Common.{arith, ap, subst, inl, inr}
 use Rattle.std.proofs.lemmas.Bool.{le-ltb, ne_eqb, cases_lt}
@@ -49,6 +49,10 @@ long_day year day = if nat_lt day (31 + february_length year) then day else day 
 abbrev pub long_month : ℕ → ℕ
 long_month day = (12 * day + 373) / 367
 
+-- and its day of that month
+abbrev pub day_in_month : ℕ → ℕ
+day_in_month day = (12 * day + 373) % 367 / 12 + 1
+
 -- what is known of it
 pub record IsOrdinal (year day month day_of_month : ℕ) : Type 0 where
   pub month_in_range : IsInRange 1 12 month
@@ -62,7 +66,7 @@ long_day-small year day few =
     grind (arith, nat_tests)
 
 -- in January and February the line through the months has what the months have
-ordinal-early : (year day : ℕ) → day < 31 + february_length year → IsOrdinal year day (long_month day) (day - long_days (long_month day) + 1)
+ordinal-early : (year day : ℕ) → day < 31 + february_length year → IsOrdinal year day (long_month day) (day_in_month day)
 ordinal-early year day early =
     let february : february_length year ≤ 29 = omega (arith, february_length-is year, leap_day-small year) in
     elim (cases_lt day 31) [
@@ -97,7 +101,7 @@ late-month year month valid =
     (omega arith, rw later at lengths)
 
 ordinal-late : (year day days : ℕ) → days + february_length year ≡ day + 30 → IsInRange 61 366 days
-    → IsOrdinal year day (long_month days) (days - long_days (long_month days) + 1)
+    → IsOrdinal year day (long_month days) (day_in_month days)
 ordinal-late year day days moved valid =
     let month = late-month year (long_month days) (omega arith, omega arith) in
     let february = february_length-is year in
@@ -108,17 +112,17 @@ ordinal-late year day days moved valid =
     }
 
 pub ordinal-is : (year day : ℕ) → day < year_length year →
-    IsOrdinal year day (long_month (long_day year day)) (long_day year day - long_days (long_month (long_day year day)) + 1)
+    IsOrdinal year day (long_month (long_day year day)) (day_in_month (long_day year day))
 ordinal-is year day few =
     let length = year_length-is year in
     let february = february_length-is year in
     let small = leap_day-small year in
-    if_cases (λ (days : ℕ). IsOrdinal year day (long_month days) (days - long_days (long_month days) + 1)) (nat_lt day (31 + february_length year)) day _
+    if_cases (λ (days : ℕ). IsOrdinal year day (long_month days) (day_in_month days)) (nat_lt day (31 + february_length year)) day _
     (λ early. ordinal-early year day (ltb-true _ _ early))
     (λ late.
     let from_march = ltb-false _ _ late in
     ordinal-late year day (day + 30 - february_length year) (omega arith) (omega arith, omega arith))
 
 pub ordinal-at : (year day days : ℕ) → day < year_length year → days ≡ long_day year day
-    → IsOrdinal year day (long_month days) (days - long_days (long_month days) + 1)
+    → IsOrdinal year day (long_month days) (day_in_month days)
 ordinal-at year day days few is = rw is (ordinal-is year day few)

@@ -53,12 +53,11 @@ fn day_of_year(year: u16, day: u16) -> Date
     } else {
         day + 30 - february
     };
-    let month = (12 * long_day + 373) / 367;
-    let before = (367 * month - 362) / 12;
+    let scaled = 12 * long_day + 373;
     Date {
         year,
-        month: month as u8,
-        day: (long_day - before + 1) as u8,
+        month: (scaled / 367) as u8,
+        day: (scaled % 367 / 12 + 1) as u8,
     }
 }
 

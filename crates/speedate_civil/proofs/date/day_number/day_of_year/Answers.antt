@@ -19,14 +19,11 @@ long_day-is c =
 small : (c : goal.After-row_known-1) → c.if-day-february.long_day ≤ 366
 small c = omega (arith, long_day-is c, long_day-small c.args.year c.args.day c.requires.day)
 
-pub overflow_mul-month : goal.overflow_mul-month
-overflow_mul-month c = omega (arith, small c)
+pub overflow_mul-scaled : goal.overflow_mul-scaled
+overflow_mul-scaled c = omega (arith, small c)
 
-pub overflow_add-month : goal.overflow_add-month
-overflow_add-month c = omega (arith, small c)
-
-pub overflow_mul-before : goal.overflow_mul-before
-overflow_mul-before c = omega (arith, small c)
+pub overflow_add-scaled : goal.overflow_add-scaled
+overflow_add-scaled c = omega (arith, small c)
 
 pub overflow_cast-result : goal.overflow_cast-result
 overflow_cast-result c = omega (arith, small c)
