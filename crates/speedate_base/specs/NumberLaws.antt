@@ -1,13 +1,14 @@
--- A decimal's parts are its text.
-use Rattle.std.specs.Prelude.{◌≡◌, ℕ, suc, ◌+◌, ◌<◌, Bool, true, false, ◌&&◌, ◌||◌, ◌==◌, List, [], ◌∷◌, ◌++◌, length, take, drop, slice_index, nat_lt, if◌then◌else◌, Option, Some, None, ℤ, refl}
+-- A decimal's parts are its text, and texts that are no numbers.
+use Rattle.std.specs.Prelude.{◌≡◌, ◌≢◌, ℕ, suc, ◌+◌, ◌-◌, ◌<◌, ◌≤◌, Bool, true, false, ◌&&◌, ◌||◌, ◌==◌, List, [], ◌∷◌, ◌++◌, length, take, drop, slice_index, nat_lt, if◌then◌else◌, Option, Some, None, ℤ, refl}
 use Rattle.std.specs.Char.{is_ascii_digit}
 use Rattle.std.specs.List.{list_all, prefix_len}
-use Rattle.std.proofs.Common.{arith, ap, sym, subst, ◌∙◌, inl, inr, append_assoc}
-use Rattle.std.proofs.lemmas.Bool.{eqb-true, ne_eqb, and_parts}
-use Rattle.std.proofs.lemmas.List.{take-append-drop, drop-drop, drop_more, take_all, length-drop}
+use Rattle.std.proofs.Common.{arith, ap, sym, subst, ◌∙◌, inl, inr, append_assoc, get_or}
+use Rattle.std.proofs.lemmas.Bool.{cases_lt, eqb-true, ne_eqb, and_parts, false≢true}
+use Rattle.std.proofs.lemmas.List.Sums.{prefix_len_passes}
+use Rattle.std.proofs.lemmas.List.{get_or-drop, take-append-drop, drop-drop, drop_more, take_all, length-drop}
 use Rattle.speedate_base.specs.Ascii.{plus_sign, hyphen, full_stop}
 use Rattle.speedate_base.specs.DigitRuns.{run_length, run_digits, run_value}
-use Rattle.speedate_base.specs.Numbers.{has_minus, sign_length, point_place, is_decimal, decimal_parts, IsSign, JoinsTo, DecimalParts, Fractional, NoNumber, whole_or, whole_number, number_answer, with_sign, fits_i64}
+use Rattle.speedate_base.specs.Numbers.{has_minus, sign_length, point_place, is_decimal, decimal_answer, decimal_parts, IsSign, JoinsTo, DecimalParts, Fractional, NoNumber, whole_or, whole_number, number_answer, with_sign, fits_i64}
 use Rattle.speedate_base.specs.IntFloat.{parts, number_of, JoinsToFloat}
 use Rattle.speedate_base.specs.declared.numbers.number.IntFloat.{IntFloat}
 use Rattle.speedate_base.specs.declared.numbers.number.IntFloat.TheVariants as number
@@ -87,3 +88,59 @@ whole_number-none text within =
     ap (λ (ends : Bool). if (nat_lt 0 (run_length text start) && ends) && fits_i64 (has_minus text) size then Some value else None)
     (ne_eqb (point_place text) (length text) (λ same. absurd (omega arith)))
     ∙ never (nat_lt 0 (run_length text start)) (fits_i64 (has_minus text) size) value
+
+chosen-small : (test : Bool) → (if test then 1 else 0) ≤ 1
+chosen-small true = omega arith
+chosen-small false = omega arith
+
+sign_length-small : (text : List ℕ) → sign_length text ≤ 1
+sign_length-small text = chosen-small ((slice_index text 0 == plus_sign) || has_minus text)
+
+-- each byte of a run is a digit
+run-passes : (text : List ℕ) (start place : ℕ) → start ≤ place → place < start + run_length text start → is_ascii_digit (get_or text place 0) ≡ true
+run-passes text start place after before =
+    let below : place - start < run_length text start = omega arith in
+    let there : start + (place - start) ≡ place = omega arith in
+    sym (ap is_ascii_digit (get_or-drop start text (place - start) 0 ∙ ap (λ (n : ℕ). get_or text n 0) there))
+    ∙ prefix_len_passes is_ascii_digit (drop start text) (place - start) 0 below
+
+-- a text with another byte behind its first is no whole number
+pub whole_number-other : (text : List ℕ) (place : ℕ) → 1 ≤ place → place < length text → is_ascii_digit (get_or text place 0) ≡ false
+    → whole_number text ≡ None
+whole_number-other text place after within other =
+    let start = sign_length text in
+    let size = run_value text start in
+    let small = sign_length-small text in
+    let value = with_sign (has_minus text) size in
+    let ends = ne_eqb (point_place text) (length text) (λ same. false≢true (sym other ∙ run-passes text start place (omega (arith, small)) (omega (arith, same)))) in
+    ap (λ (ends : Bool). if (nat_lt 0 (run_length text start) && ends) && fits_i64 (has_minus text) size then Some value else None) ends
+    ∙ never (nat_lt 0 (run_length text start)) (fits_i64 (has_minus text) size) value
+
+cannot : (test : Bool) → test ≢ true → test ≡ false
+cannot true never = absurd (never refl)
+cannot false never = refl
+
+-- nor is it a decimal, if that byte is no point
+is_decimal-other : (text : List ℕ) (place : ℕ) → 1 ≤ place → place < length text → is_ascii_digit (get_or text place 0) ≡ false
+    → (get_or text place 0 == full_stop) ≡ false → is_decimal text ≡ false
+is_decimal-other text place after within other no_point = cannot (is_decimal text) (λ is.
+    let point = point_place text in
+    let small = sign_length-small text in
+    let first = and_parts ((slice_index text point == full_stop) && (point + 1 + run_length text (point + 1) == length text)) _ is in
+    let tests = and_parts (slice_index text point == full_stop) _ first.0 in
+    let ends = eqb-true (point + 1 + run_length text (point + 1)) (length text) tests.1 in
+    elim (cases_lt place point) [
+      | inl before ↦ false≢true (sym other ∙ run-passes text (sign_length text) place (omega (arith, small)) before)
+      | inr from ↦ elim (cases_lt point place) [
+        | inl behind ↦ false≢true (sym other ∙ run-passes text (point + 1) place (omega arith) (omega (arith, ends)))
+        | inr up ↦ let same : place ≡ point = omega arith in
+            false≢true (sym no_point ∙ ap (λ (n : ℕ). get_or text n 0 == full_stop) same ∙ tests.0)
+      ]
+    ])
+
+-- so it is no number
+pub number_answer-other : (text : List ℕ) (place : ℕ) → 1 ≤ place → place < length text → is_ascii_digit (get_or text place 0) ≡ false
+    → (get_or text place 0 == full_stop) ≡ false → number_answer text ≡ NoNumber
+number_answer-other text place after within other no_point =
+    ap (λ (number : Option ℤ). whole_or number (decimal_answer text)) (whole_number-other text place after within other)
+    ∙ ap (λ (test : Bool). if test then Fractional (decimal_parts text) else NoNumber) (is_decimal-other text place after within other no_point)

@@ -1,6 +1,10 @@
 pub mod Calendar
+pub mod DayNumber
+pub mod DateOrder
 pub mod DateText
 pub mod Date
+pub mod NumberText
+pub mod DateTimestamp
 pub mod TimeOfDay
 pub mod ClockText
 pub mod OffsetText
@@ -9,6 +13,10 @@ pub mod Time
 pub mod PureTime
 pub mod StandardExamples
 pub mod DateLaws
+pub mod DayNumberLaws
+pub mod DateNumberedLaws
+pub mod DateOrderLaws
+pub mod NumberTextLaws
 pub mod ClockLaws
 pub mod OffsetLaws
 pub mod TimeLaws

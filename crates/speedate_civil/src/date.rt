@@ -1,8 +1,12 @@
 //! Dates of the Gregorian calendar, from 0000-01-01 to 9999-12-31.
 
-ghost use Rattle.std.specs.Prelude.{◌≡◌, ◌<◌, ◌≤◌, Ok, Some, length, if◌then◌else◌};
+ghost use Rattle.std.specs.Prelude.{◌≡◌, ◌<◌, ◌≤◌, Ok, OnOk, Some, length, if◌then◌else◌};
 ghost use Rattle.std.specs.Int.{IsInRange};
 ghost use Rattle.speedate_civil.specs.Calendar.{month_length, is_leap_year};
+
+mod day_number;
+mod order;
+mod timestamp;
 
 use crate::text::{ascii_text, two_digit_text};
 use arrayvec::ArrayString;
@@ -56,7 +60,10 @@ fn month_length(year: u16, month: u8) -> u8
 
 impl Date {
     ghost use Rattle.speedate_civil.specs.declared.date.Date.{Date};
+    ghost use Rattle.speedate_base.specs.declared.config.DateConfig.{DateConfig};
+    ghost use Rattle.speedate_base.specs.Numbers.{NoNumber, number_answer};
     ghost use Rattle.speedate_base.specs.Requirement.{result_map};
+    ghost use Rattle.speedate_civil.specs.DateTimestamp.{date_or_timestamp};
     ghost use Rattle.speedate_civil.specs.Date.{parts};
     ghost use Rattle.speedate_civil.specs.DateText.{date_front, date_answer, date_text};
 
@@ -85,6 +92,7 @@ impl Date {
     #[inline]
     pub fn parse_bytes_rfc3339(bytes: &[u8]) -> Result<Self, ParseError>
         ensures answer { result_map parts result ≡ date_answer bytes.now }
+        ensures no_number { OnOk result (number_answer bytes.now ≡ NoNumber) }
     {
         let date = Self::parse_front(bytes)?;
         if bytes.len() > TEXT_LENGTH {
@@ -125,6 +133,8 @@ impl Date {
     pub fn to_text(&self) -> ArrayString<TEXT_LENGTH>
         ensures text { result.bytes ≡ date_text (parts self.now) }
         ensures reads_back { date_answer result.bytes ≡ Ok (parts self.now) }
+        ensures reads_back_with_config { (config : DateConfig)
+            → date_or_timestamp config.timestamp_unit result.bytes ≡ Ok (parts self.now) }
         ensures distinct { (other : Date) → result.bytes ≡ date_text (parts other) → parts self.now ≡ parts other }
     {
         ascii_text(&self.text_bytes())

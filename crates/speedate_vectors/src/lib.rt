@@ -4,6 +4,8 @@
 
 pub mod callers;
 #[cfg(test)]
+mod calendar;
+#[cfg(test)]
 mod config;
 #[cfg(test)]
 mod dates;

@@ -1,15 +1,14 @@
-use Rattle.std.proofs.Common.{◌∙◌, sym, subst, ap, lit<, [], length, arith}
+use Rattle.std.proofs.Common.{◌∙◌, sym, subst, ap, lit<, true, ℕ, List, [], length, arith}
 use Rattle.std.specs.Str.{IsAscii}
 use Rattle.std.proofs.lemmas.Str.Ascii.{IsAscii-nil}
-use Rattle.speedate_civil.specs.declared.date.Date.{Date}
-use Rattle.speedate_civil.specs.Calendar.{IsDate}
 use Rattle.speedate_civil.specs.Date.{parts}
-use Rattle.speedate_civil.specs.DateText.{date_answer}
+use Rattle.speedate_base.specs.Numbers.{whole_number}
+use Rattle.speedate_civil.specs.DateText.{date_answer, date_text}
+use Rattle.speedate_civil.specs.DateTimestamp.{date_timestamp_answer, date_or_timestamp}
+use Rattle.speedate_civil.specs.NumberText.{or_number}
 use Rattle.speedate_civil.specs.DateLaws.{date_text-reads, date_text-distinct, date_text-IsAscii}
+use Rattle.speedate_civil.proofs.DateFacts.{is_date}
 use Rattle.speedate_civil.proofs.date.Date.to_text.Goals as goal
-
-is_date : (date : Date) → IsDate (parts date)
-is_date date = record { year = date.year_in_range; month = date.month_in_range; day = date.day_in_range }
 
 pub ascii_text-requires : goal.ascii_text-requires
 ascii_text-requires c =
@@ -21,6 +20,13 @@ pub returns-clause-reads_back : goal.returns-clause-reads_back
 returns-clause-reads_back c =
     let date = c.args.self.now in
     ap date_answer (c.ascii_text.ensures.bytes ∙ c.text_bytes.ensures.bytes) ∙ date_text-reads (parts date) (is_date date)
+
+pub returns-clause-reads_back_with_config : goal.returns-clause-reads_back_with_config
+returns-clause-reads_back_with_config c config =
+    let date = c.args.self.now in
+    let bytes = c.ascii_text.ensures.bytes ∙ c.text_bytes.ensures.bytes in
+    ap (λ (text : List ℕ). date_or_timestamp config.timestamp_unit text) bytes
+    ∙ ap (or_number (date_timestamp_answer config.timestamp_unit true) (whole_number (date_text (parts date)))) (date_text-reads (parts date) (is_date date))
 
 pub returns-clause-distinct : goal.returns-clause-distinct
 returns-clause-distinct c other same =

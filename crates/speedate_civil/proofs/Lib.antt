@@ -1,0 +1,3 @@
+pub mod DateFacts
+pub mod MonthOfDay
+pub mod YearOfDay

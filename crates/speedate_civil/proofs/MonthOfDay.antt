@@ -1,0 +1,128 @@
+-- The month of a day of the year, and the days before a month, by a line through the months of a year whose February has 30 days.
+use Rattle.std.specs.Prelude.{◌≡◌, ℕ, ◌+◌, ◌-◌, ◌*◌, ◌/◌, ◌%◌, ◌<◌, ◌≤◌, ◌==◌, false, if◌then◌else◌, nat_lt, refl}
+use Rattle.std.specs.Int.{IsInRange}
+use Rattle.std.proofs.Common.{arith, ap, subst, inl, inr}
+use Rattle.std.proofs.lemmas.Bool.{le-ltb, ne_eqb, cases_lt}
+use Rattle.std.proofs.lemmas.Bool.Decides.{nat_tests}
+use borrow.Author.Count.{below_none, below_more}
+use borrow.Author.Tests.{ltb-true, ltb-false}
+use Rattle.speedate_civil.specs.Calendar.{february_length, month_length}
+use Rattle.speedate_civil.specs.DayNumber.{days_of_months, year_length}
+use Rattle.speedate_civil.specs.DayNumberLaws.{leap_day, leap_day-small, february_length-is, year_length-is, if_cases}
+
+-- the days before a month, where a February of 30 days is taken for the year's
+abbrev pub long_days : ℕ → ℕ
+long_days month = (367 * month - 362) / 12
+
+-- by which the months from March on come too late
+abbrev pub missing : ℕ → ℕ → ℕ
+missing year month = if nat_lt month 3 then 0 else 2 - leap_day year
+
+-- what is known of a month
+abbrev pub MonthIs : ℕ → ℕ → Type 0
+MonthIs year months =
+    (days_of_months year months + missing year (months + 1) ≡ long_days (months + 1))
+    × (long_days (months + 1) + (if months == 1 then 30 else month_length year (months + 1)) ≡ long_days (months + 1 + 1))
+
+pub month_is : (year months : ℕ) → months < 12 → MonthIs year months
+unfolding days_of_months
+month_is year =
+    let february = february_length-is year in
+    let small = leap_day-small year in
+    below_more (MonthIs year) 11 (below_more (MonthIs year) 10 (below_more (MonthIs year) 9 (below_more (MonthIs year) 8
+    (below_more (MonthIs year) 7 (below_more (MonthIs year) 6 (below_more (MonthIs year) 5 (below_more (MonthIs year) 4
+    (below_more (MonthIs year) 3 (below_more (MonthIs year) 2 (below_more (MonthIs year) 1 (below_more (MonthIs year) 0 (below_none (MonthIs year))
+    (omega arith, refl)) (omega arith, refl)) (omega arith, refl)) (omega arith, refl)) (omega arith, refl)) (omega arith, refl))
+    (omega arith, refl)) (omega arith, refl)) (omega arith, refl)) (omega arith, refl)) (omega arith, refl)) (omega arith, refl)
+
+-- the days before a month
+pub days_of_months-is : (year month : ℕ) → IsInRange 1 12 month → days_of_months year (month - 1) + missing year month ≡ long_days month
+days_of_months-is year month valid =
+    let same : month - 1 + 1 ≡ month = omega arith in
+    subst (λ (n : ℕ). days_of_months year (month - 1) + missing year n ≡ long_days n) same (month_is year (month - 1) (omega arith)).0
+
+-- a day of the year, counted from 0, as if February had 30 days
+abbrev pub long_day : ℕ → ℕ → ℕ
+long_day year day = if nat_lt day (31 + february_length year) then day else day + 30 - february_length year
+
+-- its month
+abbrev pub long_month : ℕ → ℕ
+long_month day = (12 * day + 373) / 367
+
+-- and its day of that month
+abbrev pub day_in_month : ℕ → ℕ
+day_in_month day = (12 * day + 373) % 367 / 12 + 1
+
+-- what is known of it
+pub record IsOrdinal (year day month day_of_month : ℕ) : Type 0 where
+  pub month_in_range : IsInRange 1 12 month
+  pub day_in_range : IsInRange 1 (month_length year month) day_of_month
+  pub ordinal : days_of_months year (month - 1) + day_of_month ≡ day + 1
+
+pub long_day-small : (year day : ℕ) → day < year_length year → long_day year day ≤ 366
+long_day-small year day few =
+    let length = year_length-is year in
+    let february = february_length-is year in
+    grind (arith, nat_tests)
+
+-- in January and February the line through the months has what the months have
+ordinal-early : (year day : ℕ) → day < 31 + february_length year → IsOrdinal year day (long_month day) (day_in_month day)
+ordinal-early year day early =
+    let february : february_length year ≤ 29 = omega (arith, february_length-is year, leap_day-small year) in
+    elim (cases_lt day 31) [
+      | inl first ↦
+          let january : long_month day ≡ 1 = omega arith in
+          record {
+            month_in_range = (omega arith, omega arith);
+            day_in_range = (omega arith, omega (arith, ap (month_length year) january));
+            ordinal = omega (arith, days_of_months-is year (long_month day) (omega arith, omega arith), ap (missing year) january);
+          }
+      | inr other ↦
+          let second : long_month day ≡ 2 = omega arith in
+          record {
+            month_in_range = (omega arith, omega arith);
+            day_in_range = (omega arith, omega (arith, ap (month_length year) second));
+            ordinal = omega (arith, days_of_months-is year (long_month day) (omega arith, omega arith), ap (missing year) second);
+          }
+    ]
+
+-- from March on it is behind by what February lacks
+late-month : (year month : ℕ) → IsInRange 3 12 month
+    → (days_of_months year (month - 1) + 2 ≡ long_days month + leap_day year) × (long_days month + month_length year month ≡ long_days (month + 1))
+late-month year month valid =
+    let same : month - 1 + 1 ≡ month = omega arith in
+    let small = leap_day-small year in
+    let known = month_is year (month - 1) (omega arith) in
+    let lengths : long_days month + (if month - 1 == 1 then 30 else month_length year month) ≡ long_days (month + 1) =
+    subst (λ (n : ℕ). long_days n + (if month - 1 == 1 then 30 else month_length year n) ≡ long_days (n + 1)) same known.1 in
+    let later : (month - 1 == 1) ≡ false = ne_eqb (month - 1) 1 (λ is. absurd (omega arith)) in
+    let march : nat_lt month 3 ≡ false = le-ltb month 3 valid.0 in
+    let behind = rw march at (days_of_months-is year month (omega arith, omega arith)) in
+    (omega arith, rw later at lengths)
+
+ordinal-late : (year day days : ℕ) → days + february_length year ≡ day + 30 → IsInRange 61 366 days
+    → IsOrdinal year day (long_month days) (day_in_month days)
+ordinal-late year day days moved valid =
+    let month = late-month year (long_month days) (omega arith, omega arith) in
+    let february = february_length-is year in
+    record {
+      month_in_range = (omega arith, omega arith);
+      day_in_range = (omega arith, omega arith);
+      ordinal = omega arith;
+    }
+
+pub ordinal-is : (year day : ℕ) → day < year_length year →
+    IsOrdinal year day (long_month (long_day year day)) (day_in_month (long_day year day))
+ordinal-is year day few =
+    let length = year_length-is year in
+    let february = february_length-is year in
+    let small = leap_day-small year in
+    if_cases (λ (days : ℕ). IsOrdinal year day (long_month days) (day_in_month days)) (nat_lt day (31 + february_length year)) day _
+    (λ early. ordinal-early year day (ltb-true _ _ early))
+    (λ late.
+    let from_march = ltb-false _ _ late in
+    ordinal-late year day (day + 30 - february_length year) (omega arith) (omega arith, omega arith))
+
+pub ordinal-at : (year day days : ℕ) → day < year_length year → days ≡ long_day year day
+    → IsOrdinal year day (long_month days) (day_in_month days)
+ordinal-at year day days few is = rw is (ordinal-is year day few)

@@ -1,0 +1,16 @@
+use Rattle.std.proofs.Common.{arith}
+use Rattle.speedate_civil.specs.Date.{parts}
+use Rattle.speedate_civil.specs.DayNumberLaws.{days_before_year-is}
+use Rattle.speedate_civil.specs.DateNumberedLaws.{date_numbered-is}
+use Rattle.speedate_civil.proofs.DateFacts.{is_day}
+use Rattle.speedate_civil.proofs.date.Date.day_number.Goals as goal
+
+pub returns-clause-number : goal.returns-clause-number
+returns-clause-number c =
+    let date = c.args.self.now in
+    omega (arith, days_before_year-is date.year, date.day_in_range.0)
+
+pub returns-clause-numbered : goal.returns-clause-numbered
+returns-clause-numbered c =
+    let date = c.args.self.now in
+    date_numbered-is _ (parts date) (is_day date) date.year_in_range (omega (arith, days_before_year-is date.year, date.day_in_range.0))

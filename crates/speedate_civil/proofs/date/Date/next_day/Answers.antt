@@ -1,0 +1,15 @@
+use Rattle.std.proofs.Common.{arith}
+use Rattle.speedate_civil.specs.Date.{parts}
+use Rattle.speedate_civil.specs.DayNumberLaws.{day_number-next_month, day_number-next_year}
+use Rattle.speedate_civil.proofs.DateFacts.{is_day}
+use Rattle.speedate_civil.proofs.date.Date.next_day.Goals as goal
+
+pub returns-then-self-lt12-clause-number : goal.returns-then-self-lt12-clause-number
+returns-then-self-lt12-clause-number c =
+    let date = c.args.self.now in
+    day_number-next_month (parts date) (is_day date) (omega (arith, c.month_length.ensures))
+
+pub returns-then-self-lt9999-clause-number : goal.returns-then-self-lt9999-clause-number
+returns-then-self-lt9999-clause-number c =
+    let date = c.args.self.now in
+    day_number-next_year (parts date) (is_day date) (omega (arith, c.month_length.ensures)) c.if-self-lt12.false

@@ -1,0 +1,10 @@
+use Rattle.std.proofs.Common.{arith}
+use Rattle.speedate_civil.specs.Date.{parts}
+use Rattle.speedate_civil.specs.DayNumberLaws.{ordinal_day-small, year_length-is, leap_day-small}
+use Rattle.speedate_civil.proofs.DateFacts.{is_day}
+use Rattle.speedate_civil.proofs.date.Date.ordinal_day.Goals as goal
+
+pub overflow_add-result : goal.overflow_add-result
+overflow_add-result c =
+    let date = c.args.self.now in
+    omega (arith, ordinal_day-small (parts date) (is_day date), year_length-is date.year, leap_day-small date.year)

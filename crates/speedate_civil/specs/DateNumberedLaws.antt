@@ -1,0 +1,18 @@
+-- Each date of the years to 9999 is the date of its day number.
+use Rattle.std.specs.Prelude.{◌≡◌, ℕ, ◌≤◌, Some}
+use Rattle.std.proofs.Common.{arith, ◌∙◌, ap, sym}
+use Rattle.std.proofs.lemmas.Bool.{le-leb}
+use Rattle.speedate_civil.specs.Calendar.{Ymd}
+use Rattle.speedate_civil.specs.DateOrderLaws.{day_number-distinct}
+use Rattle.speedate_civil.specs.DayNumber.{IsDay, day_number, date_after, date_numbered}
+use Rattle.speedate_civil.specs.DayNumberLaws.{day_number-small, date_after-IsDay, day_number-date_after}
+
+-- so many steps as its day number counts lead to a date
+pub date_after-day_number : (date : Ymd) → IsDay date → date_after (day_number date) ≡ date
+date_after-day_number date valid =
+    day_number-distinct (date_after (day_number date)) date (date_after-IsDay (day_number date)) valid (day_number-date_after (day_number date))
+
+pub date_numbered-is : (number : ℕ) (date : Ymd) → IsDay date → date.year ≤ 9999 → day_number date ≡ number → date_numbered number ≡ Some date
+date_numbered-is number date valid small same =
+    let few : number ≤ 3652424 = omega (arith, day_number-small date valid small) in
+    rw (le-leb number 3652424 few) (ap Some (ap date_after (sym same) ∙ date_after-day_number date valid))

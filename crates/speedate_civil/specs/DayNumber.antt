@@ -1,0 +1,59 @@
+-- Days counted from 0000-01-01, and the day after a day.
+use Rattle.std.specs.Prelude.{ℕ, zero, suc, ◌+◌, ◌-◌, nat_lt, nat_le, if◌then◌else◌, Option, Some, None, ℤ, pos, ◌-ℤ◌, ◌*ℤ◌}
+use Rattle.std.specs.Int.{IsInRange}
+use Rattle.speedate_civil.specs.Calendar.{Ymd, month_length}
+
+-- a day of the calendar, in whatever year
+pub record IsDay (date : Ymd) : Type 0 where
+  pub month : IsInRange 1 12 date.month
+  pub day : IsInRange 1 (month_length date.year date.month) date.day
+
+-- the days of the first so many months of a year
+unfoldable pub days_of_months : ℕ → ℕ → ℕ
+days_of_months year zero = 0
+days_of_months year (suc months) = days_of_months year months + month_length year (suc months)
+
+-- the days of a year are those of its twelve months
+abbrev pub year_length : ℕ → ℕ
+year_length year = days_of_months year 12
+
+-- the days of the years before a year, from the year 0 on
+unfoldable pub days_before_year : ℕ → ℕ
+days_before_year zero = 0
+days_before_year (suc year) = days_before_year year + year_length year
+
+-- the day of the year, 1 for 1 January (ISO 8601, ordinal date)
+abbrev pub ordinal_day : Ymd → ℕ
+ordinal_day date = days_of_months date.year (date.month - 1) + date.day
+
+-- the days from 0000-01-01 to a date: of the years before its year, of the months before its month, and its day less one
+abbrev pub day_number : Ymd → ℕ
+day_number date = days_before_year date.year + days_of_months date.year (date.month - 1) + (date.day - 1)
+
+-- the day after a day: the next day of the month if there is one, otherwise the first of the next month if there is one, otherwise 1 January of the next year
+abbrev pub day_after : Ymd → Ymd
+day_after date =
+    if nat_lt date.day (month_length date.year date.month) then record { year = date.year; month = date.month; day = date.day + 1 }
+    else (if nat_lt date.month 12 then record { year = date.year; month = date.month + 1; day = 1 }
+    else record { year = date.year + 1; month = 1; day = 1 })
+
+-- the day after a date of the years to 9999, which 9999-12-31 has not
+abbrev pub next_date : Ymd → Option Ymd
+next_date date = if nat_le (day_after date).year 9999 then Some (day_after date) else None
+
+-- the date to which so many steps from a day to the day after lead from 0000-01-01
+unfoldable pub date_after : ℕ → Ymd
+date_after zero = record { year = 0; month = 1; day = 1 }
+date_after (suc days) = day_after (date_after days)
+
+-- the date of a day number, which 9999-12-31 ends
+abbrev pub date_numbered : ℕ → Option Ymd
+date_numbered number = if nat_le number 3652424 then Some (date_after number) else None
+
+-- the second of a date's midnight since 1970-01-01T00:00:00, whose day number is 719,528 (Unix time)
+abbrev pub midnight_second : Ymd → ℤ
+midnight_second date = (pos (day_number date) -ℤ pos 719528) *ℤ pos 86400
+
+-- the millisecond of that midnight
+abbrev pub midnight_millisecond : Ymd → ℤ
+midnight_millisecond date = pos 1000 *ℤ midnight_second date

@@ -1,0 +1,54 @@
+-- No text that begins as a date is a number.
+use Rattle.std.specs.Prelude.{◌≡◌, ◌≢◌, ℕ, ◌<◌, Bool, true, false, ◌==◌, List, length, slice_index, nat_le, if◌then◌else◌, None, Result, Ok, Err, refl}
+use Rattle.std.specs.Char.{is_ascii_digit}
+use Rattle.std.proofs.Common.{arith, ap, sym, ◌∙◌}
+use Rattle.std.proofs.lemmas.Bool.{eqb-true, leb-true, false≢true}
+use Rattle.speedate_base.specs.declared.faults.ParseError.{ParseError}
+use Rattle.speedate_base.specs.declared.faults.ParseError.TheVariants as fault
+use Rattle.speedate_base.specs.Ascii.{hyphen, full_stop}
+use Rattle.speedate_base.specs.Digits.{four_digits_at}
+use Rattle.speedate_base.specs.NumberLaws.{whole_number-other, number_answer-other}
+use Rattle.speedate_base.specs.Numbers.{NoNumber, number_answer, whole_number}
+use Rattle.speedate_civil.specs.Calendar.{Ymd}
+use Rattle.speedate_civil.specs.DateText.{date_front, date_answer}
+use Rattle.speedate_civil.specs.NumberText.{may_be_number}
+
+-- a text that meets the first three rows of a table meets the first and the third
+rows-met : {A : Type 0} (a b c : Bool) (first second third : ParseError) (next answer : Result A ParseError)
+    → (if a then (if b then (if c then next else Err third) else Err second) else Err first) ≡ answer
+    → answer ≢ Err first → answer ≢ Err second → answer ≢ Err third → (a ≡ true) × (c ≡ true)
+rows-met true true true first second third next answer same one two three = (refl, refl)
+rows-met true true false first second third next answer same one two three = absurd (three (sym same))
+rows-met true false c first second third next answer same one two three = absurd (two (sym same))
+rows-met false b c first second third next answer same one two three = absurd (one (sym same))
+
+-- a text whose fifth byte is a hyphen is no whole number
+hyphen-no_digit : (text : List ℕ) → nat_le 10 (length text) ≡ true → (slice_index text 4 == hyphen) ≡ true → whole_number text ≡ None
+hyphen-no_digit text long is =
+    let within : 4 < length text = omega (arith, leb-true 10 (length text) long) in
+    whole_number-other text 4 (omega arith) within (ap is_ascii_digit (eqb-true (slice_index text 4) hyphen is))
+
+-- a text that begins with a date is none
+pub number_answer-date : (text : List ℕ) (date : Ymd) → date_front text ≡ Ok date → number_answer text ≡ NoNumber
+number_answer-date text date read =
+    let rows = rows-met (nat_le 10 (length text)) (four_digits_at text 0) (slice_index text 4 == hyphen)
+    fault.TooShort fault.InvalidCharYear fault.InvalidCharDateSep _ (Ok date) read (λ other. cc) (λ other. cc) (λ other. cc) in
+    let within : 4 < length text = omega (arith, leb-true 10 (length text) rows.0) in
+    let byte = eqb-true (slice_index text 4) hyphen rows.1 in
+    number_answer-other text 4 (omega arith) within (ap is_ascii_digit byte) (ap (λ (n : ℕ). n == full_stop) byte)
+
+other-fault : (refused fault : ParseError) (answer : Result Ymd ParseError) → may_be_number refused ≡ false → may_be_number fault ≡ true
+    → answer ≡ Err refused → answer ≢ Err fault
+other-fault refused fault answer behind number one two =
+    let same : refused ≡ fault = cc in
+    false≢true (sym behind ∙ ap may_be_number same ∙ number)
+
+-- nor is one a whole number that is refused by a fault behind the first hyphen
+pub whole_number-refused : (text : List ℕ) (fault : ParseError) → date_answer text ≡ Err fault → may_be_number fault ≡ false → whole_number text ≡ None
+whole_number-refused text refused read behind =
+    let answer = date_answer text in
+    let rows = rows-met (nat_le 10 (length text)) (four_digits_at text 0) (slice_index text 4 == hyphen)
+    fault.TooShort fault.InvalidCharYear fault.InvalidCharDateSep _ answer refl
+    (other-fault refused fault.TooShort answer behind refl read) (other-fault refused fault.InvalidCharYear answer behind refl read)
+    (other-fault refused fault.InvalidCharDateSep answer behind refl read) in
+    hyphen-no_digit text rows.0 rows.1

@@ -1,0 +1,164 @@
+//! Days counted from 0000-01-01, and what follows from the count: the day of the year, the next
+//! day, and Unix timestamps.
+
+ghost use Rattle.std.specs.Prelude.{◌≡◌, ◌+◌, ◌-◌, ◌<◌, ◌≤◌, Bool, Ok, Some, IfSome};
+ghost use Rattle.std.specs.Int.{IsInRange};
+ghost use Rattle.std.specs.Option.{option_map};
+ghost use Rattle.speedate_base.specs.declared.config.TimestampUnit.TheVariants as unit;
+ghost use Rattle.speedate_civil.specs.Date.{parts};
+ghost use Rattle.speedate_civil.specs.DateTimestamp.{date_timestamp_answer};
+ghost use Rattle.speedate_civil.specs.DayNumber.{days_of_months, year_length, ordinal_day, day_number, date_numbered, next_date, midnight_second, midnight_millisecond};
+
+use super::{Date, is_leap_year, month_length};
+
+/// The day number of 9999-12-31.
+const LAST_DAY_NUMBER: u32 = 3_652_424;
+
+/// The day number of 1970-01-01.
+const UNIX_EPOCH: i64 = 719_528;
+
+/// The days of the 399 years before the year 0. Years are counted from the first of them, so that
+/// the last of each four years is the one that may be leap, and the last of each four centuries
+/// the one that has a day more.
+const DAYS_BEFORE_YEAR_0: u32 = 145_731;
+
+/// The days of the months before a month of a year.
+#[inline]
+fn days_before_month(year: u16, month: u8) -> u16
+    requires { IsInRange 1 12 month }
+    ensures { result ≡ days_of_months year (month - 1) }
+{
+    let days = (367 * u16::from(month) - 362) / 12;
+    if month <= 2 {
+        days
+    } else if is_leap_year(year) {
+        days - 1
+    } else {
+        days - 2
+    }
+}
+
+/// A day of a year, counted from 0.
+///
+/// If February had 30 days, a line through the months would tell the month of a day; so the days
+/// from March on are moved by what February lacks of them.
+#[inline]
+fn day_of_year(year: u16, day: u16) -> Date
+    requires year { year ≤ 9999 }
+    requires day { day < year_length year }
+    ensures year { result.year ≡ year }
+    ensures day { ordinal_day (parts result) ≡ day + 1 }
+{
+    let february = u16::from(month_length(year, 2));
+    let long_day = if day < 31 + february {
+        day
+    } else {
+        day + 30 - february
+    };
+    let scaled = 12 * long_day + 373;
+    Date {
+        year,
+        month: (scaled / 367) as u8,
+        day: (scaled % 367 / 12 + 1) as u8,
+    }
+}
+
+impl Date {
+    /// The number of days from 0000-01-01 to the date: 737,790 for 2020-01-01. The numbers are 0 to
+    /// 3,652,424, which is that of 9999-12-31, and [`Date::from_day_number`] leads back.
+    ///
+    /// The number is the sum of the lengths of the years before the date's year, of the lengths of
+    /// the months before its month in that year, and of its day less one. The calendar is that of
+    /// RFC 3339, carried back to the year 0.
+    #[inline]
+    pub fn day_number(&self) -> u32
+        ensures number { result ≡ day_number (parts self.now) }
+        ensures numbered { date_numbered result ≡ Some (parts self.now) }
+    {
+        let years = u32::from(self.year) + 399;
+        let centuries = years / 100;
+        let before_year = 1461 * years / 4 - centuries + centuries / 4 - DAYS_BEFORE_YEAR_0;
+        before_year + u32::from(self.ordinal_day()) - 1
+    }
+
+    /// The date of a day number: 29 February of the year 0 for 59. It is the date to which so many
+    /// days lead from 0000-01-01, one after another. `None` where the number is over 3,652,424, the
+    /// number of 9999-12-31.
+    #[inline]
+    pub fn from_day_number(number: u32) -> Option<Self>
+        ensures date { option_map parts result ≡ date_numbered number }
+        ensures number { IfSome result (λ date. day_number (parts date) ≡ number) }
+    {
+        if number > LAST_DAY_NUMBER {
+            return None;
+        }
+        // In quarters of a day a century has 146,097 and a year 1,461, if the last century of each
+        // four and the last year of each four are the longer ones: so rounding down finds them.
+        let scaled = 4 * (number + DAYS_BEFORE_YEAR_0) + 3;
+        let in_century = scaled % 146_097 / 4 * 4 + 3;
+        let year = 100 * (scaled / 146_097) + in_century / 1461 - 399;
+        let day = in_century % 1461 / 4;
+        Some(day_of_year(year as u16, day as u16))
+    }
+
+    /// The day after the date: 2000-01-01 for 1999-12-31. `None` for 9999-12-31.
+    ///
+    /// It is the next day of the month if there is one, otherwise the first day of the next month if
+    /// there is one, otherwise 1 January of the next year.
+    #[inline]
+    pub fn next_day(&self) -> Option<Self>
+        ensures date { option_map parts result ≡ next_date (parts self.now) }
+        ensures number { IfSome result (λ next. day_number (parts next) ≡ day_number (parts self.now) + 1) }
+    {
+        if self.day < month_length(self.year, self.month) {
+            Some(Date {
+                year: self.year,
+                month: self.month,
+                day: self.day + 1,
+            })
+        } else if self.month < 12 {
+            Some(Date {
+                year: self.year,
+                month: self.month + 1,
+                day: 1,
+            })
+        } else if self.year < 9999 {
+            Some(Date {
+                year: self.year + 1,
+                month: 1,
+                day: 1,
+            })
+        } else {
+            None
+        }
+    }
+
+    /// The day of the year, 1 to 366: 366 for 2020-12-31. It is the day of an ordinal date of
+    /// ISO 8601.
+    #[inline]
+    pub fn ordinal_day(&self) -> u16
+        ensures day { result ≡ ordinal_day (parts self.now) }
+    {
+        days_before_month(self.year, self.month) + u16::from(self.day)
+    }
+
+    /// The second at which the date begins, counted from 1970-01-01T00:00:00: 86,400 for
+    /// 1970-01-02. It is a Unix timestamp, which has 86,400 seconds for each day, and is negative
+    /// before 1970.
+    #[inline]
+    pub fn timestamp(&self) -> i64
+        ensures second { result ≡ midnight_second (parts self.now) }
+        ensures leads_back { (exact : Bool) → date_timestamp_answer unit.Second exact result ≡ Ok (parts self.now) }
+    {
+        (i64::from(self.day_number()) - UNIX_EPOCH) * 86_400
+    }
+
+    /// The millisecond at which the date begins, counted from 1970-01-01T00:00:00: 86,400,000 for
+    /// 1970-01-02. It is a thousand times [`Date::timestamp`].
+    #[inline]
+    pub fn timestamp_ms(&self) -> i64
+        ensures millisecond { result ≡ midnight_millisecond (parts self.now) }
+    {
+        1000 * self.timestamp()
+    }
+}

@@ -1,0 +1,59 @@
+//! The order of dates: by year, month and day, which is that of their texts and that of their day
+//! numbers.
+
+ghost use Rattle.std.specs.Prelude.{◌≡◌, Some};
+ghost use Rattle.std.proofs.Common.{rules};
+ghost use Rattle.std.specs.Cmp.{po, on_total};
+ghost use Rattle.std.specs.Cmp.Lexicographic.{slice_cmp};
+ghost use Rattle.std.specs.Cmp.Rules.{comparing};
+ghost use Rattle.std.specs.Ordering.{nat_cmp, on, as_partial_cmp};
+ghost use Rattle.speedate_civil.specs.Date.{parts};
+ghost use Rattle.speedate_civil.specs.DateOrder.{date_order};
+ghost use Rattle.speedate_civil.specs.DateOrderLaws.{date_order-total};
+ghost use Rattle.speedate_civil.specs.DateText.{date_text};
+ghost use Rattle.speedate_civil.specs.DayNumber.{day_number};
+
+use super::Date;
+use std::cmp::Ordering;
+
+impl Ord for Date {
+    ghost cmp = { on parts date_order };
+
+    ghost total = { on_total parts date_order-total };
+
+    ghost matches_partial_cmp = { Prim.search (comparing, rules) };
+
+    ghost matches_eq = { Prim.search (comparing, rules) };
+
+    /// Which of two dates is the earlier one: by year, then by month, then by day, so 2020-02-29
+    /// is before 2020-03-01. Their texts compare in the same way as bytes, and their day numbers as
+    /// numbers.
+    #[inline]
+    fn cmp(&self, other: &Date) -> Ordering
+        ensures order { result ≡ date_order (parts self.now) (parts other.now) }
+        ensures text_order { result ≡ slice_cmp nat_cmp (date_text (parts self.now)) (date_text (parts other.now)) }
+        ensures day_order { result ≡ nat_cmp (day_number (parts self.now)) (day_number (parts other.now)) }
+    {
+        self.year
+            .cmp(&other.year)
+            .then(self.month.cmp(&other.month))
+            .then(self.day.cmp(&other.day))
+    }
+}
+
+impl PartialOrd for Date {
+    ghost partial_cmp = { as_partial_cmp (on parts date_order) };
+
+    ghost laws = { po (on_total parts date_order-total) (Prim.search (comparing, rules)) };
+
+    /// What [`Date::cmp`] answers, since each two dates have an order: `Some(Ordering::Less)` for
+    /// 2020-02-29 and 2020-03-01.
+    #[inline]
+    fn partial_cmp(&self, other: &Date) -> Option<Ordering>
+        ensures order { result ≡ Some (date_order (parts self.now) (parts other.now)) }
+        ensures text_order { result ≡ Some (slice_cmp nat_cmp (date_text (parts self.now)) (date_text (parts other.now))) }
+        ensures day_order { result ≡ Some (nat_cmp (day_number (parts self.now)) (day_number (parts other.now))) }
+    {
+        Some(self.cmp(other))
+    }
+}

@@ -1,0 +1,166 @@
+//! Dates from timestamps, and from texts that are a timestamp instead of a date.
+
+ghost use Rattle.std.specs.Prelude.{◌≡◌, ◌≤◌, ◌==◌, ◌&&◌, Err, IsTrue, pos, ◌+ℤ◌, int_le, unsigned_abs};
+ghost use Rattle.std.specs.Int.{int_div_euclid, int_rem_euclid};
+ghost use Rattle.speedate_base.specs.Offset.{seconds_per_day};
+ghost use Rattle.speedate_base.specs.Requirement.{result_map, ◌implies◌};
+ghost use Rattle.speedate_base.specs.UnixTime.{parts as instant_parts};
+ghost use Rattle.speedate_base.specs.declared.config.TimestampUnit.TheVariants as unit;
+ghost use Rattle.speedate_civil.specs.Date.{parts};
+ghost use Rattle.speedate_civil.specs.DateText.{date_answer};
+ghost use Rattle.speedate_civil.specs.DateTimestamp.{first_second, last_second, instant_date, date_timestamp_answer, date_or_timestamp};
+ghost use Rattle.speedate_civil.specs.NumberText.{may_be_number};
+
+use super::Date;
+use speedate_base::config::DateConfig;
+use speedate_base::faults::ParseError;
+use speedate_base::numbers::int_parse_bytes;
+use speedate_base::util::{SECONDS_PER_DAY, UnixTime, timestamp_to_seconds_micros};
+
+/// The first second of the year 0000, counted from 1970-01-01T00:00:00.
+const FIRST_SECOND: i64 = -62_167_219_200;
+
+/// The last second of the year 9999.
+const LAST_SECOND: i64 = 253_402_300_799;
+
+impl Date {
+    /// Reads a date from a text, or from a timestamp that stands there instead: 2020-02-29 for
+    /// `"2020-02-29"`, 2022-06-07 for `"1654560000"`.
+    ///
+    /// A text that is no date is looked at as a whole number: the timestamp, in seconds or in
+    /// milliseconds by its size, of the midnight at which a date begins. The faults are those of
+    /// [`Date::parse_str_rfc3339`] where the text is no whole number either, and of
+    /// [`Date::from_timestamp`] where it is one.
+    #[inline]
+    pub fn parse_str(text: &str) -> Result<Self, ParseError>
+        ensures answer { result_map parts result ≡ date_or_timestamp unit.Infer text.now }
+    {
+        Self::parse_bytes(text.as_bytes())
+    }
+
+    /// Reads a date from the bytes of a text, as [`Date::parse_str`] does: 1970-01-02 from
+    /// `b"86400"`. The bytes need not be text.
+    #[inline]
+    pub fn parse_bytes(bytes: &[u8]) -> Result<Self, ParseError>
+        ensures answer { result_map parts result ≡ date_or_timestamp unit.Infer bytes.now }
+    {
+        Self::parse_bytes_with_config(bytes, &DateConfig::default())
+    }
+
+    /// Reads a date from a text, as [`Date::parse_str`] does, with timestamps in the unit of the
+    /// configuration: 2022-01-01 for `"1640995200"` in seconds.
+    #[inline]
+    pub fn parse_str_with_config(text: &str, config: &DateConfig) -> Result<Self, ParseError>
+        ensures answer { result_map parts result ≡ date_or_timestamp config.now.timestamp_unit text.now }
+    {
+        Self::parse_bytes_with_config(text.as_bytes(), config)
+    }
+
+    /// Reads a date from the bytes of a text, as [`Date::parse_str_with_config`] does.
+    #[inline]
+    pub fn parse_bytes_with_config(bytes: &[u8], config: &DateConfig) -> Result<Self, ParseError>
+        ensures answer { result_map parts result ≡ date_or_timestamp config.now.timestamp_unit bytes.now }
+    {
+        match Self::parse_bytes_rfc3339(bytes) {
+            Ok(date) => Ok(date),
+            Err(fault) => Self::parse_timestamp(bytes, fault, config),
+        }
+    }
+
+    /// Reads the timestamp that the bytes are where they are no date, by this fault.
+    #[inline]
+    fn parse_timestamp(
+        bytes: &[u8],
+        fault: ParseError,
+        config: &DateConfig,
+    ) -> Result<Self, ParseError>
+        requires { date_answer bytes.now ≡ Err fault }
+        ensures answer { result_map parts result ≡ date_or_timestamp config.now.timestamp_unit bytes.now }
+    {
+        if !may_be_number(fault) {
+            return Err(fault);
+        }
+        match int_parse_bytes(bytes) {
+            Some(timestamp) => Self::from_timestamp(timestamp, true, config),
+            None => Err(fault),
+        }
+    }
+
+    /// The date of a timestamp, in the unit of the configuration: 1969-12-31 for -1, where it need
+    /// not be exact.
+    ///
+    /// A timestamp counts from 1970-01-01T00:00:00, with 86,400 seconds in each day (Unix time), and
+    /// the date is that of the day in which it lies. The faults, in the order in which they are
+    /// looked for:
+    ///
+    /// - `DateTooSmall` where the unit of `i64::MIN` is to be inferred, or the timestamp lies before
+    ///   the year 0000;
+    /// - `DateTooLarge` where it lies after the year 9999;
+    /// - `DateNotExact` where an exact date is required, and the timestamp is no midnight.
+    #[inline]
+    pub fn from_timestamp(
+        timestamp: i64,
+        require_exact: bool,
+        config: &DateConfig,
+    ) -> Result<Self, ParseError>
+        ensures answer { result_map parts result
+            ≡ date_timestamp_answer config.now.timestamp_unit require_exact timestamp }
+    {
+        let time = timestamp_to_seconds_micros(timestamp, config.timestamp_unit)?;
+        Self::from_instant(time, require_exact)
+    }
+
+    /// The date on whose day an instant lies.
+    #[inline]
+    fn from_instant(time: UnixTime, require_exact: bool) -> Result<Self, ParseError>
+        ensures date { result_map parts result ≡ instant_date require_exact (instant_parts time) }
+    {
+        if time.second < FIRST_SECOND {
+            return Err(ParseError::DateTooSmall);
+        }
+        if time.second > LAST_SECOND {
+            return Err(ParseError::DateTooLarge);
+        }
+        let (number, second) = day_and_second(time.second);
+        if !is_taken(require_exact, second, time.microsecond) {
+            return Err(ParseError::DateNotExact);
+        }
+        match Self::from_day_number(number) {
+            Some(date) => Ok(date),
+            None => Err(ParseError::DateTooLarge),
+        }
+    }
+}
+
+/// The day number of a second of the years 0000 to 9999, and the second of that day.
+#[inline]
+fn day_and_second(second: i64) -> (u32, u32)
+    requires after { IsTrue (int_le first_second second) }
+    requires before { IsTrue (int_le second last_second) }
+    ensures day { result.0 ≡ unsigned_abs (int_div_euclid second (pos seconds_per_day) +ℤ pos 719528) }
+    ensures second { result.1 ≡ unsigned_abs (int_rem_euclid second (pos seconds_per_day)) }
+    ensures small { result.0 ≤ 3652424 }
+{
+    let seconds = (second - FIRST_SECOND) as u64;
+    let per_day = u64::from(SECONDS_PER_DAY);
+    ((seconds / per_day) as u32, (seconds % per_day) as u32)
+}
+
+/// Whether an instant is taken for a date, by the second of its day and its microsecond.
+#[inline]
+fn is_taken(require_exact: bool, second: u32, microsecond: u32) -> bool
+    ensures { result ≡ (require_exact implies ((second == 0) && (microsecond == 0))) }
+{
+    !require_exact || (second == 0 && microsecond == 0)
+}
+
+/// Whether a text that is refused as a date by this fault may be a whole number.
+#[inline]
+fn may_be_number(fault: ParseError) -> bool
+    ensures { result ≡ may_be_number fault }
+{
+    matches!(
+        fault,
+        ParseError::TooShort | ParseError::InvalidCharYear | ParseError::InvalidCharDateSep
+    )
+}
