@@ -1,6 +1,9 @@
 //! Configurations and their builders.
 
-use speedate::{MicrosecondsPrecisionOverflowBehavior, TimeConfig, TimeConfigBuilder};
+use speedate::{
+    DateConfig, DateConfigBuilder, MicrosecondsPrecisionOverflowBehavior, TimeConfig,
+    TimeConfigBuilder, TimestampUnit,
+};
 
 #[test]
 fn a_builder_gives_what_was_set_last(rt: HostRuntime) {
@@ -26,5 +29,23 @@ fn a_builder_gives_what_was_set_last(rt: HostRuntime) {
             == MicrosecondsPrecisionOverflowBehavior::Truncate
     );
     assert_eq!(rt; set.unix_timestamp_offset, Some(3600));
+    assert!(rt; set != plain);
+}
+
+#[test]
+fn a_builder_of_dates_gives_the_unit_that_was_set_last(rt: HostRuntime) {
+    let plain = DateConfig {
+        timestamp_unit: TimestampUnit::Infer,
+    };
+    assert!(rt; TimestampUnit::default() == TimestampUnit::Infer);
+    assert!(rt; DateConfig::default() == plain);
+    assert!(rt; DateConfig::builder().build() == plain);
+    assert!(rt; DateConfigBuilder::new().build() == plain);
+    assert!(rt; DateConfigBuilder::default().build() == plain);
+    let set = DateConfig::builder()
+        .timestamp_unit(TimestampUnit::Second)
+        .timestamp_unit(TimestampUnit::Millisecond)
+        .build();
+    assert!(rt; set.timestamp_unit == TimestampUnit::Millisecond);
     assert!(rt; set != plain);
 }

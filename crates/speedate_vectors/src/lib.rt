@@ -2,9 +2,9 @@
 //! crate's own tests hold. Callers of the library, as one outside this workspace would write them.
 #![tactic(auto)]
 
-pub mod callers;
 #[cfg(test)]
 mod calendar;
+pub mod callers;
 #[cfg(test)]
 mod config;
 #[cfg(test)]
@@ -17,3 +17,5 @@ mod numbers;
 mod shown;
 #[cfg(test)]
 mod times;
+#[cfg(test)]
+mod timestamps;
