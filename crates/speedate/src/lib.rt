@@ -3,7 +3,8 @@
 #![tactic(auto)]
 
 pub use speedate_base::config::{
-    MicrosecondsPrecisionOverflowBehavior, TimeConfig, TimeConfigBuilder,
+    DateConfig, DateConfigBuilder, MicrosecondsPrecisionOverflowBehavior, TimeConfig,
+    TimeConfigBuilder, TimestampUnit,
 };
 pub use speedate_base::faults::ParseError;
 pub use speedate_base::numbers::{

@@ -1,14 +1,20 @@
 -- Eight digits as one number of 64 bits: how they are told from other bytes, and what they spell.
 use Rattle.std.specs.Prelude.{◌≡◌, ℕ, zero, suc, ◌+◌, ◌-◌, ◌*◌, ◌/◌, ◌%◌, ◌^◌, ◌<◌, ◌≤◌, Bool, true, false, List, [], ◌∷◌, length, map, get_or, bit_and, refl}
+use Rattle.std.specs.Int.{w64, from_le_bytes}
 use Rattle.std.specs.List.{list_all}
 use Rattle.std.proofs.Common.{arith, ap, ap₂, sym, subst, ◌∙◌, lit≤}
 use Rattle.std.proofs.lemmas.Bool.{and_parts, and_from, le-leb, leb-true}
 use Rattle.std.proofs.lemmas.Nat.{and_block, and_mask}
 use Rattle.std.proofs.lemmas.Nat.Bits.{and_high_mask}
-use Rattle.speedate_base.specs.Digits.{is_digit, digit_value}
+use Rattle.std.specs.Char.{is_ascii_digit}
+use Rattle.speedate_base.specs.Digits.{digit_value}
 use Rattle.speedate_base.specs.DigitRuns.{digits_value}
-use Rattle.speedate_base.specs.DigitRunLaws.{digit-le}
-use Rattle.speedate_base.specs.Word.{word}
+use Rattle.speedate_base.specs.DigitRunLaws.{digit_value-le}
+
+-- bytes as one number in base 256, the first byte lowest
+abbrev pub word : List ℕ → ℕ
+word [] = 0
+word (byte ∷ bytes) = byte + 256 * word bytes
 
 -- so many bytes, each the same
 abbrev pub each_byte : ℕ → ℕ → ℕ
@@ -35,16 +41,16 @@ upper byte small = and_high_mask 8 4 (lit≤ tt) byte small
 abbrev pub IsZeros : ℕ → ℕ → Type 0
 IsZeros number count = bit_and number (each_byte 240 count) ≡ each_byte 48 count
 
-digit-from : (byte : ℕ) → 48 ≤ byte → byte ≤ 57 → is_digit byte ≡ true
+digit-from : (byte : ℕ) → 48 ≤ byte → byte ≤ 57 → is_ascii_digit byte ≡ true
 digit-from byte above below = and_from _ _ (le-leb 48 byte above) (le-leb byte 57 below)
 
-digit-bounds : (byte : ℕ) → is_digit byte ≡ true → (48 ≤ byte) × (byte ≤ 57)
+digit-bounds : (byte : ℕ) → is_ascii_digit byte ≡ true → (48 ≤ byte) × (byte ≤ 57)
 digit-bounds byte is =
     let parts = and_parts _ _ is in
     (leb-true 48 byte parts.0, leb-true byte 57 parts.1)
 
 -- they do in a number of digits, and still do where each byte is six more
-pub zeros-from_digits : (bytes : List ℕ) → list_all is_digit bytes ≡ true
+pub zeros-from_digits : (bytes : List ℕ) → list_all is_ascii_digit bytes ≡ true
     → IsZeros (word bytes) (length bytes) × IsZeros (word bytes + each_byte 6 (length bytes)) (length bytes)
 zeros-from_digits [] all = (refl, refl)
 zeros-from_digits (byte ∷ bytes) all =
@@ -72,7 +78,7 @@ word-below (byte ∷ bytes) small zeros =
 
 -- and only in a number of digits
 pub digits-from_zeros : (bytes : List ℕ) → AreBytes bytes → IsZeros (word bytes) (length bytes) → IsZeros (word bytes + each_byte 6 (length bytes)) (length bytes)
-    → list_all is_digit bytes ≡ true
+    → list_all is_ascii_digit bytes ≡ true
 digits-from_zeros [] small zeros more = refl
 digits-from_zeros (byte ∷ bytes) small zeros more =
     let byte_small : byte < 256 = small 0 (omega arith) in
@@ -150,6 +156,10 @@ by_eight P each (a ∷ b ∷ c ∷ d ∷ e ∷ f ∷ g ∷ []) long = absurd (om
 by_eight P each (a ∷ b ∷ c ∷ d ∷ e ∷ f ∷ g ∷ h ∷ []) long = each a b c d e f g h
 by_eight P each (a ∷ b ∷ c ∷ d ∷ e ∷ f ∷ g ∷ h ∷ i ∷ more) long = absurd (omega arith)
 
+-- std's number of eight bytes is that one
+pub from_le_bytes-word : (bytes : List ℕ) → length bytes ≡ 8 → from_le_bytes w64 bytes ≡ word bytes
+from_le_bytes-word = by_eight (λ (bytes : List ℕ). from_le_bytes w64 bytes ≡ word bytes) (λ a b c d e f g h. omega arith)
+
 -- what is computed of a number of eight digits fits 64 bits, and is what they spell
 pub record Spells (ones value : ℕ) : Type 0 where
   pub pairs_fit : 10 * ones + ones / 2 ^ 8 < 2 ^ 64
@@ -173,7 +183,7 @@ ones-spell a b c d e f g h sa sb sc sd se sf sg sh =
     }
 
 -- digits stand for themselves above `0`
-digits-less : (bytes : List ℕ) → list_all is_digit bytes ≡ true → word bytes ≡ each_byte 48 (length bytes) + word (map digit_value bytes)
+digits-less : (bytes : List ℕ) → list_all is_ascii_digit bytes ≡ true → word bytes ≡ each_byte 48 (length bytes) + word (map digit_value bytes)
 digits-less [] all = refl
 digits-less (byte ∷ bytes) all =
     let parts = and_parts _ _ all in
@@ -183,27 +193,27 @@ digits-less (byte ∷ bytes) all =
 less : (whole part rest : ℕ) → whole ≡ part + rest → rest ≡ whole - part
 less whole part rest is = omega arith
 
-eight-spell : (a b c d e f g h : ℕ) → list_all is_digit (a ∷ b ∷ c ∷ d ∷ e ∷ f ∷ g ∷ h ∷ []) ≡ true
+eight-spell : (a b c d e f g h : ℕ) → list_all is_ascii_digit (a ∷ b ∷ c ∷ d ∷ e ∷ f ∷ g ∷ h ∷ []) ≡ true
     → Spells (word (a ∷ b ∷ c ∷ d ∷ e ∷ f ∷ g ∷ h ∷ []) - 0x3030303030303030) (digits_value (a ∷ b ∷ c ∷ d ∷ e ∷ f ∷ g ∷ h ∷ []))
 eight-spell a b c d e f g h all =
-    let p0 = and_parts (is_digit a) _ all in
-    let p1 = and_parts (is_digit b) _ p0.1 in
-    let p2 = and_parts (is_digit c) _ p1.1 in
-    let p3 = and_parts (is_digit d) _ p2.1 in
-    let p4 = and_parts (is_digit e) _ p3.1 in
-    let p5 = and_parts (is_digit f) _ p4.1 in
-    let p6 = and_parts (is_digit g) _ p5.1 in
-    let p7 = and_parts (is_digit h) _ p6.1 in
+    let p0 = and_parts (is_ascii_digit a) _ all in
+    let p1 = and_parts (is_ascii_digit b) _ p0.1 in
+    let p2 = and_parts (is_ascii_digit c) _ p1.1 in
+    let p3 = and_parts (is_ascii_digit d) _ p2.1 in
+    let p4 = and_parts (is_ascii_digit e) _ p3.1 in
+    let p5 = and_parts (is_ascii_digit f) _ p4.1 in
+    let p6 = and_parts (is_ascii_digit g) _ p5.1 in
+    let p7 = and_parts (is_ascii_digit h) _ p6.1 in
     let bytes : List ℕ = a ∷ b ∷ c ∷ d ∷ e ∷ f ∷ g ∷ h ∷ [] in
     subst (λ (n : ℕ). Spells n (digits_value bytes)) (less (word bytes) (each_byte 48 8) (word (map digit_value bytes)) (digits-less bytes all))
     (ones-spell (digit_value a) (digit_value b) (digit_value c) (digit_value d) (digit_value e) (digit_value f) (digit_value g) (digit_value h)
-    (digit-le a p0.0) (digit-le b p1.0) (digit-le c p2.0) (digit-le d p3.0) (digit-le e p4.0) (digit-le f p5.0) (digit-le g p6.0) (digit-le h p7.0))
+    (digit_value-le a p0.0) (digit_value-le b p1.0) (digit_value-le c p2.0) (digit_value-le d p3.0) (digit_value-le e p4.0) (digit_value-le f p5.0) (digit_value-le g p6.0) (digit_value-le h p7.0))
 
-pub digits-spell : (bytes : List ℕ) → length bytes ≡ 8 → list_all is_digit bytes ≡ true → Spells (word bytes - 0x3030303030303030) (digits_value bytes)
-digits-spell = by_eight (λ (bytes : List ℕ). list_all is_digit bytes ≡ true → Spells (word bytes - 0x3030303030303030) (digits_value bytes)) eight-spell
+pub digits-spell : (bytes : List ℕ) → length bytes ≡ 8 → list_all is_ascii_digit bytes ≡ true → Spells (word bytes - 0x3030303030303030) (digits_value bytes)
+digits-spell = by_eight (λ (bytes : List ℕ). list_all is_ascii_digit bytes ≡ true → Spells (word bytes - 0x3030303030303030) (digits_value bytes)) eight-spell
 
 -- the same of eight bytes
-pub eight-zeros : (bytes : List ℕ) → length bytes ≡ 8 → list_all is_digit bytes ≡ true
+pub eight-zeros : (bytes : List ℕ) → length bytes ≡ 8 → list_all is_ascii_digit bytes ≡ true
     → IsZeros (word bytes) 8 × IsZeros (word bytes + each_byte 6 8) 8
 eight-zeros bytes long all = subst (λ (n : ℕ). IsZeros (word bytes) n × IsZeros (word bytes + each_byte 6 n) n) long (zeros-from_digits bytes all)
 
@@ -211,9 +221,9 @@ pub eight-below : (bytes : List ℕ) → length bytes ≡ 8 → AreBytes bytes �
 eight-below bytes long small = subst (λ (n : ℕ). IsZeros (word bytes) n → word bytes ≤ each_byte 63 n) long (word-below bytes small)
 
 pub eight-digits : (bytes : List ℕ) → length bytes ≡ 8 → AreBytes bytes → IsZeros (word bytes) 8 → IsZeros (word bytes + each_byte 6 8) 8
-    → list_all is_digit bytes ≡ true
+    → list_all is_ascii_digit bytes ≡ true
 eight-digits bytes long small =
-    subst (λ (n : ℕ). IsZeros (word bytes) n → IsZeros (word bytes + each_byte 6 n) n → list_all is_digit bytes ≡ true) long (digits-from_zeros bytes small)
+    subst (λ (n : ℕ). IsZeros (word bytes) n → IsZeros (word bytes + each_byte 6 n) n → list_all is_ascii_digit bytes ≡ true) long (digits-from_zeros bytes small)
 
 -- a test that cannot hold does not
 pub fails : (test : Bool) → (test ≡ true → ⊥) → test ≡ false

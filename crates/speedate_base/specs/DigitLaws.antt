@@ -1,22 +1,27 @@
--- What is printed in two or in four digits is digits, and spells the number that was printed.
-use Rattle.std.specs.Prelude.{◌≡◌, ℕ, ◌+◌, ◌/◌, ◌%◌, ◌<◌, ◌&&◌, true}
+-- What is printed in two, four or six digits is digits, is ASCII, and spells the number that was printed.
+use Rattle.std.specs.Prelude.{◌≡◌, ℕ, ◌/◌, ◌%◌, ◌<◌, ◌++◌, true, List, [], ◌∷◌, refl}
+use Rattle.std.specs.Char.{is_ascii_digit}
+use Rattle.std.specs.List.{list_all}
+use Rattle.std.specs.Str.{IsAscii}
 use Rattle.std.proofs.Common.{arith}
 use Rattle.std.proofs.lemmas.Bool.{and_from}
 use Rattle.std.proofs.lemmas.Bool.Decides.{nat_tests}
-use Rattle.speedate_base.specs.Digits.{is_digit, digit_value, two_digit_text, two_digit_value, four_digit_text, four_digits_at, four_digit_value}
+use Rattle.std.proofs.lemmas.Str.Ascii.{IsAscii-cons}
+use Rattle.speedate_base.specs.Digits.{digit, digit_value, two_digits_at, two_digit_text, two_digit_value, four_digit_text, four_digits_at, four_digit_value, six_digit_text}
+use Rattle.speedate_base.specs.DigitRuns.{fraction_value}
 
 -- a digit is printed as a digit
-pub is_digit-printed : (n : ℕ) → n < 10 → is_digit (48 + n) ≡ true
-is_digit-printed n small = grind (arith, nat_tests)
+pub digit-printed : (n : ℕ) → n < 10 → is_ascii_digit (digit n) ≡ true
+digit-printed n small = grind (arith, nat_tests)
 
 -- and stands for itself
-pub digit_value-printed : (n : ℕ) → digit_value (48 + n) ≡ n
+pub digit_value-printed : (n : ℕ) → digit_value (digit n) ≡ n
 digit_value-printed n = omega arith
 
 -- the digits of a number below 100
-pub two_digits-printed : (n : ℕ) → n < 100 → (is_digit (48 + n / 10) && is_digit (48 + n % 10)) ≡ true
+pub two_digits-printed : (n : ℕ) → n < 100 → two_digits_at (two_digit_text n) 0 ≡ true
 two_digits-printed n small =
-    and_from _ _ (is_digit-printed (n / 10) (omega arith)) (is_digit-printed (n % 10) (omega arith))
+    and_from _ _ (digit-printed (n / 10) (omega arith)) (digit-printed (n % 10) (omega arith))
 
 -- the digits of a number below 10,000
 pub four_digits-printed : (n : ℕ) → n < 10000 → four_digits_at (four_digit_text n) 0 ≡ true
@@ -29,3 +34,34 @@ two_digit_value-printed n = omega arith
 
 pub four_digit_value-printed : (n : ℕ) → four_digit_value (four_digit_text n) 0 ≡ n
 four_digit_value-printed n = omega arith
+
+two_digits-all : (n : ℕ) (rest : List ℕ) → n < 100 → list_all is_ascii_digit rest ≡ true
+    → list_all is_ascii_digit (two_digit_text n ++ rest) ≡ true
+two_digits-all n rest small others =
+    and_from _ _ (digit-printed (n / 10) (omega arith)) (and_from _ _ (digit-printed (n % 10) (omega arith)) others)
+
+-- the digits of a number below 1,000,000
+pub six_digits-printed : (n : ℕ) → n < 1000000 → list_all is_ascii_digit (six_digit_text n) ≡ true
+six_digits-printed n small =
+    let rest = n % 10000 in
+    two_digits-all (n / 10000) (four_digit_text rest) (omega arith)
+    (two_digits-all (rest / 100) (two_digit_text (rest % 100)) (omega arith) (two_digits-all (rest % 100) [] (omega arith) refl))
+
+-- as a fraction of six places they mean the number
+pub fraction_value-printed : (n : ℕ) → fraction_value 6 (six_digit_text n) ≡ n
+fraction_value-printed n = omega arith
+
+-- in front of ASCII they are ASCII
+pub two_digit_text-IsAscii : (n : ℕ) (rest : List ℕ) → n < 100 → IsAscii rest → IsAscii (two_digit_text n ++ rest)
+two_digit_text-IsAscii n rest small tail =
+    IsAscii-cons (digit (n / 10)) (digit (n % 10) ∷ rest) (omega arith) (IsAscii-cons (digit (n % 10)) rest (omega arith) tail)
+
+pub four_digit_text-IsAscii : (n : ℕ) (rest : List ℕ) → n < 10000 → IsAscii rest → IsAscii (four_digit_text n ++ rest)
+four_digit_text-IsAscii n rest small tail =
+    two_digit_text-IsAscii (n / 100) (two_digit_text (n % 100) ++ rest) (omega arith)
+    (two_digit_text-IsAscii (n % 100) rest (omega arith) tail)
+
+pub six_digit_text-IsAscii : (n : ℕ) (rest : List ℕ) → n < 1000000 → IsAscii rest → IsAscii (six_digit_text n ++ rest)
+six_digit_text-IsAscii n rest small tail =
+    two_digit_text-IsAscii (n / 10000) (four_digit_text (n % 10000) ++ rest) (omega arith)
+    (four_digit_text-IsAscii (n % 10000) rest (omega arith) tail)

@@ -1,11 +1,12 @@
--- Runs of digits: how long they are, and what they spell.
-use Rattle.std.specs.Prelude.{ℕ, ◌+◌, ◌*◌, ◌^◌, List, [], ◌∷◌, length, take, drop}
+-- Runs of digits: how long they are, and what they spell. Bytes are all digits where `list_all is_ascii_digit` says so.
+use Rattle.std.specs.Prelude.{ℕ, zero, suc, ◌+◌, ◌*◌, ◌^◌, List, [], ◌∷◌, length, take, drop}
+use Rattle.std.specs.Char.{is_ascii_digit}
 use Rattle.std.specs.List.{prefix_len}
-use Rattle.speedate_base.specs.Digits.{is_digit, digit_value}
+use Rattle.speedate_base.specs.Digits.{digit_value}
 
 -- how many digits stand from a place on, up to the first byte that is none
 abbrev pub run_length : List ℕ → ℕ → ℕ
-run_length text place = prefix_len is_digit (drop place text)
+run_length text place = prefix_len is_ascii_digit (drop place text)
 
 -- the digits from a place on
 abbrev pub run_digits : List ℕ → ℕ → List ℕ
@@ -19,3 +20,9 @@ digits_value (digit ∷ digits) = digit_value digit * 10 ^ length digits + digit
 -- the number that the digits from a place on spell
 abbrev pub run_value : List ℕ → ℕ → ℕ
 run_value text place = digits_value (run_digits text place)
+
+-- what digits are worth as the first of so many places: those past the places are dropped, and missing ones are 0
+abbrev pub fraction_value : ℕ → List ℕ → ℕ
+fraction_value zero digits = 0
+fraction_value (suc places) [] = 0
+fraction_value (suc places) (digit ∷ digits) = digit_value digit * 10 ^ places + fraction_value places digits

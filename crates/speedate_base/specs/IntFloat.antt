@@ -9,11 +9,11 @@ use Rattle.speedate_base.specs.Numbers.{DecimalParts, Number, Whole, Fractional,
 abbrev pub parts : Decimal → DecimalParts
 parts decimal = record { negative = decimal.negative; whole = decimal.whole.now; fraction = decimal.fraction.now }
 
--- what a reader of numbers answered
-abbrev pub answered : IntFloat → Number
-answered (number.Int n) = Whole n
-answered (number.Float decimal) = Fractional (parts decimal)
-answered number.Err = NoNumber
+-- what was read, as a number
+abbrev pub number_of : IntFloat → Number
+number_of (number.Int n) = Whole n
+number_of (number.Float decimal) = Fractional (parts decimal)
+number_of number.Err = NoNumber
 
 -- a decimal that was read joins to its text
 abbrev pub JoinsToFloat : IntFloat → List ℕ → Type 0

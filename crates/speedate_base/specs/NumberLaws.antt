@@ -1,61 +1,62 @@
 -- A decimal's parts are its text.
 use Rattle.std.specs.Prelude.{◌≡◌, ℕ, suc, ◌+◌, ◌<◌, Bool, true, false, ◌&&◌, ◌||◌, ◌==◌, List, [], ◌∷◌, ◌++◌, length, take, drop, slice_index, nat_lt, if◌then◌else◌, Option, Some, None, ℤ, refl}
+use Rattle.std.specs.Char.{is_ascii_digit}
 use Rattle.std.specs.List.{list_all, prefix_len}
 use Rattle.std.proofs.Common.{arith, ap, sym, subst, ◌∙◌, inl, inr, append_assoc}
 use Rattle.std.proofs.lemmas.Bool.{eqb-true, ne_eqb, and_parts}
 use Rattle.std.proofs.lemmas.List.{take-append-drop, drop-drop, drop_more, take_all, length-drop}
-use Rattle.speedate_base.specs.Digits.{is_digit}
+use Rattle.speedate_base.specs.Ascii.{plus_sign, hyphen, full_stop}
 use Rattle.speedate_base.specs.DigitRuns.{run_length, run_digits, run_value}
-use Rattle.speedate_base.specs.Numbers.{is_negative, sign_length, point_place, is_decimal, decimal_parts, IsSign, JoinsTo, DecimalParts, Fractional, NoNumber, whole_or, whole_number, number_answer, with_sign, fits_i64}
-use Rattle.speedate_base.specs.IntFloat.{parts, answered, JoinsToFloat}
+use Rattle.speedate_base.specs.Numbers.{has_minus, sign_length, point_place, is_decimal, decimal_parts, IsSign, JoinsTo, DecimalParts, Fractional, NoNumber, whole_or, whole_number, number_answer, with_sign, fits_i64}
+use Rattle.speedate_base.specs.IntFloat.{parts, number_of, JoinsToFloat}
 use Rattle.speedate_base.specs.declared.numbers.number.IntFloat.{IntFloat}
 use Rattle.speedate_base.specs.declared.numbers.number.IntFloat.TheVariants as number
 
-first-digit : (byte : ℕ) (bytes : List ℕ) (test : Bool) → is_digit byte ≡ test
-    → list_all is_digit (take (prefix_len is_digit bytes) bytes) ≡ true
-    → list_all is_digit (take (if test then 1 + prefix_len is_digit bytes else 0) (byte ∷ bytes)) ≡ true
+first-digit : (byte : ℕ) (bytes : List ℕ) (test : Bool) → is_ascii_digit byte ≡ test
+    → list_all is_ascii_digit (take (prefix_len is_ascii_digit bytes) bytes) ≡ true
+    → list_all is_ascii_digit (take (if test then 1 + prefix_len is_ascii_digit bytes else 0) (byte ∷ bytes)) ≡ true
 first-digit byte bytes true is others =
-    let more : 1 + prefix_len is_digit bytes ≡ suc (prefix_len is_digit bytes) = omega arith in
-    ap (λ (n : ℕ). list_all is_digit (take n (byte ∷ bytes))) more
-    ∙ ap (λ (test : Bool). test && list_all is_digit (take (prefix_len is_digit bytes) bytes)) is ∙ others
+    let more : 1 + prefix_len is_ascii_digit bytes ≡ suc (prefix_len is_ascii_digit bytes) = omega arith in
+    ap (λ (n : ℕ). list_all is_ascii_digit (take n (byte ∷ bytes))) more
+    ∙ ap (λ (test : Bool). test && list_all is_ascii_digit (take (prefix_len is_ascii_digit bytes) bytes)) is ∙ others
 first-digit byte bytes false is others = refl
 
 -- a run is made of digits
-pub run-digits : (bytes : List ℕ) → list_all is_digit (take (prefix_len is_digit bytes) bytes) ≡ true
+pub run-digits : (bytes : List ℕ) → list_all is_ascii_digit (take (prefix_len is_ascii_digit bytes) bytes) ≡ true
 run-digits [] = refl
-run-digits (byte ∷ bytes) = first-digit byte bytes (is_digit byte) refl (run-digits bytes)
+run-digits (byte ∷ bytes) = first-digit byte bytes (is_ascii_digit byte) refl (run-digits bytes)
 
-first-sign : (byte : ℕ) (bytes : List ℕ) (plus minus : Bool) → (byte == 43) ≡ plus → (byte == 45) ≡ minus
+first-sign : (byte : ℕ) (bytes : List ℕ) (plus minus : Bool) → (byte == plus_sign) ≡ plus → (byte == hyphen) ≡ minus
     → IsSign minus (take (if plus || minus then 1 else 0) (byte ∷ bytes))
-first-sign byte bytes true true p m = ap (λ (b : ℕ). b ∷ []) (eqb-true byte 45 m)
-first-sign byte bytes false true p m = ap (λ (b : ℕ). b ∷ []) (eqb-true byte 45 m)
-first-sign byte bytes true false p m = inr (ap (λ (b : ℕ). b ∷ []) (eqb-true byte 43 p))
+first-sign byte bytes true true p m = ap (λ (b : ℕ). b ∷ []) (eqb-true byte hyphen m)
+first-sign byte bytes false true p m = ap (λ (b : ℕ). b ∷ []) (eqb-true byte hyphen m)
+first-sign byte bytes true false p m = inr (ap (λ (b : ℕ). b ∷ []) (eqb-true byte plus_sign p))
 first-sign byte bytes false false p m = inl refl
 
 -- a text begins with its sign
-pub sign-of_text : (text : List ℕ) → IsSign (is_negative text) (take (sign_length text) text)
+pub sign-of_text : (text : List ℕ) → IsSign (has_minus text) (take (sign_length text) text)
 sign-of_text [] = inl refl
-sign-of_text (byte ∷ bytes) = first-sign byte bytes (byte == 43) (byte == 45) refl refl
+sign-of_text (byte ∷ bytes) = first-sign byte bytes (byte == plus_sign) (byte == hyphen) refl refl
 
 -- a decimal's sign, digits, point and digits are its text
 pub decimal_parts-join : (text : List ℕ) → is_decimal text ≡ true → JoinsTo (decimal_parts text) text
 decimal_parts-join text is =
     let start = sign_length text in
     let point = point_place text in
-    let first = and_parts ((slice_index text point == 46) && (point + 1 + run_length text (point + 1) == length text)) _ is in
-    let tests = and_parts (slice_index text point == 46) _ first.0 in
-    let dot = eqb-true (slice_index text point) 46 tests.0 in
+    let first = and_parts ((slice_index text point == full_stop) && (point + 1 + run_length text (point + 1) == length text)) _ is in
+    let tests = and_parts (slice_index text point == full_stop) _ first.0 in
+    let dot = eqb-true (slice_index text point) full_stop tests.0 in
     let ends = eqb-true (point + 1 + run_length text (point + 1)) (length text) tests.1 in
     let within : point < length text = omega arith in
     let rest = drop (point + 1) text in
     let whole = run_digits text start in
     let fraction : run_digits text (point + 1) ≡ rest = take_all (run_length text (point + 1)) rest (omega (arith, length-drop (point + 1) text)) in
-    let behind : drop (run_length text start) (drop start text) ≡ 46 ∷ rest =
+    let behind : drop (run_length text start) (drop start text) ≡ full_stop ∷ rest =
     drop-drop (run_length text start) start text ∙ drop_more text point 0 within ∙ ap (λ (byte : ℕ). byte ∷ rest) dot in
     let digits = sym (take-append-drop (run_length text start) (drop start text))
-    ∙ ap (λ (bytes : List ℕ). whole ++ bytes) (behind ∙ ap (λ (bytes : List ℕ). 46 ∷ bytes) (sym fraction)) in
+    ∙ ap (λ (bytes : List ℕ). whole ++ bytes) (behind ∙ ap (λ (bytes : List ℕ). full_stop ∷ bytes) (sym fraction)) in
     let joined = sym (take-append-drop start text) ∙ ap (λ (bytes : List ℕ). take start text ++ bytes) digits
-    ∙ sym (append_assoc (take start text) whole (46 ∷ run_digits text (point + 1))) in
+    ∙ sym (append_assoc (take start text) whole (full_stop ∷ run_digits text (point + 1))) in
     (take start text, sign-of_text text, joined)
 
 tested : (d : DecimalParts) (text : List ℕ) (number : Option ℤ) (test : Bool) → is_decimal text ≡ test
@@ -68,10 +69,10 @@ tested d text None true is same =
 tested d text None false is same = cc
 
 -- so what is answered as a decimal joins to its text
-pub answered-joins : (read : IntFloat) (text : List ℕ) → answered read ≡ number_answer text → JoinsToFloat read text
-answered-joins (number.Int n) text same = tt
-answered-joins (number.Float decimal) text same = tested (parts decimal) text (whole_number text) (is_decimal text) refl same
-answered-joins number.Err text same = tt
+pub number_of-joins : (read : IntFloat) (text : List ℕ) → number_of read ≡ number_answer text → JoinsToFloat read text
+number_of-joins (number.Int n) text same = tt
+number_of-joins (number.Float decimal) text same = tested (parts decimal) text (whole_number text) (is_decimal text) refl same
+number_of-joins number.Err text same = tt
 
 never : (a b : Bool) (value : ℤ) → (if (a && false) && b then Some value else None) ≡ None
 never true b value = refl
@@ -82,7 +83,7 @@ pub whole_number-none : (text : List ℕ) → point_place text < length text →
 whole_number-none text within =
     let start = sign_length text in
     let size = run_value text start in
-    let value = with_sign (is_negative text) size in
-    ap (λ (ends : Bool). if (nat_lt 0 (run_length text start) && ends) && fits_i64 (is_negative text) size then Some value else None)
+    let value = with_sign (has_minus text) size in
+    ap (λ (ends : Bool). if (nat_lt 0 (run_length text start) && ends) && fits_i64 (has_minus text) size then Some value else None)
     (ne_eqb (point_place text) (length text) (λ same. absurd (omega arith)))
-    ∙ never (nat_lt 0 (run_length text start)) (fits_i64 (is_negative text) size) value
+    ∙ never (nat_lt 0 (run_length text start)) (fits_i64 (has_minus text) size) value

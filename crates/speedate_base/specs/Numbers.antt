@@ -1,14 +1,15 @@
--- Whole numbers and decimals, as texts.
+-- Whole numbers and decimals, as texts. This grammar is the library's own.
 use Rattle.std.specs.Prelude.{◌≡◌, ◌⊎◌, MatchBool, codes, ℕ, ◌+◌, ◌^◌, Bool, ◌&&◌, ◌||◌, List, [], ◌∷◌, ◌++◌, length, slice_index, nat_lt, nat_le, ◌==◌, if◌then◌else◌, Option, Some, None, ℤ, pos, neg_ℤ}
+use Rattle.speedate_base.specs.Ascii.{plus_sign, hyphen, full_stop}
 use Rattle.speedate_base.specs.DigitRuns.{run_length, run_digits, run_value}
 
 -- a text begins with `-`
-abbrev pub is_negative : List ℕ → Bool
-is_negative text = slice_index text 0 == 45
+abbrev pub has_minus : List ℕ → Bool
+has_minus text = slice_index text 0 == hyphen
 
 -- how many bytes its sign has: none, or one `+` or `-`
 abbrev pub sign_length : List ℕ → ℕ
-sign_length text = if (slice_index text 0 == 43) || is_negative text then 1 else 0
+sign_length text = if (slice_index text 0 == plus_sign) || has_minus text then 1 else 0
 
 -- a size with its sign
 abbrev pub with_sign : Bool → ℕ → ℤ
@@ -29,8 +30,8 @@ is_integer text =
 abbrev pub whole_number : List ℕ → Option ℤ
 whole_number text =
     let size = run_value text (sign_length text) in
-    if is_integer text && fits_i64 (is_negative text) size
-    then Some (with_sign (is_negative text) size) else None
+    if is_integer text && fits_i64 (has_minus text) size
+    then Some (with_sign (has_minus text) size) else None
 
 -- a decimal by its parts
 pub record DecimalParts : Type 0 where
@@ -38,7 +39,7 @@ pub record DecimalParts : Type 0 where
   pub whole : List ℕ
   pub fraction : List ℕ
 
--- the place of a decimal's point, behind its sign and the digits before it; 46 is `.`
+-- the place of a decimal's point, behind its sign and the digits before it
 abbrev pub point_place : List ℕ → ℕ
 point_place text = sign_length text + run_length text (sign_length text)
 
@@ -48,12 +49,12 @@ is_decimal text =
     let whole = run_length text (sign_length text) in
     let point = point_place text in
     let fraction = run_length text (point + 1) in
-    (slice_index text point == 46) && (point + 1 + fraction == length text) && nat_lt 0 (whole + fraction)
+    (slice_index text point == full_stop) && (point + 1 + fraction == length text) && nat_lt 0 (whole + fraction)
 
 -- its parts
 abbrev pub decimal_parts : List ℕ → DecimalParts
 decimal_parts text = record {
-  negative = is_negative text;
+  negative = has_minus text;
   whole = run_digits text (sign_length text);
   fraction = run_digits text (point_place text + 1);
 }
@@ -84,4 +85,4 @@ IsSign negative sign = MatchBool negative (sign ≡ codes "-") ((sign ≡ []) �
 -- the text is the sign, the digits, the point and the digits of the decimal
 abbrev pub JoinsTo : DecimalParts → List ℕ → Type 0
 JoinsTo decimal text =
-    (sign : List ℕ) × IsSign decimal.negative sign × (text ≡ sign ++ decimal.whole ++ 46 ∷ decimal.fraction)
+    (sign : List ℕ) × IsSign decimal.negative sign × (text ≡ sign ++ decimal.whole ++ full_stop ∷ decimal.fraction)

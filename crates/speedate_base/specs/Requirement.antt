@@ -1,5 +1,6 @@
 -- A grammar as an ordered table: each row is a test of the text and the fault of a text that fails it.
-use Rattle.std.specs.Prelude.{Bool, List, [], ◌∷◌, Result, Err, if◌then◌else◌}
+use Rattle.std.specs.Prelude.{◌≡◌, Bool, true, List, [], ◌∷◌, Result, Err, if◌then◌else◌}
+use Rattle.std.specs.Result.{result_map_both, result_flatten}
 use Rattle.speedate_base.specs.declared.faults.ParseError.{ParseError}
 
 -- what a text has to meet, and the fault of one that does not
@@ -12,7 +13,25 @@ infix 20 ◌else_fault◌
 abbrev pub ◌else_fault◌ : Bool → ParseError → Requirement
 test else_fault fault = record { holds = test; fault = fault }
 
+infix 15 ◌implies◌
+-- a test that is asked only where something is there
+abbrev pub ◌implies◌ : Bool → Bool → Bool
+there implies asked = if there then asked else true
+
 -- what comes next where every row holds, otherwise the fault of the first row that does not
 abbrev pub meets : {A : Type 0} → List Requirement → Result A ParseError → Result A ParseError
 meets [] next = next
 meets (row ∷ rows) next = if row.holds then meets rows next else Err row.fault
+
+-- every row of the table holds
+abbrev pub AllHold : List Requirement → Type 0
+AllHold [] = Unit {0}
+AllHold (row ∷ rows) = (row.holds ≡ true) × AllHold rows
+
+-- an answer with its value seen in another way, as a `Date` in numbers; a fault stays
+abbrev pub result_map : {A B : Type 0} → (A → B) → Result A ParseError → Result B ParseError
+result_map view answer = result_map_both view (λ fault. fault) answer
+
+-- what is answered to a value that was read; a fault stays
+abbrev pub result_and_then : {A B : Type 0} → (A → Result B ParseError) → Result A ParseError → Result B ParseError
+result_and_then next answer = result_flatten (result_map next answer)

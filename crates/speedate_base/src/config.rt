@@ -1,9 +1,22 @@
-//! Configurations: how times are read, and which offset the times of timestamps get.
+//! Configurations: the unit of timestamps, how times are read, and which offset the values of
+//! timestamps get.
 
 ghost use Rattle.std.specs.Option.{ForSome};
 ghost use Rattle.speedate_base.specs.Offset.{IsOffset};
 
 use std::marker::Model;
+
+/// The unit of a timestamp.
+#[derive(Clone, Copy, Debug, PartialEq, Eq, Default)]
+pub enum TimestampUnit {
+    /// Seconds since 1970-01-01T00:00:00.
+    Second,
+    /// Milliseconds since 1970-01-01T00:00:00.
+    Millisecond,
+    /// Seconds where the size of the timestamp is at most 20,000,000,000, otherwise milliseconds.
+    #[default]
+    Infer,
+}
 
 /// What is done with digits of a second past the sixth.
 #[derive(Clone, Copy, Debug, PartialEq, Eq, Default)]
@@ -13,6 +26,99 @@ pub enum MicrosecondsPrecisionOverflowBehavior {
     /// The text is refused.
     #[default]
     Error,
+}
+
+/// The unit of the timestamps that are read as dates. The default infers it;
+/// `DateConfig::builder().timestamp_unit(TimestampUnit::Second).build()` takes seconds.
+#[derive(Clone, Copy, Debug, PartialEq, Eq)]
+pub struct DateConfig {
+    /// The unit of timestamps.
+    pub timestamp_unit: TimestampUnit,
+}
+
+impl DateConfig {
+    ghost use Rattle.speedate_base.specs.DateConfig.{IsDefault};
+
+    /// A builder of a configuration: `DateConfig::builder().build()` is the default one.
+    pub fn builder() -> DateConfigBuilder
+        ensures default { IsDefault result }
+    {
+        DateConfigBuilder::new()
+    }
+}
+
+impl Default for DateConfig {
+    ghost use Rattle.speedate_base.specs.DateConfig.{IsDefault};
+
+    ghost is_default = { IsDefault };
+
+    /// The unit of timestamps is inferred.
+    fn default() -> Self {
+        DateConfig {
+            timestamp_unit: TimestampUnit::default(),
+        }
+    }
+}
+
+/// Builds a [`DateConfig`] from the value that is set, or the default.
+#[derive(Clone, Copy, Debug)]
+pub struct DateConfigBuilder {
+    config: DateConfig,
+}
+
+impl Model for DateConfigBuilder {
+    ghost use Rattle.std.specs.Prelude.{refl};
+    ghost use Rattle.speedate_base.specs.declared.config.DateConfig.{DateConfig};
+
+    ghost Value = { DateConfig };
+
+    ghost view = { λ builder. builder.config };
+
+    ghost inverse = { λ config. record { config = config } };
+}
+
+impl DateConfigBuilder {
+    ghost use Rattle.std.specs.Prelude.{◌≡◌};
+    ghost use Rattle.speedate_base.specs.DateConfig.{IsDefault};
+
+    /// A builder of the default configuration, as `DateConfig::builder` gives it too.
+    pub fn new() -> Self
+        ensures default { IsDefault result }
+    {
+        DateConfigBuilder {
+            config: DateConfig::default(),
+        }
+    }
+
+    /// Sets the unit of timestamps.
+    pub fn timestamp_unit(self, unit: TimestampUnit) -> Self
+        ensures unit { result.timestamp_unit ≡ unit }
+    {
+        DateConfigBuilder {
+            config: DateConfig {
+                timestamp_unit: unit,
+            },
+        }
+    }
+
+    /// The configuration of the value that was set last, or of the default.
+    pub fn build(self) -> DateConfig
+        ensures built { result ≡ self }
+    {
+        let DateConfigBuilder { config } = self;
+        config
+    }
+}
+
+impl Default for DateConfigBuilder {
+    ghost use Rattle.speedate_base.specs.DateConfig.{IsDefault};
+
+    ghost is_default = { IsDefault };
+
+    /// A builder of the default configuration.
+    fn default() -> Self {
+        Self::new()
+    }
 }
 
 /// What is done with digits of a second past the sixth, and which offset the time of a timestamp
@@ -120,7 +226,8 @@ impl TimeConfigBuilder {
     pub fn build(self) -> TimeConfig
         ensures built { result ≡ self }
     {
-        self.config
+        let TimeConfigBuilder { config } = self;
+        config
     }
 }
 

@@ -4,9 +4,6 @@ ghost use Rattle.std.specs.Prelude.{◌≡◌};
 
 use std::fmt;
 
-/// How many bytes the longest name of a fault has.
-pub const NAME_MAX: usize = 29;
-
 /// Why a text or a number was refused. Every refusal has exactly one of these.
 ///
 /// It is printed by its snake-case name, as `too_short` for `TooShort`.
@@ -98,11 +95,11 @@ impl ParseError {
     ghost use Rattle.std.specs.Prelude.{◌≤◌, length};
     ghost use Rattle.speedate_base.specs.Fault.{fault_name};
 
-    /// The snake-case name, as `too_short` for `ParseError::TooShort`.
+    /// The snake-case name, of at most 29 bytes, as `too_short` for `ParseError::TooShort`.
     #[inline]
     pub fn name(&self) -> &'static str
         ensures name { result.now ≡ fault_name self.now }
-        ensures short { length result.now ≤ NAME_MAX }
+        ensures short { length result.now ≤ 29 }
     {
         match self {
             ParseError::TooShort => "too_short",
@@ -163,6 +160,3 @@ impl fmt::Display for ParseError {
 }
 
 impl std::error::Error for ParseError {}
-
-#[cfg(test)]
-mod tests;

@@ -4,4 +4,6 @@
 
 pub mod config;
 pub mod faults;
+pub mod laws;
 pub mod numbers;
+pub mod util;

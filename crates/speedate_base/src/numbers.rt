@@ -1,15 +1,17 @@
 //! Whole numbers and decimals, and the digits that they are made of.
 
 ghost use Rattle.std.specs.Prelude.{◌≡◌, ◌<◌, ◌≤◌, length, Some, None, if◌then◌else◌};
-ghost use Rattle.speedate_base.specs.Numbers.{is_negative, sign_length, with_sign, fits_i64, whole_number, point_place, decimal_answer, number_answer};
-ghost use Rattle.speedate_base.specs.IntFloat.{answered, JoinsToFloat};
+ghost use Rattle.speedate_base.specs.Numbers.{has_minus, sign_length, with_sign, fits_i64, whole_number, point_place, decimal_answer, number_answer};
+ghost use Rattle.speedate_base.specs.IntFloat.{number_of, JoinsToFloat};
 
 mod digits;
 mod number;
+mod places;
 
 use digits::{EXACT_DIGITS, few_digits};
-pub use digits::{DigitRun, digit_run, four_digits, run_end, two_digits};
+pub use digits::{DigitRun, digit_run, run_end};
 pub use number::{Decimal, IntFloat};
+pub use places::{byte_at, four_digits, two_digits, two_digits_there};
 
 /// The whole number that a text is, or `None`: -12 for `"-012"`.
 ///
@@ -49,7 +51,7 @@ pub fn int_parse_bytes(bytes: &[u8]) -> Option<i64>
 /// is no exponent. A whole number that does not fit an `i64` is `Err`, as is every other text.
 #[inline]
 pub fn float_parse_str(text: &str) -> IntFloat<'_>
-    ensures answer { answered result ≡ number_answer text.now }
+    ensures answer { number_of result ≡ number_answer text.now }
     ensures joined { JoinsToFloat result text.now }
 {
     float_parse_bytes(text.as_bytes())
@@ -58,7 +60,7 @@ pub fn float_parse_str(text: &str) -> IntFloat<'_>
 /// The number that the bytes are: see [`float_parse_str`].
 #[inline]
 pub fn float_parse_bytes(bytes: &[u8]) -> IntFloat<'_>
-    ensures answer { answered result ≡ number_answer bytes.now }
+    ensures answer { number_of result ≡ number_answer bytes.now }
     ensures joined { JoinsToFloat result bytes.now }
 {
     let (negative, start) = sign(bytes);
@@ -79,11 +81,11 @@ pub fn float_parse_bytes(bytes: &[u8]) -> IntFloat<'_>
 /// The decimal whose digits begin at `start`, and whose point is at `point` if there is one.
 #[inline]
 fn decimal(bytes: &[u8], negative: bool, start: usize, point: usize) -> IntFloat<'_>
-    requires negative { negative ≡ is_negative bytes.now }
+    requires negative { negative ≡ has_minus bytes.now }
     requires start { start ≡ sign_length bytes.now }
     requires point { point ≡ point_place bytes.now }
     requires within { point < length bytes.now }
-    ensures answer { answered result ≡ decimal_answer bytes.now }
+    ensures answer { number_of result ≡ decimal_answer bytes.now }
 {
     if bytes[point] != b'.' {
         return IntFloat::Err;
@@ -104,7 +106,7 @@ fn decimal(bytes: &[u8], negative: bool, start: usize, point: usize) -> IntFloat
 /// Whether a text begins with `-`, and how many bytes its sign has.
 #[inline]
 fn sign(bytes: &[u8]) -> (bool, usize)
-    ensures negative { result.0 ≡ is_negative bytes.now }
+    ensures negative { result.0 ≡ has_minus bytes.now }
     ensures len { result.1 ≡ sign_length bytes.now }
     ensures within { result.1 ≤ length bytes.now }
 {

@@ -1,5 +1,6 @@
 -- The Gregorian calendar, carried back to the year 0.
-use Rattle.std.specs.Prelude.{ℕ, ◌%◌, Bool, ◌||◌, ◌==◌, if◌then◌else◌}
+use Rattle.std.specs.Prelude.{ℕ, ◌%◌, ◌≤◌, Bool, ◌||◌, ◌==◌, if◌then◌else◌}
+use Rattle.std.specs.Int.{IsInRange}
 
 -- a year divisible by 100 is leap if it is divisible by 400, any other if it is divisible by 4 (RFC 3339, appendix C)
 abbrev pub is_leap_year : ℕ → Bool
@@ -20,3 +21,9 @@ pub record Ymd : Type 0 where
   pub year : ℕ
   pub month : ℕ
   pub day : ℕ
+
+-- a date of the calendar
+pub record IsDate (date : Ymd) : Type 0 where
+  pub year : date.year ≤ 9999
+  pub month : IsInRange 1 12 date.month
+  pub day : IsInRange 1 (month_length date.year date.month) date.day

@@ -1,34 +1,33 @@
--- The text of a date, `YYYY-MM-DD` (RFC 3339 5.6, full-date): which texts are read, and which one is printed.
-use Rattle.std.specs.Prelude.{ℕ, Bool, ◌&&◌, List, [], ◌∷◌, ◌++◌, length, nat_le, ◌==◌, slice_index, Result, Ok}
+-- The text of a date, `YYYY-MM-DD` (RFC 3339 5.6, full-date; the ranges of month and day are those of its 5.7).
+-- Departs from it nowhere.
+use Rattle.std.specs.Prelude.{ℕ, List, [], ◌∷◌, ◌++◌, length, nat_le, ◌==◌, slice_index, Result, Ok}
+use Rattle.std.specs.Int.{is_in_range}
 use Rattle.speedate_base.specs.declared.faults.ParseError.{ParseError}
 use Rattle.speedate_base.specs.declared.faults.ParseError.TheVariants as fault
+use Rattle.speedate_base.specs.Ascii.{hyphen}
 use Rattle.speedate_base.specs.Requirement.{Requirement, ◌else_fault◌, meets}
 use Rattle.speedate_base.specs.Digits.{four_digits_at, four_digit_value, four_digit_text, two_digits_at, two_digit_value, two_digit_text}
 use Rattle.speedate_civil.specs.Calendar.{Ymd, month_length}
 
 -- the numbers at the places of a date
-abbrev pub date_fields : List ℕ → Ymd
-date_fields text = record {
+abbrev pub date_numbers : List ℕ → Ymd
+date_numbers text = record {
   year = four_digit_value text 0;
   month = two_digit_value text 5;
   day = two_digit_value text 8;
 }
 
--- a number lies from low to high, both included
-abbrev pub is_within : ℕ → ℕ → ℕ → Bool
-is_within low high n = nat_le low n && nat_le n high
-
--- what the first ten bytes of a text have to meet to be a date; 45 is `-`
+-- what the first ten bytes of a text have to meet to be a date
 abbrev pub date_table : List ℕ → List Requirement
-date_table text = let date = date_fields text in
+date_table text = let date = date_numbers text in
     (nat_le 10 (length text) else_fault fault.TooShort)
     ∷ (four_digits_at text 0 else_fault fault.InvalidCharYear)
-    ∷ (slice_index text 4 == 45 else_fault fault.InvalidCharDateSep)
+    ∷ (slice_index text 4 == hyphen else_fault fault.InvalidCharDateSep)
     ∷ (two_digits_at text 5 else_fault fault.InvalidCharMonth)
-    ∷ (slice_index text 7 == 45 else_fault fault.InvalidCharDateSep)
+    ∷ (slice_index text 7 == hyphen else_fault fault.InvalidCharDateSep)
     ∷ (two_digits_at text 8 else_fault fault.InvalidCharDay)
-    ∷ (is_within 1 12 date.month else_fault fault.OutOfRangeMonth)
-    ∷ (is_within 1 (month_length date.year date.month) date.day else_fault fault.OutOfRangeDay)
+    ∷ (is_in_range 1 12 date.month else_fault fault.OutOfRangeMonth)
+    ∷ (is_in_range 1 (month_length date.year date.month) date.day else_fault fault.OutOfRangeDay)
     ∷ []
 
 -- what a text has to meet to end with its date
@@ -37,12 +36,13 @@ date_end text = ((length text == 10) else_fault fault.ExtraCharacters) ∷ []
 
 -- the date that stands at the front of a text, or the text's fault
 abbrev pub date_front : List ℕ → Result Ymd ParseError
-date_front text = meets (date_table text) (Ok (date_fields text))
+date_front text = meets (date_table text) (Ok (date_numbers text))
 
 -- the date that a text is, or the text's fault
 abbrev pub date_answer : List ℕ → Result Ymd ParseError
-date_answer text = meets (date_table text) (meets (date_end text) (Ok (date_fields text)))
+date_answer text = meets (date_table text) (meets (date_end text) (Ok (date_numbers text)))
 
 -- the one text by which a date is printed
 abbrev pub date_text : Ymd → List ℕ
-date_text date = four_digit_text date.year ++ 45 ∷ two_digit_text date.month ++ 45 ∷ two_digit_text date.day
+date_text date =
+    four_digit_text date.year ++ hyphen ∷ two_digit_text date.month ++ hyphen ∷ two_digit_text date.day

@@ -1,30 +1,34 @@
--- The offset behind a time (RFC 3339 5.6, time-offset; its `:` may be left out, and ISO 8601 allows the sign U+2212).
--- `rest` is what follows the time, and `numbers` what follows the sign.
+-- The offset behind a time (RFC 3339 5.6, time-offset; the ranges are those of its 5.7). `rest` is what follows the time,
+-- and `numbers` what follows the sign.
+-- Departs from it: the offset may be left out, and so may its `:`; the sign may be U+2212, as in ISO 8601; `-00:00` is the
+-- offset 0, where RFC 3339 4.3 has it for an unknown one.
 use Rattle.std.specs.Prelude.{ℕ, ◌+◌, ◌*◌, ◌/◌, ◌%◌, Bool, ◌&&◌, ◌||◌, List, [], ◌∷◌, ◌++◌, length, drop, nat_le, nat_lt, ◌==◌, slice_index, if◌then◌else◌, Option, Some, None, ℤ, pos, unsigned_abs, Result, Ok}
 use Rattle.std.specs.Int.{is_negative}
 use Rattle.speedate_base.specs.declared.faults.ParseError.{ParseError}
 use Rattle.speedate_base.specs.declared.faults.ParseError.TheVariants as fault
+use Rattle.speedate_base.specs.Ascii.{plus_sign, hyphen, colon, capital_z, small_z}
 use Rattle.speedate_base.specs.Requirement.{Requirement, ◌else_fault◌, meets}
 use Rattle.speedate_base.specs.Digits.{two_digits_at, two_digit_value, two_digit_text}
 use Rattle.speedate_base.specs.Numbers.{with_sign}
+use Rattle.speedate_base.specs.Offset.{seconds_per_day}
 
 -- the three bytes of U+2212, the minus sign
 abbrev pub has_minus_sign : List ℕ → Bool
-has_minus_sign rest = (slice_index rest 0 == 226) && (slice_index rest 1 == 136) && (slice_index rest 2 == 146)
+has_minus_sign rest = (slice_index rest 0 == 0xe2) && (slice_index rest 1 == 0x88) && (slice_index rest 2 == 0x92)
 
--- the offset is west of UTC; 45 is `-`
+-- the offset is west of UTC
 abbrev pub is_west : List ℕ → Bool
-is_west rest = (slice_index rest 0 == 45) || has_minus_sign rest
+is_west rest = (slice_index rest 0 == hyphen) || has_minus_sign rest
 
--- how many bytes its sign has; 43 is `+`
-abbrev pub sign_length : List ℕ → ℕ
-sign_length rest =
+-- how many bytes its sign has
+abbrev pub offset_sign_length : List ℕ → ℕ
+offset_sign_length rest =
     if has_minus_sign rest then 3
-    else (if (slice_index rest 0 == 43) || (slice_index rest 0 == 45) then 1 else 0)
+    else (if (slice_index rest 0 == plus_sign) || (slice_index rest 0 == hyphen) then 1 else 0)
 
 -- the place of its minute, behind the hour and an optional `:`
 abbrev pub offset_minute_place : List ℕ → ℕ
-offset_minute_place numbers = if slice_index numbers 2 == 58 then 3 else 2
+offset_minute_place numbers = if slice_index numbers 2 == colon then 3 else 2
 
 -- its minute
 abbrev pub offset_minute : List ℕ → ℕ
@@ -40,13 +44,13 @@ signed_table numbers =
     (two_digits_at numbers 0 else_fault fault.InvalidCharTzHour)
     ∷ (two_digits_at numbers (offset_minute_place numbers) else_fault fault.InvalidCharTzMinute)
     ∷ (nat_le (offset_minute numbers) 59 else_fault fault.OutOfRangeTzMinute)
-    ∷ (nat_lt (offset_size numbers) 86400 else_fault fault.OutOfRangeTz)
+    ∷ (nat_lt (offset_size numbers) seconds_per_day else_fault fault.OutOfRangeTz)
     ∷ (length numbers == offset_minute_place numbers + 2 else_fault fault.ExtraCharacters)
     ∷ []
 
 -- the offset is UTC itself, `Z` or `z`
 abbrev pub is_utc : List ℕ → Bool
-is_utc rest = (slice_index rest 0 == 90) || (slice_index rest 0 == 122)
+is_utc rest = (slice_index rest 0 == capital_z) || (slice_index rest 0 == small_z)
 
 -- what a text without a sign has to meet
 abbrev pub unsigned_table : List ℕ → List Requirement
@@ -66,16 +70,16 @@ unsigned_answer rest = meets (unsigned_table rest) (Ok (if is_utc rest then Some
 -- the offset that follows a time, if any, or the fault of what follows it
 abbrev pub offset_answer : List ℕ → Result (Option ℤ) ParseError
 offset_answer rest =
-    if nat_lt 0 (sign_length rest) then signed_answer (is_west rest) (drop (sign_length rest) rest)
+    if nat_lt 0 (offset_sign_length rest) then signed_answer (is_west rest) (drop (offset_sign_length rest) rest)
     else unsigned_answer rest
 
 -- hours and minutes in print
 abbrev pub offset_size_text : ℕ → List ℕ
-offset_size_text size = two_digit_text (size / 3600) ++ 58 ∷ two_digit_text (size / 60 % 60)
+offset_size_text size = two_digit_text (size / 3600) ++ colon ∷ two_digit_text (size / 60 % 60)
 
 -- the one text by which an offset is printed: nothing, `Z`, or a sign, hours and minutes
 abbrev pub offset_text : Option ℤ → List ℕ
 offset_text None = []
 offset_text (Some offset) = let size = unsigned_abs offset in
-    if size == 0 then 90 ∷ []
-    else (if is_negative offset then 45 else 43) ∷ offset_size_text size
+    if size == 0 then capital_z ∷ []
+    else (if is_negative offset then hyphen else plus_sign) ∷ offset_size_text size

@@ -1,7 +1,9 @@
 -- The time of day.
-use Rattle.std.specs.Prelude.{ℕ, ◌+◌, ◌*◌, ◌/◌, ◌%◌, Option, ℤ, Result, Ok, [], ◌∷◌, nat_lt}
+use Rattle.std.specs.Prelude.{ℕ, ◌+◌, ◌*◌, ◌/◌, ◌%◌, ◌≤◌, Option, ℤ, Result, Ok, [], ◌∷◌, nat_lt}
+use Rattle.std.specs.Option.{ForSome}
 use Rattle.speedate_base.specs.declared.faults.ParseError.{ParseError}
 use Rattle.speedate_base.specs.declared.faults.ParseError.TheVariants as fault
+use Rattle.speedate_base.specs.Offset.{IsOffset, seconds_per_day}
 use Rattle.speedate_base.specs.Requirement.{◌else_fault◌, meets}
 
 -- a time of day by its numbers, and its offset from UTC in seconds, if it has one
@@ -11,6 +13,14 @@ pub record TimeOfDay : Type 0 where
   pub second : ℕ
   pub microsecond : ℕ
   pub offset : Option ℤ
+
+-- its numbers are in their ranges (RFC 3339 5.7, without the leap second)
+pub record IsTime (time : TimeOfDay) : Type 0 where
+  pub hour : time.hour ≤ 23
+  pub minute : time.minute ≤ 59
+  pub second : time.second ≤ 59
+  pub microsecond : time.microsecond ≤ 999999
+  pub offset : ForSome time.offset IsOffset
 
 -- the seconds since midnight
 abbrev pub second_of_day : TimeOfDay → ℕ
@@ -38,4 +48,4 @@ time_at seconds microsecond offset = record {
 abbrev pub timestamp_answer : ℕ → ℕ → Option ℤ → Result TimeOfDay ParseError
 timestamp_answer seconds microseconds offset =
     let whole = seconds + microseconds / 1000000 in
-    meets ((nat_lt whole 86400 else_fault fault.TimeTooLarge) ∷ []) (Ok (time_at whole (microseconds % 1000000) offset))
+    meets ((nat_lt whole seconds_per_day else_fault fault.TimeTooLarge) ∷ []) (Ok (time_at whole (microseconds % 1000000) offset))

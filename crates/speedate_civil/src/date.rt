@@ -59,7 +59,8 @@ fn month_length(year: u16, month: u8) -> u8
 
 impl Date {
     ghost use Rattle.speedate_civil.specs.declared.date.Date.{Date};
-    ghost use Rattle.speedate_civil.specs.Date.{parts, answered};
+    ghost use Rattle.speedate_base.specs.Requirement.{result_map};
+    ghost use Rattle.speedate_civil.specs.Date.{parts};
     ghost use Rattle.speedate_civil.specs.DateText.{date_front, date_answer, date_text};
 
     /// Reads a date from a text: the date that the text is, as 29 February 2020 for
@@ -77,7 +78,7 @@ impl Date {
     /// - `ExtraCharacters` where more than ten bytes are there.
     #[inline]
     pub fn parse_str_rfc3339(text: &str) -> Result<Self, ParseError>
-        ensures answer { answered result ≡ date_answer text.now }
+        ensures answer { result_map parts result ≡ date_answer text.now }
     {
         Self::parse_bytes_rfc3339(text.as_bytes())
     }
@@ -86,7 +87,7 @@ impl Date {
     /// from `b"2020-02-29"`. The bytes need not be text.
     #[inline]
     pub fn parse_bytes_rfc3339(bytes: &[u8]) -> Result<Self, ParseError>
-        ensures answer { answered result ≡ date_answer bytes.now }
+        ensures answer { result_map parts result ≡ date_answer bytes.now }
     {
         let date = Self::parse_front(bytes)?;
         if bytes.len() > TEXT_LENGTH {
@@ -98,7 +99,7 @@ impl Date {
     /// Reads the date at the front of a text, whatever follows it.
     #[inline]
     pub(crate) fn parse_front(bytes: &[u8]) -> Result<Self, ParseError>
-        ensures front { answered result ≡ date_front bytes.now }
+        ensures front { result_map parts result ≡ date_front bytes.now }
     {
         if bytes.len() < TEXT_LENGTH {
             return Err(ParseError::TooShort);
@@ -157,6 +158,3 @@ impl fmt::Display for Date {
         f.write_str(self.to_text().as_str())
     }
 }
-
-#[cfg(test)]
-mod tests;

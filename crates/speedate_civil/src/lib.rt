@@ -2,5 +2,6 @@
 #![tactic(auto)]
 
 pub mod date;
-mod text;
+pub mod laws;
+pub mod text;
 pub mod time;

@@ -1,4 +1,4 @@
-//! Printed texts.
+//! Pieces of printed texts, for the printers of this crate and of those above it.
 
 ghost use Rattle.std.specs.Prelude.{◌≡◌, ◌<◌, ◌≤◌, ◌+◌, ◌++◌, length};
 ghost use Rattle.std.specs.Str.{IsAscii};
@@ -8,9 +8,9 @@ ghost use Rattle.speedate_base.specs.Digits.{two_digit_text};
 use arrayvec::{ArrayString, ArrayVec};
 use std::str;
 
-/// The text of these ASCII bytes.
+/// The text of these ASCII bytes: `2020` for `b"2020"`.
 #[inline]
-pub(crate) fn ascii_text<const LENGTH: usize>(bytes: &[u8]) -> ArrayString<LENGTH>
+pub fn ascii_text<const LENGTH: usize>(bytes: &[u8]) -> ArrayString<LENGTH>
     requires ascii { IsAscii bytes.now }
     requires fits { length bytes.now ≤ LENGTH }
     ensures bytes { result.bytes ≡ bytes.now }
@@ -20,21 +20,21 @@ pub(crate) fn ascii_text<const LENGTH: usize>(bytes: &[u8]) -> ArrayString<LENGT
     text
 }
 
-/// Appends bytes, for which there must be room.
+/// Appends bytes, for which there must be room: `b"ok 12"` where `b"12"` is appended to `b"ok "`.
 #[inline]
-pub(crate) fn push<const LENGTH: usize>(piece: &[u8], bytes: &mut ArrayVec<u8, LENGTH>)
-    requires { array_vec_len bytes.old + length piece.now ≤ LENGTH }
+pub fn push<const LENGTH: usize>(piece: &[u8], bytes: &mut ArrayVec<u8, LENGTH>)
+    requires room { array_vec_len bytes.old + length piece.now ≤ LENGTH }
     ensures bytes { bytes.new.items ≡ bytes.old.items ++ piece.now }
     ensures len { array_vec_len bytes.new ≡ array_vec_len bytes.old + length piece.now }
 {
     bytes.try_extend_from_slice(piece).unwrap();
 }
 
-/// The two digits of a number below 100.
+/// The two digits of a number below 100: `b"07"` for 7.
 #[inline]
-pub(crate) fn two_digit_text(number: u8) -> [u8; 2]
-    requires { number < 100 }
-    ensures { result ≡ two_digit_text number }
+pub fn two_digit_text(number: u8) -> [u8; 2]
+    requires small { number < 100 }
+    ensures digits { result ≡ two_digit_text number }
 {
     [b'0' + number / 10, b'0' + number % 10]
 }

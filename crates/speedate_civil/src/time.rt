@@ -1,25 +1,19 @@
 //! Times of day, with or without an offset from UTC.
 
-ghost use Rattle.std.specs.Prelude.{◌≡◌, ◌≤◌, ◌∷◌, Some};
-ghost use Rattle.speedate_base.specs.Digits.{six_digit_text};
+ghost use Rattle.std.specs.Prelude.{◌≡◌, ◌≤◌};
 ghost use Rattle.std.specs.Option.{ForSome};
 ghost use Rattle.speedate_base.specs.Offset.{IsOffset};
 
 mod fraction;
 mod offset;
-mod places;
 mod pure;
+mod text;
 
-use crate::text::{ascii_text, push, two_digit_text};
-use arrayvec::{ArrayString, ArrayVec};
-use offset::{push_offset, read_offset};
+use offset::read_offset;
 pub use pure::PureTime;
 use speedate_base::config::{MicrosecondsPrecisionOverflowBehavior, TimeConfig};
 use speedate_base::faults::ParseError;
-use std::fmt;
-
-/// How many bytes the longest text of a time has.
-const TEXT_MAX: usize = 21;
+use speedate_base::util::SECONDS_PER_DAY;
 
 /// A time of day, with an offset from UTC or without one.
 ///
@@ -46,15 +40,12 @@ pub struct Time {
 }
 
 impl Time {
-    ghost use Rattle.std.specs.Prelude.{◌+◌, ◌*◌, ◌++◌, IfOk, drop, length, Ok, None};
-    ghost use Rattle.arrayvec.specs.ArrayVec.{array_vec_len};
-    ghost use Rattle.speedate_base.specs.Offset.{IsWholeMinutes};
-    ghost use Rattle.speedate_base.specs.declared.config.TimeConfig.{TimeConfig};
-    ghost use Rattle.speedate_civil.specs.declared.time.Time.{Time};
+    ghost use Rattle.std.specs.Prelude.{◌+◌, ◌*◌, IfOk, drop, length, None};
     ghost use Rattle.speedate_base.specs.declared.config.MicrosecondsPrecisionOverflowBehavior.TheVariants as behavior;
-    ghost use Rattle.speedate_civil.specs.Time.{parts, answered};
+    ghost use Rattle.speedate_base.specs.Requirement.{result_map};
+    ghost use Rattle.speedate_civil.specs.Time.{parts};
     ghost use Rattle.speedate_civil.specs.TimeOfDay.{second_of_day, millisecond_of_day, microsecond_of_day, timestamp_answer};
-    ghost use Rattle.speedate_civil.specs.TimeText.{time_answer, clock_text, time_text};
+    ghost use Rattle.speedate_civil.specs.TimeText.{time_answer};
 
     /// Reads a time from a text: the time that the text is, as 12:13:14 and a half, an hour east
     /// of UTC, for `"12:13:14.5+01:00"`, or the text's one fault.
@@ -82,7 +73,7 @@ impl Time {
     /// - `ExtraCharacters` where something follows the offset.
     #[inline(always)]
     pub fn parse_str(text: &str) -> Result<Self, ParseError>
-        ensures answer { answered result ≡ time_answer behavior.Error text.now }
+        ensures answer { result_map parts result ≡ time_answer behavior.Error text.now }
     {
         Self::parse_bytes(text.as_bytes())
     }
@@ -91,7 +82,7 @@ impl Time {
     /// `b"12:13"`. The bytes need not be text.
     #[inline(always)]
     pub fn parse_bytes(bytes: &[u8]) -> Result<Self, ParseError>
-        ensures answer { answered result ≡ time_answer behavior.Error bytes.now }
+        ensures answer { result_map parts result ≡ time_answer behavior.Error bytes.now }
     {
         Self::parse_at(bytes, 0, MicrosecondsPrecisionOverflowBehavior::Error)
     }
@@ -101,7 +92,7 @@ impl Time {
     /// `b"12:13:12.1234567"` is 12:13:12.123456. The offset of the configuration does not matter.
     #[inline(always)]
     pub fn parse_bytes_with_config(bytes: &[u8], config: &TimeConfig) -> Result<Self, ParseError>
-        ensures answer { answered result
+        ensures answer { result_map parts result
             ≡ time_answer config.now.microseconds_precision_overflow_behavior bytes.now }
     {
         Self::parse_at(bytes, 0, config.microseconds_precision_overflow_behavior)
@@ -115,10 +106,10 @@ impl Time {
         behavior: MicrosecondsPrecisionOverflowBehavior,
     ) -> Result<Self, ParseError>
         requires { place ≤ length bytes.now }
-        ensures answer { answered result ≡ time_answer behavior (drop place bytes.now) }
+        ensures answer { result_map parts result ≡ time_answer behavior (drop place bytes.now) }
     {
         let clock = PureTime::parse(bytes, place, behavior)?;
-        let tz_offset = read_offset(&bytes[place + clock.end..])?;
+        let tz_offset = read_offset(&bytes[place + clock.size..])?;
         Ok(Time {
             hour: clock.hour,
             minute: clock.minute,
@@ -135,7 +126,7 @@ impl Time {
         timestamp_second: u32,
         timestamp_microsecond: u32,
     ) -> Result<Self, ParseError>
-        ensures answer { answered result ≡ timestamp_answer timestamp_second timestamp_microsecond None }
+        ensures answer { result_map parts result ≡ timestamp_answer timestamp_second timestamp_microsecond None }
         ensures instant { IfOk result (λ time. microsecond_of_day (parts time)
             ≡ 1000000 * timestamp_second + timestamp_microsecond) }
     {
@@ -155,13 +146,13 @@ impl Time {
         timestamp_microsecond: u32,
         config: &TimeConfig,
     ) -> Result<Self, ParseError>
-        ensures answer { answered result
+        ensures answer { result_map parts result
             ≡ timestamp_answer timestamp_second timestamp_microsecond config.now.unix_timestamp_offset }
         ensures instant { IfOk result (λ time. microsecond_of_day (parts time)
             ≡ 1000000 * timestamp_second + timestamp_microsecond) }
     {
         let second = u64::from(timestamp_second) + u64::from(timestamp_microsecond / 1_000_000);
-        if second >= 86_400 {
+        if second >= u64::from(SECONDS_PER_DAY) {
             return Err(ParseError::TimeTooLarge);
         }
         Ok(Time {
@@ -189,74 +180,4 @@ impl Time {
     {
         1000 * self.total_seconds() + self.microsecond / 1000
     }
-
-    /// The canonical text, `HH:MM:SS`, a point and six digits where the microsecond is not 0, and
-    /// the offset where there is one: `Z`, or a sign, hours and minutes, as `12:13:14.500000+01:30`.
-    ///
-    /// It reads back as the time, under every configuration, where the offset is absent or whole
-    /// minutes. The seconds of another offset are not printed.
-    #[inline]
-    pub fn to_text(&self) -> ArrayString<TEXT_MAX>
-        ensures text { result.bytes ≡ time_text (parts self.now) }
-        ensures reads_back { IsWholeMinutes self.now.tz_offset → (config : TimeConfig)
-            → time_answer config.microseconds_precision_overflow_behavior result.bytes ≡ Ok (parts self.now) }
-        ensures distinct { IsWholeMinutes self.now.tz_offset → (other : Time) → IsWholeMinutes other.tz_offset
-            → result.bytes ≡ time_text (parts other) → parts self.now ≡ parts other }
-    {
-        let mut bytes: ArrayVec<u8, TEXT_MAX> = ArrayVec::new();
-        self.push_onto(&mut bytes);
-        ascii_text(&bytes)
-    }
-
-    /// Appends the bytes of the canonical text.
-    #[inline]
-    pub(crate) fn push_onto<const LENGTH: usize>(&self, bytes: &mut ArrayVec<u8, LENGTH>)
-        requires room { array_vec_len bytes.old + TEXT_MAX ≤ LENGTH }
-        ensures text { bytes.new.items ≡ bytes.old.items ++ time_text (parts self.now) }
-    {
-        push(&self.clock_text(), bytes);
-        if self.microsecond != 0 {
-            push(&fraction_text(self.microsecond), bytes);
-        }
-        push_offset(self.tz_offset, bytes);
-    }
-
-    /// The hour, minute and second in the canonical text.
-    #[inline]
-    fn clock_text(&self) -> [u8; 8]
-        ensures { result ≡ clock_text (parts self.now) }
-    {
-        let [h1, h2] = two_digit_text(self.hour);
-        let [m1, m2] = two_digit_text(self.minute);
-        let [s1, s2] = two_digit_text(self.second);
-        [h1, h2, b':', m1, m2, b':', s1, s2]
-    }
 }
-
-/// A point and the six digits of a microsecond.
-#[inline]
-fn fraction_text(microsecond: u32) -> [u8; 7]
-    requires { microsecond ≤ 999999 }
-    ensures { result ≡ 46 ∷ six_digit_text microsecond }
-{
-    let [f1, f2] = two_digit_text((microsecond / 10_000) as u8);
-    let [f3, f4] = two_digit_text((microsecond / 100 % 100) as u8);
-    let [f5, f6] = two_digit_text((microsecond % 100) as u8);
-    [b'.', f1, f2, f3, f4, f5, f6]
-}
-
-impl fmt::Display for Time {
-    ghost use Rattle.speedate_civil.specs.Time.{parts};
-    ghost use Rattle.speedate_civil.specs.TimeText.{time_text};
-
-    ghost output = { λ time. Some (time_text (parts time)) };
-
-    ghost styled_output = { λ time _. Some (time_text (parts time)) };
-
-    fn fmt<W: fmt::Write>(&self, f: &mut fmt::Formatter<W>) -> fmt::Result {
-        f.write_str(self.to_text().as_str())
-    }
-}
-
-#[cfg(test)]
-mod tests;

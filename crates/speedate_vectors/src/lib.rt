@@ -1,12 +1,19 @@
 //! Tests of the library through its public paths: worked examples, and the cases that the Rust
-//! crate's own tests hold.
+//! crate's own tests hold. Callers of the library, as one outside this workspace would write them.
 #![tactic(auto)]
 
+pub mod callers;
 #[cfg(test)]
 mod calendar;
 #[cfg(test)]
 mod config;
 #[cfg(test)]
+mod dates;
+#[cfg(test)]
+mod faults;
+#[cfg(test)]
 mod numbers;
+#[cfg(test)]
+mod shown;
 #[cfg(test)]
 mod times;

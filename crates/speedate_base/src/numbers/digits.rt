@@ -1,49 +1,10 @@
-//! Digits, at fixed places and in runs.
+//! Digits in runs.
 
-ghost use Rattle.std.specs.Prelude.{◌≡◌, ◌+◌, ◌-◌, ◌^◌, ◌<◌, ◌≤◌, length, take, min, ◌==◌, Some, None, if◌then◌else◌};
+ghost use Rattle.std.specs.Prelude.{◌≡◌, ◌+◌, ◌-◌, ◌^◌, ◌<◌, ◌≤◌, length, take, min, ◌==◌, IsTrue, Some, None, if◌then◌else◌};
+ghost use Rattle.std.specs.Char.{is_ascii_digit};
+ghost use Rattle.std.specs.Int.{w64, from_le_bytes};
 ghost use Rattle.std.specs.List.{list_all, prefix_len};
-ghost use Rattle.speedate_base.specs.Digits.{is_digit, digit_value, two_digits_at, two_digit_value, four_digits_at, four_digit_value};
 ghost use Rattle.speedate_base.specs.DigitRuns.{run_length, run_value, digits_value};
-ghost use Rattle.speedate_base.specs.DigitRunLaws.{AreDigits};
-ghost use Rattle.speedate_base.specs.Word.{word};
-
-/// The number that the two digits from `place` on spell, or `None` where a byte of them is no
-/// digit: 7 for `b"07"` at place 0.
-#[inline]
-pub fn two_digits(bytes: &[u8], place: usize) -> Option<u8>
-    requires { place + 2 ≤ length bytes.now }
-    ensures value { result ≡ (if two_digits_at bytes.now place
-        then Some (two_digit_value bytes.now place) else None) }
-{
-    let tens = digit(bytes[place])?;
-    let ones = digit(bytes[place + 1])?;
-    Some(10 * tens + ones)
-}
-
-/// What a digit stands for, or `None` where the byte is no digit.
-#[inline]
-fn digit(byte: u8) -> Option<u8>
-    ensures value { result ≡ (if is_digit byte then Some (digit_value byte) else None) }
-{
-    if byte.is_ascii_digit() {
-        Some(byte - b'0')
-    } else {
-        None
-    }
-}
-
-/// The number that the four digits from `place` on spell, or `None` where a byte of them is no
-/// digit: 2024 for `b"2024"` at place 0.
-#[inline]
-pub fn four_digits(bytes: &[u8], place: usize) -> Option<u16>
-    requires { place + 4 ≤ length bytes.now }
-    ensures value { result ≡ (if four_digits_at bytes.now place
-        then Some (four_digit_value bytes.now place) else None) }
-{
-    let hundreds = two_digits(bytes, place)?;
-    let rest = two_digits(bytes, place + 2)?;
-    Some(100 * u16::from(hundreds) + u16::from(rest))
-}
 
 /// A run of digits: how many they are, and what they spell.
 #[derive(Clone, Copy, Debug, PartialEq, Eq)]
@@ -77,8 +38,8 @@ pub fn digit_run(bytes: &[u8], place: usize) -> DigitRun
 fn front_run(bytes: &[u8]) -> DigitRun
     ensures within { result.length ≤ length bytes.now }
     ensures short { result.length ≤ EXACT_DIGITS }
-    ensures digits { AreDigits bytes.now result.length }
-    ensures ended { result.length < EXACT_DIGITS → prefix_len is_digit bytes.now ≡ result.length }
+    ensures digits { IsTrue (list_all is_ascii_digit (take result.length bytes.now)) }
+    ensures ended { result.length < EXACT_DIGITS → prefix_len is_ascii_digit bytes.now ≡ result.length }
     ensures value { result.value ≡ digits_value (take result.length bytes.now) }
 {
     let most = bytes.len().min(EXACT_DIGITS);
@@ -98,9 +59,9 @@ fn front_run(bytes: &[u8]) -> DigitRun
 /// The run of digits at the front of bytes that begin with `EXACT_DIGITS` digits, which spell `front`.
 fn longer_run(bytes: &[u8], front: u64) -> DigitRun
     requires within { EXACT_DIGITS ≤ length bytes.now }
-    requires digits { AreDigits bytes.now EXACT_DIGITS }
+    requires digits { IsTrue (list_all is_ascii_digit (take EXACT_DIGITS bytes.now)) }
     requires value { front ≡ digits_value (take EXACT_DIGITS bytes.now) }
-    ensures length { result.length ≡ prefix_len is_digit bytes.now }
+    ensures length { result.length ≡ prefix_len is_ascii_digit bytes.now }
     ensures value { result.value ≡ min (digits_value (take result.length bytes.now)) (2 ^ 64 - 1) }
 {
     let mut value = front;
@@ -178,7 +139,7 @@ fn one_by_one(digits: &[u8]) -> Option<u64>
 #[inline]
 fn eight_digits(bytes: &[u8]) -> Option<u64>
     requires { WORD ≤ length bytes.now }
-    ensures value { result ≡ (if list_all is_digit (take WORD bytes.now)
+    ensures value { result ≡ (if list_all is_ascii_digit (take WORD bytes.now)
         then Some (digits_value (take WORD bytes.now)) else None) }
 {
     let word = first_word(bytes);
@@ -206,7 +167,7 @@ const SIXES: u64 = 0x0606_0606_0606_0606;
 #[inline]
 fn first_word(bytes: &[u8]) -> u64
     requires { WORD ≤ length bytes.now }
-    ensures word { result ≡ word (take WORD bytes.now) }
+    ensures word { result ≡ from_le_bytes w64 (take WORD bytes.now) }
 {
     u64::from_le_bytes([
         bytes[0], bytes[1], bytes[2], bytes[3], bytes[4], bytes[5], bytes[6], bytes[7],

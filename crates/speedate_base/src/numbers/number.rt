@@ -1,8 +1,8 @@
 //! Numbers as they stand in texts.
 
 ghost use Rattle.std.specs.Prelude.{◌+◌, ◌<◌, length, IsTrue};
+ghost use Rattle.std.specs.Char.{is_ascii_digit};
 ghost use Rattle.std.specs.List.{list_all};
-ghost use Rattle.speedate_base.specs.Digits.{is_digit};
 
 /// A decimal: the digits before and after its point, as they stand in the text that it was read
 /// from. The decimal of `"-1.50"` has the sign, and the digits `1` and `50`.
@@ -14,8 +14,8 @@ pub struct Decimal<'a> {
     pub whole: &'a [u8],
     /// The digits after the point.
     pub fraction: &'a [u8],
-    pub ghost whole_digits: { IsTrue (list_all is_digit whole.now) },
-    pub ghost fraction_digits: { IsTrue (list_all is_digit fraction.now) },
+    pub ghost whole_digits: { IsTrue (list_all is_ascii_digit whole.now) },
+    pub ghost fraction_digits: { IsTrue (list_all is_ascii_digit fraction.now) },
     pub ghost some_digit: { 0 < length whole.now + length fraction.now },
 }
 

@@ -1,11 +1,9 @@
 //! The fraction of a second.
 
 ghost use Rattle.std.specs.Prelude.{◌≡◌, ◌+◌, ◌-◌, ◌^◌, ◌<◌, ◌≤◌, length};
-ghost use Rattle.speedate_base.specs.DigitRuns.{run_length, run_digits};
-ghost use Rattle.speedate_civil.specs.ClockText.{fraction_value};
+ghost use Rattle.speedate_base.specs.DigitRuns.{run_length, run_digits, fraction_value};
 
-use crate::time::places::byte_at;
-use speedate_base::numbers::run_end;
+use speedate_base::numbers::{byte_at, run_end};
 
 /// A fraction of a second: how many digits it has, and the microsecond that they mean.
 #[derive(Clone, Copy)]
@@ -23,7 +21,7 @@ impl Fraction {
     pub(crate) fn read(bytes: &[u8], place: usize) -> Self
         requires { place ≤ length bytes.now }
         ensures length { result.length ≡ run_length bytes.now place }
-        ensures microsecond { result.microsecond ≡ fraction_value (run_digits bytes.now place) }
+        ensures microsecond { result.microsecond ≡ fraction_value 6 (run_digits bytes.now place) }
         ensures within { place + result.length ≤ length bytes.now }
         ensures small { result.microsecond < 1000000 }
     {
@@ -34,7 +32,7 @@ impl Fraction {
     #[inline(always)]
     fn at_front(digits: &[u8]) -> Self
         ensures length { result.length ≡ run_length digits.now 0 }
-        ensures microsecond { result.microsecond ≡ fraction_value (run_digits digits.now 0) }
+        ensures microsecond { result.microsecond ≡ fraction_value 6 (run_digits digits.now 0) }
         ensures within { result.length ≤ length digits.now }
         ensures small { result.microsecond < 1000000 }
     {

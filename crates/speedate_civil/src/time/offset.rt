@@ -4,14 +4,16 @@ ghost use Rattle.std.specs.Prelude.{◌≡◌, ◌≤◌, ◌+◌, ◌<◌, ◌�
 ghost use Rattle.std.specs.Int.{is_negative};
 ghost use Rattle.std.specs.Option.{ForSome};
 ghost use Rattle.arrayvec.specs.ArrayVec.{array_vec_len};
+ghost use Rattle.speedate_base.specs.Ascii.{plus_sign, hyphen};
 ghost use Rattle.speedate_base.specs.Numbers.{with_sign};
-ghost use Rattle.speedate_base.specs.Offset.{IsOffset};
+ghost use Rattle.speedate_base.specs.Offset.{IsOffset, seconds_per_day};
 ghost use Rattle.speedate_civil.specs.OffsetText.{offset_answer, signed_answer, offset_minute_place, offset_size_text, offset_text};
 
 use crate::text::{push, two_digit_text};
-use crate::time::places::{byte_at, two_digits_there};
 use arrayvec::ArrayVec;
 use speedate_base::faults::ParseError;
+use speedate_base::numbers::{byte_at, two_digits_there};
+use speedate_base::util::SECONDS_PER_DAY;
 
 /// The offset in seconds that follows a time: none for no bytes, 0 for `Z` or `z`, 5,400 for
 /// `+01:30`.
@@ -47,7 +49,7 @@ fn signed_offset(west: bool, numbers: &[u8]) -> Result<Option<i32>, ParseError>
         return Err(ParseError::OutOfRangeTzMinute);
     }
     let size = 3600 * u32::from(hour) + 60 * u32::from(minute);
-    if size >= 86_400 {
+    if size >= SECONDS_PER_DAY {
         return Err(ParseError::OutOfRangeTz);
     }
     if numbers.len() > place + 2 {
@@ -59,7 +61,7 @@ fn signed_offset(west: bool, numbers: &[u8]) -> Result<Option<i32>, ParseError>
 /// An offset of this size, with its sign.
 #[inline]
 fn with_sign(west: bool, size: u32) -> i32
-    requires { size < 86400 }
+    requires { size < seconds_per_day }
     ensures value { result ≡ with_sign west size }
     ensures range { IsOffset result }
 {
@@ -96,7 +98,7 @@ pub(crate) fn push_offset<const LENGTH: usize>(
 #[inline]
 fn signed_text(offset: i32) -> [u8; 6]
     requires { IsOffset offset }
-    ensures { result ≡ (if is_negative offset then 45 else 43) ∷ offset_size_text (unsigned_abs offset) }
+    ensures { result ≡ (if is_negative offset then hyphen else plus_sign) ∷ offset_size_text (unsigned_abs offset) }
 {
     let size = offset.unsigned_abs();
     let sign = if offset < 0 { b'-' } else { b'+' };

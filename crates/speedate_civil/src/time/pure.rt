@@ -1,14 +1,14 @@
 //! Times of day without their offsets, at the front of a text.
 
-ghost use Rattle.std.specs.Prelude.{◌≡◌, ◌+◌, ◌<◌, ◌≤◌, ◌||◌, ◌==◌, IfOk, IfSome, IsTrue, Some, None, length, drop, slice_index, nat_le, if◌then◌else◌};
-ghost use Rattle.speedate_base.specs.Digits.{two_digits_at, two_digit_value};
-ghost use Rattle.speedate_civil.specs.ClockText.{refuses_digits, ◌implies◌};
+ghost use Rattle.std.specs.Prelude.{◌≡◌, ◌+◌, ◌≤◌, IfOk, IsTrue, length, drop, nat_le};
+ghost use Rattle.speedate_base.specs.Digits.{two_digit_value};
+ghost use Rattle.speedate_base.specs.Requirement.{◌implies◌};
+ghost use Rattle.speedate_civil.specs.ClockText.{has_point, refuses_digits};
 
 use crate::time::fraction::Fraction;
-use crate::time::places::{byte_at, two_digits_there};
 use speedate_base::config::MicrosecondsPrecisionOverflowBehavior;
 use speedate_base::faults::ParseError;
-use speedate_base::numbers::two_digits;
+use speedate_base::numbers::{byte_at, two_digits, two_digits_there};
 
 /// A time of day that was read at the front of a text, without what follows it there.
 #[derive(Clone, Copy, Debug, PartialEq, Eq)]
@@ -21,8 +21,8 @@ pub struct PureTime {
     pub second: u8,
     /// The microsecond, 0 to 999,999.
     pub microsecond: u32,
-    /// How many bytes it takes, counted from where it begins.
-    pub end: usize,
+    /// How many bytes of the text it takes.
+    pub size: usize,
     pub ghost hour_in_range: { hour ≤ 23 },
     pub ghost minute_in_range: { minute ≤ 59 },
     pub ghost second_in_range: { second ≤ 59 },
@@ -30,8 +30,9 @@ pub struct PureTime {
 }
 
 impl PureTime {
-    ghost use Rattle.speedate_civil.specs.ClockText.{clock_answer, time_front, minute_front};
-    ghost use Rattle.speedate_civil.specs.Time.{answered_fields};
+    ghost use Rattle.speedate_base.specs.Requirement.{result_map};
+    ghost use Rattle.speedate_civil.specs.ClockText.{at_hour, clock_answer, time_front, minute_front};
+    ghost use Rattle.speedate_civil.specs.PureTime.{parts};
 
     /// Reads the time that begins at `place`, whatever follows it: 12:13:14 and a half, in ten
     /// bytes, from `b"P12:13:14.5Z"` at place 1. The faults are those of
@@ -44,8 +45,8 @@ impl PureTime {
         behavior: MicrosecondsPrecisionOverflowBehavior,
     ) -> Result<Self, ParseError>
         requires { place ≤ length bytes.now }
-        ensures answer { answered_fields result ≡ time_front behavior (drop place bytes.now) }
-        ensures within { IfOk result (λ time. place + time.end ≤ length bytes.now) }
+        ensures answer { result_map parts result ≡ time_front behavior (drop place bytes.now) }
+        ensures within { IfOk result (λ time. place + time.size ≤ length bytes.now) }
     {
         let text = &bytes[place..];
         if text.len() < 5 {
@@ -60,7 +61,14 @@ impl PureTime {
         if hour > 23 {
             return Err(ParseError::OutOfRangeHour);
         }
-        Self::after_minute(3, hour, minute, rest, behavior)
+        let time = Self::after_minute(minute, rest, behavior)?;
+        Ok(PureTime {
+            hour,
+            minute,
+            second: time.second,
+            microsecond: time.microsecond,
+            size: 3 + time.size,
+        })
     }
 
     /// Reads a time of hour 0 from its minute on, which begins at `place`, whatever follows it: 13
@@ -74,41 +82,38 @@ impl PureTime {
         behavior: MicrosecondsPrecisionOverflowBehavior,
     ) -> Result<Self, ParseError>
         requires { place ≤ length bytes.now }
-        ensures answer { answered_fields result ≡ minute_front behavior (drop place bytes.now) }
-        ensures within { IfOk result (λ time. place + time.end ≤ length bytes.now) }
+        ensures answer { result_map parts result ≡ minute_front behavior (drop place bytes.now) }
+        ensures within { IfOk result (λ time. place + time.size ≤ length bytes.now) }
     {
         let rest = &bytes[place..];
         let minute = two_digits_there(rest, 0).ok_or(ParseError::InvalidCharMinute)?;
-        Self::after_minute(0, 0, minute, rest, behavior)
+        Self::after_minute(minute, rest, behavior)
     }
 
-    /// Tests the range of the minute with which `rest` begins, behind the first `start` bytes of
-    /// the time, and reads the second and the fraction that follow it.
+    /// Tests the range of the minute with which `rest` begins, and reads the second and the
+    /// fraction that follow it.
     #[inline(always)]
     fn after_minute(
-        start: usize,
-        hour: u8,
         minute: u8,
         rest: &[u8],
         behavior: MicrosecondsPrecisionOverflowBehavior,
     ) -> Result<Self, ParseError>
-        requires start { start ≤ 3 }
-        requires hour { hour ≤ 23 }
         requires minute { minute ≡ two_digit_value rest.now 0 }
         requires within { 2 ≤ length rest.now }
-        ensures answer { answered_fields result ≡ clock_answer behavior start hour rest.now }
-        ensures within { IfOk result (λ time. time.end ≤ start + length rest.now) }
+        ensures answer { result_map parts result ≡ clock_answer behavior rest.now }
+        ensures minute { IfOk result (λ time. time.minute ≡ minute) }
+        ensures within { IfOk result (λ time. time.size ≤ length rest.now) }
     {
         if minute > 59 {
             return Err(ParseError::OutOfRangeMinute);
         }
         if byte_at(rest, 2) != b':' {
             return Ok(PureTime {
-                hour,
+                hour: 0,
                 minute,
                 second: 0,
                 microsecond: 0,
-                end: start + 2,
+                size: 2,
             });
         }
         let second = two_digits_there(rest, 3).ok_or(ParseError::InvalidCharSecond)?;
@@ -117,11 +122,11 @@ impl PureTime {
         }
         if !has_point(rest) {
             return Ok(PureTime {
-                hour,
+                hour: 0,
                 minute,
                 second,
                 microsecond: 0,
-                end: start + 5,
+                size: 5,
             });
         }
         let fraction = Fraction::read(rest, 6);
@@ -132,11 +137,11 @@ impl PureTime {
             return Err(ParseError::SecondFractionTooLong);
         }
         Ok(PureTime {
-            hour,
+            hour: 0,
             minute,
             second,
             microsecond: fraction.microsecond,
-            end: start + 6 + fraction.length,
+            size: 6 + fraction.length,
         })
     }
 }
@@ -144,7 +149,7 @@ impl PureTime {
 /// Whether a point or a comma follows the second of a time that is given from its minute on.
 #[inline]
 fn has_point(rest: &[u8]) -> bool
-    ensures value { result ≡ ((slice_index rest.now 5 == 46) || (slice_index rest.now 5 == 44)) }
+    ensures value { result ≡ has_point rest.now }
     ensures there { IsTrue result → 6 ≤ length rest.now }
 {
     let byte = byte_at(rest, 5);

@@ -1,15 +1,15 @@
 use Rattle.std.proofs.Common.{◌≡◌, ◌∙◌, ap, ℕ, ◌+◌, ◌-◌, List, true, length, take, drop, arith}
 use Rattle.std.proofs.lemmas.List.{length-drop, length-take-le}
 use Rattle.std.specs.List.{list_all}
-use Rattle.speedate_base.specs.Digits.{is_digit}
+use Rattle.std.specs.Char.{is_ascii_digit}
 use Rattle.speedate_base.specs.DigitRuns.{run_length}
 use Rattle.speedate_base.specs.NumberLaws.{run-digits}
 use Rattle.speedate_base.proofs.numbers.decimal.Goals as goal
 
 -- a part of some bytes that is a run is made of digits
-all_digits : (bytes : List ℕ) (place count : ℕ) → count ≡ run_length bytes place → list_all is_digit (take count (drop place bytes)) ≡ true
+all_digits : (bytes : List ℕ) (place count : ℕ) → count ≡ run_length bytes place → list_all is_ascii_digit (take count (drop place bytes)) ≡ true
 all_digits bytes place count same =
-    ap (λ (n : ℕ). list_all is_digit (take n (drop place bytes))) same ∙ run-digits (drop place bytes)
+    ap (λ (n : ℕ). list_all is_ascii_digit (take n (drop place bytes))) same ∙ run-digits (drop place bytes)
 
 pub invariant_of-result-clause-whole_digits : goal.invariant_of-result-clause-whole_digits
 invariant_of-result-clause-whole_digits c =

@@ -1,6 +1,6 @@
 use Rattle.std.proofs.Common.{◌≡◌, ◌-◌, ◌%◌, ◌≤◌, true, length, take}
 use Rattle.std.specs.List.{list_all}
-use Rattle.speedate_base.specs.Digits.{is_digit}
+use Rattle.std.specs.Char.{is_ascii_digit}
 use Rattle.speedate_base.specs.DigitRuns.{digits_value}
 use Rattle.speedate_base.proofs.numbers.digits.few_digits.Given as goal
 
@@ -8,7 +8,7 @@ abbrev pub invariant-loop-place : goal.invariant-loop-place
 invariant-loop-place l = record {
   within : l.place ≤ length l.digits;
   whole : (length l.digits - l.place) % 8 ≡ 0;
-  digits : list_all is_digit (take l.place l.digits) ≡ true;
+  digits : list_all is_ascii_digit (take l.place l.digits) ≡ true;
   value : l.value ≡ digits_value (take l.place l.digits);
 }
 

@@ -1,5 +1,5 @@
 use Rattle.std.proofs.Common.{◌∙◌, sym, get_or, arith}
-use Rattle.speedate_base.specs.DigitRunLaws.{digit-le, digits_value-front-fits, digits_value-front-more, AreDigits-more, run_length-ended}
+use Rattle.speedate_base.specs.DigitRunLaws.{digit_value-le, digits_value-front-fits, digits_value-front-more, all_digits-more, run_length-ended}
 use Rattle.speedate_base.proofs.numbers.digits.front_run.Goals as goal
 
 pub returns-then-not-is_ascii_digit-clause-ended : goal.returns-then-not-is_ascii_digit-clause-ended
@@ -18,7 +18,7 @@ pub overflow_add-value : goal.overflow_add-value
 overflow_add-value c =
     let bytes = c.args.bytes.now in
     let before = c.loop-length.invariant in
-    let digit = digit-le (get_or bytes c.loop-length.length 0) (sym c.is_ascii_digit.ensures.value ∙ c.if-not-is_ascii_digit.false) in
+    let digit = digit_value-le (get_or bytes c.loop-length.length 0) (sym c.is_ascii_digit.ensures.value ∙ c.if-not-is_ascii_digit.false) in
     omega (arith, before.value, digit, digits_value-front-fits bytes c.loop-length.length (omega arith) (omega arith) before.digits)
 
 pub loop-length-preserved : goal.loop-length-preserved
@@ -27,10 +27,11 @@ loop-length-preserved c =
     let before = c.loop-length.invariant in
     let digit = sym c.is_ascii_digit.ensures.value ∙ c.if-not-is_ascii_digit.false in
     record {
-      digits = AreDigits-more bytes c.loop-length.length before.digits digit;
+      digits = all_digits-more bytes c.loop-length.length before.digits digit;
       value = omega (arith, before.value, c.from.ensures, digits_value-front-more bytes c.loop-length.length (omega arith));
     }
 
 pub returns-clause-ended : goal.returns-clause-ended
 returns-clause-ended c few =
-    run_length-ended c.args.bytes.now c.min-most.result (omega arith) (λ k below. c.loop-length.invariant.digits k (omega arith)) (λ below. absurd (omega arith))
+    let run = run_length-ended c.args.bytes.now c.loop-length.length (omega arith) c.loop-length.invariant.digits (λ below. absurd (omega arith)) in
+    omega (arith, run)

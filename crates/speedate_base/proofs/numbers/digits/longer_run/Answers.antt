@@ -1,6 +1,6 @@
 use Rattle.std.proofs.Common.{◌≡◌, ◌∙◌, sym, ◌^◌, ℕ, ◌-◌, length, take, min, subst, arith}
 use Rattle.speedate_base.specs.DigitRuns.{digits_value}
-use Rattle.speedate_base.specs.DigitRunLaws.{digits_value-front-more, AreDigits-more, run_length-ended}
+use Rattle.speedate_base.specs.DigitRunLaws.{digits_value-front-more, all_digits-more, run_length-ended}
 use Rattle.speedate_base.proofs.numbers.digits.longer_run.Goals as goal
 
 pub returns-then-not-is_ascii_digit-clause-length : goal.returns-then-not-is_ascii_digit-clause-length
@@ -14,7 +14,7 @@ loop-place-preserved c =
     let before = c.loop-place.invariant in
     let digit = sym c.is_ascii_digit.ensures.value ∙ c.if-not-is_ascii_digit.false in
     record {
-      digits = AreDigits-more bytes c.loop-place.place before.digits digit;
+      digits = all_digits-more bytes c.loop-place.place before.digits digit;
       value = omega (
         arith,
         before.value,
@@ -28,7 +28,8 @@ loop-place-preserved c =
 pub returns-clause-length : goal.returns-clause-length
 returns-clause-length c =
     let bytes = c.args.bytes.now in
-    sym (run_length-ended bytes (length bytes) (omega arith) (λ k below. c.loop-place.invariant.digits k (omega arith)) (λ below. absurd (omega arith)))
+    let run = run_length-ended bytes c.loop-place.place (omega arith) c.loop-place.invariant.digits (λ below. absurd (omega arith)) in
+    omega (arith, run)
 
 pub returns-clause-value : goal.returns-clause-value
 returns-clause-value c =

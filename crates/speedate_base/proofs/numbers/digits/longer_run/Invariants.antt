@@ -1,10 +1,11 @@
-use Rattle.std.proofs.Common.{◌≡◌, ◌-◌, ◌^◌, min, take}
+use Rattle.std.proofs.Common.{◌≡◌, true, ◌-◌, ◌^◌, min, take}
+use Rattle.std.specs.Char.{is_ascii_digit}
+use Rattle.std.specs.List.{list_all}
 use Rattle.speedate_base.specs.DigitRuns.{digits_value}
-use Rattle.speedate_base.specs.DigitRunLaws.{AreDigits}
 use Rattle.speedate_base.proofs.numbers.digits.longer_run.Given as goal
 
 abbrev pub invariant-loop-place : goal.invariant-loop-place
 invariant-loop-place l = record {
-  digits : AreDigits l.bytes l.place;
+  digits : list_all is_ascii_digit (take l.place l.bytes) ≡ true;
   value : l.value ≡ min (digits_value (take l.place l.bytes)) (2 ^ 64 - 1);
 }

@@ -1,10 +1,11 @@
-use Rattle.std.proofs.Common.{◌≡◌, take}
+use Rattle.std.proofs.Common.{◌≡◌, true, take}
+use Rattle.std.specs.Char.{is_ascii_digit}
+use Rattle.std.specs.List.{list_all}
 use Rattle.speedate_base.specs.DigitRuns.{digits_value}
-use Rattle.speedate_base.specs.DigitRunLaws.{AreDigits}
 use Rattle.speedate_base.proofs.numbers.digits.one_by_one.Given as goal
 
 abbrev pub invariant-loop-digit : goal.invariant-loop-digit
 invariant-loop-digit l = record {
-  digits : AreDigits l.digits l.digit-index;
+  digits : list_all is_ascii_digit (take l.digit-index l.digits) ≡ true;
   value : l.value ≡ digits_value (take l.digit-index l.digits);
 }

@@ -1,9 +1,11 @@
-use Rattle.std.proofs.Common.{◌∙◌, sym, subst, ap, lit<, length, arith}
+use Rattle.std.proofs.Common.{◌∙◌, sym, subst, ap, lit<, [], length, arith}
 use Rattle.std.specs.Str.{IsAscii}
+use Rattle.std.proofs.lemmas.Str.Ascii.{IsAscii-nil}
 use Rattle.speedate_civil.specs.declared.date.Date.{Date}
+use Rattle.speedate_civil.specs.Calendar.{IsDate}
 use Rattle.speedate_civil.specs.Date.{parts}
 use Rattle.speedate_civil.specs.DateText.{date_answer}
-use Rattle.speedate_civil.specs.DateLaws.{IsDate, date_text-reads, date_text-distinct, date_text-IsAscii}
+use Rattle.speedate_civil.specs.DateLaws.{date_text-reads, date_text-distinct, date_text-IsAscii}
 use Rattle.speedate_civil.proofs.date.Date.to_text.Goals as goal
 
 is_date : (date : Date) → IsDate (parts date)
@@ -12,7 +14,7 @@ is_date date = record { year = date.year_in_range; month = date.month_in_range; 
 pub ascii_text-requires : goal.ascii_text-requires
 ascii_text-requires c =
     let date = c.args.self.now in
-    let ascii = subst IsAscii (sym c.text_bytes.ensures.bytes) (date_text-IsAscii (parts date) (is_date date)) in
+    let ascii = subst IsAscii (sym c.text_bytes.ensures.bytes) (date_text-IsAscii (parts date) [] (is_date date) IsAscii-nil) in
     (lit< tt, (ascii, omega (arith, ap length c.text_bytes.ensures.bytes)))
 
 pub returns-clause-reads_back : goal.returns-clause-reads_back

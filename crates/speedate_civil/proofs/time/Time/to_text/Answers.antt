@@ -2,8 +2,9 @@ use Rattle.std.proofs.Common.{◌≡◌, ◌∙◌, sym, ap, subst, ℕ, List, [
 use Rattle.std.specs.Str.{IsAscii}
 use Rattle.speedate_civil.specs.declared.time.Time.{Time}
 use Rattle.speedate_civil.specs.Time.{parts}
-use Rattle.speedate_civil.specs.TimeText.{time_answer, time_text}
-use Rattle.speedate_civil.specs.TimeLaws.{IsTime, time_text-reads, time_text-distinct, time_text-IsAscii}
+use Rattle.speedate_civil.specs.TimeOfDay.{IsTime}
+use Rattle.speedate_civil.specs.TimeText.{time_answer}
+use Rattle.speedate_civil.specs.TimeLaws.{time_text-reads, time_text-distinct, time_text-IsAscii}
 use Rattle.speedate_civil.proofs.time.Time.to_text.Goals as goal
 
 is_time : (time : Time) → IsTime (parts time)

@@ -1,0 +1,48 @@
+-- The ASCII characters that the grammars use, by name.
+use Rattle.std.specs.Prelude.{ℕ}
+
+-- `\n`, which ends a line
+abbrev pub line_feed : ℕ
+line_feed = 10
+
+abbrev pub space : ℕ
+space = 32
+
+abbrev pub plus_sign : ℕ
+plus_sign = 43
+
+abbrev pub comma : ℕ
+comma = 44
+
+abbrev pub hyphen : ℕ
+hyphen = 45
+
+abbrev pub full_stop : ℕ
+full_stop = 46
+
+-- `0`, the first of the ten digits
+abbrev pub digit_zero : ℕ
+digit_zero = 48
+
+abbrev pub colon : ℕ
+colon = 58
+
+-- `T`
+abbrev pub capital_t : ℕ
+capital_t = 84
+
+-- `Z`
+abbrev pub capital_z : ℕ
+capital_z = 90
+
+-- `_`
+abbrev pub low_line : ℕ
+low_line = 95
+
+-- `t`
+abbrev pub small_t : ℕ
+small_t = 116
+
+-- `z`
+abbrev pub small_z : ℕ
+small_z = 122

@@ -1,0 +1,64 @@
+//! Digits and bytes at fixed places of a text.
+
+ghost use Rattle.std.specs.Prelude.{◌≡◌, ◌+◌, ◌≤◌, IfSome, Some, None, length, slice_index, if◌then◌else◌};
+ghost use Rattle.std.specs.Char.{is_ascii_digit};
+ghost use Rattle.speedate_base.specs.Digits.{digit_value, two_digits_at, two_digit_value, four_digits_at, four_digit_value};
+
+/// The number that the two digits from `place` on spell, or `None` where a byte of them is no
+/// digit: 7 for `b"07"` at place 0.
+#[inline]
+pub fn two_digits(bytes: &[u8], place: usize) -> Option<u8>
+    requires { place + 2 ≤ length bytes.now }
+    ensures value { result ≡ (if two_digits_at bytes.now place
+        then Some (two_digit_value bytes.now place) else None) }
+{
+    let tens = digit(bytes[place])?;
+    let ones = digit(bytes[place + 1])?;
+    Some(10 * tens + ones)
+}
+
+/// The same where the text may end before them: `None` for `b"07"` at place 1.
+#[inline]
+pub fn two_digits_there(bytes: &[u8], place: usize) -> Option<u8>
+    ensures value { result ≡ (if two_digits_at bytes.now place
+        then Some (two_digit_value bytes.now place) else None) }
+    ensures there { IfSome result (λ _. place + 2 ≤ length bytes.now) }
+{
+    if place >= bytes.len() || bytes.len() - place < 2 {
+        return None;
+    }
+    two_digits(bytes, place)
+}
+
+/// The number that the four digits from `place` on spell, or `None` where a byte of them is no
+/// digit: 2024 for `b"2024"` at place 0.
+#[inline]
+pub fn four_digits(bytes: &[u8], place: usize) -> Option<u16>
+    requires { place + 4 ≤ length bytes.now }
+    ensures value { result ≡ (if four_digits_at bytes.now place
+        then Some (four_digit_value bytes.now place) else None) }
+{
+    let hundreds = two_digits(bytes, place)?;
+    let rest = two_digits(bytes, place + 2)?;
+    Some(100 * u16::from(hundreds) + u16::from(rest))
+}
+
+/// What a digit stands for, or `None` where the byte is no digit.
+#[inline]
+fn digit(byte: u8) -> Option<u8>
+    ensures value { result ≡ (if is_ascii_digit byte then Some (digit_value byte) else None) }
+{
+    if byte.is_ascii_digit() {
+        Some(byte - b'0')
+    } else {
+        None
+    }
+}
+
+/// The byte at a place, or 0 where there is none: `b':'` for `b"12:13"` at place 2.
+#[inline]
+pub fn byte_at(bytes: &[u8], place: usize) -> u8
+    ensures byte { result ≡ slice_index bytes.now place }
+{
+    if place < bytes.len() { bytes[place] } else { 0 }
+}

@@ -1,0 +1,45 @@
+//! Units of time, and the instants of timestamps.
+
+ghost use Rattle.std.specs.Prelude.{◌≡◌};
+ghost use Rattle.speedate_base.specs.Requirement.{result_map};
+ghost use Rattle.speedate_base.specs.Timestamp.{instant_answer};
+ghost use Rattle.speedate_base.specs.UnixTime.{parts};
+
+mod unix_time;
+
+use crate::config::TimestampUnit;
+use crate::faults::ParseError;
+pub use unix_time::UnixTime;
+
+/// The seconds of a day.
+pub const SECONDS_PER_DAY: u32 = 86_400;
+
+/// The largest size of a timestamp that is seconds where its unit is inferred.
+const INFERRED_SECONDS_MAX: u64 = 20_000_000_000;
+
+/// The instant of a timestamp, by its unit: second 1 and 500,000 microseconds for 1,500
+/// milliseconds.
+///
+/// An inferred unit is seconds where the size of the timestamp is at most 20,000,000,000, otherwise
+/// milliseconds. `DateTooSmall` where the unit of `i64::MIN` is to be inferred.
+#[inline]
+pub fn timestamp_to_seconds_micros(
+    timestamp: i64,
+    unit: TimestampUnit,
+) -> Result<UnixTime, ParseError>
+    ensures answer { result_map parts result ≡ instant_answer unit timestamp }
+{
+    match unit {
+        TimestampUnit::Second => Ok(UnixTime::from_seconds(timestamp)),
+        TimestampUnit::Millisecond => Ok(UnixTime::from_milliseconds(timestamp)),
+        TimestampUnit::Infer => {
+            if timestamp.unsigned_abs() <= INFERRED_SECONDS_MAX {
+                Ok(UnixTime::from_seconds(timestamp))
+            } else if timestamp == i64::MIN {
+                Err(ParseError::DateTooSmall)
+            } else {
+                Ok(UnixTime::from_milliseconds(timestamp))
+            }
+        }
+    }
+}

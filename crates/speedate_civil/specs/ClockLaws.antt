@@ -1,0 +1,65 @@
+-- A printed clock is read as itself, from its minute on.
+use Rattle.std.specs.Prelude.{◌≡◌, ℕ, ◌+◌, ◌<◌, ◌≤◌, Bool, true, false, ◌||◌, List, [], ◌∷◌, ◌++◌, ◌==◌, slice_index, Ok, refl}
+use Rattle.std.specs.Char.{is_ascii_digit}
+use Rattle.std.specs.Str.{IsAscii}
+use Rattle.std.proofs.Common.{lit<, arith, ◌∙◌, ap, take}
+use Rattle.std.proofs.lemmas.Bool.{le-leb}
+use Rattle.std.proofs.lemmas.Str.Ascii.{IsAscii-cons}
+use Rattle.speedate_base.specs.declared.config.MicrosecondsPrecisionOverflowBehavior.{MicrosecondsPrecisionOverflowBehavior}
+use Rattle.speedate_base.specs.Ascii.{colon, comma, full_stop}
+use Rattle.speedate_base.specs.Digits.{two_digit_text, six_digit_text}
+use Rattle.speedate_base.specs.DigitRuns.{run_length, run_digits, fraction_value}
+use Rattle.speedate_base.specs.DigitLaws.{two_digits-printed, two_digit_value-printed, six_digits-printed, fraction_value-printed, two_digit_text-IsAscii, six_digit_text-IsAscii}
+use Rattle.speedate_base.specs.Requirement.{◌implies◌}
+use Rattle.speedate_base.specs.DigitRunLaws.{run_length-append}
+use Rattle.speedate_civil.specs.ClockText.{clock_answer, minute_text, fraction_text, refuses_digits}
+
+-- without a fraction, whatever follows that is no point
+pub clock-whole : (behavior : MicrosecondsPrecisionOverflowBehavior) (minute second : ℕ) (tail : List ℕ)
+    → minute ≤ 59 → second ≤ 59 → ((slice_index tail 0 == full_stop) || (slice_index tail 0 == comma)) ≡ false
+    → clock_answer behavior (minute_text minute second ++ tail)
+    ≡ Ok (record { hour = 0; minute = minute; second = second; microsecond = 0; size = 5 })
+clock-whole behavior minute second tail small_minute small_second plain =
+    let minute_is = two_digit_value-printed minute in
+    let second_is = two_digit_value-printed second in
+    rw (minute_is, second_is, plain, le-leb minute 59 small_minute, le-leb second 59 small_second, two_digits-printed second (omega arith)) refl
+
+-- where no digit stands, none follows
+run_length-none : (tail : List ℕ) → is_ascii_digit (slice_index tail 0) ≡ false → run_length tail 0 ≡ 0
+run_length-none [] other = refl
+run_length-none (byte ∷ tail) other = rw other refl
+
+implies-true : (there : Bool) → (there implies true) ≡ true
+implies-true true = refl
+implies-true false = refl
+
+-- and with one, whatever follows that is no digit
+pub clock-fraction : (behavior : MicrosecondsPrecisionOverflowBehavior) (minute second microsecond : ℕ) (tail : List ℕ)
+    → minute ≤ 59 → second ≤ 59 → microsecond < 1000000 → is_ascii_digit (slice_index tail 0) ≡ false
+    → clock_answer behavior (minute_text minute second ++ full_stop ∷ six_digit_text microsecond ++ tail)
+    ≡ Ok (record { hour = 0; minute = minute; second = second; microsecond = microsecond; size = 12 })
+clock-fraction behavior minute second microsecond tail small_minute small_second small other =
+    let digits = six_digit_text microsecond ++ tail in
+    let minute_is = two_digit_value-printed minute in
+    let second_is = two_digit_value-printed second in
+    let long : run_length digits 0 ≡ 6 =
+    run_length-append (six_digit_text microsecond) tail (six_digits-printed microsecond small) ∙ ap (λ (n : ℕ). 6 + n) (run_length-none tail other) in
+    let value : fraction_value 6 (run_digits digits 0) ≡ microsecond =
+    ap (λ (n : ℕ). fraction_value 6 (take n digits)) long ∙ fraction_value-printed microsecond in
+    rw (minute_is, second_is, le-leb minute 59 small_minute, le-leb second 59 small_second, two_digits-printed second (omega arith), value, long, implies-true (refuses_digits behavior)) refl
+
+-- it is ASCII in front of ASCII
+pub minute_text-IsAscii : (minute second : ℕ) (tail : List ℕ) → minute ≤ 59 → second ≤ 59 → IsAscii tail → IsAscii (minute_text minute second ++ tail)
+minute_text-IsAscii minute second tail small_minute small_second ascii =
+    let seconds = two_digit_text second ++ tail in
+    two_digit_text-IsAscii minute (colon ∷ seconds) (omega arith)
+    (IsAscii-cons colon seconds (lit< tt) (two_digit_text-IsAscii second tail (omega arith) ascii))
+
+fraction-IsAscii : (microsecond : ℕ) (tail : List ℕ) (none : Bool) → (microsecond == 0) ≡ none → microsecond ≤ 999999 → IsAscii tail
+    → IsAscii (fraction_text microsecond ++ tail)
+fraction-IsAscii microsecond tail true is small ascii = rw is ascii
+fraction-IsAscii microsecond tail false is small ascii =
+    rw is (IsAscii-cons full_stop (six_digit_text microsecond ++ tail) (lit< tt) (six_digit_text-IsAscii microsecond tail (omega arith) ascii))
+
+pub fraction_text-IsAscii : (microsecond : ℕ) (tail : List ℕ) → microsecond ≤ 999999 → IsAscii tail → IsAscii (fraction_text microsecond ++ tail)
+fraction_text-IsAscii microsecond tail small ascii = fraction-IsAscii microsecond tail (microsecond == 0) refl small ascii

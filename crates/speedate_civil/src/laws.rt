@@ -1,0 +1,50 @@
+//! Laws of equality and cloning. Each function makes the one call that its law is about, and its
+//! contract is the law.
+
+ghost use Rattle.std.specs.Prelude.{◌≡◌, ◌↔◌, IsTrue, Ok};
+
+use crate::date::Date;
+use crate::time::{PureTime, Time};
+use std::alloc::AllocError;
+
+/// Whether two dates are one: false where their days differ.
+pub fn same_date(first: &Date, second: &Date) -> bool
+    ensures same { IsTrue result ↔ (first.now ≡ second.now) }
+{
+    first == second
+}
+
+/// Whether two times are one: false where one has no offset and the other the offset 0.
+pub fn same_time(first: &Time, second: &Time) -> bool
+    ensures same { IsTrue result ↔ (first.now ≡ second.now) }
+{
+    first == second
+}
+
+/// Whether two times without offsets are one, and take as many bytes of their texts.
+pub fn same_pure_time(first: &PureTime, second: &PureTime) -> bool
+    ensures same { IsTrue result ↔ (first.now ≡ second.now) }
+{
+    first == second
+}
+
+/// A second date that is the same: 2020-02-29 for 2020-02-29.
+pub fn clone_date(date: &Date) -> Result<Date, AllocError>
+    ensures clone { result ≡ Ok date.now }
+{
+    date.clone()
+}
+
+/// A second time that is the same, offset and all.
+pub fn clone_time(time: &Time) -> Result<Time, AllocError>
+    ensures clone { result ≡ Ok time.now }
+{
+    time.clone()
+}
+
+/// A second time without an offset that is the same.
+pub fn clone_pure_time(time: &PureTime) -> Result<PureTime, AllocError>
+    ensures clone { result ≡ Ok time.now }
+{
+    time.clone()
+}

@@ -1,0 +1,60 @@
+//! Callers of the library, as a crate outside this workspace would write them. `docs/CALLING.md`
+//! shows them word for word.
+
+ghost use Rattle.std.specs.Prelude.{◌≡◌, ◌%◌, ◌*◌, ◌≤◌, Ok, Some, None, ◌*ℤ◌, pos, unsigned_abs};
+ghost use Rattle.speedate.specs.Requirement.{result_map};
+ghost use Rattle.speedate.specs.DateText.{date_answer};
+ghost use Rattle.speedate.specs.Offset.{IsWholeMinutes};
+ghost use Rattle.speedate.specs.Time.{parts};
+
+use speedate::{Date, ParseError, Time, TimeConfig};
+
+/// The last two digits of the year of a date: 20 for `"2020-02-29"`.
+pub fn short_year(text: &str) -> Result<u16, ParseError>
+    ensures year { result ≡ result_map (λ date. date.year % 100) (date_answer text.now) }
+{
+    let date = Date::parse_str_rfc3339(text)?;
+    Ok(date.year % 100)
+}
+
+const MONTHS: [&str; 12] = [
+    "January",
+    "February",
+    "March",
+    "April",
+    "May",
+    "June",
+    "July",
+    "August",
+    "September",
+    "October",
+    "November",
+    "December",
+];
+
+/// The English name of a date's month: the type says that it is 1 to 12.
+pub fn month_name(date: &Date) -> &'static str {
+    MONTHS[usize::from(date.month) - 1]
+}
+
+/// A configuration that attaches so many hours to a timestamp's value, where they are an offset.
+pub fn with_offset(hours: i8) -> Option<TimeConfig> {
+    if hours < -23 || hours > 23 {
+        return None;
+    }
+    let offset = 3600 * i32::from(hours);
+    Some(
+        TimeConfig::builder()
+            .unix_timestamp_offset(Some(offset))
+            .build(),
+    )
+}
+
+/// The time that is read from a text that was stored: the same one, under any configuration.
+pub fn stored_and_read(time: &Time, config: &TimeConfig) -> Result<Time, ParseError>
+    requires { IsWholeMinutes time.now.tz_offset }
+    ensures same { result_map parts result ≡ Ok (parts time.now) }
+{
+    let stored = time.to_text();
+    Time::parse_bytes_with_config(stored.as_str().as_bytes(), config)
+}

@@ -1,0 +1,31 @@
+//! What Display writes, and what it answers where the writer takes nothing.
+
+use std::fmt::{self, Display, Write};
+use std::process::Abort;
+use std::test::Fail;
+
+/// A value is to be written as the text, whatever width, fill or form is asked for.
+pub fn expect_shown<R: AllocGlobal + Abort, T: Display>(
+    rt: &R,
+    value: &T,
+    want: &str,
+) -> Result<(), Fail> {
+    let plain = format!(in rt.alloc(); "{value}")?;
+    assert_eq!(rt; plain.as_str(), want);
+    let padded = format!(in rt.alloc(); "{value:*>40}")?;
+    assert_eq!(rt; padded.as_str(), want);
+    let alternate = format!(in rt.alloc(); "{value:#}")?;
+    assert_eq!(rt; alternate.as_str(), want);
+    assert!(rt; write!(Full, "{value}").is_err(), "{want}");
+    Ok(())
+}
+
+/// A writer that takes nothing.
+#[derive(Drop)]
+struct Full;
+
+impl Write for Full {
+    fn write_str(&mut self, _text: &str) -> fmt::Result {
+        Err(fmt::Error)
+    }
+}
