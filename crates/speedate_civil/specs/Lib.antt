@@ -12,6 +12,7 @@ pub mod TimeText
 pub mod Time
 pub mod PureTime
 pub mod StandardExamples
+pub mod CalendarExamples
 pub mod DateLaws
 pub mod DayNumberLaws
 pub mod DateNumberedLaws

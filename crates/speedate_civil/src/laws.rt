@@ -1,7 +1,9 @@
-//! Laws of equality and cloning. Each function makes the one call that its law is about, and its
+//! Laws of equality, order and cloning. Each function makes the one call that its law is about, and its
 //! contract is the law.
 
-ghost use Rattle.std.specs.Prelude.{◌≡◌, ◌↔◌, IsTrue, Ok};
+ghost use Rattle.std.specs.Prelude.{◌≡◌, ◌<◌, ◌↔◌, IsTrue, Ok};
+ghost use Rattle.speedate_civil.specs.Date.{parts};
+ghost use Rattle.speedate_civil.specs.DayNumber.{day_number};
 
 use crate::date::Date;
 use crate::time::{PureTime, Time};
@@ -12,6 +14,14 @@ pub fn same_date(first: &Date, second: &Date) -> bool
     ensures same { IsTrue result ↔ (first.now ≡ second.now) }
 {
     first == second
+}
+
+/// Whether the first date is before the second, which it is exactly if its day number is smaller:
+/// 2020-02-29 is before 2020-03-01.
+pub fn earlier_date(first: &Date, second: &Date) -> bool
+    ensures days { IsTrue result ↔ day_number (parts first.now) < day_number (parts second.now) }
+{
+    first < second
 }
 
 /// Whether two times are one: false where one has no offset and the other the offset 0.

@@ -1,0 +1,20 @@
+use Rattle.std.proofs.Common.{◌≡◌, ℕ, ◌<◌, Bool, arith, ap, ◌∙◌}
+use Rattle.std.specs.Prelude.{◌↔◌, IsTrue}
+use Rattle.std.specs.Ordering.{is_lt, nat_cmp}
+use Rattle.std.proofs.lemmas.Bool.Decides.{nat_tests}
+use Rattle.speedate_civil.specs.Date.{parts}
+use Rattle.speedate_civil.specs.DateOrderLaws.{date_order-day_number}
+use Rattle.speedate_civil.specs.DayNumber.{day_number}
+use Rattle.speedate_civil.proofs.DateFacts.{is_day}
+use Rattle.speedate_civil.proofs.laws.earlier_date.Goals as goal
+
+-- what `<` answers of two numbers
+less-is : (first second : ℕ) (answer : Bool) → answer ≡ is_lt (nat_cmp first second) → IsTrue answer ↔ first < second
+less-is first second answer is = (λ holds. grind (arith, nat_tests), λ less. grind (arith, nat_tests))
+
+pub returns : goal.returns
+returns c =
+    let first = c.args.first.now in
+    let second = c.args.second.now in
+    let order = date_order-day_number (parts first) (parts second) (is_day first) (is_day second) in
+    record { days = less-is (day_number (parts first)) (day_number (parts second)) c.lt.result (c.lt.ensures ∙ ap is_lt order) }
