@@ -2,5 +2,5 @@
 #![tactic(auto)]
 
 pub mod date;
-mod text;
+pub mod text;
 pub mod time;

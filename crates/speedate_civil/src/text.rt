@@ -20,9 +20,10 @@ pub(crate) fn ascii_text<const LENGTH: usize>(bytes: &[u8]) -> ArrayString<LENGT
     text
 }
 
-/// Appends bytes, for which there must be room.
+/// Appends bytes, for which there must be room: `push(b"12", bytes)` makes `a` and `b` of `bytes`
+/// `a`, `b`, `1` and `2`.
 #[inline]
-pub(crate) fn push<const LENGTH: usize>(piece: &[u8], bytes: &mut ArrayVec<u8, LENGTH>)
+pub fn push<const LENGTH: usize>(piece: &[u8], bytes: &mut ArrayVec<u8, LENGTH>)
     requires { array_vec_len bytes.old + length piece.now ≤ LENGTH }
     ensures bytes { bytes.new.items ≡ bytes.old.items ++ piece.now }
     ensures len { array_vec_len bytes.new ≡ array_vec_len bytes.old + length piece.now }

@@ -4,8 +4,8 @@ use Rattle.std.specs.Io.KnownBytes.{append_known, Consumes, IsAtEnd}
 use Rattle.speedate_lines.specs.Watch.{Watch}
 
 -- what is kept of an unfinished line: of one that is too long, enough to tell that it is
-abbrev pub kept_of : List ℕ → List ℕ
-kept_of line = take 4097 line
+abbrev pub kept_part : List ℕ → List ℕ
+kept_part line = take 4097 line
 
 -- what a writer holds, where that is known, and behind it bytes that are to be written
 abbrev pub held : {W : Type 0} → (W → Option (List ℕ)) → Watch W → List ℕ → Option (List ℕ)

@@ -3,10 +3,10 @@
 ghost use Rattle.std.specs.Prelude.{◌≡◌, ◌+◌, ◌^◌, ◌<◌, ◌≤◌, [], length, take, drop, ◌||◌, false, is_err, IfSome, IfOk, OnOk};
 ghost use Rattle.std.specs.Io.KnownBytes.{Appends, Keeps, IsAtEnd};
 ghost use Rattle.arrayvec.specs.ArrayVec.{array_vec_len};
-ghost use Rattle.speedate_lines.specs.Lines.{IsOneLine, complete, unfinished, last_line, lines};
+ghost use Rattle.speedate_lines.specs.Lines.{IsOneLine, complete_lines, unfinished_line, last_line, lines};
 ghost use Rattle.speedate_lines.specs.Answer.{answers};
 ghost use Rattle.speedate_lines.specs.Outcome.{EndsBy};
-ghost use Rattle.speedate_lines.specs.Block.{held, kept_of, ReadsBehind};
+ghost use Rattle.speedate_lines.specs.Block.{held, kept_part, ReadsBehind};
 
 use crate::answer::{ANSWER_MAX, LINE_MAX, PENDING_MAX, Pending, answer_line};
 use crate::line_end::line_end;
@@ -105,9 +105,9 @@ fn answer_block<W: Write>(
     ensures failed { output.new.failed ≡ (output.old.failed || is_err result) }
     ensures empty { OnOk result (pending.new.items ≡ []) }
     ensures start { IfOk result (λ start. start ≤ length text.now) }
-    ensures unfinished { IfOk result (λ start. drop start text.now ≡ unfinished text.now) }
+    ensures unfinished { IfOk result (λ start. drop start text.now ≡ unfinished_line text.now) }
     ensures answered { OnOk result (Appends (W.contents output.old.inner)
-        (W.contents output.new.inner) (answers (complete text.now))) }
+        (W.contents output.new.inner) (answers (complete_lines text.now))) }
 {
     let start = answer_lines(text, seen, pending, output)?;
     send(pending, output)?;
@@ -126,9 +126,9 @@ fn answer_lines<W: Write>(
     requires one_line { IsOneLine text.now 0 seen }
     ensures failed { output.new.failed ≡ (output.old.failed || is_err result) }
     ensures start { IfOk result (λ start. start ≤ length text.now) }
-    ensures unfinished { IfOk result (λ start. drop start text.now ≡ unfinished text.now) }
+    ensures unfinished { IfOk result (λ start. drop start text.now ≡ unfinished_line text.now) }
     ensures answered { OnOk result (Appends (held W.contents output.old pending.old.items)
-        (held W.contents output.new pending.new.items) (answers (complete text.now))) }
+        (held W.contents output.new pending.new.items) (answers (complete_lines text.now))) }
 {
     let mut start = 0;
     let mut searched = seen;
@@ -186,7 +186,7 @@ fn carry(block: &mut [u8; BLOCK], start: usize, filled: usize) -> usize
     requires ordered { start ≤ filled }
     requires within { filled ≤ BLOCK }
     ensures short { result ≤ KEPT_MAX }
-    ensures kept { take result block.new ≡ kept_of (drop start (take filled block.old)) }
+    ensures kept { take result block.new ≡ kept_part (drop start (take filled block.old)) }
 {
     let kept = (filled - start).min(KEPT_MAX);
     block.copy_within(start..start + kept, 0);

@@ -1,8 +1,8 @@
 use Rattle.std.proofs.Common.{◌∙◌, ap, sym, ℕ, ◌+◌, ◌-◌, List, [], ◌∷◌, ◌++◌, take, drop, append_assoc, append-nil, arith, subst}
 use Rattle.std.specs.Io.KnownBytes.{Appends}
 use Rattle.std.proofs.KnownBytes.{Appends-trans, append_known-grown}
-use Rattle.speedate_lines.specs.Lines.{Pieces, complete}
-use Rattle.speedate_lines.specs.Answer.{answer, answers}
+use Rattle.speedate_lines.specs.Lines.{line_feed, Pieces, complete_lines}
+use Rattle.speedate_lines.specs.Answer.{line_answer, answers}
 use Rattle.speedate_lines.specs.Block.{held}
 use Rattle.speedate_lines.proofs.LineLemmas.{pieces-from, pieces-rest}
 use Rattle.std.proofs.Math.Bool.{or-false}
@@ -15,7 +15,7 @@ loop-end-preserved g c =
     let end = c.in-Some.end in
     let line : List ℕ = take (end - c.loop-end.start) (drop c.loop-end.start text) in
     let next : List ℕ = drop (end + 1) text in
-    let new : List ℕ = answer line ++ 10 ∷ [] in
+    let new : List ℕ = line_answer line ++ line_feed ∷ [] in
     let here = pieces-from text c.loop-end.start c.loop-end.searched end before.ordered before.one_line c.in-Some.ensures.found in
     let appended = append_known-grown _ _ _ _ new c.in_ok-make_room.ensures.kept c.answer_line.ensures.answered in
     record {
@@ -27,7 +27,7 @@ loop-end-preserved g c =
         Appends-trans _ _ _ before.answered.0 new before.answered.1 appended,
         before.answered.2
             ∙ ap (λ (all : Pieces). before.answered.0 ++ answers all.complete) here
-            ∙ sym (append_assoc before.answered.0 new (answers (complete next))),
+            ∙ sym (append_assoc before.answered.0 new (answers (complete_lines next))),
       );
       failed = c.in_ok-make_room.ensures.failed ∙ or-false c.loop-end.output.failed ∙ before.failed;
       rest = before.rest ∙ ap (λ (all : Pieces). all.unfinished) here;

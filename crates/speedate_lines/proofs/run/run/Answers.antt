@@ -2,11 +2,11 @@ use Rattle.std.proofs.Common.{◌≡◌, ◌∙◌, ap, sym, subst, ℕ, List, �
 use Rattle.std.proofs.lemmas.List.{length-take-le}
 use Rattle.std.specs.Io.KnownBytes.{Appends, Consumes}
 use Rattle.std.proofs.KnownBytes.{Appends-trans, Consumes-trans, Consumes-whole}
-use Rattle.speedate_lines.specs.Lines.{IsOneLine, complete, unfinished, last_line, lines}
+use Rattle.speedate_lines.specs.Lines.{IsOneLine, complete_lines, unfinished_line, last_line, lines}
 use Rattle.speedate_lines.specs.Answer.{answers}
-use Rattle.speedate_lines.specs.Block.{kept_of}
+use Rattle.speedate_lines.specs.Block.{kept_part}
 use Rattle.speedate_lines.proofs.LineLemmas.{IsFree, IsOneLine-from_free, unfinished-free}
-use Rattle.speedate_lines.proofs.CarryLemmas.{kept_of-free, answers-more, kept-more, answers-all}
+use Rattle.speedate_lines.proofs.CarryLemmas.{kept_part-free, answers-more, kept-more, answers-all}
 use Rattle.std.proofs.Math.Bool.{or-false}
 use Rattle.speedate_lines.proofs.run.run.Goals as goal
 
@@ -17,7 +17,7 @@ answer_block-requires-clause-one_line g c =
     let before = c.loop-filled.invariant in
     let read = before.answered.0 in
     let filled = c.in-Ok.ensures.filled in
-    let free = subst IsFree (sym before.answered.3) (kept_of-free 4097 (unfinished read) (unfinished-free read)) in
+    let free = subst IsFree (sym before.answered.3) (kept_part-free 4097 (unfinished_line read) (unfinished-free read)) in
     let long : length front ≡ kept = length-take-le kept c.loop-filled.block filled.room in
     subst (λ (text : List ℕ). IsOneLine text 0 kept) (sym filled.text) (IsOneLine-from_free front filled.more kept free (omega arith))
 
@@ -28,7 +28,7 @@ loop-filled-preserved g c =
     let filled = c.in-Ok.ensures.filled in
     let text = filled.text ∙ ap (λ (front : List ℕ). front ++ filled.more) before.answered.3 in
     let done = c.in-Ok-answer_block.ensures in
-    let all = answers-more read filled.more ∙ ap (λ (block : List ℕ). answers (complete read) ++ answers (complete block)) (sym text) in
+    let all = answers-more read filled.more ∙ ap (λ (block : List ℕ). answers (complete_lines read) ++ answers (complete_lines block)) (sym text) in
     record {
       empty = done.empty;
       input_failed = c.in-Ok.ensures.failed ∙ or-false c.loop-filled.input.failed ∙ before.input_failed;
@@ -37,9 +37,9 @@ loop-filled-preserved g c =
       answered = (
         read ++ filled.more,
         Consumes-trans _ _ _ read filled.more before.answered.1 filled.consumed,
-        subst (Appends _ _) (sym all) (Appends-trans _ _ _ (answers (complete read)) _ before.answered.2 done.answered),
-        c.carry-kept.ensures.kept ∙ ap kept_of done.unfinished
-            ∙ ap (λ (block : List ℕ). kept_of (unfinished block)) text ∙ sym (kept-more read filled.more),
+        subst (Appends _ _) (sym all) (Appends-trans _ _ _ (answers (complete_lines read)) _ before.answered.2 done.answered),
+        c.carry-kept.ensures.kept ∙ ap kept_part done.unfinished
+            ∙ ap (λ (block : List ℕ). kept_part (unfinished_line block)) text ∙ sym (kept-more read filled.more),
       );
     }
 
@@ -52,10 +52,10 @@ returns-in-Ok-finish-clause-answered g c =
     let whole : read ++ filled.more ≡ read = ap (λ (more : List ℕ). read ++ more) ended.0 ∙ append-nil read in
     let consumed = subst (Consumes (g.R.Read.remaining c.args.input.now.inner) (g.R.Read.remaining c.fill.new.input.inner)) whole
     (Consumes-trans _ _ _ read filled.more before.answered.1 filled.consumed) in
-    let last : take c.loop-filled.kept c.fill.new.block ≡ kept_of (unfinished read) =
+    let last : take c.loop-filled.kept c.fill.new.block ≡ kept_part (unfinished_line read) =
     ap (λ (n : ℕ). take n c.fill.new.block) (sym c.if-filled-kept.true) ∙ filled.text
     ∙ ap (λ (more : List ℕ). take c.loop-filled.kept c.loop-filled.block ++ more) ended.0
     ∙ append-nil (take c.loop-filled.kept c.loop-filled.block) ∙ before.answered.3 in
-    let all = ap (λ (line : List ℕ). answers (complete read) ++ answers (last_line line)) last ∙ answers-all read in
+    let all = ap (λ (line : List ℕ). answers (complete_lines read) ++ answers (last_line line)) last ∙ answers-all read in
     Consumes-whole _ _ read (λ text. Appends (g.W.Write.contents c.args.output.now.inner) (g.W.Write.contents c.finish.new.output.inner) (answers (lines text)))
-    consumed ended.1 (subst (Appends _ _) all (Appends-trans _ _ _ (answers (complete read)) _ before.answered.2 c.in-Ok-finish.ensures.answered))
+    consumed ended.1 (subst (Appends _ _) all (Appends-trans _ _ _ (answers (complete_lines read)) _ before.answered.2 c.in-Ok-finish.ensures.answered))
