@@ -1,8 +1,8 @@
 use Rattle.std.proofs.Common.{◌≡◌, ◌-◌, ◌≤◌, ◌++◌, ℕ, List, length, drop}
-use Rattle.std.specs.Io.KnownBytes.{Appends}
 use Rattle.speedate_lines.specs.Lines.{IsOneLine, complete_lines, unfinished_line}
 use Rattle.speedate_lines.specs.Answer.{answers}
-use Rattle.speedate_lines.specs.Block.{held}
+use Rattle.speedate_lines.specs.Sent.{AppendsBut}
+use Rattle.speedate_lines.specs.Watch.{KeepsUnflushed}
 use Rattle.speedate_lines.proofs.run.answer_lines.Given as goal
 
 -- the lines up to `start` have been answered, and no line feed stands from there up to `searched`
@@ -12,10 +12,11 @@ invariant-loop-end g l = record {
   within : l.searched ≤ length l.text;
   one_line : IsOneLine l.text l.start l.searched;
   answered : (done : List ℕ)
-      × Appends (held g.W.Write.contents l.initial.output l.initial.pending.items)
-      (held g.W.Write.contents l.output l.pending.items) done
+      × AppendsBut l.pending.items (g.W.Write.contents l.initial.output.inner) (g.W.Write.contents l.output.inner)
+      (l.initial.pending.items ++ done)
       × (answers (complete_lines l.text) ≡ done ++ answers (complete_lines (drop l.start l.text)));
   failed : l.output.failed ≡ l.initial.output.failed;
+  unflushed : KeepsUnflushed l.initial.output l.output;
   rest : unfinished_line l.text ≡ unfinished_line (drop l.start l.text);
 }
 
