@@ -3,7 +3,7 @@ use Rattle.std.proofs.Common.{◌≡◌, ◌∙◌, ap, sym, ℕ, ◌+◌, ◌-�
 use Rattle.std.proofs.lemmas.List.{length-take, length-take-le, length-drop, length-append, take-append-le, take-take, take_all, take_at}
 use Rattle.std.proofs.lemmas.Bool.{cases_lt}
 use Rattle.std.proofs.lemmas.Slice.{between_is}
-use Rattle.speedate_lines.specs.Block.{kept_of}
+use Rattle.speedate_lines.specs.Block.{kept_part}
 use Rattle.std.proofs.Math.Seq.{take-append-add}
 
 -- the front of a block is what was kept, and then what was written behind it
@@ -23,7 +23,7 @@ length-filled kept count old buffer post first second =
     let long = length-take-le kept old first in
     omega (arith, length-append (take kept old) (buffer ++ post), length-append buffer post)
 
-take-min : (n m : ℕ) (rest : List ℕ) → n ≡ min m 4097 → take n rest ≡ kept_of (take m rest)
+take-min : (n m : ℕ) (rest : List ℕ) → n ≡ min m 4097 → take n rest ≡ kept_part (take m rest)
 take-min n m rest is = elim (cases_lt 4097 m) [
   | inl long ↦
       let same : n ≡ 4097 = omega (arith, is) in
@@ -34,12 +34,12 @@ take-min n m rest is = elim (cases_lt 4097 m) [
       ap (λ (k : ℕ). take k rest) same ∙ sym (take_all 4097 (take m rest) fits)
 ]
 
--- what was moved to the front of a block is what is kept of its unfinished line
+-- what was moved to the front of a block is the kept part of its unfinished line
 pub take-moved : (old after : List ℕ) (start filled n : ℕ) → start ≤ filled → filled ≤ length old → n ≡ min (filled - start) 4097
-    → take n (take n (drop start old) ++ after) ≡ kept_of (drop start (take filled old))
+    → take n (take n (drop start old) ++ after) ≡ kept_part (drop start (take filled old))
 take-moved old after start filled n ordered within is =
     let long : length (take n (drop start old)) ≡ n =
     length-take-le n (drop start old) (omega (arith, length-drop start old, is)) in
     take_at (take n (drop start old)) after n long
     ∙ take-min n (filled - start) (drop start old) is
-    ∙ ap kept_of (between_is old start filled)
+    ∙ ap kept_part (between_is old start filled)

@@ -1,15 +1,90 @@
--- What a writer holds once all that waited has been written.
-use Rattle.std.proofs.Common.{◌≡◌, ◌∙◌, ap, List, [], ◌++◌, ℕ, None, Some, append-nil}
-use Rattle.std.specs.Prelude.{Option}
-use Rattle.std.specs.Io.KnownBytes.{Appends, append_known}
+-- What has gone out of some bytes, step by step.
+use Rattle.std.proofs.Common.{◌≡◌, ◌∙◌, ap, sym, subst, List, [], ◌++◌, ℕ, refl, append-nil, append_assoc, take, drop, take-append-drop, Result, Ok, Err}
+use Rattle.std.specs.Prelude.{Option, OnErr}
+use Rattle.std.specs.Io.KnownBytes.{Appends, Keeps}
+use Rattle.std.proofs.KnownBytes.{Appends-nil, Appends-trans, Appends-kept}
+use Rattle.speedate_lines.specs.Sent.{AppendsBut, AppendsBeginning, AppendsFrom}
 
--- nothing waited, then bytes did, then those were written
-pub Appends-sent : (a b c : Option (List ℕ)) (pending waiting bytes : List ℕ) → pending ≡ []
-    → Appends (append_known a pending) (append_known b waiting) bytes → Appends b c waiting → Appends a c bytes
-Appends-sent None b c pending waiting bytes none first second = tt
-Appends-sent (Some x) None c pending waiting bytes none first second = absurd first
-Appends-sent (Some x) (Some y) None pending waiting bytes none first second = absurd second
-Appends-sent (Some x) (Some y) (Some z) pending waiting bytes none first second =
-    second ∙ first
-    ∙ ap (λ (waited : List ℕ). (x ++ waited) ++ bytes) none
-    ∙ ap (λ (held : List ℕ). held ++ bytes) (append-nil x)
+-- nothing has been written
+pub AppendsBut-all : (a : Option (List ℕ)) (bytes : List ℕ) → AppendsBut bytes a a bytes
+AppendsBut-all a bytes = record { written = []; sent = Appends-nil a; whole = refl }
+
+-- all has been written
+pub AppendsBut-nil : (a b : Option (List ℕ)) (bytes : List ℕ) → Appends a b bytes → AppendsBut [] a b bytes
+AppendsBut-nil a b bytes sent = record { written = bytes; sent = sent; whole = sym (append-nil bytes) }
+
+-- of what was left an end is left
+pub AppendsBut-trans : {a b c : Option (List ℕ)} {left rest bytes : List ℕ} → AppendsBut left a b bytes → AppendsBut rest b c left → AppendsBut rest a c bytes
+AppendsBut-trans {a = a} {b = b} {c = c} {rest = rest} first second = record {
+  written = first.written ++ second.written;
+  sent = Appends-trans a b c first.written second.written first.sent second.sent;
+  whole = first.whole ∙ ap (λ (end : List ℕ). first.written ++ end) second.whole ∙ sym (append_assoc first.written second.written rest);
+}
+
+-- a write took the front of what was left
+pub AppendsBut-taken : {a b c : Option (List ℕ)} {left bytes : List ℕ} (count : ℕ) → AppendsBut left a b bytes → Appends b c (take count left)
+    → AppendsBut (drop count left) a c bytes
+AppendsBut-taken {left = left} count sent taken =
+    AppendsBut-trans sent (record { written = take count left; sent = taken; whole = sym (take-append-drop count left) })
+
+-- a write that failed took nothing
+pub AppendsBut-kept : {a b c : Option (List ℕ)} {left bytes : List ℕ} → AppendsBut left a b bytes → Keeps b c → AppendsBut left a c bytes
+AppendsBut-kept {a = a} {b = b} {c = c} sent kept =
+    record { written = sent.written; sent = Appends-kept a b c sent.written sent.sent kept; whole = sent.whole }
+
+-- there are more bytes to write
+pub AppendsBut-more : {a b : Option (List ℕ)} {left bytes : List ℕ} (more : List ℕ) → AppendsBut left a b bytes → AppendsBut (left ++ more) a b (bytes ++ more)
+AppendsBut-more {left = left} more sent = record {
+  written = sent.written;
+  sent = sent.sent;
+  whole = ap (λ (front : List ℕ). front ++ more) sent.whole ∙ append_assoc sent.written left more;
+}
+
+-- the same of the same bytes
+pub AppendsBut-same : {a b : Option (List ℕ)} {left rest bytes all : List ℕ} → AppendsBut left a b bytes → rest ≡ left → all ≡ bytes → AppendsBut rest a b all
+AppendsBut-same sent same whole = record {
+  written = sent.written;
+  sent = sent.sent;
+  whole = whole ∙ sent.whole ∙ ap (λ (end : List ℕ). sent.written ++ end) (sym same);
+}
+
+-- what was left has been written
+pub Appends-left : (a b c : Option (List ℕ)) {left bytes : List ℕ} → AppendsBut left a b bytes → Appends b c left → Appends a c bytes
+Appends-left a b c {left = left} sent last =
+    subst (Appends a c) (sym sent.whole) (Appends-trans a b c sent.written left sent.sent last)
+
+-- nothing was left
+pub Appends-nothing_left : {a b : Option (List ℕ)} {left bytes : List ℕ} → AppendsBut left a b bytes → left ≡ [] → Appends a b bytes
+Appends-nothing_left {a = a} {b = b} sent none =
+    subst (Appends a b) (sym (sent.whole ∙ ap (λ (end : List ℕ). sent.written ++ end) none ∙ append-nil sent.written)) sent.sent
+
+-- of what was left a beginning has been written
+pub AppendsBeginning-left : {a b c : Option (List ℕ)} {left bytes : List ℕ} → AppendsBut left a b bytes → AppendsBeginning b c left → AppendsBeginning a c bytes
+AppendsBeginning-left sent part = record { left = part.left; sent = AppendsBut-trans sent part.sent }
+
+-- of more bytes it is a beginning too
+pub AppendsBeginning-more : {a b : Option (List ℕ)} {bytes : List ℕ} (more : List ℕ) → AppendsBeginning a b bytes → AppendsBeginning a b (bytes ++ more)
+AppendsBeginning-more more part = record { left = part.left ++ more; sent = AppendsBut-more more part.sent }
+
+-- the same of the same bytes
+pub AppendsBeginning-same : {a b : Option (List ℕ)} {bytes all : List ℕ} → AppendsBeginning a b bytes → all ≡ bytes → AppendsBeginning a b all
+AppendsBeginning-same part whole = record { left = part.left; sent = AppendsBut-same part.sent refl whole }
+
+-- all is a beginning
+pub AppendsBeginning-all : (a b c : Option (List ℕ)) (bytes : List ℕ) → Appends a b bytes → Keeps b c → AppendsBeginning a c bytes
+AppendsBeginning-all a b c bytes sent kept = record { left = []; sent = AppendsBut-nil a c bytes (Appends-kept a b c bytes sent kept) }
+
+-- behind the first bytes a beginning of the others has been written
+pub AppendsFrom-beginning : {a b c : Option (List ℕ)} {others bytes : List ℕ} (first : List ℕ) → Appends a b first → AppendsBeginning b c others → bytes ≡ first ++ others
+    → AppendsFrom first a c bytes
+AppendsFrom-beginning {a = a} {b = b} {c = c} first before part same = record {
+  further = part.sent.written;
+  left = part.left;
+  sent = Appends-trans a b c first part.sent.written before part.sent.sent;
+  whole = same ∙ ap (λ (end : List ℕ). first ++ end) part.sent.whole ∙ sym (append_assoc first part.sent.written part.left);
+}
+
+-- a fact that holds at an error
+pub on_err : {T E P : Type 0} (result : Result T E) → P → OnErr result P
+on_err (Ok value) holds = tt
+on_err (Err error) holds = holds

@@ -1,38 +1,61 @@
 -- What the program answers to a line, and to lines.
-use Rattle.std.specs.Prelude.{ℕ, List, [], ◌∷◌, ◌++◌, length, drop, codes, nat_lt, nat_eq, if◌then◌else◌, Result, Ok, Err}
-use Rattle.std.specs.List.{starts_with, flat_map}
+use Rattle.std.specs.Prelude.{ℕ, List, [], ◌∷◌, ◌++◌, length, take, drop, codes, nat_lt, bytes_eq, if◌then◌else◌, Result, Ok, Err}
+use Rattle.std.specs.List.{flat_map}
 use Rattle.speedate.specs.declared.ParseError.{ParseError}
 use Rattle.speedate.specs.Fault.{fault_name}
 use Rattle.speedate.specs.declared.MicrosecondsPrecisionOverflowBehavior.TheVariants as behavior
-use Rattle.speedate.specs.DateText.{date_answer, date_text}
+use Rattle.speedate.specs.declared.TimestampUnit.TheVariants as unit
+use Rattle.speedate.specs.DateText.{date_text}
+use Rattle.speedate.specs.DateTimestamp.{date_or_timestamp}
 use Rattle.speedate.specs.TimeText.{time_answer, time_text}
+use Rattle.speedate.specs.Ascii.{space, line_feed}
+use Rattle.speedate_lines.specs.Lines.{longest_line}
 
--- the answer to a text that was read: its canonical text
-abbrev pub accepted : List ℕ → List ℕ
-accepted text = codes "ok " ++ text
+-- the answer to a text that was read: the canonical text of its value
+abbrev pub ok_answer : List ℕ → List ℕ
+ok_answer text = codes "ok " ++ text
 
 -- the answer to a line that was refused: the name of the reason
-abbrev pub refused : List ℕ → List ℕ
-refused name = codes "err " ++ name
+abbrev pub err_answer : List ℕ → List ℕ
+err_answer name = codes "err " ++ name
 
--- the answer to the text of a kind, from what its reader answers and how its values are printed
+-- the reply to a text, by what its reader gives and how values are printed
 abbrev pub reply : {A : Type 0} → (A → List ℕ) → Result A ParseError → List ℕ
-reply text (Ok value) = accepted (text value)
-reply text (Err fault) = refused (fault_name fault)
+reply text (Ok value) = ok_answer (text value)
+reply text (Err fault) = err_answer (fault_name fault)
 
--- the answer to a line by its kind, which stands before its first space, and the text behind that
-abbrev pub answer_by_kind : List ℕ → List ℕ
-answer_by_kind line = let text = drop 5 line in
-    if starts_with nat_eq line (codes "date ") then reply date_text (date_answer text)
-    else (if starts_with nat_eq line (codes "time ") then reply time_text (time_answer behavior.Error text)
-    else refused (codes "unknown_kind"))
+-- a kind of line: its word, and the reply to a text of that kind
+pub record Kind : Type 0 where
+  pub word : List ℕ
+  pub reply_to : List ℕ → List ℕ
+
+abbrev pub date_kind : Kind
+date_kind = record { word = codes "date"; reply_to = λ text. reply date_text (date_or_timestamp unit.Infer text) }
+
+abbrev pub time_kind : Kind
+time_kind = record { word = codes "time"; reply_to = λ text. reply time_text (time_answer behavior.Error text) }
+
+-- all kinds
+abbrev pub kinds : List Kind
+kinds = date_kind ∷ time_kind ∷ []
+
+-- what a line of a kind begins with: the kind's word and a space
+abbrev pub front : Kind → List ℕ
+front kind = kind.word ++ space ∷ []
+
+-- the answer to a line by the kind whose word and a space begin it, from the text behind those
+unfoldable pub answer_by_kind : List Kind → List ℕ → List ℕ
+answer_by_kind [] line = err_answer (codes "unknown_kind")
+answer_by_kind (kind ∷ others) line =
+    if bytes_eq (take (length (front kind)) line) (front kind) then kind.reply_to (drop (length (front kind)) line)
+    else answer_by_kind others line
 
 -- the answer to a line
-unfoldable pub answer : List ℕ → List ℕ
-answer line =
-    if nat_lt 4096 (length line) then refused (codes "line_too_long")
-    else answer_by_kind line
+unfoldable pub line_answer : List ℕ → List ℕ
+line_answer line =
+    if nat_lt longest_line (length line) then err_answer (codes "line_too_long")
+    else answer_by_kind kinds line
 
--- the answers to lines, each ended by byte 10
+-- the answers to lines, each ended by a line feed
 abbrev pub answers : List (List ℕ) → List ℕ
-answers lines = flat_map (λ line. answer line ++ 10 ∷ []) lines
+answers lines = flat_map (λ line. line_answer line ++ line_feed ∷ []) lines

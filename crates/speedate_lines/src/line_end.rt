@@ -2,14 +2,14 @@
 
 ghost use Rattle.std.specs.Prelude.{◌≡◌, ◌≤◌, length, map, MatchOption};
 ghost use Rattle.std.specs.Simd.Lanes.{mask_l};
-ghost use Rattle.speedate_lines.specs.Lines.{is_newline, IsLineEnd, IsOneLine};
+ghost use Rattle.speedate_lines.specs.Lines.{is_line_feed, IsLineEnd, IsOneLine};
 
 use std::simd::prelude::*;
 
 /// How many bytes are looked at together.
 const LANES: usize = 16;
 
-/// The place of the first byte 10 at `from` or behind it.
+/// The place of the first line feed at `from` or behind it.
 #[inline]
 pub fn line_end(text: &[u8], from: usize) -> Option<usize>
     requires { from ≤ length text.now }
@@ -18,7 +18,7 @@ pub fn line_end(text: &[u8], from: usize) -> Option<usize>
 {
     let mut place = from;
     while text.len() - place >= LANES {
-        let marks = newlines(u8x16::from_slice(&text[place..]));
+        let marks = line_feeds(u8x16::from_slice(&text[place..]));
         if marks != 0 {
             return Some(place + marks.trailing_zeros() as usize);
         }
@@ -41,10 +41,10 @@ fn line_end_in_rest(text: &[u8], from: usize) -> Option<usize>
     None
 }
 
-/// Bit k tells whether lane k is byte 10.
+/// Bit k tells whether lane k is line feed.
 #[inline(always)]
-fn newlines(lanes: u8x16) -> u64
-    ensures marks { result ≡ mask_l (map is_newline lanes) }
+fn line_feeds(lanes: u8x16) -> u64
+    ensures marks { result ≡ mask_l (map is_line_feed lanes) }
 {
     lanes.simd_eq(u8x16::splat(b'\n')).to_bitmask()
 }

@@ -1,12 +1,14 @@
 //! Lines in, answers out.
 
-ghost use Rattle.std.specs.Prelude.{◌≡◌, ◌+◌, ◌^◌, ◌<◌, ◌≤◌, [], length, take, drop, ◌||◌, false, is_err, IfSome, IfOk, OnOk};
+ghost use Rattle.std.specs.Prelude.{◌≡◌, ◌+◌, ◌^◌, ◌<◌, ◌≤◌, [], length, take, drop, ◌||◌, ◌++◌, true, false, is_err, Err, IfSome, IfOk, OnOk, OnErr};
 ghost use Rattle.std.specs.Io.KnownBytes.{Appends, Keeps, IsAtEnd};
 ghost use Rattle.arrayvec.specs.ArrayVec.{array_vec_len};
-ghost use Rattle.speedate_lines.specs.Lines.{IsOneLine, complete, unfinished, last_line, lines};
+ghost use Rattle.speedate_lines.specs.Lines.{IsOneLine, complete_lines, unfinished_line, last_line, lines};
 ghost use Rattle.speedate_lines.specs.Answer.{answers};
 ghost use Rattle.speedate_lines.specs.Outcome.{EndsBy};
-ghost use Rattle.speedate_lines.specs.Block.{held, kept_of, ReadsBehind};
+ghost use Rattle.speedate_lines.specs.Block.{kept_part, ReadsBehind};
+ghost use Rattle.speedate_lines.specs.Sent.{AppendsBut, AppendsBeginning, AnswersCompleteLines, AnswersBeginning};
+ghost use Rattle.speedate_lines.specs.Watch.{KeepsUnflushed};
 
 use crate::answer::{ANSWER_MAX, LINE_MAX, PENDING_MAX, Pending, answer_line};
 use crate::line_end::line_end;
@@ -16,11 +18,11 @@ use std::io::{Read, Write};
 /// Of a line that is too long to be answered, so many bytes are kept: they tell that it is.
 const KEPT_MAX: usize = LINE_MAX + 1;
 
-/// How many bytes one read gives at most.
-const READ_MAX: usize = 65536;
+/// How many bytes there is room for at each read, at least.
+const ROOM: usize = 65536;
 
 /// How many bytes of input lie in memory: an unfinished line, and what one read gives.
-const BLOCK: usize = KEPT_MAX + READ_MAX;
+const BLOCK: usize = KEPT_MAX + ROOM;
 
 /// Why a run ended before its input.
 #[derive(Clone, Copy, Debug, PartialEq, Eq)]
@@ -33,11 +35,11 @@ pub enum RunError {
 
 /// Answers each line of the input, up to its end.
 ///
-/// A line is ended by byte 10 or by the end of the input, and its answer by byte 10. `date TEXT`
-/// and `time TEXT` are answered by `ok` and the canonical text of the value, or by `err` and the
-/// name of the fault; a line of more than 4,096 bytes by `err line_too_long`, any other by
-/// `err unknown_kind`. Every complete line that was read is answered before the next read. For the
-/// input `date 2020-02-29` the output is `ok 2020-02-29` and byte 10.
+/// A line is ended by a line feed or by the end of the input, and its answer by a line feed.
+/// `date TEXT` and `time TEXT` are answered by `ok` and the canonical text of the value, or by
+/// `err` and the name of the fault; a line of more than 4,096 bytes by `err line_too_long`, any
+/// other by `err unknown_kind`. Every complete line that was read is answered before the next read.
+/// For the input `date 2020-02-29` the output is `ok 2020-02-29` and a line feed.
 ///
 /// `RunError::Read` comes where a read fails, `RunError::Write` where a write or the one flush at
 /// the end does. Neither end may have failed before.
@@ -52,6 +54,18 @@ pub fn run<R: Read, W: Write>(
     ensures read { OnOk result (IsAtEnd (R.remaining input.new.inner)) }
     ensures answered { OnOk result (IfSome (R.remaining input.old.inner) (λ text.
         Appends (W.contents output.old.inner) (W.contents output.new.inner) (answers (lines text)))) }
+    ensures flushed { OnOk result (output.new.flushed ≡ true) }
+    // After a failed read what was written is the answers to all complete lines that were read, and
+    // no flush came.
+    ensures read_failed { result ≡ Err RunError.Read →
+        AnswersCompleteLines (R.remaining input.old.inner) (R.remaining input.new.inner)
+        (W.contents output.old.inner) (W.contents output.new.inner) }
+    ensures unflushed { result ≡ Err RunError.Read → KeepsUnflushed output.old output.new }
+    // After a failed write or flush what was written is a beginning of the answers that were due,
+    // and in it all that were due before the last read.
+    ensures write_failed { result ≡ Err RunError.Write →
+        AnswersBeginning (R.remaining input.old.inner) (R.remaining input.new.inner)
+        (W.contents output.old.inner) (W.contents output.new.inner) }
 {
     let mut block = [0; BLOCK];
     let mut pending = Pending::new();
@@ -85,6 +99,8 @@ fn fill<R: Read>(
     ensures counted { OnOk result (input.new.reads ≡ input.old.reads + 1) }
     ensures limited { input.new.reads < 2 ^ 64 }
     ensures failed { input.new.failed ≡ (input.old.failed || is_err result) }
+    ensures unread { OnErr result
+        (Keeps (R.remaining input.old.inner) (R.remaining input.new.inner)) }
     ensures filled { IfOk result (λ filled. ReadsBehind (R.remaining input.old.inner)
         (R.remaining input.new.inner) kept filled block.old block.new) }
 {
@@ -105,16 +121,19 @@ fn answer_block<W: Write>(
     ensures failed { output.new.failed ≡ (output.old.failed || is_err result) }
     ensures empty { OnOk result (pending.new.items ≡ []) }
     ensures start { IfOk result (λ start. start ≤ length text.now) }
-    ensures unfinished { IfOk result (λ start. drop start text.now ≡ unfinished text.now) }
+    ensures unfinished { IfOk result (λ start. drop start text.now ≡ unfinished_line text.now) }
     ensures answered { OnOk result (Appends (W.contents output.old.inner)
-        (W.contents output.new.inner) (answers (complete text.now))) }
+        (W.contents output.new.inner) (answers (complete_lines text.now))) }
+    ensures beginning { OnErr result (AppendsBeginning (W.contents output.old.inner)
+        (W.contents output.new.inner) (answers (complete_lines text.now))) }
+    ensures unflushed { KeepsUnflushed output.old output.new }
 {
     let start = answer_lines(text, seen, pending, output)?;
     send(pending, output)?;
     Ok(start)
 }
 
-/// Answers the complete lines of a text whose first bytes, `seen` of them, hold no byte 10, and
+/// Answers the complete lines of a text whose first bytes, `seen` of them, hold no line feed, and
 /// returns where the unfinished line begins.
 fn answer_lines<W: Write>(
     text: &[u8],
@@ -126,9 +145,12 @@ fn answer_lines<W: Write>(
     requires one_line { IsOneLine text.now 0 seen }
     ensures failed { output.new.failed ≡ (output.old.failed || is_err result) }
     ensures start { IfOk result (λ start. start ≤ length text.now) }
-    ensures unfinished { IfOk result (λ start. drop start text.now ≡ unfinished text.now) }
-    ensures answered { OnOk result (Appends (held W.contents output.old pending.old.items)
-        (held W.contents output.new pending.new.items) (answers (complete text.now))) }
+    ensures unfinished { IfOk result (λ start. drop start text.now ≡ unfinished_line text.now) }
+    ensures answered { OnOk result (AppendsBut pending.new.items (W.contents output.old.inner)
+        (W.contents output.new.inner) (pending.old.items ++ answers (complete_lines text.now))) }
+    ensures beginning { OnErr result (AppendsBeginning (W.contents output.old.inner)
+        (W.contents output.new.inner) (pending.old.items ++ answers (complete_lines text.now))) }
+    ensures unflushed { KeepsUnflushed output.old output.new }
 {
     let mut start = 0;
     let mut searched = seen;
@@ -145,8 +167,11 @@ fn answer_lines<W: Write>(
 fn make_room<W: Write>(pending: &mut Pending, output: &mut Watched<W>) -> Result<(), Failed>
     ensures failed { output.new.failed ≡ (output.old.failed || is_err result) }
     ensures room { OnOk result (array_vec_len pending.new + ANSWER_MAX ≤ PENDING_MAX) }
-    ensures kept { OnOk result (Keeps (held W.contents output.old pending.old.items)
-        (held W.contents output.new pending.new.items)) }
+    ensures sent { OnOk result (AppendsBut pending.new.items (W.contents output.old.inner)
+        (W.contents output.new.inner) pending.old.items) }
+    ensures beginning { OnErr result (AppendsBeginning (W.contents output.old.inner)
+        (W.contents output.new.inner) pending.old.items) }
+    ensures unflushed { KeepsUnflushed output.old output.new }
 {
     if pending.remaining_capacity() < ANSWER_MAX {
         send(pending, output)?;
@@ -160,6 +185,9 @@ fn send<W: Write>(pending: &mut Pending, output: &mut Watched<W>) -> Result<(), 
     ensures empty { OnOk result (pending.new.items ≡ []) }
     ensures sent { OnOk result (Appends (W.contents output.old.inner)
         (W.contents output.new.inner) pending.old.items) }
+    ensures beginning { OnErr result (AppendsBeginning (W.contents output.old.inner)
+        (W.contents output.new.inner) pending.old.items) }
+    ensures unflushed { KeepsUnflushed output.old output.new }
 {
     write_all(pending.as_slice(), output)?;
     pending.clear();
@@ -171,6 +199,9 @@ fn write_all<W: Write>(bytes: &[u8], output: &mut Watched<W>) -> Result<(), Fail
     ensures failed { output.new.failed ≡ (output.old.failed || is_err result) }
     ensures sent { OnOk result (Appends (W.contents output.old.inner)
         (W.contents output.new.inner) bytes.now) }
+    ensures beginning { OnErr result (AppendsBeginning (W.contents output.old.inner)
+        (W.contents output.new.inner) bytes.now) }
+    ensures unflushed { KeepsUnflushed output.old output.new }
 {
     let mut rest = bytes;
     while !rest.is_empty() {
@@ -186,14 +217,14 @@ fn carry(block: &mut [u8; BLOCK], start: usize, filled: usize) -> usize
     requires ordered { start ≤ filled }
     requires within { filled ≤ BLOCK }
     ensures short { result ≤ KEPT_MAX }
-    ensures kept { take result block.new ≡ kept_of (drop start (take filled block.old)) }
+    ensures kept { take result block.new ≡ kept_part (drop start (take filled block.old)) }
 {
     let kept = (filled - start).min(KEPT_MAX);
     block.copy_within(start..start + kept, 0);
     kept
 }
 
-/// Answers a last line that no byte 10 ends, if there is one.
+/// Answers a last line that no line feed ends, if there is one, and flushes.
 fn finish<W: Write>(
     last: &[u8],
     pending: &mut Pending,
@@ -203,6 +234,9 @@ fn finish<W: Write>(
     ensures failed { output.new.failed ≡ (output.old.failed || is_err result) }
     ensures answered { OnOk result (Appends (W.contents output.old.inner)
         (W.contents output.new.inner) (answers (last_line last.now))) }
+    ensures beginning { OnErr result (AppendsBeginning (W.contents output.old.inner)
+        (W.contents output.new.inner) (answers (last_line last.now))) }
+    ensures flushed { OnOk result (output.new.flushed ≡ true) }
 {
     if !last.is_empty() {
         answer_line(last, pending);

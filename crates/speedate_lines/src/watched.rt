@@ -1,6 +1,6 @@
 //! Readers and writers that remember whether they have failed.
 
-ghost use Rattle.std.specs.Prelude.{◌≡◌, ◌+◌, ◌-◌, ◌^◌, ◌<◌, ◌≤◌, ◌||◌, false, length, is_err, IsErr, IfOk, OnOk};
+ghost use Rattle.std.specs.Prelude.{◌≡◌, ◌+◌, ◌-◌, ◌^◌, ◌<◌, ◌≤◌, ◌||◌, false, length, is_ok, is_err, IsErr, IfOk};
 ghost use Rattle.std.specs.Io.{ReadsAtMost, WritesAtMost};
 ghost use Rattle.std.specs.Io.KnownBytes.{ReadConsumes, WriteAppends, Keeps};
 
@@ -11,11 +11,13 @@ use std::marker::Model;
 #[derive(Clone, Copy, Debug, PartialEq, Eq)]
 pub struct Failed;
 
-/// A reader or a writer that remembers whether a call of it has failed, and counts its reads.
+/// A reader or a writer that remembers whether a call of it has failed and whether what was written
+/// has been flushed, and counts its reads.
 #[derive(Drop)]
 pub struct Watched<T> {
     inner: T,
     failed: bool,
+    flushed: bool,
     reads: u64,
 }
 
@@ -24,17 +26,18 @@ impl<T> Model for Watched<T> {
 
     ghost Value = { Watch T };
 
-    ghost view = { λ w. record { inner = w.inner; failed = w.failed; reads = w.reads } };
+    ghost view = { λ w. record { inner = w.inner; failed = w.failed; flushed = w.flushed; reads = w.reads } };
 }
 
 impl<T> Watched<T> {
-    /// Watches `inner`, which has not failed and has not been read.
+    /// Watches `inner`, which has not failed, has not been read and is not known to be flushed.
     pub fn new(inner: T) -> Self
-        ensures new { result ≡ record { inner = inner; failed = false; reads = 0 } }
+        ensures new { result ≡ record { inner = inner; failed = false; flushed = false; reads = 0 } }
     {
         Watched {
             inner,
             failed: false,
+            flushed: false,
             reads: 0,
         }
     }
@@ -53,6 +56,7 @@ impl<T> Watched<T> {
         let Watched {
             inner,
             failed: _,
+            flushed: _,
             reads: _,
         } = self;
         inner
@@ -69,6 +73,7 @@ impl<R: Read> Watched<R> {
         ensures bytes { ReadConsumes (R.remaining self.old.inner) (R.remaining self.new.inner)
             result buffer.new }
         ensures failed { self.new.failed ≡ (self.old.failed || is_err result) }
+        ensures flushed { self.new.flushed ≡ self.old.flushed }
         ensures counted { self.old.reads < 2 ^ 64 - 1 → self.new.reads ≡ self.old.reads + 1 }
         ensures limited { self.new.reads < 2 ^ 64 }
         ensures refused { 2 ^ 64 - 1 ≤ self.old.reads →
@@ -100,8 +105,10 @@ impl<W: Write> Watched<W> {
             result bytes.now }
         ensures progress { IfOk result (λ count. 0 < length bytes.now → 0 < count) }
         ensures failed { self.new.failed ≡ (self.old.failed || is_err result) }
+        ensures flushed { self.new.flushed ≡ false }
         ensures reads { self.new.reads ≡ self.old.reads }
     {
+        self.flushed = false;
         match self.inner.write(bytes) {
             Ok(0) if !bytes.is_empty() => {
                 self.failed = true;
@@ -119,11 +126,16 @@ impl<W: Write> Watched<W> {
     pub fn flush(&mut self) -> Result<(), Failed>
         ensures bytes { Keeps (W.contents self.old.inner) (W.contents self.new.inner) }
         ensures failed { self.new.failed ≡ (self.old.failed || is_err result) }
+        ensures flushed { self.new.flushed ≡ is_ok result }
         ensures reads { self.new.reads ≡ self.old.reads }
     {
         match self.inner.flush() {
-            Ok(()) => Ok(()),
+            Ok(()) => {
+                self.flushed = true;
+                Ok(())
+            }
             Err(_) => {
+                self.flushed = false;
                 self.failed = true;
                 Err(Failed)
             }

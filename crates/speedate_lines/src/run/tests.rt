@@ -1,7 +1,7 @@
 //! Whole runs, over readers and writers that take their time or fail.
 
 use super::{RunError, run};
-use crate::watched::Watched;
+use crate::watched::{Failed, Watched};
 use std::alloc::{AllocError, Global};
 use std::io::{self, ErrorKind, Read, Write};
 use std::process::Abort;
@@ -11,13 +11,38 @@ const INPUT: &[u8] = b"date 2020-01-01\nx\ndate 123x";
 
 const OUTPUT: &[u8] = b"ok 2020-01-01\nerr unknown_kind\nerr too_short\n";
 
-/// A reader of bytes that gives some of them a call, and fails at a set call or when they are out.
+/// Calls of an end, counted from 0.
+#[derive(Clone, Copy, Debug)]
+enum Calls {
+    None,
+    One(u64),
+    From(u64),
+}
+
+impl Calls {
+    fn has(self, call: u64) -> bool {
+        match self {
+            Calls::None => false,
+            Calls::One(one) => call == one,
+            Calls::From(first) => call >= first,
+        }
+    }
+}
+
+/// A reader of bytes that gives some of them a call, and counts its calls.
 #[derive(Drop)]
 struct Source<'a> {
     rest: &'a [u8],
     step: usize,
-    calls_left: u64,
+    /// Which calls fail.
+    fails: Calls,
+    /// Which calls give nothing, as if the bytes were out.
+    pauses: Calls,
+    /// Whether the end of the bytes is a failure.
     ends: bool,
+    calls: u64,
+    /// How many bytes the last call gave.
+    latest: usize,
 }
 
 impl<'a> Source<'a> {
@@ -26,68 +51,74 @@ impl<'a> Source<'a> {
         Source {
             rest: bytes,
             step,
-            calls_left: u64::MAX,
+            fails: Calls::None,
+            pauses: Calls::None,
             ends: true,
+            calls: 0,
+            latest: 0,
         }
     }
 }
 
 impl Read for Source<'_> {
     fn read(&mut self, buffer: &mut [u8]) -> io::Result<usize> {
-        if self.calls_left == 0 || (self.rest.is_empty() && !self.ends) {
+        let call = self.calls;
+        self.calls = call.saturating_add(1);
+        if self.fails.has(call) || (self.rest.is_empty() && !self.ends) {
             return Err(io::Error::from(ErrorKind::Interrupted));
         }
-        self.calls_left -= 1;
+        if self.pauses.has(call) {
+            return Ok(0);
+        }
         let count = self.step.min(self.rest.len()).min(buffer.len());
         buffer[..count].copy_from_slice(&self.rest[..count]);
         self.rest = &self.rest[count..];
+        self.latest = count;
         Ok(count)
     }
 }
 
-/// What a writer does that has no room left.
-#[derive(Clone, Copy)]
-enum WhenFull {
-    Fails,
-    TakesNothing,
-}
-
-/// A writer that takes some bytes a call, until it has no room left.
+/// A writer that takes some bytes a call, and counts its calls.
 #[derive(Drop)]
 struct Sink {
     taken: Vec<u8>,
     step: usize,
-    room: usize,
-    when_full: WhenFull,
-    flushes: u32,
+    /// Which writes fail.
+    fails: Calls,
+    /// Which writes take nothing.
+    refuses: Calls,
     flush_fails: bool,
+    calls: u64,
+    flushes: u64,
 }
 
 impl Sink {
-    /// Takes `step` bytes a call, and has room for all.
+    /// Takes `step` bytes a call.
     fn new(alloc: Global, step: usize) -> Self {
         Sink {
             taken: Vec::new(alloc),
             step,
-            room: usize::MAX,
-            when_full: WhenFull::Fails,
-            flushes: 0,
+            fails: Calls::None,
+            refuses: Calls::None,
             flush_fails: false,
+            calls: 0,
+            flushes: 0,
         }
     }
 }
 
 impl Write for Sink {
     fn write(&mut self, bytes: &[u8]) -> io::Result<usize> {
-        if self.room == 0 {
-            return match self.when_full {
-                WhenFull::Fails => Err(io::Error::from(ErrorKind::BrokenPipe)),
-                WhenFull::TakesNothing => Ok(0),
-            };
+        let call = self.calls;
+        self.calls = call.saturating_add(1);
+        if self.fails.has(call) {
+            return Err(io::Error::from(ErrorKind::BrokenPipe));
         }
-        let count = self.step.min(self.room).min(bytes.len());
+        if self.refuses.has(call) {
+            return Ok(0);
+        }
+        let count = self.step.min(bytes.len());
         self.taken.extend_from_slice(&bytes[..count])?;
-        self.room -= count;
         Ok(count)
     }
 
@@ -100,14 +131,19 @@ impl Write for Sink {
     }
 }
 
-/// How a run ended, what was written, how often it was flushed, and which end had failed.
+/// How a run ended, what was written, which end had failed, how often each was called, and how many
+/// bytes were left to read and were given last.
 #[derive(Drop)]
 struct Ended {
     result: Result<(), RunError>,
     written: Vec<u8>,
-    flushes: u32,
     input_failed: bool,
     output_failed: bool,
+    reads: u64,
+    writes: u64,
+    flushes: u64,
+    unread: usize,
+    latest: usize,
 }
 
 fn run_over(source: Source<'_>, sink: Sink) -> Ended {
@@ -115,13 +151,18 @@ fn run_over(source: Source<'_>, sink: Sink) -> Ended {
     let mut output = Watched::new(sink);
     let result = run(&mut input, &mut output);
     let (input_failed, output_failed) = (input.failed(), output.failed());
+    let source = input.into_inner();
     let sink = output.into_inner();
     Ended {
         result,
         written: sink.taken,
-        flushes: sink.flushes,
         input_failed,
         output_failed,
+        reads: source.calls,
+        writes: sink.calls,
+        flushes: sink.flushes,
+        unread: source.rest.len(),
+        latest: source.latest,
     }
 }
 
@@ -146,7 +187,7 @@ fn padded(alloc: Global, front: &[u8], byte: u8, count: usize) -> Result<Vec<u8>
 
 #[test]
 fn answers_each_line(rt: HostRuntime) {
-    let cases: [(&[u8], &[u8]); 21] = [
+    let cases: [(&[u8], &[u8]); 22] = [
         (INPUT, OUTPUT),
         (b"", b""),
         (b"\n", b"err unknown_kind\n"),
@@ -155,7 +196,8 @@ fn answers_each_line(rt: HostRuntime) {
         (b"date", b"err unknown_kind\n"),
         (b"date 2020-04-01 ", b"err extra_characters\n"),
         (b"date 2020-04-01\r\n", b"err extra_characters\n"),
-        (b"date 1654560000", b"err invalid_char_date_sep\n"),
+        (b"date 1654560000", b"ok 2022-06-07\n"),
+        (b"date -62167219200001", b"err date_too_small\n"),
         (b"date  2020-01-01", b"err invalid_char_year\n"),
         (b"Date 2020-01-01", b"err unknown_kind\n"),
         (
@@ -284,53 +326,224 @@ fn a_read_that_fails_leaves_the_unfinished_line(rt: HostRuntime) -> Result<(), F
     Ok(())
 }
 
-#[test]
-fn each_read_fails_in_turn(rt: HostRuntime) {
-    for calls in 0..28 {
-        let source = Source {
-            calls_left: calls,
-            ..Source::new(INPUT, 1)
-        };
-        let ended = run_over(source, Sink::new(rt.alloc(), usize::MAX));
-        let want: &[u8] = match calls {
-            0..=15 => b"",
-            16 | 17 => b"ok 2020-01-01\n",
-            _ => b"ok 2020-01-01\nerr unknown_kind\n",
-        };
-        assert_eq!(rt; ended.result, Err(RunError::Read), "at {calls}");
-        assert_eq!(rt; ended.written.as_slice(), want, "at {calls}");
-        assert!(rt; ended.input_failed && !ended.output_failed);
+/// The answers to the first lines of an input, of which each has one in `answers`.
+fn first_answers(alloc: Global, answers: &[&[u8]], count: usize) -> Result<Vec<u8>, AllocError> {
+    let mut text = Vec::new(alloc);
+    for answer in answers.iter().take(count) {
+        text.extend_from_slice(answer)?;
     }
+    Ok(text)
+}
+
+/// How many lines end in the first `count` bytes.
+fn complete_lines(input: &[u8], count: usize) -> usize {
+    input
+        .iter()
+        .take(count)
+        .filter(|byte| **byte == b'\n')
+        .count()
+}
+
+/// Asserts what was written, by what was read and how the run ended.
+fn assert_stated<R: AllocGlobal + Abort>(
+    rt: &R,
+    input: &[u8],
+    answers: &[&[u8]],
+    ended: &Ended,
+) -> Result<(), Fail> {
+    let read = input.len().saturating_sub(ended.unread);
+    let earlier = complete_lines(input, read.saturating_sub(ended.latest));
+    let complete = complete_lines(input, read);
+    let written = ended.written.as_slice();
+    let all = first_answers(rt.alloc(), answers, answers.len())?;
+    match ended.result {
+        Ok(()) => {
+            assert_eq!(rt; ended.unread, 0);
+            assert_eq!(rt; written, all.as_slice());
+            assert_eq!(rt; ended.flushes, 1);
+            assert!(rt; !ended.input_failed && !ended.output_failed);
+        }
+        Err(RunError::Read) => {
+            let due = first_answers(rt.alloc(), answers, complete)?;
+            assert_eq!(rt; written, due.as_slice());
+            assert_eq!(rt; ended.flushes, 0);
+            assert!(rt; ended.input_failed && !ended.output_failed);
+        }
+        Err(RunError::Write) => {
+            let count = if ended.unread == 0 {
+                answers.len()
+            } else {
+                complete
+            };
+            let due = first_answers(rt.alloc(), answers, count)?;
+            let sure = first_answers(rt.alloc(), answers, earlier)?;
+            assert!(rt; due.starts_with(written));
+            assert!(rt; written.starts_with(sure.as_slice()));
+            assert!(rt; ended.output_failed && !ended.input_failed);
+        }
+    }
+    Ok(())
 }
 
 #[test]
-fn a_write_that_fails_ends_the_run_at_once(rt: HostRuntime) {
-    for when_full in [WhenFull::Fails, WhenFull::TakesNothing] {
-        for room in 0..OUTPUT.len() {
-            for step in [1, 5, usize::MAX] {
+fn each_call_fails_in_turn(rt: HostRuntime) -> Result<(), Fail> {
+    let cases: [(&[u8], &[&[u8]]); 2] = [
+        (
+            INPUT,
+            &[
+                b"ok 2020-01-01\n",
+                b"err unknown_kind\n",
+                b"err too_short\n",
+            ],
+        ),
+        (
+            b"x\n\ndate 2020-01-01\ntime 1:2\n",
+            &[
+                b"err unknown_kind\n",
+                b"err unknown_kind\n",
+                b"ok 2020-01-01\n",
+                b"err too_short\n",
+            ],
+        ),
+    ];
+    for (input, answers) in cases {
+        for read_step in [1, 2, 3, 16, usize::MAX] {
+            for write_step in [1, 4, usize::MAX] {
+                let source = Source::new(input, read_step);
+                let whole = run_over(source, Sink::new(rt.alloc(), write_step));
+                assert_eq!(rt; whole.result, Ok(()));
+                assert_stated(&rt, input, answers, &whole)?;
+                for call in 0..whole.reads {
+                    for fails in [Calls::One(call), Calls::From(call)] {
+                        let source = Source {
+                            fails,
+                            ..Source::new(input, read_step)
+                        };
+                        let ended = run_over(source, Sink::new(rt.alloc(), write_step));
+                        assert_eq!(rt; ended.result, Err(RunError::Read), "{fails:?}");
+                        assert_eq!(rt; ended.reads, call + 1);
+                        assert_stated(&rt, input, answers, &ended)?;
+                    }
+                }
+                for call in 0..whole.writes {
+                    for calls in [Calls::One(call), Calls::From(call)] {
+                        for (fails, refuses) in [(calls, Calls::None), (Calls::None, calls)] {
+                            let sink = Sink {
+                                fails,
+                                refuses,
+                                ..Sink::new(rt.alloc(), write_step)
+                            };
+                            let ended = run_over(Source::new(input, read_step), sink);
+                            assert_eq!(rt; ended.result, Err(RunError::Write), "{calls:?}");
+                            assert_eq!(rt; ended.writes, call + 1);
+                            assert_eq!(rt; ended.flushes, 0);
+                            assert_stated(&rt, input, answers, &ended)?;
+                        }
+                    }
+                }
                 let sink = Sink {
-                    room,
-                    when_full,
-                    ..Sink::new(rt.alloc(), step)
+                    flush_fails: true,
+                    ..Sink::new(rt.alloc(), write_step)
                 };
-                let ended = run_over(Source::new(INPUT, usize::MAX), sink);
-                assert_eq!(rt; ended.result, Err(RunError::Write), "room for {room}");
-                assert_eq!(rt; ended.written.as_slice(), &OUTPUT[..room]);
-                assert_eq!(rt; ended.flushes, 0);
-                assert!(rt; ended.output_failed && !ended.input_failed);
+                let ended = run_over(Source::new(input, read_step), sink);
+                assert_eq!(rt; ended.result, Err(RunError::Write));
+                assert_eq!(rt; ended.flushes, 1);
+                assert_eq!(rt; ended.written.as_slice(), whole.written.as_slice());
+                assert_stated(&rt, input, answers, &ended)?;
             }
+        }
+    }
+    Ok(())
+}
+
+#[test]
+fn a_writer_that_fails_after_five_bytes_has_those(rt: HostRuntime) {
+    for calls in [Calls::One(1), Calls::From(1)] {
+        for (fails, refuses) in [(calls, Calls::None), (Calls::None, calls)] {
+            let sink = Sink {
+                fails,
+                refuses,
+                ..Sink::new(rt.alloc(), 5)
+            };
+            let ended = run_over(Source::new(INPUT, usize::MAX), sink);
+            assert_eq!(rt; ended.result, Err(RunError::Write));
+            assert_eq!(rt; ended.written.as_slice(), b"ok 20".as_slice());
         }
     }
 }
 
 #[test]
-fn a_flush_that_fails_ends_the_run(rt: HostRuntime) {
-    let sink = Sink {
-        flush_fails: true,
-        ..Sink::new(rt.alloc(), usize::MAX)
-    };
-    let ended = run_over(Source::new(INPUT, usize::MAX), sink);
-    assert_eq!(rt; ended.result, Err(RunError::Write));
-    assert_eq!(rt; ended.written.as_slice(), OUTPUT);
-    assert!(rt; ended.output_failed && !ended.input_failed);
+fn the_end_of_the_input_is_the_first_read_that_gives_nothing(rt: HostRuntime) -> Result<(), Fail> {
+    for step in [1, 2, 3, usize::MAX] {
+        for call in 0..20 {
+            let source = Source {
+                pauses: Calls::One(call),
+                ..Source::new(INPUT, step)
+            };
+            let ended = run_over(source, Sink::new(rt.alloc(), usize::MAX));
+            let read = INPUT.len().saturating_sub(ended.unread);
+            let before = INPUT.get(..read).ok_or("a part of the input")?;
+            assert_eq!(rt; ended.result, Ok(()));
+            assert_eq!(rt;
+                ended.written.as_slice(),
+                answers(&rt, before, step).as_slice()
+            );
+            assert_eq!(rt; ended.flushes, 1);
+        }
+    }
+    Ok(())
+}
+
+#[test]
+fn an_empty_input_is_flushed(rt: HostRuntime) {
+    let ended = run_over(Source::new(b"", 1), Sink::new(rt.alloc(), 1));
+    assert_eq!(rt; ended.result, Ok(()));
+    assert_eq!(rt; (ended.reads, ended.writes, ended.flushes), (1, 0, 1));
+}
+
+#[test]
+fn each_call_of_a_watched_is_one_call(rt: HostRuntime) {
+    for fails in [Calls::None, Calls::One(0)] {
+        let source = Source {
+            fails,
+            ..Source::new(INPUT, 4)
+        };
+        let mut input = Watched::new(source);
+        let mut buffer = [0; 8];
+        let count = input.read(&mut buffer);
+        let failed = fails.has(0);
+        assert_eq!(rt; count, if failed { Err(Failed) } else { Ok(4) });
+        assert_eq!(rt; input.failed(), failed);
+        assert_eq!(rt; input.into_inner().calls, 1);
+    }
+    for (fails, refuses) in [
+        (Calls::None, Calls::None),
+        (Calls::One(0), Calls::None),
+        (Calls::None, Calls::One(0)),
+    ] {
+        let sink = Sink {
+            fails,
+            refuses,
+            ..Sink::new(rt.alloc(), 4)
+        };
+        let mut output = Watched::new(sink);
+        let count = output.write(INPUT);
+        let failed = fails.has(0) || refuses.has(0);
+        assert_eq!(rt; count, if failed { Err(Failed) } else { Ok(4) });
+        assert_eq!(rt; output.failed(), failed);
+        let sink = output.into_inner();
+        assert_eq!(rt; (sink.calls, sink.flushes), (1, 0));
+    }
+    for flush_fails in [false, true] {
+        let sink = Sink {
+            flush_fails,
+            ..Sink::new(rt.alloc(), 4)
+        };
+        let mut output = Watched::new(sink);
+        let flushed = output.flush();
+        assert_eq!(rt; flushed, if flush_fails { Err(Failed) } else { Ok(()) });
+        assert_eq!(rt; output.failed(), flush_fails);
+        let sink = output.into_inner();
+        assert_eq!(rt; (sink.calls, sink.flushes), (0, 1));
+    }
 }

@@ -5,5 +5,5 @@ use Rattle.speedate_lines.proofs.answer.answer_time.Goals as goal
 
 pub returns-in-Ok : goal.returns-in-Ok
 returns-in-Ok c = record {
-  answered = reply-printed time_text _ _ _ _ _ c.accept.ensures.accepted (c.deref.ensures.0 ∙ c.to_text.ensures.text) c.in-Ok.ensures.answer;
+  answered = reply-printed time_text _ _ _ _ _ c.accept.ensures.answered (c.deref.ensures.0 ∙ c.to_text.ensures.text) c.in-Ok.ensures.answer;
 }

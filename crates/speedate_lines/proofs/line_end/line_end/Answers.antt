@@ -11,14 +11,14 @@ returns-then-marks-ne0 c =
     let place = c.loop-place.place in
     let before = c.loop-place.invariant in
     let room : place + 16 ≤ length text = omega (arith, before.within) in
-    let some : 0 < marks_at text place = omega (arith, c.newlines-marks.ensures.marks) in
+    let some : 0 < marks_at text place = omega (arith, c.line_feeds-marks.ensures.marks) in
     let found = subst (λ (marks : ℕ). IsLineEnd text place (place + count_trailing_zeros 64 marks))
-    (sym c.newlines-marks.ensures.marks) (IsLineEnd-from_marks text place room some) in
+    (sym c.line_feeds-marks.ensures.marks) (IsLineEnd-from_marks text place room some) in
     record {
       found = record {
         after = omega (arith, before.after, found.after);
         within = found.within;
-        newline = found.newline;
+        ends = found.ends;
         first = joined_one_line text c.args.from place _ before.one_line found.first;
       };
     }
@@ -29,7 +29,7 @@ loop-place-preserved c =
     let place = c.loop-place.place in
     let before = c.loop-place.invariant in
     let room : place + 16 ≤ length text = omega (arith, before.within) in
-    let none = IsOneLine-from_marks text place room (sym c.newlines-marks.ensures.marks ∙ c.if-marks-ne0.false) in
+    let none = IsOneLine-from_marks text place room (sym c.line_feeds-marks.ensures.marks ∙ c.if-marks-ne0.false) in
     record {
       after = omega (arith, before.after);
       within = room;

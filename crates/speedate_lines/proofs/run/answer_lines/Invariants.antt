@@ -1,22 +1,23 @@
 use Rattle.std.proofs.Common.{◌≡◌, ◌-◌, ◌≤◌, ◌++◌, ℕ, List, length, drop}
-use Rattle.std.specs.Io.KnownBytes.{Appends}
-use Rattle.speedate_lines.specs.Lines.{IsOneLine, complete, unfinished}
+use Rattle.speedate_lines.specs.Lines.{IsOneLine, complete_lines, unfinished_line}
 use Rattle.speedate_lines.specs.Answer.{answers}
-use Rattle.speedate_lines.specs.Block.{held}
+use Rattle.speedate_lines.specs.Sent.{AppendsBut}
+use Rattle.speedate_lines.specs.Watch.{KeepsUnflushed}
 use Rattle.speedate_lines.proofs.run.answer_lines.Given as goal
 
--- the lines up to `start` have been answered, and no byte 10 stands from there up to `searched`
+-- the lines up to `start` have been answered, and no line feed stands from there up to `searched`
 abbrev pub invariant-loop-end : goal.invariant-loop-end
 invariant-loop-end g l = record {
   ordered : l.start ≤ l.searched;
   within : l.searched ≤ length l.text;
   one_line : IsOneLine l.text l.start l.searched;
   answered : (done : List ℕ)
-      × Appends (held g.W.Write.contents l.initial.output l.initial.pending.items)
-      (held g.W.Write.contents l.output l.pending.items) done
-      × (answers (complete l.text) ≡ done ++ answers (complete (drop l.start l.text)));
+      × AppendsBut l.pending.items (g.W.Write.contents l.initial.output.inner) (g.W.Write.contents l.output.inner)
+      (l.initial.pending.items ++ done)
+      × (answers (complete_lines l.text) ≡ done ++ answers (complete_lines (drop l.start l.text)));
   failed : l.output.failed ≡ l.initial.output.failed;
-  rest : unfinished l.text ≡ unfinished (drop l.start l.text);
+  unflushed : KeepsUnflushed l.initial.output l.output;
+  rest : unfinished_line l.text ≡ unfinished_line (drop l.start l.text);
 }
 
 abbrev pub decreases-loop-end : goal.decreases-loop-end

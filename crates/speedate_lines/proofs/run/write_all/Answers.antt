@@ -1,22 +1,23 @@
-use Rattle.std.proofs.Common.{◌∙◌, ap, sym, ℕ, List, ◌++◌, take, append_assoc}
-use Rattle.std.proofs.lemmas.List.{take_rest, take-append-drop}
-use Rattle.std.proofs.KnownBytes.{Appends-trans}
+use Rattle.std.proofs.Common.{◌∙◌, sym, refl}
+use Rattle.std.proofs.lemmas.List.{take_rest}
 use Rattle.std.proofs.Math.Bool.{or-false}
+use Rattle.std.proofs.lemmas.Bool.{false≢true}
+use Rattle.speedate_lines.proofs.SentLemmas.{AppendsBut-all, AppendsBut-taken, AppendsBut-kept, AppendsBut-same, on_err}
 use Rattle.speedate_lines.proofs.run.write_all.Goals as goal
+
+pub loop-rest-init : goal.loop-rest-init
+loop-rest-init g c = record { failed = refl; sent = AppendsBut-all _ _; unflushed = λ flushed. flushed }
 
 pub loop-rest-preserved : goal.loop-rest-preserved
 loop-rest-preserved g c =
     let before = c.loop-rest.invariant in
-    let sent = before.sent in
-    let rest = c.loop-rest.rest.now in
-    let taken = take c.in_ok-count.count rest in
+    let count = c.in_ok-count.count in
     record {
       failed = c.in_ok-count.ensures.failed ∙ or-false c.loop-rest.output.failed ∙ before.failed;
-      sent = (
-        sent.0 ++ taken,
-        Appends-trans _ _ _ sent.0 taken sent.1 c.in_ok-count.ensures.bytes,
-        sent.2
-            ∙ ap (λ (end : List ℕ). sent.0 ++ end) (sym (take-append-drop c.in_ok-count.count rest) ∙ ap (λ (end : List ℕ). taken ++ end) (sym (take_rest rest c.in_ok-count.count)))
-            ∙ sym (append_assoc sent.0 taken _),
-      );
+      sent = AppendsBut-same (AppendsBut-taken count before.sent c.in_ok-count.ensures.bytes) (take_rest c.loop-rest.rest.now count) refl;
+      unflushed = λ flushed. absurd (false≢true (sym c.in_ok-count.ensures.flushed ∙ flushed));
     }
+
+pub returns-in_err-count-clause-beginning : goal.returns-in_err-count-clause-beginning
+returns-in_err-count-clause-beginning g c =
+    on_err c.from_residual.result (record { left = c.loop-rest.rest.now; sent = AppendsBut-kept c.loop-rest.invariant.sent c.in_err-count.ensures.bytes })

@@ -1,14 +1,14 @@
-use Rattle.std.proofs.Common.{◌≡◌, ◌++◌, ℕ, List, length}
-use Rattle.std.specs.Io.KnownBytes.{Appends}
+use Rattle.std.proofs.Common.{◌≡◌, length}
+use Rattle.speedate_lines.specs.Sent.{AppendsBut}
+use Rattle.speedate_lines.specs.Watch.{KeepsUnflushed}
 use Rattle.speedate_lines.proofs.run.write_all.Given as goal
 
--- what has been written so far is the bytes without the rest
+-- the bytes have been written up to the rest
 abbrev pub invariant-loop-rest : goal.invariant-loop-rest
 invariant-loop-rest g l = record {
   failed : l.output.failed ≡ l.initial.output.failed;
-  sent : (written : List ℕ)
-      × Appends (g.W.Write.contents l.initial.output.inner) (g.W.Write.contents l.output.inner) written
-      × (l.bytes ≡ written ++ l.rest);
+  sent : AppendsBut l.rest (g.W.Write.contents l.initial.output.inner) (g.W.Write.contents l.output.inner) l.bytes;
+  unflushed : KeepsUnflushed l.initial.output l.output;
 }
 
 abbrev pub decreases-loop-rest : goal.decreases-loop-rest
