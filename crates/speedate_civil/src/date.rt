@@ -1,7 +1,7 @@
 //! Dates of the Gregorian calendar, from 0000-01-01 to 9999-12-31.
 
 ghost use Rattle.std.specs.Prelude.{◌≡◌, ◌<◌, ◌≤◌, Ok, OnOk, Some, length, if◌then◌else◌};
-ghost use Rattle.std.specs.Int.{IsInRange};
+ghost use Rattle.std.specs.Int.{is_in_range, IsInRange};
 ghost use Rattle.speedate_civil.specs.Calendar.{month_length, is_leap_year};
 
 mod day_number;
@@ -56,6 +56,15 @@ fn month_length(year: u16, month: u8) -> u8
         4 | 6 | 9 | 11 => 30,
         _ => 31,
     }
+}
+
+/// Whether a month of a year has such a day.
+#[inline]
+fn is_day(year: u16, month: u8, day: u8) -> bool
+    ensures { result ≡ is_in_range 1 (month_length year month) day }
+{
+    // No month is shorter than 28 days, so most days need no look at the calendar.
+    day >= 1 && (day <= 28 || day <= month_length(year, month))
 }
 
 impl Date {
@@ -121,7 +130,7 @@ impl Date {
         if month < 1 || month > 12 {
             return Err(ParseError::OutOfRangeMonth);
         }
-        if day < 1 || day > month_length(year, month) {
+        if !is_day(year, month, day) {
             return Err(ParseError::OutOfRangeDay);
         }
         Ok(Date { year, month, day })

@@ -1,7 +1,7 @@
 //! Callers of the library, as a crate outside this workspace would write them. `docs/CALLING.md`
 //! shows them word for word.
 
-ghost use Rattle.std.specs.Prelude.{◌≡◌, ◌%◌, ◌*◌, ◌≤◌, Ok, Some, None, ◌*ℤ◌, pos, unsigned_abs};
+ghost use Rattle.std.specs.Prelude.{◌≡◌, ◌↔◌, ◌-◌, ◌%◌, ◌≤◌, ◌*ℤ◌, IfSome, IsSome, IsSomeAnd, Ok, Some, pos, slice_get, unsigned_abs};
 ghost use Rattle.speedate.specs.Requirement.{result_map};
 ghost use Rattle.speedate.specs.DateText.{date_answer};
 ghost use Rattle.speedate.specs.Offset.{IsWholeMinutes};
@@ -33,12 +33,17 @@ const MONTHS: [&str; 12] = [
 ];
 
 /// The English name of a date's month: the type says that it is 1 to 12.
-pub fn month_name(date: &Date) -> &'static str {
+pub fn month_name(date: &Date) -> &'static str
+    ensures name { IsSomeAnd (slice_get MONTHS (date.now.month - 1)) (λ name. name.now ≡ result.now) }
+{
     MONTHS[usize::from(date.month) - 1]
 }
 
 /// A configuration that attaches so many hours to a timestamp's value, where they are an offset.
-pub fn with_offset(hours: i8) -> Option<TimeConfig> {
+pub fn with_offset(hours: i8) -> Option<TimeConfig>
+    ensures given { IsSome result ↔ (unsigned_abs hours ≤ 23) }
+    ensures offset { IfSome result (λ config. config.unix_timestamp_offset ≡ Some (pos 3600 *ℤ hours)) }
+{
     if hours < -23 || hours > 23 {
         return None;
     }
