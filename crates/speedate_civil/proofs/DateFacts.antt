@@ -1,11 +1,10 @@
 -- What every `Date` is.
 use Rattle.speedate_civil.specs.declared.date.Date.{Date}
-use Rattle.speedate_civil.specs.Calendar.{IsDate}
+use Rattle.speedate_civil.specs.Calendar.{IsDate, IsDay}
 use Rattle.speedate_civil.specs.Date.{parts}
-use Rattle.speedate_civil.specs.DayNumber.{IsDay}
 
 pub is_day : (date : Date) → IsDay (parts date)
 is_day date = record { month = date.month_in_range; day = date.day_in_range }
 
 pub is_date : (date : Date) → IsDate (parts date)
-is_date date = record { year = date.year_in_range; month = date.month_in_range; day = date.day_in_range }
+is_date date = record { year = date.year_in_range; day = is_day date }

@@ -3,8 +3,8 @@ use Rattle.std.specs.Prelude.{◌≡◌, ℕ, ◌+◌, ◌-◌, ◌*◌, ◌/◌
 use Rattle.std.proofs.Common.{arith, ap, inl, inr}
 use Rattle.std.proofs.lemmas.Bool.{cases_lt}
 use Rattle.std.proofs.lemmas.Bool.Decides.{nat_tests}
-use Rattle.speedate_civil.specs.Calendar.{Ymd}
-use Rattle.speedate_civil.specs.DayNumber.{IsDay, days_of_months, year_length, days_before_year, ordinal_day, day_number}
+use Rattle.speedate_civil.specs.Calendar.{Ymd, IsDay}
+use Rattle.speedate_civil.specs.DayNumber.{days_of_months, year_length, days_before_year, ordinal_day, day_number}
 use Rattle.speedate_civil.specs.DayNumberLaws.{leap_day, year_length-is, days_before_year-is}
 
 -- a day number in centuries and days, counted from the 400 years before the year 1

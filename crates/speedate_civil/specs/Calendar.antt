@@ -22,8 +22,12 @@ pub record Ymd : Type 0 where
   pub month : ℕ
   pub day : ℕ
 
--- a date of the calendar
-pub record IsDate (date : Ymd) : Type 0 where
-  pub year : date.year ≤ 9999
+-- a day of the calendar, in whatever year
+pub record IsDay (date : Ymd) : Type 0 where
   pub month : IsInRange 1 12 date.month
   pub day : IsInRange 1 (month_length date.year date.month) date.day
+
+-- a day of the years 0000 to 9999
+pub record IsDate (date : Ymd) : Type 0 where
+  pub year : date.year ≤ 9999
+  pub day : IsDay date

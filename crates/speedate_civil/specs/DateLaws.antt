@@ -44,17 +44,17 @@ date_text-front date tail valid =
         (
           refl,
           (
-            two_digits-printed date.month (omega (arith, valid.month)),
+            two_digits-printed date.month (omega (arith, valid.day.month)),
             (
               refl,
               (
-                two_digits-printed date.day (omega (arith, valid.day, month_length-small date.year date.month)),
+                two_digits-printed date.day (omega (arith, valid.day.day, month_length-small date.year date.month)),
                 (
                   subst (λ (read : Ymd). is_in_range 1 12 read.month ≡ true) (sym numbers)
-                      (is_in_range-true 1 12 date.month valid.month),
+                      (is_in_range-true 1 12 date.month valid.day.month),
                   (
                     subst (λ (read : Ymd). is_in_range 1 (month_length read.year read.month) read.day ≡ true) (sym numbers)
-                        (is_in_range-true 1 (month_length date.year date.month) date.day valid.day),
+                        (is_in_range-true 1 (month_length date.year date.month) date.day valid.day.day),
                     tt,
                   ),
                 ),
@@ -87,6 +87,6 @@ date_text-IsAscii date tail valid ascii =
     let months : List ℕ = two_digit_text date.month ++ hyphen ∷ days in
     four_digit_text-IsAscii date.year (hyphen ∷ months) (omega (arith, valid.year))
     (IsAscii-cons hyphen months (lit< tt)
-    (two_digit_text-IsAscii date.month (hyphen ∷ days) (omega (arith, valid.month))
+    (two_digit_text-IsAscii date.month (hyphen ∷ days) (omega (arith, valid.day.month))
     (IsAscii-cons hyphen days (lit< tt)
-    (two_digit_text-IsAscii date.day tail (omega (arith, valid.day, month_length-small date.year date.month)) ascii))))
+    (two_digit_text-IsAscii date.day tail (omega (arith, valid.day.day, month_length-small date.year date.month)) ascii))))

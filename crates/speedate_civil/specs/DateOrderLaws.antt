@@ -7,10 +7,10 @@ use Rattle.std.specs.declared.cmp.Ordering.{Ordering}
 use Rattle.std.specs.declared.cmp.Ordering.TheVariants.{Less, Equal, Greater}
 use Rattle.std.proofs.Common.{arith, ◌∙◌, ap, sym}
 use Rattle.std.proofs.lemmas.Bool.Decides.{nat_tests}
-use Rattle.speedate_civil.specs.Calendar.{Ymd}
+use Rattle.speedate_civil.specs.Calendar.{Ymd, IsDay}
 use Rattle.speedate_civil.specs.DateOrder.{date_order}
 use Rattle.speedate_civil.specs.DateText.{date_text}
-use Rattle.speedate_civil.specs.DayNumber.{IsDay, days_of_months, days_before_year, day_number}
+use Rattle.speedate_civil.specs.DayNumber.{days_of_months, days_before_year, day_number}
 use Rattle.speedate_civil.specs.DayNumberLaws.{days_of_months-next, days_of_months-rises, days_before_year-next, days_before_year-rises, ordinal_day-small}
 
 -- dates are ordered one after another

@@ -1,12 +1,6 @@
 -- Days counted from 0000-01-01, and the day after a day.
 use Rattle.std.specs.Prelude.{ℕ, zero, suc, ◌+◌, ◌-◌, nat_lt, nat_le, if◌then◌else◌, Option, Some, None, ℤ, pos, ◌-ℤ◌, ◌*ℤ◌}
-use Rattle.std.specs.Int.{IsInRange}
 use Rattle.speedate_civil.specs.Calendar.{Ymd, month_length}
-
--- a day of the calendar, in whatever year
-pub record IsDay (date : Ymd) : Type 0 where
-  pub month : IsInRange 1 12 date.month
-  pub day : IsInRange 1 (month_length date.year date.month) date.day
 
 -- the days of the first so many months of a year
 unfoldable pub days_of_months : ℕ → ℕ → ℕ

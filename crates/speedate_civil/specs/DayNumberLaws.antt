@@ -3,8 +3,8 @@ use Rattle.std.specs.Prelude.{◌≡◌, ℕ, zero, suc, ◌+◌, ◌-◌, ◌*�
 use Rattle.std.proofs.Common.{arith, ap, subst, add-one, add-zero, add-suc}
 use Rattle.std.proofs.lemmas.Bool.Decides.{nat_tests}
 use borrow.Author.Tests.{ltb-true, ltb-false}
-use Rattle.speedate_civil.specs.Calendar.{Ymd, is_leap_year, february_length, month_length}
-use Rattle.speedate_civil.specs.DayNumber.{IsDay, days_of_months, year_length, days_before_year, ordinal_day, day_number, day_after, date_after}
+use Rattle.speedate_civil.specs.Calendar.{Ymd, is_leap_year, february_length, month_length, IsDay}
+use Rattle.speedate_civil.specs.DayNumber.{days_of_months, year_length, days_before_year, ordinal_day, day_number, day_after, date_after}
 
 -- the 29 February of a year, counted
 abbrev pub leap_day : ℕ → ℕ
