@@ -7,6 +7,7 @@ use Rattle.std.specs.declared.cmp.Ordering.{Ordering}
 use Rattle.std.specs.declared.cmp.Ordering.TheVariants.{Less, Equal, Greater}
 use Rattle.std.proofs.Common.{arith, ◌∙◌, ap, sym}
 use Rattle.std.proofs.lemmas.Bool.Decides.{nat_tests}
+use Rattle.speedate_base.specs.Digits.{digit}
 use Rattle.speedate_civil.specs.Calendar.{Ymd, IsDay}
 use Rattle.speedate_civil.specs.DateOrder.{date_order}
 use Rattle.speedate_civil.specs.DateText.{date_text}
@@ -99,7 +100,7 @@ day_number-distinct first second one two = same-ranked first second (date_order 
 
 -- the tens and then the units of two numbers are ordered as the numbers
 digits-order : (first second : ℕ) (next : Ordering)
-    → ordering_then (nat_cmp (48 + first / 10) (48 + second / 10)) (ordering_then (nat_cmp (48 + first % 10) (48 + second % 10)) next)
+    → ordering_then (nat_cmp (digit (first / 10)) (digit (second / 10))) (ordering_then (nat_cmp (digit (first % 10)) (digit (second % 10))) next)
     ≡ ordering_then (nat_cmp first second) next
 digits-order first second next = grind (arith, nat_tests)
 
