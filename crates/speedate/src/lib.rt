@@ -1,14 +1,15 @@
-//! Exact dates, times of day and numbers: read from bytes, dates and times printed in one canonical
-//! form.
+//! Exact dates, times of day, date-times and numbers: read from bytes, all but the numbers printed in
+//! one canonical form.
 #![tactic(auto)]
 
 pub use speedate_base::config::{
-    DateConfig, DateConfigBuilder, MicrosecondsPrecisionOverflowBehavior, TimeConfig,
-    TimeConfigBuilder, TimestampUnit,
+    DateConfig, DateConfigBuilder, DateTimeConfig, DateTimeConfigBuilder,
+    MicrosecondsPrecisionOverflowBehavior, TimeConfig, TimeConfigBuilder, TimestampUnit,
 };
 pub use speedate_base::faults::ParseError;
 pub use speedate_base::numbers::{
     Decimal, IntFloat, float_parse_bytes, float_parse_str, int_parse_bytes, int_parse_str,
 };
 pub use speedate_civil::date::Date;
+pub use speedate_civil::datetime::DateTime;
 pub use speedate_civil::time::Time;

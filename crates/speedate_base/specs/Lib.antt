@@ -10,6 +10,7 @@ pub mod Timestamp
 pub mod UnixTime
 pub mod DateConfig
 pub mod TimeConfig
+pub mod DateTimeConfig
 pub mod RequirementLaws
 pub mod TextLaws
 pub mod FaultLaws

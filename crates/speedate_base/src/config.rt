@@ -4,6 +4,9 @@
 ghost use Rattle.std.specs.Option.{ForSome};
 ghost use Rattle.speedate_base.specs.Offset.{IsOffset};
 
+mod date_time;
+
+pub use date_time::{DateTimeConfig, DateTimeConfigBuilder};
 use std::marker::Model;
 
 /// The unit of a timestamp.

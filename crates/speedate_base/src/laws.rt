@@ -6,8 +6,8 @@ ghost use Rattle.speedate_base.specs.Fault.{fault_name};
 ghost use Rattle.speedate_base.specs.declared.faults.ParseError.{ParseError};
 
 use crate::config::{
-    DateConfig, DateConfigBuilder, MicrosecondsPrecisionOverflowBehavior, TimeConfig,
-    TimeConfigBuilder, TimestampUnit,
+    DateConfig, DateConfigBuilder, DateTimeConfig, DateTimeConfigBuilder,
+    MicrosecondsPrecisionOverflowBehavior, TimeConfig, TimeConfigBuilder, TimestampUnit,
 };
 use crate::faults::ParseError;
 use crate::numbers::{Decimal, DigitRun, IntFloat};
@@ -61,6 +61,13 @@ pub fn same_unix_time(first: &UnixTime, second: &UnixTime) -> bool
 
 /// Whether two configurations are one: false where one has no offset and the other the offset 0.
 pub fn same_time_config(first: &TimeConfig, second: &TimeConfig) -> bool
+    ensures same { IsTrue result ↔ (first.now ≡ second.now) }
+{
+    first == second
+}
+
+/// Whether two configurations of date-times are one: false where their units differ.
+pub fn same_date_time_config(first: &DateTimeConfig, second: &DateTimeConfig) -> bool
     ensures same { IsTrue result ↔ (first.now ≡ second.now) }
 {
     first == second
@@ -130,6 +137,22 @@ pub fn clone_time_config(config: &TimeConfig) -> Result<TimeConfig, AllocError>
 pub fn clone_time_config_builder(
     builder: &TimeConfigBuilder,
 ) -> Result<TimeConfigBuilder, AllocError>
+    ensures clone { result ≡ Ok builder.now }
+{
+    builder.clone()
+}
+
+/// A second configuration of date-times that is the same, its times' part and all.
+pub fn clone_date_time_config(config: &DateTimeConfig) -> Result<DateTimeConfig, AllocError>
+    ensures clone { result ≡ Ok config.now }
+{
+    config.clone()
+}
+
+/// A second builder in the same state.
+pub fn clone_date_time_config_builder(
+    builder: &DateTimeConfigBuilder,
+) -> Result<DateTimeConfigBuilder, AllocError>
     ensures clone { result ≡ Ok builder.now }
 {
     builder.clone()

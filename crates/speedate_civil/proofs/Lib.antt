@@ -1,3 +1,5 @@
 pub mod DateFacts
+pub mod TimeFacts
+pub mod DateTimeFacts
 pub mod MonthOfDay
 pub mod YearOfDay

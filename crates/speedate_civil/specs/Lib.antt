@@ -10,6 +10,10 @@ pub mod ClockText
 pub mod OffsetText
 pub mod TimeText
 pub mod Time
+pub mod DateAndTime
+pub mod DateTimeText
+pub mod DateTime
+pub mod DateTimeTimestamp
 pub mod PureTime
 pub mod StandardExamples
 pub mod CalendarExamples
@@ -21,3 +25,4 @@ pub mod NumberTextLaws
 pub mod ClockLaws
 pub mod OffsetLaws
 pub mod TimeLaws
+pub mod DateTimeLaws

@@ -9,6 +9,7 @@ use Rattle.speedate_base.specs.Ascii.{hyphen, full_stop}
 use Rattle.speedate_base.specs.Digits.{four_digits_at}
 use Rattle.speedate_base.specs.NumberLaws.{whole_number-other, number_answer-other}
 use Rattle.speedate_base.specs.Numbers.{NoNumber, number_answer, whole_number}
+use Rattle.speedate_base.specs.Requirement.{result_and_then}
 use Rattle.speedate_civil.specs.Calendar.{Ymd}
 use Rattle.speedate_civil.specs.DateText.{date_front, date_answer}
 use Rattle.speedate_civil.specs.NumberText.{may_be_number}
@@ -37,7 +38,7 @@ number_answer-date text date read =
     let byte = eqb-true (slice_index text 4) hyphen rows.1 in
     number_answer-other text 4 (omega arith) within (ap is_ascii_digit byte) (ap (λ (n : ℕ). n == full_stop) byte)
 
-other-fault : (refused fault : ParseError) (answer : Result Ymd ParseError) → may_be_number refused ≡ false → may_be_number fault ≡ true
+other-fault : {A : Type 0} (refused fault : ParseError) (answer : Result A ParseError) → may_be_number refused ≡ false → may_be_number fault ≡ true
     → answer ≡ Err refused → answer ≢ Err fault
 other-fault refused fault answer behind number one two =
     let same : refused ≡ fault = cc in
@@ -51,4 +52,16 @@ whole_number-refused text refused read behind =
     fault.TooShort fault.InvalidCharYear fault.InvalidCharDateSep _ answer refl
     (other-fault refused fault.TooShort answer behind refl read) (other-fault refused fault.InvalidCharYear answer behind refl read)
     (other-fault refused fault.InvalidCharDateSep answer behind refl read) in
+    hyphen-no_digit text rows.0 rows.1
+
+-- whatever is asked of a date at the front of the text
+pub whole_number-refused_front : {A : Type 0} (next : Ymd → Result A ParseError) (text : List ℕ) (fault : ParseError)
+    → result_and_then next (date_front text) ≡ Err fault → may_be_number fault ≡ false → whole_number text ≡ None
+whole_number-refused_front next text refused read behind =
+    let front = date_front text in
+    let rows = rows-met (nat_le 10 (length text)) (four_digits_at text 0) (slice_index text 4 == hyphen)
+    fault.TooShort fault.InvalidCharYear fault.InvalidCharDateSep _ front refl
+    (λ same. other-fault refused fault.TooShort _ behind refl read (ap (result_and_then next) same))
+    (λ same. other-fault refused fault.InvalidCharYear _ behind refl read (ap (result_and_then next) same))
+    (λ same. other-fault refused fault.InvalidCharDateSep _ behind refl read (ap (result_and_then next) same)) in
     hyphen-no_digit text rows.0 rows.1

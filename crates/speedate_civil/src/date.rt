@@ -6,7 +6,7 @@ ghost use Rattle.speedate_civil.specs.Calendar.{month_length, is_leap_year};
 
 mod day_number;
 mod order;
-mod timestamp;
+pub(crate) mod timestamp;
 
 use crate::text::{ascii_text, two_digit_text};
 use arrayvec::ArrayString;
@@ -151,7 +151,7 @@ impl Date {
 
     /// The bytes of the canonical text.
     #[inline]
-    fn text_bytes(&self) -> [u8; TEXT_LENGTH]
+    pub(crate) fn text_bytes(&self) -> [u8; TEXT_LENGTH]
         ensures bytes { result ≡ date_text (parts self.now) }
     {
         let [y1, y2] = two_digit_text((self.year / 100) as u8);

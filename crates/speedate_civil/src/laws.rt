@@ -6,6 +6,7 @@ ghost use Rattle.speedate_civil.specs.Date.{parts};
 ghost use Rattle.speedate_civil.specs.DayNumber.{day_number};
 
 use crate::date::Date;
+use crate::datetime::DateTime;
 use crate::time::{PureTime, Time};
 use std::alloc::AllocError;
 
@@ -31,6 +32,13 @@ pub fn same_time(first: &Time, second: &Time) -> bool
     first == second
 }
 
+/// Whether two date-times are one: false where they are shown at other offsets.
+pub fn same_date_time(first: &DateTime, second: &DateTime) -> bool
+    ensures same { IsTrue result ↔ (first.now ≡ second.now) }
+{
+    first == second
+}
+
 /// Whether two times without offsets are one, and take as many bytes of their texts.
 pub fn same_pure_time(first: &PureTime, second: &PureTime) -> bool
     ensures same { IsTrue result ↔ (first.now ≡ second.now) }
@@ -50,6 +58,13 @@ pub fn clone_time(time: &Time) -> Result<Time, AllocError>
     ensures clone { result ≡ Ok time.now }
 {
     time.clone()
+}
+
+/// A second date-time that is the same, offset and all.
+pub fn clone_date_time(value: &DateTime) -> Result<DateTime, AllocError>
+    ensures clone { result ≡ Ok value.now }
+{
+    value.clone()
 }
 
 /// A second time without an offset that is the same.

@@ -2,6 +2,7 @@
 #![tactic(auto)]
 
 pub mod date;
+pub mod datetime;
 pub mod laws;
 pub mod text;
 pub mod time;

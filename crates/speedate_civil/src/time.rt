@@ -40,11 +40,12 @@ pub struct Time {
 }
 
 impl Time {
-    ghost use Rattle.std.specs.Prelude.{◌+◌, ◌*◌, IfOk, drop, length, None};
+    ghost use Rattle.std.specs.Prelude.{◌+◌, ◌*◌, ◌<◌, IfOk, drop, length, None};
+    ghost use Rattle.speedate_base.specs.Offset.{seconds_per_day};
     ghost use Rattle.speedate_base.specs.declared.config.MicrosecondsPrecisionOverflowBehavior.TheVariants as behavior;
     ghost use Rattle.speedate_base.specs.Requirement.{result_map};
     ghost use Rattle.speedate_civil.specs.Time.{parts};
-    ghost use Rattle.speedate_civil.specs.TimeOfDay.{second_of_day, millisecond_of_day, microsecond_of_day, timestamp_answer};
+    ghost use Rattle.speedate_civil.specs.TimeOfDay.{second_of_day, millisecond_of_day, microsecond_of_day, time_at, timestamp_answer};
     ghost use Rattle.speedate_civil.specs.TimeText.{time_answer};
 
     /// Reads a time from a text: the time that the text is, as 12:13:14 and a half, an hour east
@@ -155,13 +156,28 @@ impl Time {
         if second >= u64::from(SECONDS_PER_DAY) {
             return Err(ParseError::TimeTooLarge);
         }
-        Ok(Time {
+        Ok(Self::at_second(
+            second as u32,
+            timestamp_microsecond % 1_000_000,
+            config.unix_timestamp_offset,
+        ))
+    }
+
+    /// The time at a second of the day and its microsecond, with the offset attached.
+    #[inline]
+    pub(crate) fn at_second(second: u32, microsecond: u32, tz_offset: Option<i32>) -> Self
+        requires second { second < seconds_per_day }
+        requires microsecond { microsecond < 1000000 }
+        requires offset { ForSome tz_offset IsOffset }
+        ensures time { parts result ≡ time_at second microsecond tz_offset }
+    {
+        Time {
             hour: (second / 3600) as u8,
             minute: (second / 60 % 60) as u8,
             second: (second % 60) as u8,
-            microsecond: timestamp_microsecond % 1_000_000,
-            tz_offset: config.unix_timestamp_offset,
-        })
+            microsecond,
+            tz_offset,
+        }
     }
 
     /// The seconds since midnight, whatever the offset: 43,994 for 12:13:14.5.

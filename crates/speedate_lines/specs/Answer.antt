@@ -1,5 +1,5 @@
 -- What the program answers to a line, and to lines.
-use Rattle.std.specs.Prelude.{ℕ, List, [], ◌∷◌, ◌++◌, length, take, drop, codes, nat_lt, bytes_eq, if◌then◌else◌, Result, Ok, Err}
+use Rattle.std.specs.Prelude.{ℕ, List, [], ◌∷◌, ◌++◌, length, take, drop, codes, nat_lt, bytes_eq, if◌then◌else◌, None, Result, Ok, Err}
 use Rattle.std.specs.List.{flat_map}
 use Rattle.speedate.specs.declared.ParseError.{ParseError}
 use Rattle.speedate.specs.Fault.{fault_name}
@@ -7,6 +7,8 @@ use Rattle.speedate.specs.declared.MicrosecondsPrecisionOverflowBehavior.TheVari
 use Rattle.speedate.specs.declared.TimestampUnit.TheVariants as unit
 use Rattle.speedate.specs.DateText.{date_text}
 use Rattle.speedate.specs.DateTimestamp.{date_or_timestamp}
+use Rattle.speedate.specs.DateTimeText.{date_time_text}
+use Rattle.speedate.specs.DateTimeTimestamp.{date_time_or_timestamp}
 use Rattle.speedate.specs.TimeText.{time_answer, time_text}
 use Rattle.speedate.specs.Ascii.{space, line_feed}
 use Rattle.speedate_lines.specs.Lines.{longest_line}
@@ -35,9 +37,15 @@ date_kind = record { word = codes "date"; reply_to = λ text. reply date_text (d
 abbrev pub time_kind : Kind
 time_kind = record { word = codes "time"; reply_to = λ text. reply time_text (time_answer behavior.Error text) }
 
+abbrev pub date_time_kind : Kind
+date_time_kind = record {
+  word = codes "datetime";
+  reply_to = λ text. reply date_time_text (date_time_or_timestamp unit.Infer behavior.Error None text);
+}
+
 -- all kinds
 abbrev pub kinds : List Kind
-kinds = date_kind ∷ time_kind ∷ []
+kinds = date_kind ∷ time_kind ∷ date_time_kind ∷ []
 
 -- what a line of a kind begins with: the kind's word and a space
 abbrev pub front : Kind → List ℕ

@@ -3,10 +3,12 @@
 ghost use Rattle.std.specs.Prelude.{◌≡◌, ◌+◌, ◌≤◌, length, [], ◌∷◌, ◌++◌};
 ghost use Rattle.arrayvec.specs.ArrayVec.{array_vec_len};
 ghost use Rattle.speedate.specs.Ascii.{line_feed};
-ghost use Rattle.speedate_lines.specs.Answer.{line_answer, ok_answer, err_answer, date_kind, time_kind};
+ghost use Rattle.speedate.specs.DateTime.{parts};
+ghost use Rattle.speedate.specs.DateTimeText.{date_time_text};
+ghost use Rattle.speedate_lines.specs.Answer.{line_answer, ok_answer, err_answer, date_kind, time_kind, date_time_kind};
 
 use arrayvec::ArrayVec;
-use speedate::{Date, Time};
+use speedate::{Date, DateTime, Time};
 use speedate_civil::text::push;
 
 /// A longer line is answered without being looked at.
@@ -20,6 +22,9 @@ pub const ANSWER_MAX: usize = 4 + TEXT_MAX + 1;
 
 /// How many bytes of answers are gathered before they are written.
 pub const PENDING_MAX: usize = 65536;
+
+/// What the answer to a text that was read begins with.
+const ACCEPTED: &[u8] = b"ok ";
 
 /// Answers that wait to be written.
 pub type Pending = ArrayVec<u8, PENDING_MAX>;
@@ -37,6 +42,8 @@ pub fn answer_line(line: &[u8], pending: &mut Pending)
         answer_date(text, pending)
     } else if let Some(text) = line.strip_prefix(b"time ") {
         answer_time(text, pending)
+    } else if let Some(text) = line.strip_prefix(b"datetime ") {
+        answer_date_time(text, pending)
     } else {
         refuse("unknown_kind", pending)
     }
@@ -68,6 +75,32 @@ fn answer_time(text: &[u8], pending: &mut Pending)
     }
 }
 
+/// Appends the answer to the text of a date-time.
+#[inline]
+fn answer_date_time(text: &[u8], pending: &mut Pending)
+    requires { array_vec_len pending.old + ANSWER_MAX ≤ PENDING_MAX }
+    ensures answered { pending.new.items ≡ pending.old.items
+        ++ (date_time_kind.reply_to text.now ++ line_feed ∷ []) }
+{
+    match DateTime::parse_bytes(text) {
+        Ok(value) => accept_date_time(&value, pending),
+        Err(fault) => refuse(fault.name(), pending),
+    }
+}
+
+/// Appends the answer to a text that was read as a date-time: the value's bytes go straight behind
+/// the answers that wait.
+#[inline]
+fn accept_date_time(value: &DateTime, pending: &mut Pending)
+    requires { array_vec_len pending.old + ANSWER_MAX ≤ PENDING_MAX }
+    ensures answered { pending.new.items ≡ pending.old.items
+        ++ (ok_answer (date_time_text (parts value.now)) ++ line_feed ∷ []) }
+{
+    push(ACCEPTED, pending);
+    value.push_onto(pending);
+    push(b"\n", pending);
+}
+
 /// Appends the answer to a text that was read: the canonical text of its value.
 #[inline]
 fn accept(text: &str, pending: &mut Pending)
@@ -75,7 +108,7 @@ fn accept(text: &str, pending: &mut Pending)
     requires room { array_vec_len pending.old + ANSWER_MAX ≤ PENDING_MAX }
     ensures answered { pending.new.items ≡ pending.old.items ++ (ok_answer text.now ++ line_feed ∷ []) }
 {
-    push(b"ok ", pending);
+    push(ACCEPTED, pending);
     push(text.as_bytes(), pending);
     push(b"\n", pending);
 }

@@ -18,10 +18,10 @@ use speedate_base::numbers::int_parse_bytes;
 use speedate_base::util::{SECONDS_PER_DAY, UnixTime, timestamp_to_seconds_micros};
 
 /// The first second of the year 0000, counted from 1970-01-01T00:00:00.
-const FIRST_SECOND: i64 = -62_167_219_200;
+pub(crate) const FIRST_SECOND: i64 = -62_167_219_200;
 
 /// The last second of the year 9999.
-const LAST_SECOND: i64 = 253_402_300_799;
+pub(crate) const LAST_SECOND: i64 = 253_402_300_799;
 
 impl Date {
     /// Reads a date from a text, or from a timestamp that stands there instead: 2020-02-29 for
@@ -134,7 +134,7 @@ impl Date {
 
 /// The day number of a second of the years 0000 to 9999, and the second of that day.
 #[inline]
-fn day_and_second(second: i64) -> (u32, u32)
+pub(crate) fn day_and_second(second: i64) -> (u32, u32)
     requires after { IsTrue (int_le first_second second) }
     requires before { IsTrue (int_le second last_second) }
     ensures day { result.0 ≡ unsigned_abs (int_div_euclid second (pos seconds_per_day) +ℤ pos 719528) }
@@ -156,7 +156,7 @@ fn is_taken(require_exact: bool, second: u32, microsecond: u32) -> bool
 
 /// Whether a text that is refused as a date by this fault may be a whole number.
 #[inline]
-fn may_be_number(fault: ParseError) -> bool
+pub(crate) fn may_be_number(fault: ParseError) -> bool
     ensures { result ≡ may_be_number fault }
 {
     matches!(

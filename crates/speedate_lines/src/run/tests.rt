@@ -211,6 +211,17 @@ fn answers_each_line(rt: HostRuntime) {
         (b"time 12345", b"err invalid_char_time_sep\n"),
         (b"time ", b"err too_short\n"),
         (b"time", b"err unknown_kind\n"),
+        (b"datetime 1654646404", b"ok 2022-06-08T00:00:04\n"),
+        (
+            b"datetime 1654646404.5",
+            b"err invalid_char_date_sep\n",
+        ),
+        (
+            b"datetime 2022-01-01_12:13:14.5+0000\n",
+            b"ok 2022-01-01T12:13:14.500000Z\n",
+        ),
+        (b"datetime", b"err unknown_kind\n"),
+        (b"datetime2020-01-01", b"err unknown_kind\n"),
         (b"time 12:13\r\n", b"err invalid_char_tz_sign\n"),
         (
             b"time 23:59\ndate 2000-02-29\ntime 2000-02-29\ndate 23:59",

@@ -1,20 +1,10 @@
 use Rattle.std.proofs.Common.{◌≡◌, ◌∙◌, sym, ap, subst, ℕ, List, [], ◌++◌, lit<}
 use Rattle.std.specs.Str.{IsAscii}
-use Rattle.speedate_civil.specs.declared.time.Time.{Time}
 use Rattle.speedate_civil.specs.Time.{parts}
-use Rattle.speedate_civil.specs.TimeOfDay.{IsTime}
 use Rattle.speedate_civil.specs.TimeText.{time_answer}
 use Rattle.speedate_civil.specs.TimeLaws.{time_text-reads, time_text-distinct, time_text-IsAscii}
+use Rattle.speedate_civil.proofs.TimeFacts.{is_time}
 use Rattle.speedate_civil.proofs.time.Time.to_text.Goals as goal
-
-is_time : (time : Time) → IsTime (parts time)
-is_time time = record {
-  hour = time.hour_in_range;
-  minute = time.minute_in_range;
-  second = time.second_in_range;
-  microsecond = time.microsecond_in_range;
-  offset = time.offset_in_range;
-}
 
 -- what was appended to nothing is the text
 alone : (before after text : List ℕ) → before ≡ [] → after ≡ before ++ text → after ≡ text

@@ -1,0 +1,117 @@
+//! Configurations of date-times.
+
+use super::{TimeConfig, TimestampUnit};
+use std::marker::Model;
+
+/// The unit of the timestamps that are read as date-times, how the time in a text is read, and which
+/// offset the date-time of a timestamp gets. The default infers the unit, refuses further digits of a
+/// second and attaches no offset;
+/// `DateTimeConfig::builder().timestamp_unit(TimestampUnit::Second).build()` takes seconds.
+#[derive(Clone, Copy, Debug, PartialEq, Eq)]
+pub struct DateTimeConfig {
+    /// The unit of timestamps.
+    pub timestamp_unit: TimestampUnit,
+    /// How times are read, and which offset the date-time of a timestamp gets.
+    pub time_config: TimeConfig,
+}
+
+impl DateTimeConfig {
+    ghost use Rattle.speedate_base.specs.DateTimeConfig.{IsDefault};
+
+    /// A builder of a configuration: `DateTimeConfig::builder().build()` is the default one.
+    pub fn builder() -> DateTimeConfigBuilder
+        ensures default { IsDefault result }
+    {
+        DateTimeConfigBuilder::new()
+    }
+}
+
+impl Default for DateTimeConfig {
+    ghost use Rattle.speedate_base.specs.DateTimeConfig.{IsDefault};
+
+    ghost is_default = { IsDefault };
+
+    /// The unit of timestamps is inferred, further digits are refused, and timestamps get no offset.
+    fn default() -> Self {
+        DateTimeConfig {
+            timestamp_unit: TimestampUnit::default(),
+            time_config: TimeConfig::default(),
+        }
+    }
+}
+
+/// Builds a [`DateTimeConfig`] from the values that are set, and defaults for the others.
+#[derive(Clone, Copy, Debug)]
+pub struct DateTimeConfigBuilder {
+    config: DateTimeConfig,
+}
+
+impl Model for DateTimeConfigBuilder {
+    ghost use Rattle.std.specs.Prelude.{refl};
+    ghost use Rattle.speedate_base.specs.declared.config.date_time.DateTimeConfig.{DateTimeConfig};
+
+    ghost Value = { DateTimeConfig };
+
+    ghost view = { λ builder. builder.config };
+
+    ghost inverse = { λ config. record { config = config } };
+}
+
+impl DateTimeConfigBuilder {
+    ghost use Rattle.std.specs.Prelude.{◌≡◌};
+    ghost use Rattle.speedate_base.specs.DateTimeConfig.{IsDefault};
+
+    /// A builder of the default configuration, as `DateTimeConfig::builder` gives it too.
+    pub fn new() -> Self
+        ensures default { IsDefault result }
+    {
+        DateTimeConfigBuilder {
+            config: DateTimeConfig::default(),
+        }
+    }
+
+    /// Sets the unit of timestamps.
+    pub fn timestamp_unit(self, unit: TimestampUnit) -> Self
+        ensures unit { result.timestamp_unit ≡ unit }
+        ensures time { result.time_config ≡ self.time_config }
+    {
+        DateTimeConfigBuilder {
+            config: DateTimeConfig {
+                timestamp_unit: unit,
+                time_config: self.config.time_config,
+            },
+        }
+    }
+
+    /// Sets how times are read, and which offset the date-time of a timestamp gets.
+    pub fn time_config(self, config: TimeConfig) -> Self
+        ensures time { result.time_config ≡ config }
+        ensures unit { result.timestamp_unit ≡ self.timestamp_unit }
+    {
+        DateTimeConfigBuilder {
+            config: DateTimeConfig {
+                timestamp_unit: self.config.timestamp_unit,
+                time_config: config,
+            },
+        }
+    }
+
+    /// The configuration of the values that were set last, and of defaults for the others.
+    pub fn build(self) -> DateTimeConfig
+        ensures built { result ≡ self }
+    {
+        let DateTimeConfigBuilder { config } = self;
+        config
+    }
+}
+
+impl Default for DateTimeConfigBuilder {
+    ghost use Rattle.speedate_base.specs.DateTimeConfig.{IsDefault};
+
+    ghost is_default = { IsDefault };
+
+    /// A builder of the default configuration.
+    fn default() -> Self {
+        Self::new()
+    }
+}

@@ -1,0 +1,34 @@
+-- What every `DateTime` is, and how large its seconds are.
+use Rattle.std.proofs.Common.{◌<◌, arith, lit<, Option, None, Some, refl}
+use Rattle.std.specs.Prelude.{ℤ, pos, ◌-ℤ◌, unsigned_abs}
+use Rattle.std.specs.Option.{ForSome, unwrap_or}
+use Rattle.std.proofs.lemmas.Int.{ints}
+use Rattle.speedate_base.specs.Offset.{IsOffset, seconds_per_day}
+use Rattle.speedate_civil.specs.declared.datetime.DateTime.{DateTime}
+use Rattle.speedate_civil.specs.DateAndTime.{DateAndTime, IsDateAndTime, local_second, utc_second}
+use Rattle.speedate_civil.specs.DateTime.{parts}
+use Rattle.speedate_civil.specs.DayNumberLaws.{day_number-small}
+use Rattle.speedate_civil.proofs.DateFacts.{is_date}
+use Rattle.speedate_civil.proofs.TimeFacts.{is_time}
+
+pub is_date_and_time : (value : DateTime) → IsDateAndTime (parts value)
+is_date_and_time value = record { date = is_date value.date; time = is_time value.time }
+
+-- an offset, or 0 for none
+pub offset-small : (offset : Option ℤ) → ForSome offset IsOffset → unsigned_abs (unwrap_or offset (pos 0)) < seconds_per_day
+offset-small None valid = lit< tt
+offset-small (Some offset) valid = valid offset refl
+
+pub local_second-small : (value : DateAndTime) → IsDateAndTime value → unsigned_abs (local_second value) < 300000000000
+local_second-small value valid =
+    omega (arith, ints, day_number-small value.date valid.date.day valid.date.year, valid.time.hour, valid.time.minute, valid.time.second)
+
+-- two sizes add up
+difference-small : (first second : ℤ) → unsigned_abs first < 300000000000 → unsigned_abs second < seconds_per_day
+    → unsigned_abs (first -ℤ second) < 400000000000
+difference-small first second small little = omega (arith, ints)
+
+pub utc_second-small : (value : DateAndTime) → IsDateAndTime value → unsigned_abs (utc_second value) < 400000000000
+utc_second-small value valid =
+    difference-small (local_second value) (unwrap_or value.time.offset (pos 0)) (local_second-small value valid)
+    (offset-small value.time.offset valid.time.offset)

@@ -1,0 +1,90 @@
+//! Date-times: a date and a time of day, with or without an offset from UTC.
+
+ghost use Rattle.std.specs.Prelude.{◌≡◌, ◌≤◌, IsTrue, length, slice_index, OnOk};
+ghost use Rattle.speedate_base.specs.Numbers.{NoNumber, number_answer};
+ghost use Rattle.speedate_base.specs.Requirement.{result_map};
+ghost use Rattle.speedate_base.specs.declared.config.MicrosecondsPrecisionOverflowBehavior.TheVariants as behavior;
+ghost use Rattle.speedate_civil.specs.DateTimeText.{is_separator, date_time_answer};
+
+mod text;
+mod timestamp;
+
+use crate::date::Date;
+use crate::time::Time;
+use speedate_base::config::TimeConfig;
+use speedate_base::faults::ParseError;
+use speedate_base::numbers::byte_at;
+
+/// A date and a time of day, with an offset from UTC or without one.
+///
+/// It is read by [`DateTime::parse_str`] and printed as `YYYY-MM-DDTHH:MM:SS`, with the fraction and
+/// the offset of its time: `2020-02-29T12:13:14.500000+01:30`.
+#[derive(Clone, Copy, Debug, PartialEq, Eq)]
+pub struct DateTime {
+    /// The date, as a clock at the offset shows it.
+    pub date: Date,
+    /// The time of day, as that clock shows it, and the offset.
+    pub time: Time,
+}
+
+impl DateTime {
+    ghost use Rattle.speedate_civil.specs.DateTime.{parts};
+
+    /// Reads a date-time from a text: the one that the text is, as 12:13:14 on 29 February 2020 in
+    /// UTC for `"2020-02-29T12:13:14Z"`, or the text's one fault.
+    ///
+    /// The form is RFC 3339's date-time: a date, a separator, and a time. The separator is `T`, `t`,
+    /// a space or `_`. The faults, in the order in which they are looked for:
+    ///
+    /// - those of [`Date::parse_str_rfc3339`] but for the last, `ExtraCharacters`;
+    /// - `InvalidCharDateTimeSep` where no separator follows the date;
+    /// - those of [`Time::parse_str`] for what follows the separator.
+    #[inline(always)]
+    pub fn parse_str_rfc3339(text: &str) -> Result<Self, ParseError>
+        ensures answer { result_map parts result ≡ date_time_answer behavior.Error text.now }
+    {
+        Self::parse_bytes_rfc3339(text.as_bytes())
+    }
+
+    /// Reads a date-time from the bytes of a text, as [`DateTime::parse_str_rfc3339`] does: 12:13 on
+    /// 1 January 2020 from `b"2020-01-01_12:13"`. The bytes need not be text.
+    #[inline(always)]
+    pub fn parse_bytes_rfc3339(bytes: &[u8]) -> Result<Self, ParseError>
+        ensures answer { result_map parts result ≡ date_time_answer behavior.Error bytes.now }
+        ensures no_number { OnOk result (number_answer bytes.now ≡ NoNumber) }
+    {
+        Self::parse_bytes_rfc3339_with_config(bytes, &TimeConfig::default())
+    }
+
+    /// Reads a date-time from the bytes of a text, as [`DateTime::parse_str_rfc3339`] does, but for
+    /// the digits of a second past the sixth: with the behavior `Truncate` they are dropped, so that
+    /// `b"2020-01-01T12:13:12.1234567"` is 12:13:12.123456 on that day. The offset of the
+    /// configuration does not matter.
+    #[inline(always)]
+    pub fn parse_bytes_rfc3339_with_config(
+        bytes: &[u8],
+        config: &TimeConfig,
+    ) -> Result<Self, ParseError>
+        ensures answer { result_map parts result
+            ≡ date_time_answer config.now.microseconds_precision_overflow_behavior bytes.now }
+        ensures no_number { OnOk result (number_answer bytes.now ≡ NoNumber) }
+    {
+        let date = Date::parse_front(bytes)?;
+        if !has_separator(bytes) {
+            return Err(ParseError::InvalidCharDateTimeSep);
+        }
+        let behavior = config.microseconds_precision_overflow_behavior;
+        let time = Time::parse_at(bytes, 11, behavior)?;
+        Ok(DateTime { date, time })
+    }
+}
+
+/// Whether a separator follows the ten bytes of a date.
+#[inline(always)]
+fn has_separator(bytes: &[u8]) -> bool
+    ensures value { result ≡ is_separator (slice_index bytes.now 10) }
+    ensures there { IsTrue result → 11 ≤ length bytes.now }
+{
+    let byte = byte_at(bytes, 10);
+    byte == b'T' || byte == b't' || byte == b' ' || byte == b'_'
+}

@@ -1,0 +1,70 @@
+//! The text of a date-time.
+
+ghost use Rattle.std.specs.Prelude.{Some};
+
+use crate::datetime::DateTime;
+use crate::text::{ascii_text, push};
+use arrayvec::{ArrayString, ArrayVec};
+use std::fmt;
+
+/// How many bytes the longest text of a date-time has.
+const TEXT_MAX: usize = 32;
+
+impl DateTime {
+    ghost use Rattle.std.specs.Prelude.{◌≡◌, ◌≤◌, ◌+◌, ◌++◌, Ok};
+    ghost use Rattle.arrayvec.specs.ArrayVec.{array_vec_len};
+    ghost use Rattle.speedate_base.specs.Offset.{IsWholeMinutes};
+    ghost use Rattle.speedate_base.specs.declared.config.TimeConfig.{TimeConfig};
+    ghost use Rattle.speedate_base.specs.declared.config.date_time.DateTimeConfig.{DateTimeConfig};
+    ghost use Rattle.speedate_civil.specs.declared.datetime.DateTime.{DateTime};
+    ghost use Rattle.speedate_civil.specs.DateTime.{parts};
+    ghost use Rattle.speedate_civil.specs.DateTimeText.{date_time_answer, date_time_text};
+    ghost use Rattle.speedate_civil.specs.DateTimeTimestamp.{date_time_or_timestamp};
+
+    /// The canonical text, `YYYY-MM-DDTHH:MM:SS`, with a point and six digits where the microsecond
+    /// is not 0, and the offset where there is one: `2020-02-29T12:13:14.500000+01:30`.
+    ///
+    /// It reads back as the date-time, under every configuration, where the offset is absent or whole
+    /// minutes. The seconds of another offset are not printed.
+    #[inline]
+    pub fn to_text(&self) -> ArrayString<TEXT_MAX>
+        ensures text { result.bytes ≡ date_time_text (parts self.now) }
+        ensures reads_back { IsWholeMinutes self.now.time.tz_offset → (config : TimeConfig)
+            → date_time_answer config.microseconds_precision_overflow_behavior result.bytes ≡ Ok (parts self.now) }
+        ensures reads_back_with_config { IsWholeMinutes self.now.time.tz_offset → (config : DateTimeConfig)
+            → date_time_or_timestamp config.timestamp_unit
+            config.time_config.microseconds_precision_overflow_behavior
+            config.time_config.unix_timestamp_offset result.bytes ≡ Ok (parts self.now) }
+        ensures distinct { IsWholeMinutes self.now.time.tz_offset → (other : DateTime) → IsWholeMinutes other.time.tz_offset
+            → result.bytes ≡ date_time_text (parts other) → parts self.now ≡ parts other }
+    {
+        let mut bytes: ArrayVec<u8, TEXT_MAX> = ArrayVec::new();
+        self.push_onto(&mut bytes);
+        ascii_text(&bytes)
+    }
+
+    /// Appends the bytes of the canonical text, as [`DateTime::to_text`] gives it, for which there
+    /// must be room: `b"ok 2020-02-29T12:13:14"` where they are appended to `b"ok "`.
+    #[inline]
+    pub fn push_onto<const LENGTH: usize>(&self, bytes: &mut ArrayVec<u8, LENGTH>)
+        requires room { array_vec_len bytes.old + TEXT_MAX ≤ LENGTH }
+        ensures text { bytes.new.items ≡ bytes.old.items ++ date_time_text (parts self.now) }
+    {
+        push(&self.date.text_bytes(), bytes);
+        push(b"T", bytes);
+        self.time.push_onto(bytes);
+    }
+}
+
+impl fmt::Display for DateTime {
+    ghost use Rattle.speedate_civil.specs.DateTime.{parts};
+    ghost use Rattle.speedate_civil.specs.DateTimeText.{date_time_text};
+
+    ghost output = { λ value. Some (date_time_text (parts value)) };
+
+    ghost styled_output = { λ value _. Some (date_time_text (parts value)) };
+
+    fn fmt<W: fmt::Write>(&self, f: &mut fmt::Formatter<W>) -> fmt::Result {
+        f.write_str(self.to_text().as_str())
+    }
+}

@@ -1,0 +1,219 @@
+//! Date-times from timestamps, from texts that are a timestamp instead of a date-time, and back.
+
+ghost use Rattle.std.specs.Prelude.{◌≡◌, Err, None};
+ghost use Rattle.std.specs.Option.{ForSome};
+ghost use Rattle.speedate_base.specs.Offset.{IsOffset};
+ghost use Rattle.speedate_base.specs.Requirement.{result_map};
+ghost use Rattle.speedate_base.specs.UnixTime.{parts as instant_parts};
+ghost use Rattle.speedate_base.specs.declared.config.MicrosecondsPrecisionOverflowBehavior.TheVariants as behavior;
+ghost use Rattle.speedate_base.specs.declared.config.TimestampUnit.TheVariants as unit;
+ghost use Rattle.speedate_civil.specs.DateAndTime.{local_second, utc_second, local_millisecond, utc_millisecond};
+ghost use Rattle.speedate_civil.specs.DateTime.{parts};
+ghost use Rattle.speedate_civil.specs.DateTimeText.{date_time_answer};
+ghost use Rattle.speedate_civil.specs.DateTimeTimestamp.{later_answer, instant_date_time, date_time_timestamp_answer, date_time_or_timestamp};
+
+use crate::date::Date;
+use crate::date::timestamp::{FIRST_SECOND, LAST_SECOND, day_and_second, may_be_number};
+use crate::datetime::DateTime;
+use crate::time::Time;
+use speedate_base::config::DateTimeConfig;
+use speedate_base::faults::ParseError;
+use speedate_base::numbers::int_parse_bytes;
+use speedate_base::util::{UnixTime, timestamp_to_seconds_micros};
+
+impl DateTime {
+    /// Reads a date-time from a text, or from a timestamp that stands there instead: 12:13:14 on
+    /// 29 February 2020 for `"2020-02-29T12:13:14"`, midnight on 7 June 2022 for `"1654560000"`.
+    ///
+    /// A text that is no date-time is looked at as a whole number: a timestamp, in seconds or in
+    /// milliseconds by its size. The faults are those of [`DateTime::parse_str_rfc3339`] where the
+    /// text is no whole number either, and of [`DateTime::from_timestamp`] where it is one.
+    #[inline(always)]
+    pub fn parse_str(text: &str) -> Result<Self, ParseError>
+        ensures answer { result_map parts result ≡ date_time_or_timestamp unit.Infer behavior.Error None text.now }
+    {
+        Self::parse_bytes(text.as_bytes())
+    }
+
+    /// Reads a date-time from the bytes of a text, as [`DateTime::parse_str`] does: a second after
+    /// 1970-01-01T00:00:00 from `b"1"`. The bytes need not be text.
+    #[inline(always)]
+    pub fn parse_bytes(bytes: &[u8]) -> Result<Self, ParseError>
+        ensures answer { result_map parts result ≡ date_time_or_timestamp unit.Infer behavior.Error None bytes.now }
+    {
+        Self::parse_bytes_with_config(bytes, &DateTimeConfig::default())
+    }
+
+    /// Reads a date-time from a text, as [`DateTime::parse_str`] does, with digits of a second past
+    /// the sixth, the unit of timestamps and their offset as the configuration has them:
+    /// 1970-01-01T00:00:01+01:00 for `"1"` and the offset 3,600. The offset is not for texts of a
+    /// date-time.
+    #[inline(always)]
+    pub fn parse_str_with_config(text: &str, config: &DateTimeConfig) -> Result<Self, ParseError>
+        ensures answer { result_map parts result
+            ≡ date_time_or_timestamp config.now.timestamp_unit
+            config.now.time_config.microseconds_precision_overflow_behavior
+            config.now.time_config.unix_timestamp_offset text.now }
+    {
+        Self::parse_bytes_with_config(text.as_bytes(), config)
+    }
+
+    /// Reads a date-time from the bytes of a text, as [`DateTime::parse_str_with_config`] does.
+    #[inline(always)]
+    pub fn parse_bytes_with_config(
+        bytes: &[u8],
+        config: &DateTimeConfig,
+    ) -> Result<Self, ParseError>
+        ensures answer { result_map parts result
+            ≡ date_time_or_timestamp config.now.timestamp_unit
+            config.now.time_config.microseconds_precision_overflow_behavior
+            config.now.time_config.unix_timestamp_offset bytes.now }
+    {
+        match Self::parse_bytes_rfc3339_with_config(bytes, &config.time_config) {
+            Ok(value) => Ok(value),
+            Err(fault) => Self::parse_timestamp(bytes, fault, config),
+        }
+    }
+
+    /// Reads the timestamp that the bytes are where they are no date-time, by this fault.
+    #[inline]
+    fn parse_timestamp(
+        bytes: &[u8],
+        fault: ParseError,
+        config: &DateTimeConfig,
+    ) -> Result<Self, ParseError>
+        requires { date_time_answer config.now.time_config.microseconds_precision_overflow_behavior bytes.now ≡ Err fault }
+        ensures answer { result_map parts result
+            ≡ date_time_or_timestamp config.now.timestamp_unit
+            config.now.time_config.microseconds_precision_overflow_behavior
+            config.now.time_config.unix_timestamp_offset bytes.now }
+    {
+        if !may_be_number(fault) {
+            return Err(fault);
+        }
+        match int_parse_bytes(bytes) {
+            Some(timestamp) => Self::from_timestamp_with_config(timestamp, 0, config),
+            None => Err(fault),
+        }
+    }
+
+    /// The date-time of a timestamp, whose unit is inferred, and so many microseconds later, without
+    /// an offset: 1970-01-01T00:00:00.667444 for -1 and 1,667,444 microseconds.
+    ///
+    /// The faults are those of [`DateTime::from_timestamp_with_config`].
+    #[inline]
+    pub fn from_timestamp(timestamp: i64, timestamp_microsecond: u32) -> Result<Self, ParseError>
+        ensures answer { result_map parts result
+            ≡ date_time_timestamp_answer unit.Infer None timestamp_microsecond timestamp }
+    {
+        Self::from_timestamp_with_config(
+            timestamp,
+            timestamp_microsecond,
+            &DateTimeConfig::default(),
+        )
+    }
+
+    /// The date-time of a timestamp, in the unit of the configuration, and so many microseconds
+    /// later, with the configured offset: 1970-01-01T00:00:01.000002+01:00 for one second, two
+    /// microseconds and the offset 3,600. The offset is attached and shifts nothing.
+    ///
+    /// A timestamp counts from 1970-01-01T00:00:00, with 86,400 seconds in each day (Unix time). The
+    /// faults, in the order in which they are looked for:
+    ///
+    /// - `DateTooSmall` where the unit of `i64::MIN` is to be inferred;
+    /// - `TimeTooLarge` where the microseconds of the timestamp and those beside it are more than
+    ///   `u32::MAX`, or the seconds that they make more than `i64::MAX`;
+    /// - `DateTooSmall` where the sum lies before the year 0000, and `DateTooLarge` where it lies
+    ///   after the year 9999.
+    #[inline]
+    pub fn from_timestamp_with_config(
+        timestamp: i64,
+        timestamp_microsecond: u32,
+        config: &DateTimeConfig,
+    ) -> Result<Self, ParseError>
+        ensures answer { result_map parts result
+            ≡ date_time_timestamp_answer config.now.timestamp_unit
+            config.now.time_config.unix_timestamp_offset timestamp_microsecond timestamp }
+    {
+        let time = timestamp_to_seconds_micros(timestamp, config.timestamp_unit)?;
+        let later = later_instant(time, timestamp_microsecond)?;
+        Self::from_instant(later, config.time_config.unix_timestamp_offset)
+    }
+
+    /// The date-time at an instant, with the offset attached.
+    #[inline]
+    fn from_instant(time: UnixTime, offset: Option<i32>) -> Result<Self, ParseError>
+        requires { ForSome offset IsOffset }
+        ensures value { result_map parts result ≡ instant_date_time offset (instant_parts time) }
+    {
+        if time.second < FIRST_SECOND {
+            return Err(ParseError::DateTooSmall);
+        }
+        if time.second > LAST_SECOND {
+            return Err(ParseError::DateTooLarge);
+        }
+        let (number, second) = day_and_second(time.second);
+        let time = Time::at_second(second, time.microsecond, offset);
+        match Date::from_day_number(number) {
+            Some(date) => Ok(DateTime { date, time }),
+            None => Err(ParseError::DateTooLarge),
+        }
+    }
+
+    /// The second since 1970-01-01T00:00:00 that a clock at the offset shows: 86,400 for
+    /// 1970-01-02T00:00:00+01:00. It is a Unix timestamp where the offset is absent or 0.
+    #[inline]
+    pub fn timestamp(&self) -> i64
+        ensures second { result ≡ local_second (parts self.now) }
+    {
+        self.date.timestamp() + i64::from(self.time.total_seconds())
+    }
+
+    /// The millisecond since 1970-01-01T00:00:00 that a clock at the offset shows, rounded down:
+    /// 86,400,123 for 1970-01-02T00:00:00.123+01:00.
+    #[inline]
+    pub fn timestamp_ms(&self) -> i64
+        ensures millisecond { result ≡ local_millisecond (parts self.now) }
+    {
+        1000 * self.timestamp() + i64::from(self.time.microsecond / 1000)
+    }
+
+    /// The second since 1970-01-01T00:00:00 in UTC: 82,800 for 1970-01-02T00:00:00+01:00. It is a
+    /// Unix timestamp; without an offset the date-time is taken to be in UTC.
+    #[inline]
+    pub fn timestamp_tz(&self) -> i64
+        ensures second { result ≡ utc_second (parts self.now) }
+    {
+        self.timestamp() - i64::from(self.time.tz_offset.unwrap_or(0))
+    }
+
+    /// The millisecond since 1970-01-01T00:00:00 in UTC, rounded down: 82,800,123 for
+    /// 1970-01-02T00:00:00.123+01:00.
+    #[inline]
+    pub fn timestamp_tz_ms(&self) -> i64
+        ensures millisecond { result ≡ utc_millisecond (parts self.now) }
+    {
+        1000 * self.timestamp_tz() + i64::from(self.time.microsecond / 1000)
+    }
+}
+
+/// The instant so many microseconds later. `TimeTooLarge` where the microseconds are more than
+/// `u32::MAX`, or the seconds that they make more than `i64::MAX`.
+#[inline]
+fn later_instant(time: UnixTime, microseconds: u32) -> Result<UnixTime, ParseError>
+    ensures later { result_map instant_parts result
+        ≡ later_answer microseconds (instant_parts time) }
+{
+    let sum = time
+        .microsecond
+        .checked_add(microseconds)
+        .ok_or(ParseError::TimeTooLarge)?;
+    let second = time
+        .second
+        .checked_add(i64::from(sum / 1_000_000))
+        .ok_or(ParseError::TimeTooLarge)?;
+    Ok(UnixTime {
+        second,
+        microsecond: sum % 1_000_000,
+    })
+}
