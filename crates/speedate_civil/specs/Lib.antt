@@ -26,3 +26,4 @@ pub mod ClockLaws
 pub mod OffsetLaws
 pub mod TimeLaws
 pub mod DateTimeLaws
+pub mod DateTimeTimestampLaws

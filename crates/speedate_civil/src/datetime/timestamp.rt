@@ -1,6 +1,6 @@
 //! Date-times from timestamps, from texts that are a timestamp instead of a date-time, and back.
 
-ghost use Rattle.std.specs.Prelude.{◌≡◌, Err, None};
+ghost use Rattle.std.specs.Prelude.{◌≡◌, Ok, Err, None};
 ghost use Rattle.std.specs.Option.{ForSome};
 ghost use Rattle.speedate_base.specs.Offset.{IsOffset};
 ghost use Rattle.speedate_base.specs.Requirement.{result_map};
@@ -161,10 +161,14 @@ impl DateTime {
     }
 
     /// The second since 1970-01-01T00:00:00 that a clock at the offset shows: 86,400 for
-    /// 1970-01-02T00:00:00+01:00. It is a Unix timestamp where the offset is absent or 0.
+    /// 1970-01-02T00:00:00+01:00. It is a Unix timestamp where the offset is absent or 0; in seconds and
+    /// with its microsecond it leads back, by [`DateTime::from_timestamp_with_config`], to a date-time
+    /// without an offset.
     #[inline]
     pub fn timestamp(&self) -> i64
         ensures second { result ≡ local_second (parts self.now) }
+        ensures leads_back { self.now.time.tz_offset ≡ None
+            → date_time_timestamp_answer unit.Second None self.now.time.microsecond result ≡ Ok (parts self.now) }
     {
         self.date.timestamp() + i64::from(self.time.total_seconds())
     }

@@ -1,0 +1,25 @@
+use Rattle.std.proofs.Common.{◌≡◌, ◌∙◌, ap, sym, arith, Option, None, Ok}
+use Rattle.std.specs.Prelude.{ℤ}
+use Rattle.std.proofs.lemmas.Int.{ints}
+use Rattle.speedate_base.specs.declared.config.TimestampUnit.TheVariants as unit
+use Rattle.speedate_civil.specs.DateAndTime.{DateAndTime, IsDateAndTime, local_second}
+use Rattle.speedate_civil.specs.DateTime.{parts}
+use Rattle.speedate_civil.specs.DateTimeTimestamp.{date_time_timestamp_answer}
+use Rattle.speedate_civil.specs.DateTimeTimestampLaws.{date_time_timestamp-leads_back}
+use Rattle.speedate_civil.proofs.DateTimeFacts.{is_date_and_time, local_second-small}
+use Rattle.speedate_civil.proofs.datetime.DateTime.timestamp.Goals as goal
+
+-- without an offset none is attached
+leads-back : (value : DateAndTime) (second : ℤ) → IsDateAndTime value → value.time.offset ≡ None → second ≡ local_second value
+    → date_time_timestamp_answer unit.Second None value.time.microsecond second ≡ Ok value
+leads-back value second valid none same =
+    ap (date_time_timestamp_answer unit.Second None value.time.microsecond) same
+    ∙ ap (λ (offset : Option ℤ). date_time_timestamp_answer unit.Second offset value.time.microsecond (local_second value)) (sym none)
+    ∙ date_time_timestamp-leads_back value valid
+
+pub returns-clause-leads_back : goal.returns-clause-leads_back
+returns-clause-leads_back c none =
+    let value = c.args.self.now in
+    let small = local_second-small (parts value) (is_date_and_time value) in
+    leads-back (parts value) _ (is_date_and_time value) none
+    (omega (arith, ints, small, c.timestamp.ensures.second, c.total_seconds.ensures.seconds, c.from.ensures))
