@@ -10,6 +10,8 @@ mod config;
 #[cfg(test)]
 mod dates;
 #[cfg(test)]
+mod datetimes;
+#[cfg(test)]
 mod faults;
 #[cfg(test)]
 mod numbers;
