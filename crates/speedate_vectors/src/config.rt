@@ -1,8 +1,8 @@
 //! Configurations and their builders.
 
 use speedate::{
-    DateConfig, DateConfigBuilder, MicrosecondsPrecisionOverflowBehavior, TimeConfig,
-    TimeConfigBuilder, TimestampUnit,
+    DateConfig, DateConfigBuilder, DateTimeConfig, DateTimeConfigBuilder,
+    MicrosecondsPrecisionOverflowBehavior, TimeConfig, TimeConfigBuilder, TimestampUnit,
 };
 
 #[test]
@@ -48,4 +48,38 @@ fn a_builder_of_dates_gives_the_unit_that_was_set_last(rt: HostRuntime) {
         .build();
     assert!(rt; set.timestamp_unit == TimestampUnit::Millisecond);
     assert!(rt; set != plain);
+}
+
+#[test]
+fn a_builder_of_date_times_gives_what_was_set_last(rt: HostRuntime) {
+    let plain = DateTimeConfig {
+        timestamp_unit: TimestampUnit::Infer,
+        time_config: TimeConfig::default(),
+    };
+    assert!(rt; DateTimeConfig::default() == plain);
+    assert!(rt; DateTimeConfig::builder().build() == plain);
+    assert!(rt; DateTimeConfigBuilder::new().build() == plain);
+    assert!(rt; DateTimeConfigBuilder::default().build() == plain);
+    let east = TimeConfig::builder()
+        .unix_timestamp_offset(Some(3600))
+        .build();
+    let set = DateTimeConfig::builder()
+        .timestamp_unit(TimestampUnit::Second)
+        .time_config(TimeConfig::default())
+        .timestamp_unit(TimestampUnit::Millisecond)
+        .time_config(east)
+        .build();
+    assert!(rt; set.timestamp_unit == TimestampUnit::Millisecond);
+    assert!(rt; set.time_config == east);
+    assert!(rt; set != plain);
+    let unit = DateTimeConfig {
+        timestamp_unit: TimestampUnit::Second,
+        time_config: TimeConfig::default(),
+    };
+    assert!(rt; unit != plain);
+    let offset = DateTimeConfig {
+        timestamp_unit: TimestampUnit::Infer,
+        time_config: east,
+    };
+    assert!(rt; offset != plain);
 }
