@@ -1,5 +1,5 @@
 -- Date-times from timestamps (Unix time), and from texts that are a timestamp instead.
-use Rattle.std.specs.Prelude.{ℕ, ◌+◌, ◌/◌, ◌%◌, ◌^◌, List, [], ◌∷◌, nat_lt, Option, ℤ, pos, ◌+ℤ◌, int_lt, unsigned_abs, Result, Ok}
+use Rattle.std.specs.Prelude.{ℕ, ◌+◌, ◌/◌, ◌%◌, ◌^◌, List, [], ◌∷◌, nat_lt, Option, ℤ, pos, ◌+ℤ◌, ◌*ℤ◌, int_lt, unsigned_abs, Result, Ok}
 use Rattle.std.specs.Int.{int_rem_euclid}
 use Rattle.speedate_base.specs.declared.config.MicrosecondsPrecisionOverflowBehavior.{MicrosecondsPrecisionOverflowBehavior}
 use Rattle.speedate_base.specs.declared.config.TimestampUnit.{TimestampUnit}
@@ -8,7 +8,7 @@ use Rattle.speedate_base.specs.declared.faults.ParseError.TheVariants as fault
 use Rattle.speedate_base.specs.Numbers.{whole_number}
 use Rattle.speedate_base.specs.Offset.{seconds_per_day}
 use Rattle.speedate_base.specs.Requirement.{Requirement, ◌else_fault◌, meets, result_and_then}
-use Rattle.speedate_base.specs.Timestamp.{Instant, instant_answer}
+use Rattle.speedate_base.specs.Timestamp.{Instant, per_second, instant_answer}
 use Rattle.speedate_civil.specs.DateAndTime.{DateAndTime}
 use Rattle.speedate_civil.specs.DateTimestamp.{range_table, instant_day}
 use Rattle.speedate_civil.specs.DateTimeText.{date_time_answer}
@@ -54,6 +54,10 @@ instant_date_time offset instant = meets (range_table instant) (Ok (date_time_at
 abbrev pub date_time_timestamp_answer : TimestampUnit → Option ℤ → ℕ → ℤ → Result DateAndTime ParseError
 date_time_timestamp_answer unit offset microseconds timestamp =
     result_and_then (instant_date_time offset) (result_and_then (later_answer microseconds) (instant_answer unit timestamp))
+
+-- the microseconds since 1970-01-01T00:00:00 that a timestamp and those beside it mean
+abbrev pub meant_microsecond : TimestampUnit → ℕ → ℤ → ℤ
+meant_microsecond unit microseconds timestamp = pos (1000000 / per_second unit timestamp) *ℤ timestamp +ℤ pos microseconds
 
 -- the date-time that a text is, as its text or as a timestamp, or the text's fault
 abbrev pub date_time_or_timestamp : TimestampUnit → MicrosecondsPrecisionOverflowBehavior → Option ℤ → List ℕ → Result DateAndTime ParseError

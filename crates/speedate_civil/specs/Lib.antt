@@ -27,3 +27,4 @@ pub mod OffsetLaws
 pub mod TimeLaws
 pub mod DateTimeLaws
 pub mod DateTimeTimestampLaws
+pub mod DateTimeInstantLaws

@@ -1,16 +1,16 @@
 //! Date-times from timestamps, from texts that are a timestamp instead of a date-time, and back.
 
-ghost use Rattle.std.specs.Prelude.{◌≡◌, Ok, Err, None};
+ghost use Rattle.std.specs.Prelude.{◌≡◌, Ok, Err, IfOk, None};
 ghost use Rattle.std.specs.Option.{ForSome};
 ghost use Rattle.speedate_base.specs.Offset.{IsOffset};
 ghost use Rattle.speedate_base.specs.Requirement.{result_map};
 ghost use Rattle.speedate_base.specs.UnixTime.{parts as instant_parts};
 ghost use Rattle.speedate_base.specs.declared.config.MicrosecondsPrecisionOverflowBehavior.TheVariants as behavior;
 ghost use Rattle.speedate_base.specs.declared.config.TimestampUnit.TheVariants as unit;
-ghost use Rattle.speedate_civil.specs.DateAndTime.{local_second, utc_second, local_millisecond, utc_millisecond};
+ghost use Rattle.speedate_civil.specs.DateAndTime.{local_second, utc_second, local_millisecond, utc_millisecond, local_microsecond};
 ghost use Rattle.speedate_civil.specs.DateTime.{parts};
 ghost use Rattle.speedate_civil.specs.DateTimeText.{date_time_answer};
-ghost use Rattle.speedate_civil.specs.DateTimeTimestamp.{later_answer, instant_date_time, date_time_timestamp_answer, date_time_or_timestamp};
+ghost use Rattle.speedate_civil.specs.DateTimeTimestamp.{later_answer, instant_date_time, date_time_timestamp_answer, meant_microsecond, date_time_or_timestamp};
 
 use crate::date::Date;
 use crate::date::timestamp::{FIRST_SECOND, LAST_SECOND, day_and_second, may_be_number};
@@ -105,6 +105,8 @@ impl DateTime {
     pub fn from_timestamp(timestamp: i64, timestamp_microsecond: u32) -> Result<Self, ParseError>
         ensures answer { result_map parts result
             ≡ date_time_timestamp_answer unit.Infer None timestamp_microsecond timestamp }
+        ensures instant { IfOk result (λ value. local_microsecond (parts value)
+            ≡ meant_microsecond unit.Infer timestamp_microsecond timestamp) }
     {
         Self::from_timestamp_with_config(
             timestamp,
@@ -134,6 +136,8 @@ impl DateTime {
         ensures answer { result_map parts result
             ≡ date_time_timestamp_answer config.now.timestamp_unit
             config.now.time_config.unix_timestamp_offset timestamp_microsecond timestamp }
+        ensures instant { IfOk result (λ value. local_microsecond (parts value)
+            ≡ meant_microsecond config.now.timestamp_unit timestamp_microsecond timestamp) }
     {
         let time = timestamp_to_seconds_micros(timestamp, config.timestamp_unit)?;
         let later = later_instant(time, timestamp_microsecond)?;
