@@ -11,8 +11,9 @@ use Rattle.speedate_base.specs.Offset.{seconds_per_day}
 use Rattle.speedate_base.specs.Requirement.{Requirement, AllHold, meets, result_and_then}
 use Rattle.speedate_base.specs.Timestamp.{Instant, instant_at, instant_answer, per_second, unit_table, inferred_seconds_max}
 use Rattle.speedate_civil.specs.DateAndTime.{DateAndTime, local_second, local_microsecond}
-use Rattle.speedate_civil.specs.DateTimestamp.{range_table, first_second, instant_day}
-use Rattle.speedate_civil.specs.DateTimeTimestamp.{later_instant, later_answer, sum_table, instant_second, date_time_at, instant_date_time, date_time_timestamp_answer, meant_microsecond}
+use Rattle.speedate_civil.specs.DateTimestamp.{range_table, first_second, instant_day, instant_second}
+use Rattle.speedate_civil.specs.DayNumber.{epoch_day}
+use Rattle.speedate_civil.specs.DateTimeTimestamp.{later_instant, later_answer, sum_table, date_time_at, instant_date_time, date_time_timestamp_answer, meant_microsecond}
 use Rattle.speedate_civil.specs.DayNumberLaws.{day_number-date_after}
 use Rattle.speedate_civil.specs.TimeOfDay.{second_of_day, time_at}
 
@@ -64,7 +65,7 @@ later-is microseconds instant = omega (arith, ints)
 
 -- the second of a day number and of the second of that day
 second-joined : (at : ℤ) → int_le first_second at ≡ true
-    → (pos (unsigned_abs (int_div_euclid at (pos seconds_per_day) +ℤ pos 719528)) -ℤ pos 719528) *ℤ pos 86400
+    → (pos (unsigned_abs (int_div_euclid at (pos seconds_per_day) +ℤ pos epoch_day)) -ℤ pos epoch_day) *ℤ pos seconds_per_day
     +ℤ pos (unsigned_abs (int_rem_euclid at (pos seconds_per_day))) ≡ at
 second-joined (pos n) after = omega (arith, ints)
 second-joined (negsuc n) after =
@@ -79,8 +80,8 @@ local-is : (offset : Option ℤ) (instant : Instant) → int_le first_second ins
 local-is offset instant after =
     let day = instant_day instant in
     let second = instant_second instant in
-    ap (λ (n : ℕ). (pos n -ℤ pos 719528) *ℤ pos 86400 +ℤ pos (second_of_day (time_at second instant.microsecond offset))) (day_number-date_after day)
-    ∙ ap (λ (n : ℕ). (pos day -ℤ pos 719528) *ℤ pos 86400 +ℤ pos n) (second_of_day-time_at second instant.microsecond offset)
+    ap (λ (n : ℕ). (pos n -ℤ pos epoch_day) *ℤ pos seconds_per_day +ℤ pos (second_of_day (time_at second instant.microsecond offset))) (day_number-date_after day)
+    ∙ ap (λ (n : ℕ). (pos day -ℤ pos epoch_day) *ℤ pos seconds_per_day +ℤ pos n) (second_of_day-time_at second instant.microsecond offset)
     ∙ second-joined instant.second after
 
 -- the date-time of a timestamp lies so many microseconds after 1970-01-01T00:00:00 as the timestamp says

@@ -1,16 +1,14 @@
 -- Date-times from timestamps (Unix time), and from texts that are a timestamp instead.
-use Rattle.std.specs.Prelude.{ℕ, ◌+◌, ◌/◌, ◌%◌, ◌^◌, List, [], ◌∷◌, nat_lt, Option, ℤ, pos, ◌+ℤ◌, ◌*ℤ◌, int_lt, unsigned_abs, Result, Ok}
-use Rattle.std.specs.Int.{int_rem_euclid}
+use Rattle.std.specs.Prelude.{ℕ, ◌+◌, ◌/◌, ◌%◌, ◌^◌, List, [], ◌∷◌, nat_lt, Option, ℤ, pos, ◌+ℤ◌, ◌*ℤ◌, int_lt, Result, Ok}
 use Rattle.speedate_base.specs.declared.config.MicrosecondsPrecisionOverflowBehavior.{MicrosecondsPrecisionOverflowBehavior}
 use Rattle.speedate_base.specs.declared.config.TimestampUnit.{TimestampUnit}
 use Rattle.speedate_base.specs.declared.faults.ParseError.{ParseError}
 use Rattle.speedate_base.specs.declared.faults.ParseError.TheVariants as fault
 use Rattle.speedate_base.specs.Numbers.{whole_number}
-use Rattle.speedate_base.specs.Offset.{seconds_per_day}
 use Rattle.speedate_base.specs.Requirement.{Requirement, ◌else_fault◌, meets, result_and_then}
 use Rattle.speedate_base.specs.Timestamp.{Instant, per_second, instant_answer}
 use Rattle.speedate_civil.specs.DateAndTime.{DateAndTime}
-use Rattle.speedate_civil.specs.DateTimestamp.{range_table, instant_day}
+use Rattle.speedate_civil.specs.DateTimestamp.{range_table, instant_day, instant_second}
 use Rattle.speedate_civil.specs.DateTimeText.{date_time_answer}
 use Rattle.speedate_civil.specs.DayNumber.{date_after}
 use Rattle.speedate_civil.specs.NumberText.{or_number}
@@ -33,10 +31,6 @@ sum_table microseconds instant =
 -- the instant so many microseconds later, or the fault
 abbrev pub later_answer : ℕ → Instant → Result Instant ParseError
 later_answer microseconds instant = meets (sum_table microseconds instant) (Ok (later_instant microseconds instant))
-
--- the second of an instant's day
-abbrev pub instant_second : Instant → ℕ
-instant_second instant = unsigned_abs (int_rem_euclid instant.second (pos seconds_per_day))
 
 -- the date-time at an instant, with the offset attached: nothing is shifted
 abbrev pub date_time_at : Option ℤ → Instant → DateAndTime

@@ -13,7 +13,7 @@ use Rattle.speedate_civil.specs.DateAndTime.{DateAndTime, IsDateAndTime, local_s
 use Rattle.speedate_civil.specs.DateNumberedLaws.{date_after-day_number}
 use Rattle.speedate_civil.specs.DateTimestamp.{range_table, first_second, last_second}
 use Rattle.speedate_civil.specs.DateTimeTimestamp.{later_answer, sum_table, date_time_at, instant_date_time, date_time_timestamp_answer}
-use Rattle.speedate_civil.specs.DayNumber.{day_number, date_after}
+use Rattle.speedate_civil.specs.DayNumber.{epoch_day, day_number, date_after}
 use Rattle.speedate_civil.specs.DayNumberLaws.{day_number-small}
 use Rattle.speedate_civil.specs.TimeOfDay.{TimeOfDay, IsTime, second_of_day, time_at}
 
@@ -41,21 +41,21 @@ later-microsecond second microsecond small part =
     meets-all (sum_table microsecond instant) _ (counted, (fits, tt)) ∙ ap Ok (λ i. record { second = carried i; microsecond = left i })
 
 -- the day and the second of a day that a second is
-day-of : (at : ℤ) (day second : ℕ) → second < 86400 → at ≡ (pos day -ℤ pos 719528) *ℤ pos 86400 +ℤ pos second
-    → unsigned_abs (int_div_euclid at (pos seconds_per_day) +ℤ pos 719528) ≡ day
+day-of : (at : ℤ) (day second : ℕ) → second < seconds_per_day → at ≡ (pos day -ℤ pos epoch_day) *ℤ pos seconds_per_day +ℤ pos second
+    → unsigned_abs (int_div_euclid at (pos seconds_per_day) +ℤ pos epoch_day) ≡ day
 day-of (pos n) day second small is = omega (arith, ints, is)
 day-of (negsuc n) day second small is = omega (arith, ints, is)
 
-second-of : (at : ℤ) (day second : ℕ) → second < 86400 → at ≡ (pos day -ℤ pos 719528) *ℤ pos 86400 +ℤ pos second
+second-of : (at : ℤ) (day second : ℕ) → second < seconds_per_day → at ≡ (pos day -ℤ pos epoch_day) *ℤ pos seconds_per_day +ℤ pos second
     → unsigned_abs (int_rem_euclid at (pos seconds_per_day)) ≡ second
 second-of (pos n) day second small is = omega (arith, ints, is)
 second-of (negsuc n) day second small is = omega (arith, ints, is)
 
-after-first : (day second : ℕ) → int_le first_second ((pos day -ℤ pos 719528) *ℤ pos 86400 +ℤ pos second) ≡ true
+after-first : (day second : ℕ) → int_le first_second ((pos day -ℤ pos epoch_day) *ℤ pos seconds_per_day +ℤ pos second) ≡ true
 after-first day second = grind (arith, ints, nat_tests)
 
-before-last : (day second : ℕ) → day ≤ 3652424 → second < 86400
-    → int_le ((pos day -ℤ pos 719528) *ℤ pos 86400 +ℤ pos second) last_second ≡ true
+before-last : (day second : ℕ) → day ≤ 3652424 → second < seconds_per_day
+    → int_le ((pos day -ℤ pos epoch_day) *ℤ pos seconds_per_day +ℤ pos second) last_second ≡ true
 before-last day second few small = grind (arith, ints, nat_tests)
 
 -- the time of the seconds since midnight
@@ -77,7 +77,7 @@ date_time-at : (value : DateAndTime) → IsDateAndTime value → date_time_at va
 date_time-at value valid =
     let number = day_number value.date in
     let second = second_of_day value.time in
-    let small : second < 86400 = omega (arith, valid.time.hour, valid.time.minute, valid.time.second) in
+    let small : second < seconds_per_day = omega (arith, valid.time.hour, valid.time.minute, valid.time.second) in
     let date = ap date_after (day-of (local_second value) number second small refl) ∙ date_after-day_number value.date valid.date.day in
     let time = ap (λ (n : ℕ). time_at n value.time.microsecond value.time.offset) (second-of (local_second value) number second small refl)
     ∙ time_at-second_of_day value.time valid.time in
@@ -91,7 +91,7 @@ instant_date_time-local value valid =
     let number = day_number value.date in
     let second = second_of_day value.time in
     let few = day_number-small value.date valid.date.day valid.date.year in
-    let small : second < 86400 = omega (arith, valid.time.hour, valid.time.minute, valid.time.second) in
+    let small : second < seconds_per_day = omega (arith, valid.time.hour, valid.time.minute, valid.time.second) in
     meets-all (range_table instant) _ (after-first number second, (before-last number second few small, tt))
     ∙ ap Ok (date_time-at value valid)
 

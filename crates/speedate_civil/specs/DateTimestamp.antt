@@ -10,7 +10,7 @@ use Rattle.speedate_base.specs.Requirement.{Requirement, ◌else_fault◌, ◌im
 use Rattle.speedate_base.specs.Timestamp.{Instant, instant_answer}
 use Rattle.speedate_civil.specs.Calendar.{Ymd}
 use Rattle.speedate_civil.specs.DateText.{date_answer}
-use Rattle.speedate_civil.specs.DayNumber.{date_after}
+use Rattle.speedate_civil.specs.DayNumber.{epoch_day, date_after}
 use Rattle.speedate_civil.specs.NumberText.{or_number}
 
 -- the first second of the year 0000, and the last of the year 9999
@@ -27,14 +27,17 @@ range_table instant =
     ∷ (int_le instant.second last_second else_fault fault.DateTooLarge)
     ∷ []
 
--- the number of its day: whole days since 1970-01-01, whose day number is 719,528
+-- the number of its day
 abbrev pub instant_day : Instant → ℕ
-instant_day instant = unsigned_abs (int_div_euclid instant.second (pos seconds_per_day) +ℤ pos 719528)
+instant_day instant = unsigned_abs (int_div_euclid instant.second (pos seconds_per_day) +ℤ pos epoch_day)
+
+-- the second of its day
+abbrev pub instant_second : Instant → ℕ
+instant_second instant = unsigned_abs (int_rem_euclid instant.second (pos seconds_per_day))
 
 -- it is a midnight
 abbrev pub is_midnight : Instant → Bool
-is_midnight instant =
-    (unsigned_abs (int_rem_euclid instant.second (pos seconds_per_day)) == 0) && (instant.microsecond == 0)
+is_midnight instant = (instant_second instant == 0) && (instant.microsecond == 0)
 
 -- what it has to meet to be a date, where that is asked for
 abbrev pub exact_table : Bool → Instant → List Requirement

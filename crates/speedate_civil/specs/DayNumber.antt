@@ -1,5 +1,6 @@
 -- Days counted from 0000-01-01, and the day after a day.
 use Rattle.std.specs.Prelude.{ℕ, zero, suc, ◌+◌, ◌-◌, nat_lt, nat_le, if◌then◌else◌, Option, Some, None, ℤ, pos, ◌-ℤ◌, ◌*ℤ◌}
+use Rattle.speedate_base.specs.Offset.{seconds_per_day}
 use Rattle.speedate_civil.specs.Calendar.{Ymd, month_length}
 
 -- the days of the first so many months of a year
@@ -44,9 +45,13 @@ date_after (suc days) = day_after (date_after days)
 abbrev pub date_numbered : ℕ → Option Ymd
 date_numbered number = if nat_le number 3652424 then Some (date_after number) else None
 
--- the second of a date's midnight since 1970-01-01T00:00:00, whose day number is 719,528 (Unix time)
+-- the day number of 1970-01-01 (Unix time)
+abbrev pub epoch_day : ℕ
+epoch_day = 719528
+
+-- the second of a date's midnight since 1970-01-01T00:00:00 (Unix time)
 abbrev pub midnight_second : Ymd → ℤ
-midnight_second date = (pos (day_number date) -ℤ pos 719528) *ℤ pos 86400
+midnight_second date = (pos (day_number date) -ℤ pos epoch_day) *ℤ pos seconds_per_day
 
 -- the millisecond of that midnight
 abbrev pub midnight_millisecond : Ymd → ℤ

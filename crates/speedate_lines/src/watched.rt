@@ -142,3 +142,6 @@ impl<W: Write> Watched<W> {
         }
     }
 }
+
+#[cfg(test)]
+mod tests;

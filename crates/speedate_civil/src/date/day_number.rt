@@ -10,6 +10,7 @@ ghost use Rattle.speedate_civil.specs.DateTimestamp.{date_timestamp_answer};
 ghost use Rattle.speedate_civil.specs.DayNumber.{days_of_months, year_length, ordinal_day, day_number, date_numbered, next_date, midnight_second, midnight_millisecond};
 
 use super::{Date, is_leap_year, month_length};
+use speedate_base::util::SECONDS_PER_DAY;
 
 /// The day number of 9999-12-31.
 const LAST_DAY_NUMBER: u32 = 3_652_424;
@@ -150,7 +151,7 @@ impl Date {
         ensures second { result ≡ midnight_second (parts self.now) }
         ensures leads_back { (exact : Bool) → date_timestamp_answer unit.Second exact result ≡ Ok (parts self.now) }
     {
-        (i64::from(self.day_number()) - UNIX_EPOCH) * 86_400
+        (i64::from(self.day_number()) - UNIX_EPOCH) * i64::from(SECONDS_PER_DAY)
     }
 
     /// The millisecond at which the date begins, counted from 1970-01-01T00:00:00: 86,400,000 for

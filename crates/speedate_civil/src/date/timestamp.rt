@@ -9,6 +9,7 @@ ghost use Rattle.speedate_base.specs.declared.config.TimestampUnit.TheVariants a
 ghost use Rattle.speedate_civil.specs.Date.{parts};
 ghost use Rattle.speedate_civil.specs.DateText.{date_answer};
 ghost use Rattle.speedate_civil.specs.DateTimestamp.{first_second, last_second, instant_date, date_timestamp_answer, date_or_timestamp};
+ghost use Rattle.speedate_civil.specs.DayNumber.{epoch_day};
 ghost use Rattle.speedate_civil.specs.NumberText.{may_be_number};
 
 use super::Date;
@@ -137,7 +138,7 @@ impl Date {
 pub(crate) fn day_and_second(second: i64) -> (u32, u32)
     requires after { IsTrue (int_le first_second second) }
     requires before { IsTrue (int_le second last_second) }
-    ensures day { result.0 ≡ unsigned_abs (int_div_euclid second (pos seconds_per_day) +ℤ pos 719528) }
+    ensures day { result.0 ≡ unsigned_abs (int_div_euclid second (pos seconds_per_day) +ℤ pos epoch_day) }
     ensures second { result.1 ≡ unsigned_abs (int_rem_euclid second (pos seconds_per_day)) }
     ensures small { result.0 ≤ 3652424 }
 {
