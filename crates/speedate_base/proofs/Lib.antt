@@ -1,1 +1,2 @@
 mod WordLaws
+mod RoundingLaws

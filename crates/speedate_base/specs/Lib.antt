@@ -6,6 +6,7 @@ pub mod DigitRuns
 pub mod Numbers
 pub mod IntFloat
 pub mod Offset
+pub mod Nearest
 pub mod Timestamp
 pub mod UnixTime
 pub mod DateConfig
@@ -17,3 +18,4 @@ pub mod FaultLaws
 pub mod DigitLaws
 pub mod DigitRunLaws
 pub mod NumberLaws
+pub mod NearestLaws

@@ -5,10 +5,12 @@ ghost use Rattle.speedate_base.specs.Requirement.{result_map};
 ghost use Rattle.speedate_base.specs.Timestamp.{instant_answer};
 ghost use Rattle.speedate_base.specs.UnixTime.{parts};
 
+mod rounding;
 mod unix_time;
 
 use crate::config::TimestampUnit;
 use crate::faults::ParseError;
+pub use rounding::{LARGEST_UNIT, nearest_microseconds, twice_microseconds};
 pub use unix_time::UnixTime;
 
 /// The seconds of a day.

@@ -1,0 +1,92 @@
+-- A fraction's digits taken in blocks, the last ones first.
+use Rattle.std.specs.Prelude.{◌≡◌, ℕ, ◌+◌, ◌-◌, ◌*◌, ◌/◌, ◌%◌, ◌^◌, ◌<◌, ◌≤◌, Bool, true, List, ◌++◌, length, take, drop, min}
+use Rattle.std.specs.Char.{is_ascii_digit}
+use Rattle.std.specs.List.{list_all}
+use Rattle.std.proofs.Common.{arith, ap, sym, ◌∙◌, lit<}
+use Rattle.std.proofs.lemmas.Bool.{and_parts, eqb-true}
+use Rattle.std.proofs.lemmas.List.{take-append-drop, take_all}
+use Rattle.std.proofs.lemmas.List.Folds.{list_all-append}
+use Rattle.std.proofs.lemmas.Nat.{pow-add}
+use Rattle.std.proofs.Math.Nat.{mul-le-mul_right, pow-le-pow_right}
+use Rattle.speedate_base.specs.DigitRuns.{run_value, digits_value}
+use Rattle.speedate_base.specs.DigitRunLaws.{digits_value-append, digits_value-lt, digits_value-fits, run-whole}
+use Rattle.speedate_base.specs.Nearest.{quotient}
+use Rattle.speedate_base.specs.NearestLaws.{quotient-carried, quotient-multiple}
+
+-- a power of ten is not 0
+pub scale-some : (n : ℕ) → 0 < 10 ^ n
+scale-some n =
+    let from : 0 ≤ n = omega arith in
+    let least : 10 ^ 0 ≤ 10 ^ n = pow-le-pow_right {n = 10} (lit< tt) from in
+    omega (arith, least)
+
+-- parts of digits are digits
+pub parts-all : (digits : List ℕ) (count : ℕ) → list_all is_ascii_digit digits ≡ true
+    → (list_all is_ascii_digit (take count digits) ≡ true) × (list_all is_ascii_digit (drop count digits) ≡ true)
+parts-all digits count all =
+    and_parts _ _ (sym (list_all-append is_ascii_digit (take count digits) (drop count digits))
+    ∙ ap (list_all is_ascii_digit) (take-append-drop count digits) ∙ all)
+
+-- a run of few digits spells what they spell
+pub few-run : (digits : List ℕ) → length digits ≤ 19 → list_all is_ascii_digit digits ≡ true
+    → min (run_value digits 0) (2 ^ 64 - 1) ≡ digits_value digits
+few-run digits few all =
+    let whole = eqb-true _ (length digits) (run-whole digits ∙ all) in
+    let value : run_value digits 0 ≡ digits_value digits = ap digits_value (take_all _ digits (omega (arith, whole))) in
+    omega (arith, value, digits_value-fits digits few all)
+
+-- what few digits spell with zeros behind them
+pub filled-small : (digits : List ℕ) (count : ℕ) → length digits ≤ count → list_all is_ascii_digit digits ≡ true
+    → digits_value digits * 10 ^ (count - length digits) < 10 ^ count
+filled-small digits count few all =
+    let sum : length digits + (count - length digits) ≡ count = omega arith in
+    let power : 10 ^ count ≡ 10 ^ length digits * 10 ^ (count - length digits) =
+    sym (ap (λ (n : ℕ). 10 ^ n) sum) ∙ pow-add 10 (length digits) (count - length digits) in
+    let next : digits_value digits + 1 ≤ 10 ^ length digits = omega (arith, digits_value-lt digits all) in
+    let product = mul-le-mul_right (10 ^ (count - length digits)) next in
+    let more : (digits_value digits + 1) * 10 ^ (count - length digits) ≡ digits_value digits * 10 ^ (count - length digits) + 10 ^ (count - length digits) = grind arith in
+    omega (arith, power, product, more, scale-some (count - length digits))
+
+-- the last block, with zeros behind its digits
+pub filled-taken : (up : Bool) (unit count value twice : ℕ) → count ≤ 8
+    → twice ≡ quotient up (2 * (value * 10 ^ (8 - count) * unit) + 0) 100000000 → twice ≡ quotient up (2 * (value * unit)) (10 ^ count)
+filled-taken up unit count value twice few taken =
+    let zeros = 10 ^ (8 - count) in
+    let size = 2 * (value * unit) in
+    let sum : (8 - count) + count ≡ 8 = omega arith in
+    let power : zeros * 10 ^ count ≡ 100000000 = sym (pow-add 10 (8 - count) count) ∙ ap (λ (n : ℕ). 10 ^ n) sum in
+    let product : 2 * (value * zeros * unit) + 0 ≡ size * zeros + 0 * zeros = grind arith in
+    let once = ap (λ (n : ℕ). quotient up (0 + n) (10 ^ count)) (quotient-multiple up size zeros (scale-some (8 - count))) in
+    let bare : 0 + size ≡ size = omega arith in
+    taken ∙ ap (λ (n : ℕ). quotient up n 100000000) product ∙ ap (λ (n : ℕ). quotient up (size * zeros + 0 * zeros) n) (sym power)
+    ∙ sym (quotient-carried up 0 (size * zeros) zeros (10 ^ count) (scale-some (8 - count)) (scale-some count))
+    ∙ once ∙ ap (λ (n : ℕ). quotient up n (10 ^ count)) bare
+
+-- four digits behind four
+pub fours-taken : (up : Bool) (unit value rest last : ℕ) → last ≡ quotient up (2 * (value % 10000 * unit) + rest) 10000
+    → quotient up (2 * (value / 10000 * unit) + last) 10000 ≡ quotient up (2 * (value * unit) + rest) 100000000
+fours-taken up unit value rest last is =
+    let first = 2 * (value / 10000 * unit) in
+    let second = 2 * (value % 10000 * unit) + rest in
+    let halves : value ≡ value / 10000 * 10000 + value % 10000 = omega arith in
+    let product : value * unit ≡ value / 10000 * unit * 10000 + value % 10000 * unit =
+    ap (λ (n : ℕ). n * unit) halves ∙ grind arith in
+    let sum : second + first * 10000 ≡ 2 * (value * unit) + rest = omega (arith, product) in
+    ap (λ (n : ℕ). quotient up (first + n) 10000) is ∙ quotient-carried up first second 10000 10000 (lit< tt) (lit< tt)
+    ∙ ap (λ (n : ℕ). quotient up n 100000000) sum
+
+-- a block in front of digits
+pub block-taken : (up : Bool) (unit : ℕ) (front rest : List ℕ) (value later twice : ℕ) → length front ≡ 8 → value ≡ digits_value front
+    → later ≡ quotient up (2 * (digits_value rest * unit)) (10 ^ length rest) → twice ≡ quotient up (2 * (value * unit) + later) 100000000
+    → twice ≡ quotient up (2 * (digits_value (front ++ rest) * unit)) (10 ^ (length rest + 8))
+block-taken up unit front rest value later twice long is taken_later taken =
+    let scale = 10 ^ length rest in
+    let inner = 2 * (digits_value rest * unit) in
+    let first = 2 * (value * unit) in
+    let joined : digits_value (front ++ rest) * unit ≡ value * unit * scale + digits_value rest * unit =
+    ap (λ (n : ℕ). n * unit) (digits_value-append front rest ∙ ap (λ (n : ℕ). n * scale + digits_value rest) (sym is)) ∙ grind arith in
+    let sum : inner + first * scale ≡ 2 * (digits_value (front ++ rest) * unit) = grind (arith, joined) in
+    taken ∙ ap (λ (n : ℕ). quotient up (first + n) 100000000) taken_later
+    ∙ quotient-carried up first inner scale 100000000 (scale-some (length rest)) (lit< tt)
+    ∙ ap (λ (n : ℕ). quotient up n (scale * 100000000)) sum
+    ∙ ap (λ (n : ℕ). quotient up (2 * (digits_value (front ++ rest) * unit)) n) (sym (pow-add 10 (length rest) 8))

@@ -1,0 +1,30 @@
+use Rattle.std.proofs.Common.{◌≡◌, ◌∙◌, ap₂, ℕ, ◌-◌, ◌*◌, ◌^◌, ◌<◌, List, true, length, arith}
+use Rattle.std.specs.Char.{is_ascii_digit}
+use Rattle.std.specs.List.{list_all}
+use Rattle.speedate_base.specs.DigitRuns.{digits_value}
+use Rattle.speedate_base.proofs.RoundingLaws.{few-run, filled-small}
+use Rattle.speedate_base.proofs.util.rounding.filled_block.Goals as goal
+
+small : (digits : List ℕ) (value power : ℕ) → length digits < 8 → list_all is_ascii_digit digits ≡ true
+    → value ≡ digits_value digits → power ≡ 10 ^ (8 - length digits) → value * power < 100000000
+small digits value power few all same_value same_power =
+    let product = ap₂ (λ (m n : ℕ). m * n) same_value same_power in
+    omega (arith, product, filled-small digits 8 (omega arith) all)
+
+pub overflow_mul-result : goal.overflow_mul-result
+overflow_mul-result c =
+    let digits = c.args.digits.now in
+    let value = c.digit_run.ensures.value ∙ few-run digits (omega (arith, c.requires.short)) c.requires.digits in
+    omega (arith, small digits _ _ c.requires.short c.requires.digits value c.power_of_ten.ensures)
+
+pub returns-clause-value : goal.returns-clause-value
+returns-clause-value c =
+    let digits = c.args.digits.now in
+    let value = c.digit_run.ensures.value ∙ few-run digits (omega (arith, c.requires.short)) c.requires.digits in
+    ap₂ (λ (m n : ℕ). m * n) value c.power_of_ten.ensures
+
+pub returns-clause-small : goal.returns-clause-small
+returns-clause-small c =
+    let digits = c.args.digits.now in
+    let value = c.digit_run.ensures.value ∙ few-run digits (omega (arith, c.requires.short)) c.requires.digits in
+    small digits _ _ c.requires.short c.requires.digits value c.power_of_ten.ensures

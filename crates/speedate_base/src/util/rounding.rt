@@ -1,0 +1,122 @@
+//! Fractions of a unit of time, rounded by their digits.
+
+ghost use Rattle.std.specs.Prelude.{◌≡◌, ◌+◌, ◌-◌, ◌*◌, ◌^◌, ◌<◌, ◌≤◌, length, take, IsTrue, Bool};
+ghost use Rattle.std.specs.Char.{is_ascii_digit};
+ghost use Rattle.std.specs.List.{list_all};
+ghost use Rattle.speedate_base.specs.DigitRuns.{digits_value};
+ghost use Rattle.speedate_base.specs.Nearest.{nearest, quotient};
+ghost use Rattle.speedate_base.specs.Numbers.{with_sign};
+
+use crate::numbers::digit_run;
+
+/// The microseconds of the largest unit, a year of 365 days.
+pub const LARGEST_UNIT: u64 = 31_536_000_000_000;
+
+/// How many digits are taken together.
+const BLOCK: usize = 8;
+
+/// The microseconds of a fraction of a unit, to the nearest: 500,000 for the digits `5` of a second.
+/// The unit is given by its microseconds. Where two numbers are as near, it is the later one: the
+/// smaller where the fraction is that of a negative number.
+#[inline]
+pub fn nearest_microseconds(digits: &[u8], unit: u64, negative: bool) -> u64
+    requires digits { IsTrue (list_all is_ascii_digit digits.now) }
+    requires unit { unit ≤ LARGEST_UNIT }
+    ensures nearest { with_sign negative result
+        ≡ nearest (with_sign negative (digits_value digits.now * unit)) (10 ^ length digits.now) }
+{
+    let twice = twice_microseconds(digits, unit, negative);
+    if negative { twice / 2 } else { (twice + 1) / 2 }
+}
+
+/// Twice the microseconds of a fraction of a unit, rounded down, or up: 1 and 2 for the digits
+/// `00000075` of a second. The unit is given by its microseconds.
+///
+/// A step takes eight digits, the last ones first, and rounds. What is rounded so early is less than
+/// one of what is counted next, so the whole is rounded once.
+#[inline]
+pub fn twice_microseconds(digits: &[u8], unit: u64, up: bool) -> u64
+    requires digits { IsTrue (list_all is_ascii_digit digits.now) }
+    requires unit { unit ≤ LARGEST_UNIT }
+    ensures twice { result ≡ quotient up (2 * (digits_value digits.now * unit)) (10 ^ length digits.now) }
+    ensures within { result ≤ 2 * unit }
+{
+    let mut place = digits.len() - digits.len() % BLOCK;
+    let mut twice = eight_taken(filled_block(&digits[place..]), 0, unit, up);
+    while place > 0 {
+        place -= BLOCK;
+        twice = eight_taken(block(&digits[place..]), twice, unit, up);
+    }
+    twice
+}
+
+/// What the first eight digits spell.
+#[inline]
+fn block(digits: &[u8]) -> u64
+    requires long { BLOCK ≤ length digits.now }
+    requires digits { IsTrue (list_all is_ascii_digit digits.now) }
+    ensures value { result ≡ digits_value (take BLOCK digits.now) }
+    ensures small { result < 100000000 }
+{
+    digit_run(&digits[..BLOCK], 0).value
+}
+
+/// What fewer than eight digits spell, with zeros behind them up to eight.
+#[inline]
+fn filled_block(digits: &[u8]) -> u64
+    requires short { length digits.now < BLOCK }
+    requires digits { IsTrue (list_all is_ascii_digit digits.now) }
+    ensures value { result ≡ digits_value digits.now * 10 ^ (8 - length digits.now) }
+    ensures small { result < 100000000 }
+{
+    digit_run(digits, 0).value * power_of_ten(BLOCK - digits.len())
+}
+
+/// Ten to a power up to the eighth.
+#[inline]
+fn power_of_ten(exponent: usize) -> u64
+    requires { exponent ≤ 8 }
+    ensures { result ≡ 10 ^ exponent }
+{
+    match exponent {
+        0 => 1,
+        1 => 10,
+        2 => 100,
+        3 => 1_000,
+        4 => 10_000,
+        5 => 100_000,
+        6 => 1_000_000,
+        7 => 10_000_000,
+        _ => 100_000_000,
+    }
+}
+
+/// Twice the microseconds of eight digits, where `rest` is that of the digits behind them.
+#[inline]
+fn eight_taken(value: u64, rest: u64, unit: u64, up: bool) -> u64
+    requires value { value < 100000000 }
+    requires rest { rest ≤ 2 * unit }
+    requires unit { unit ≤ LARGEST_UNIT }
+    ensures twice { result ≡ quotient up (2 * (value * unit) + rest) (10 ^ 8) }
+    ensures within { result ≤ 2 * unit }
+{
+    let last = four_taken(value % 10_000, rest, unit, up);
+    four_taken(value / 10_000, last, unit, up)
+}
+
+/// The same of four digits: numbers of 64 bits hold it, and those of 128 bits divide slowly.
+#[inline]
+fn four_taken(value: u64, rest: u64, unit: u64, up: bool) -> u64
+    requires value { value < 10000 }
+    requires rest { rest ≤ 2 * unit }
+    requires unit { unit ≤ LARGEST_UNIT }
+    ensures twice { result ≡ quotient up (2 * (value * unit) + rest) 10000 }
+    ensures within { result ≤ 2 * unit }
+{
+    let sum = 2 * (value * unit) + rest;
+    if up {
+        (sum + 9_999) / 10_000
+    } else {
+        sum / 10_000
+    }
+}
