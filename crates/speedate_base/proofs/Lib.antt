@@ -1,2 +1,3 @@
 mod WordLaws
 mod RoundingLaws
+mod DecimalLaws

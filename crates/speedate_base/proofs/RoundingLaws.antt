@@ -7,18 +7,11 @@ use Rattle.std.proofs.lemmas.Bool.{and_parts, eqb-true}
 use Rattle.std.proofs.lemmas.List.{take-append-drop, take_all}
 use Rattle.std.proofs.lemmas.List.Folds.{list_all-append}
 use Rattle.std.proofs.lemmas.Nat.{pow-add}
-use Rattle.std.proofs.Math.Nat.{mul-le-mul_right, pow-le-pow_right}
+use Rattle.std.proofs.Math.Nat.{mul-le-mul_right}
 use Rattle.speedate_base.specs.DigitRuns.{run_value, digits_value}
 use Rattle.speedate_base.specs.DigitRunLaws.{digits_value-append, digits_value-lt, digits_value-fits, run-whole}
 use Rattle.speedate_base.specs.Nearest.{quotient}
-use Rattle.speedate_base.specs.NearestLaws.{quotient-carried, quotient-multiple}
-
--- a power of ten is not 0
-pub scale-some : (n : ℕ) → 0 < 10 ^ n
-scale-some n =
-    let from : 0 ≤ n = omega arith in
-    let least : 10 ^ 0 ≤ 10 ^ n = pow-le-pow_right {n = 10} (lit< tt) from in
-    omega (arith, least)
+use Rattle.speedate_base.specs.NearestLaws.{scale-some, quotient-carried, quotient-multiple}
 
 -- parts of digits are digits
 pub parts-all : (digits : List ℕ) (count : ℕ) → list_all is_ascii_digit digits ≡ true
@@ -27,13 +20,16 @@ parts-all digits count all =
     and_parts _ _ (sym (list_all-append is_ascii_digit (take count digits) (drop count digits))
     ∙ ap (list_all is_ascii_digit) (take-append-drop count digits) ∙ all)
 
--- a run of few digits spells what they spell
+-- a run of digits alone spells what they spell
+pub run-all : (digits : List ℕ) → list_all is_ascii_digit digits ≡ true → run_value digits 0 ≡ digits_value digits
+run-all digits all =
+    let whole = eqb-true _ (length digits) (run-whole digits ∙ all) in
+    ap digits_value (take_all _ digits (omega (arith, whole)))
+
+-- and few digits fit
 pub few-run : (digits : List ℕ) → length digits ≤ 19 → list_all is_ascii_digit digits ≡ true
     → min (run_value digits 0) (2 ^ 64 - 1) ≡ digits_value digits
-few-run digits few all =
-    let whole = eqb-true _ (length digits) (run-whole digits ∙ all) in
-    let value : run_value digits 0 ≡ digits_value digits = ap digits_value (take_all _ digits (omega (arith, whole))) in
-    omega (arith, value, digits_value-fits digits few all)
+few-run digits few all = omega (arith, run-all digits all, digits_value-fits digits few all)
 
 -- what few digits spell with zeros behind them
 pub filled-small : (digits : List ℕ) (count : ℕ) → length digits ≤ count → list_all is_ascii_digit digits ≡ true

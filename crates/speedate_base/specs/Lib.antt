@@ -6,9 +6,12 @@ pub mod DigitRuns
 pub mod Numbers
 pub mod IntFloat
 pub mod Offset
+pub mod Refusal
 pub mod Nearest
 pub mod Timestamp
+pub mod DecimalTimestamp
 pub mod UnixTime
+pub mod DecimalUnit
 pub mod DateConfig
 pub mod TimeConfig
 pub mod DateTimeConfig

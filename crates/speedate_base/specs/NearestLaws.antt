@@ -1,13 +1,20 @@
 -- Exactly one whole number is nearest to a fraction, and it is found by rounding down what is twice the fraction.
-use Rattle.std.specs.Prelude.{◌≡◌, ℕ, suc, ◌+◌, ◌-◌, ◌*◌, ◌/◌, ◌<◌, ◌≤◌, Bool, true, false, if◌then◌else◌, ℤ, pos, negsuc, neg_ℤ, ◌+ℤ◌, ◌-ℤ◌, ◌*ℤ◌, int_le, int_lt}
+use Rattle.std.specs.Prelude.{◌≡◌, ℕ, suc, ◌+◌, ◌-◌, ◌*◌, ◌/◌, ◌^◌, ◌<◌, ◌≤◌, Bool, true, false, if◌then◌else◌, ℤ, pos, negsuc, neg_ℤ, ◌+ℤ◌, ◌-ℤ◌, ◌*ℤ◌, int_le, int_lt}
 use Rattle.std.specs.Int.{int_div_euclid}
-use Rattle.std.proofs.Common.{arith, ◌∙◌, ap, sym, inl, inr}
+use Rattle.std.proofs.Common.{arith, ◌∙◌, ap, sym, inl, inr, lit<}
 use Rattle.std.proofs.lemmas.Bool.{cases_lt}
 use Rattle.std.proofs.lemmas.Bool.Decides.{nat_tests}
 use Rattle.std.proofs.lemmas.Int.{ints}
-use Rattle.std.proofs.Math.Nat.{mul-div-le, lt-div-mul-add, add-mul-div_right, div-div-eq-div-mul, mul_comm, mul-le-mul_left, div-eq_of_lt}
+use Rattle.std.proofs.Math.Nat.{mul-div-le, lt-div-mul-add, add-mul-div_right, div-div-eq-div-mul, mul_comm, mul-le-mul_left, div-eq_of_lt, pow-le-pow_right}
 use Rattle.speedate_base.specs.Numbers.{with_sign}
 use Rattle.speedate_base.specs.Nearest.{IsNearest, nearest, quotient}
+
+-- a scale is not 0
+pub scale-some : (n : ℕ) → 0 < 10 ^ n
+scale-some n =
+    let from : 0 ≤ n = omega arith in
+    let least : 10 ^ 0 ≤ 10 ^ n = pow-le-pow_right {n = 10} (lit< tt) from in
+    omega (arith, least)
 
 -- a number rounded down to a multiple is at most it, and less than one multiple below it
 multiple : (z : ℤ) (b : ℕ) → 0 < b

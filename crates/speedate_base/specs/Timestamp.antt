@@ -1,5 +1,5 @@
--- Timestamps: whole numbers of seconds or of milliseconds since 1970-01-01T00:00:00 (Unix time).
-use Rattle.std.specs.Prelude.{ℕ, ◌*◌, ◌/◌, ◌^◌, Bool, true, nat_le, nat_lt, if◌then◌else◌, List, [], ◌∷◌, ℤ, pos, unsigned_abs, Result, Ok}
+-- Timestamps in seconds or in milliseconds since 1970-01-01T00:00:00 (Unix time), and the instants that they mean.
+use Rattle.std.specs.Prelude.{ℕ, ◌*◌, ◌/◌, ◌^◌, Bool, true, IsTrue, nat_le, nat_lt, if◌then◌else◌, List, [], ◌∷◌, ℤ, pos, neg_ℤ, int_le, unsigned_abs, Result, Ok}
 use Rattle.std.specs.Int.{int_div_euclid, int_rem_euclid}
 use Rattle.speedate_base.specs.declared.config.TimestampUnit.{TimestampUnit}
 use Rattle.speedate_base.specs.declared.config.TimestampUnit.TheVariants as unit
@@ -12,15 +12,31 @@ pub record Instant : Type 0 where
   pub second : ℤ
   pub microsecond : ℕ
 
+-- a unit of timestamps: how many of it make a second, how many digits behind a point are whole microseconds, and the fault of a text with more
+pub record UnitRow : Type 0 where
+  pub per_second : ℕ
+  pub digits : ℕ
+  pub too_long : ParseError
+
+abbrev pub second_row : UnitRow
+second_row = record { per_second = 1; digits = 6; too_long = fault.SecondFractionTooLong }
+
+abbrev pub millisecond_row : UnitRow
+millisecond_row = record { per_second = 1000; digits = 3; too_long = fault.MillisecondFractionTooLong }
+
 -- the largest size of a timestamp that is seconds where its unit is inferred
 abbrev pub inferred_seconds_max : ℕ
 inferred_seconds_max = 20000000000
 
+-- the row of a unit, where it is said whether the timestamp's size is at most that
+abbrev pub unit_row : TimestampUnit → Bool → UnitRow
+unit_row unit.Second few = second_row
+unit_row unit.Millisecond few = millisecond_row
+unit_row unit.Infer few = if few then second_row else millisecond_row
+
 -- how many of its unit make a second
 abbrev pub per_second : TimestampUnit → ℤ → ℕ
-per_second unit.Second timestamp = 1
-per_second unit.Millisecond timestamp = 1000
-per_second unit.Infer timestamp = if nat_le (unsigned_abs timestamp) inferred_seconds_max then 1 else 1000
+per_second unit timestamp = (unit_row unit (nat_le (unsigned_abs timestamp) inferred_seconds_max)).per_second
 
 -- the instant of a timestamp of whose unit so many make a second
 abbrev pub instant_at : ℕ → ℤ → Instant
@@ -41,3 +57,25 @@ unit_table unit timestamp = (has_unit unit timestamp else_fault fault.DateTooSma
 -- the instant of a timestamp, or its fault
 abbrev pub instant_answer : TimestampUnit → ℤ → Result Instant ParseError
 instant_answer unit timestamp = meets (unit_table unit timestamp) (Ok (instant_at (per_second unit timestamp) timestamp))
+
+-- the first second of the year 0000, and the last of the year 9999
+abbrev pub first_second : ℤ
+first_second = neg_ℤ (pos 62167219200)
+
+abbrev pub last_second : ℤ
+last_second = pos 253402300799
+
+-- an instant lies in the years 0000 to 9999
+abbrev pub IsInYears : Instant → Type 0
+IsInYears instant = IsTrue (int_le first_second instant.second) × IsTrue (int_le instant.second last_second)
+
+-- and what it has to meet for that
+abbrev pub range_table : Instant → List Requirement
+range_table instant =
+    (int_le first_second instant.second else_fault fault.DateTooSmall)
+    ∷ (int_le instant.second last_second else_fault fault.DateTooLarge)
+    ∷ []
+
+-- the instant, or the fault of one outside those years
+abbrev pub range_answer : Instant → Result Instant ParseError
+range_answer instant = meets (range_table instant) (Ok instant)

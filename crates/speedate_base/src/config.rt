@@ -1,8 +1,11 @@
 //! Configurations: the unit of timestamps, how times are read, and which offset the values of
 //! timestamps get.
 
+ghost use Rattle.std.specs.Prelude.{◌≡◌, nat_le};
 ghost use Rattle.std.specs.Option.{ForSome};
 ghost use Rattle.speedate_base.specs.Offset.{IsOffset};
+ghost use Rattle.speedate_base.specs.Requirement.{◌implies◌};
+ghost use Rattle.speedate_base.specs.Refusal.{refuses_digits};
 
 mod date_time;
 
@@ -21,14 +24,30 @@ pub enum TimestampUnit {
     Infer,
 }
 
-/// What is done with digits of a second past the sixth.
+/// What is done with digits past the microsecond: of a second past the sixth, of a millisecond past
+/// the third.
 #[derive(Clone, Copy, Debug, PartialEq, Eq, Default)]
 pub enum MicrosecondsPrecisionOverflowBehavior {
-    /// They are dropped.
+    /// They are dropped, and a timestamp is rounded to the nearest microsecond.
     Truncate,
     /// The text is refused.
     #[default]
     Error,
+}
+
+/// Whether so many digits are taken where `most` of them reach the microsecond: not 7 of 6 by `Error`.
+#[inline]
+pub fn takes_digits(
+    behavior: MicrosecondsPrecisionOverflowBehavior,
+    count: usize,
+    most: usize,
+) -> bool
+    ensures taken { result ≡ (refuses_digits behavior implies nat_le count most) }
+{
+    match behavior {
+        MicrosecondsPrecisionOverflowBehavior::Truncate => true,
+        MicrosecondsPrecisionOverflowBehavior::Error => count <= most,
+    }
 }
 
 /// The unit of the timestamps that are read as dates. The default infers it;

@@ -11,7 +11,7 @@ use crate::config::{
 };
 use crate::faults::ParseError;
 use crate::numbers::{Decimal, DigitRun, IntFloat};
-use crate::util::UnixTime;
+use crate::util::{DecimalUnit, UnixTime};
 use std::alloc::AllocError;
 
 /// Whether two faults are one: false for `TooShort` and `ExtraCharacters`.
@@ -98,6 +98,13 @@ pub fn clone_behavior(
 
 /// A second unit that is the same: `Infer` for `Infer`.
 pub fn clone_timestamp_unit(unit: &TimestampUnit) -> Result<TimestampUnit, AllocError>
+    ensures clone { result ≡ Ok unit.now }
+{
+    unit.clone()
+}
+
+/// A second unit of a decimal that is the same: `Millisecond` for `Millisecond`.
+pub fn clone_decimal_unit(unit: &DecimalUnit) -> Result<DecimalUnit, AllocError>
     ensures clone { result ≡ Ok unit.now }
 {
     unit.clone()

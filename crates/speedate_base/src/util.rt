@@ -5,13 +5,17 @@ ghost use Rattle.speedate_base.specs.Requirement.{result_map};
 ghost use Rattle.speedate_base.specs.Timestamp.{instant_answer};
 ghost use Rattle.speedate_base.specs.UnixTime.{parts};
 
+mod decimal;
 mod rounding;
+mod unit;
 mod unix_time;
 
 use crate::config::TimestampUnit;
 use crate::faults::ParseError;
+pub use decimal::{decimal_to_seconds_micros, decimal_unit};
 pub use rounding::{LARGEST_UNIT, nearest_microseconds, twice_microseconds};
-pub use unix_time::UnixTime;
+pub use unit::DecimalUnit;
+pub use unix_time::{FIRST_SECOND, UnixTime};
 
 /// The seconds of a day.
 pub const SECONDS_PER_DAY: u32 = 86_400;

@@ -12,7 +12,8 @@ use Rattle.speedate_base.specs.DigitRuns.{run_length, run_digits, fraction_value
 use Rattle.speedate_base.specs.DigitLaws.{two_digits-printed, two_digit_value-printed, six_digits-printed, fraction_value-printed, two_digit_text-IsAscii, six_digit_text-IsAscii}
 use Rattle.speedate_base.specs.Requirement.{◌implies◌}
 use Rattle.speedate_base.specs.DigitRunLaws.{run_length-append}
-use Rattle.speedate_civil.specs.ClockText.{clock_answer, minute_text, fraction_text, refuses_digits}
+use Rattle.speedate_base.specs.Refusal.{refuses_digits}
+use Rattle.speedate_civil.specs.ClockText.{clock_answer, minute_text, fraction_text}
 
 -- without a fraction, whatever follows that is no point
 pub clock-whole : (behavior : MicrosecondsPrecisionOverflowBehavior) (minute second : ℕ) (tail : List ℕ)

@@ -4,10 +4,10 @@
 -- second 60; a fraction has at most six digits, or further ones are dropped.
 use Rattle.std.specs.Prelude.{ℕ, ◌+◌, Bool, true, false, ◌&&◌, ◌||◌, List, [], ◌∷◌, ◌++◌, length, drop, nat_le, nat_lt, ◌==◌, slice_index, if◌then◌else◌, Result, Ok}
 use Rattle.speedate_base.specs.declared.config.MicrosecondsPrecisionOverflowBehavior.{MicrosecondsPrecisionOverflowBehavior}
-use Rattle.speedate_base.specs.declared.config.MicrosecondsPrecisionOverflowBehavior.TheVariants as behavior
 use Rattle.speedate_base.specs.declared.faults.ParseError.{ParseError}
 use Rattle.speedate_base.specs.declared.faults.ParseError.TheVariants as fault
 use Rattle.speedate_base.specs.Ascii.{colon, comma, full_stop}
+use Rattle.speedate_base.specs.Refusal.{refuses_digits}
 use Rattle.speedate_base.specs.Requirement.{Requirement, ◌else_fault◌, ◌implies◌, meets, result_map}
 use Rattle.speedate_base.specs.Digits.{two_digits_at, two_digit_value, two_digit_text, six_digit_text}
 use Rattle.speedate_base.specs.DigitRuns.{run_length, run_digits, fraction_value}
@@ -45,11 +45,6 @@ minute_clock rest = record {
 -- a clock with an hour before its minute: two digits and `:`, three bytes more
 abbrev pub at_hour : ℕ → Clock → Clock
 at_hour hour clock = record clock { hour = hour; size = 3 + clock.size }
-
--- digits of a second past the sixth are refused
-abbrev pub refuses_digits : MicrosecondsPrecisionOverflowBehavior → Bool
-refuses_digits behavior.Truncate = false
-refuses_digits behavior.Error = true
 
 -- what a text has to meet to begin with an hour
 abbrev pub hour_table : List ℕ → List Requirement

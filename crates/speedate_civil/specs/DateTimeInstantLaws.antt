@@ -1,19 +1,23 @@
 -- The date-time of a timestamp lies as many microseconds after 1970-01-01T00:00:00 as the timestamp means.
-use Rattle.std.specs.Prelude.{◌≡◌, ℕ, suc, ◌/◌, ◌≤◌, Bool, true, false, if◌then◌else◌, nat_le, int_le, List, [], ◌∷◌, Option, ℤ, pos, negsuc, ◌+ℤ◌, ◌-ℤ◌, ◌*ℤ◌, unsigned_abs, Result, Ok, Err, refl}
+use Rattle.std.specs.Prelude.{◌≡◌, ℕ, suc, ◌/◌, ◌≤◌, Bool, true, false, if◌then◌else◌, nat_le, int_le, List, [], ◌∷◌, length, Option, ℤ, pos, negsuc, ◌+ℤ◌, ◌-ℤ◌, ◌*ℤ◌, unsigned_abs, Result, Ok, Err, refl}
 use Rattle.std.specs.Int.{int_div_euclid, int_rem_euclid}
-use Rattle.std.proofs.Common.{arith, ◌∙◌, ap, sym}
+use Rattle.std.proofs.Common.{arith, ◌∙◌, ap, sym, subst}
 use Rattle.std.proofs.lemmas.Bool.Decides.{nat_tests}
 use Rattle.std.proofs.lemmas.Int.{ints}
 use Rattle.speedate_base.specs.declared.config.TimestampUnit.{TimestampUnit}
 use Rattle.speedate_base.specs.declared.config.TimestampUnit.TheVariants as unit
 use Rattle.speedate_base.specs.declared.faults.ParseError.{ParseError}
+use Rattle.speedate_base.specs.DecimalTimestamp.{decimal_row, decimal_scale, decimal_size, decimal_microsecond, decimal_instant}
+use Rattle.speedate_base.specs.Nearest.{IsNearest}
+use Rattle.speedate_base.specs.NearestLaws.{nearest-is, scale-some}
+use Rattle.speedate_base.specs.Numbers.{DecimalParts}
 use Rattle.speedate_base.specs.Offset.{seconds_per_day}
-use Rattle.speedate_base.specs.Requirement.{Requirement, AllHold, meets, result_and_then}
-use Rattle.speedate_base.specs.Timestamp.{Instant, instant_at, instant_answer, per_second, unit_table, inferred_seconds_max}
+use Rattle.speedate_base.specs.Requirement.{Requirement, AllHold, meets, result_map, result_and_then}
+use Rattle.speedate_base.specs.Timestamp.{Instant, instant_at, instant_answer, per_second, unit_row, unit_table, inferred_seconds_max, first_second, range_table, range_answer}
 use Rattle.speedate_civil.specs.DateAndTime.{DateAndTime, local_second, local_microsecond}
-use Rattle.speedate_civil.specs.DateTimestamp.{range_table, first_second, instant_day, instant_second}
+use Rattle.speedate_civil.specs.DateTimestamp.{day_at, second_at}
 use Rattle.speedate_civil.specs.DayNumber.{epoch_day}
-use Rattle.speedate_civil.specs.DateTimeTimestamp.{later_instant, later_answer, sum_table, date_time_at, instant_date_time, date_time_timestamp_answer, meant_microsecond}
+use Rattle.speedate_civil.specs.DateTimeTimestamp.{later_instant, later_answer, sum_table, date_time_at, instant_date_time, date_time_timestamp_answer, date_time_decimal_answer, meant_microsecond}
 use Rattle.speedate_civil.specs.DayNumberLaws.{day_number-date_after}
 use Rattle.speedate_civil.specs.TimeOfDay.{second_of_day, time_at}
 
@@ -40,6 +44,11 @@ two-steps : {A B : Type 0} (next : A → Result B ParseError) (front : Result A 
 two-steps next (Ok first) value same = (first, refl, same)
 two-steps next (Err fault) value same = absurd (cc)
 
+mapped-value : {A B : Type 0} (view : A → B) (front : Result A ParseError) (value : B)
+    → result_map view front ≡ Ok value → (first : A) × (front ≡ Ok first) × (view first ≡ value)
+mapped-value view (Ok first) value same = (first, refl, cc)
+mapped-value view (Err fault) value same = absurd (cc)
+
 -- a timestamp's instant, in microseconds
 one-each : (timestamp : ℤ) → instant_microsecond (instant_at 1 timestamp) ≡ pos 1000000 *ℤ timestamp
 one-each (pos n) = omega (arith, ints)
@@ -49,16 +58,16 @@ thousand-each : (timestamp : ℤ) → instant_microsecond (instant_at 1000 times
 thousand-each (pos n) = omega (arith, ints)
 thousand-each (negsuc n) = omega (arith, ints)
 
-by-size : (few : Bool) (timestamp : ℤ)
-    → instant_microsecond (instant_at (if few then 1 else 1000) timestamp) ≡ pos (1000000 / (if few then 1 else 1000)) *ℤ timestamp
-by-size true timestamp = one-each timestamp
-by-size false timestamp = thousand-each timestamp
+million-each : (timestamp : ℤ) → instant_microsecond (instant_at 1000000 timestamp) ≡ timestamp
+million-each (pos n) = omega (arith, ints)
+million-each (negsuc n) = omega (arith, ints)
 
-unit-microsecond : (unit : TimestampUnit) (timestamp : ℤ)
-    → instant_microsecond (instant_at (per_second unit timestamp) timestamp) ≡ pos (1000000 / per_second unit timestamp) *ℤ timestamp
-unit-microsecond unit.Second timestamp = one-each timestamp
-unit-microsecond unit.Millisecond timestamp = thousand-each timestamp
-unit-microsecond unit.Infer timestamp = by-size (nat_le (unsigned_abs timestamp) inferred_seconds_max) timestamp
+by-row : (unit : TimestampUnit) (few : Bool) (timestamp : ℤ)
+    → instant_microsecond (instant_at (unit_row unit few).per_second timestamp) ≡ pos (1000000 / (unit_row unit few).per_second) *ℤ timestamp
+by-row unit.Second few timestamp = one-each timestamp
+by-row unit.Millisecond few timestamp = thousand-each timestamp
+by-row unit.Infer true timestamp = one-each timestamp
+by-row unit.Infer false timestamp = thousand-each timestamp
 
 later-is : (microseconds : ℕ) (instant : Instant) → instant_microsecond (later_instant microseconds instant) ≡ instant_microsecond instant +ℤ pos microseconds
 later-is microseconds instant = omega (arith, ints)
@@ -78,11 +87,20 @@ second_of_day-time_at second microsecond offset = omega arith
 local-is : (offset : Option ℤ) (instant : Instant) → int_le first_second instant.second ≡ true
     → local_second (date_time_at offset instant) ≡ instant.second
 local-is offset instant after =
-    let day = instant_day instant in
-    let second = instant_second instant in
+    let day = day_at instant.second in
+    let second = second_at instant.second in
     ap (λ (n : ℕ). (pos n -ℤ pos epoch_day) *ℤ pos seconds_per_day +ℤ pos (second_of_day (time_at second instant.microsecond offset))) (day_number-date_after day)
     ∙ ap (λ (n : ℕ). (pos day -ℤ pos epoch_day) *ℤ pos seconds_per_day +ℤ pos n) (second_of_day-time_at second instant.microsecond offset)
     ∙ second-joined instant.second after
+
+-- the date-time at an instant is at that instant
+instant_date_time-is : (offset : Option ℤ) (instant : Instant) (value : DateAndTime) → instant_date_time offset instant ≡ Ok value
+    → local_microsecond value ≡ instant_microsecond instant
+instant_date_time-is offset instant value same =
+    let mapped = mapped-value (date_time_at offset) (range_answer instant) value same in
+    let in_range = meets-value (range_table instant) instant mapped.0 mapped.1 in
+    ap local_microsecond (sym (ap (date_time_at offset) in_range.1 ∙ mapped.2))
+    ∙ ap (λ (n : ℤ). pos 1000000 *ℤ n +ℤ pos instant.microsecond) (local-is offset instant in_range.0.0)
 
 -- the date-time of a timestamp lies so many microseconds after 1970-01-01T00:00:00 as the timestamp says
 pub date_time_timestamp-instant : (unit : TimestampUnit) (offset : Option ℤ) (microseconds : ℕ) (timestamp : ℤ) (value : DateAndTime)
@@ -93,8 +111,17 @@ date_time_timestamp-instant unit offset microseconds timestamp value same =
     let second = two-steps (later_answer microseconds) (instant_answer unit timestamp) third.0 third.1 in
     let at = meets-value (unit_table unit timestamp) (instant_at (per_second unit timestamp) timestamp) second.0 second.1 in
     let sum = meets-value (sum_table microseconds second.0) (later_instant microseconds second.0) third.0 second.2 in
-    let in_range = meets-value (range_table third.0) (date_time_at offset third.0) value third.2 in
-    ap local_microsecond (sym in_range.1)
-    ∙ ap (λ (n : ℤ). pos 1000000 *ℤ n +ℤ pos third.0.microsecond) (local-is offset third.0 in_range.0.0)
+    instant_date_time-is offset third.0 value third.2
     ∙ ap instant_microsecond (sym sum.1) ∙ later-is microseconds second.0
-    ∙ ap (λ (n : ℤ). n +ℤ pos microseconds) (ap instant_microsecond (sym at.1) ∙ unit-microsecond unit timestamp)
+    ∙ ap (λ (n : ℤ). n +ℤ pos microseconds)
+    (ap instant_microsecond (sym at.1) ∙ by-row unit (nat_le (unsigned_abs timestamp) inferred_seconds_max) timestamp)
+
+-- that of a decimal timestamp lies at the microsecond that is nearest to it
+pub date_time_decimal-nearest : (unit : TimestampUnit) (offset : Option ℤ) (decimal : DecimalParts) (value : DateAndTime)
+    → date_time_decimal_answer unit offset decimal ≡ Ok value
+    → IsNearest (decimal_size (decimal_row unit decimal) decimal) (decimal_scale decimal) (local_microsecond value)
+date_time_decimal-nearest unit offset decimal value same =
+    let row = decimal_row unit decimal in
+    let at = instant_date_time-is offset (decimal_instant row decimal) value same ∙ million-each (decimal_microsecond row decimal) in
+    subst (IsNearest (decimal_size row decimal) (decimal_scale decimal)) (sym at)
+    (nearest-is (decimal_size row decimal) (decimal_scale decimal) (scale-some (length decimal.fraction)))

@@ -1,14 +1,15 @@
 -- Date-times from timestamps (Unix time), and from texts that are a timestamp instead.
-use Rattle.std.specs.Prelude.{ℕ, ◌+◌, ◌/◌, ◌%◌, ◌^◌, List, [], ◌∷◌, nat_lt, Option, ℤ, pos, ◌+ℤ◌, ◌*ℤ◌, int_lt, Result, Ok}
+use Rattle.std.specs.Prelude.{ℕ, ◌+◌, ◌/◌, ◌%◌, ◌^◌, List, [], ◌∷◌, nat_lt, Option, Some, None, ℤ, pos, ◌+ℤ◌, ◌*ℤ◌, int_lt, Result, Ok}
 use Rattle.speedate_base.specs.declared.config.MicrosecondsPrecisionOverflowBehavior.{MicrosecondsPrecisionOverflowBehavior}
 use Rattle.speedate_base.specs.declared.config.TimestampUnit.{TimestampUnit}
 use Rattle.speedate_base.specs.declared.faults.ParseError.{ParseError}
 use Rattle.speedate_base.specs.declared.faults.ParseError.TheVariants as fault
-use Rattle.speedate_base.specs.Numbers.{whole_number}
-use Rattle.speedate_base.specs.Requirement.{Requirement, ◌else_fault◌, meets, result_and_then}
-use Rattle.speedate_base.specs.Timestamp.{Instant, per_second, instant_answer}
+use Rattle.speedate_base.specs.DecimalTimestamp.{decimal_row, decimal_instant, digits_table}
+use Rattle.speedate_base.specs.Numbers.{DecimalParts, Number, Whole, Fractional, NoNumber, number_answer}
+use Rattle.speedate_base.specs.Requirement.{Requirement, ◌else_fault◌, meets, result_map, result_and_then}
+use Rattle.speedate_base.specs.Timestamp.{Instant, per_second, instant_answer, range_answer}
 use Rattle.speedate_civil.specs.DateAndTime.{DateAndTime}
-use Rattle.speedate_civil.specs.DateTimestamp.{range_table, instant_day, instant_second}
+use Rattle.speedate_civil.specs.DateTimestamp.{day_at, second_at}
 use Rattle.speedate_civil.specs.DateTimeText.{date_time_answer}
 use Rattle.speedate_civil.specs.DayNumber.{date_after}
 use Rattle.speedate_civil.specs.NumberText.{or_number}
@@ -35,16 +36,16 @@ later_answer microseconds instant = meets (sum_table microseconds instant) (Ok (
 -- the date-time at an instant, with the offset attached: nothing is shifted
 abbrev pub date_time_at : Option ℤ → Instant → DateAndTime
 date_time_at offset instant = record {
-  date = date_after (instant_day instant);
-  time = time_at (instant_second instant) instant.microsecond offset;
+  date = date_after (day_at instant.second);
+  time = time_at (second_at instant.second) instant.microsecond offset;
 }
 
 -- it, or the fault of an instant outside the years 0000 to 9999
 abbrev pub instant_date_time : Option ℤ → Instant → Result DateAndTime ParseError
-instant_date_time offset instant = meets (range_table instant) (Ok (date_time_at offset instant))
+instant_date_time offset instant = result_map (date_time_at offset) (range_answer instant)
 
 -- the date-time of a timestamp and microseconds beside it, or the fault: the unit's comes first, then those of the sums, then
--- those of the range
+-- those of the years
 abbrev pub date_time_timestamp_answer : TimestampUnit → Option ℤ → ℕ → ℤ → Result DateAndTime ParseError
 date_time_timestamp_answer unit offset microseconds timestamp =
     result_and_then (instant_date_time offset) (result_and_then (later_answer microseconds) (instant_answer unit timestamp))
@@ -53,7 +54,22 @@ date_time_timestamp_answer unit offset microseconds timestamp =
 abbrev pub meant_microsecond : TimestampUnit → ℕ → ℤ → ℤ
 meant_microsecond unit microseconds timestamp = pos (1000000 / per_second unit timestamp) *ℤ timestamp +ℤ pos microseconds
 
+-- the date-time of a decimal timestamp, or the fault
+abbrev pub date_time_decimal_answer : TimestampUnit → Option ℤ → DecimalParts → Result DateAndTime ParseError
+date_time_decimal_answer unit offset decimal = instant_date_time offset (decimal_instant (decimal_row unit decimal) decimal)
+
+-- the same of a decimal in a text, whose digits may be counted first
+abbrev pub date_time_decimal_text : TimestampUnit → MicrosecondsPrecisionOverflowBehavior → Option ℤ → DecimalParts → Result DateAndTime ParseError
+date_time_decimal_text unit behavior offset decimal =
+    meets (digits_table behavior (decimal_row unit decimal) decimal) (date_time_decimal_answer unit offset decimal)
+
+-- the answer to a number in a text, where it is one
+abbrev pub date_time_number_answer : TimestampUnit → MicrosecondsPrecisionOverflowBehavior → Option ℤ → Number → Option (Result DateAndTime ParseError)
+date_time_number_answer unit behavior offset (Whole timestamp) = Some (date_time_timestamp_answer unit offset 0 timestamp)
+date_time_number_answer unit behavior offset (Fractional decimal) = Some (date_time_decimal_text unit behavior offset decimal)
+date_time_number_answer unit behavior offset NoNumber = None
+
 -- the date-time that a text is, as its text or as a timestamp, or the text's fault
 abbrev pub date_time_or_timestamp : TimestampUnit → MicrosecondsPrecisionOverflowBehavior → Option ℤ → List ℕ → Result DateAndTime ParseError
 date_time_or_timestamp unit behavior offset text =
-    or_number (date_time_timestamp_answer unit offset 0) (whole_number text) (date_time_answer behavior text)
+    or_number (date_time_number_answer unit behavior offset (number_answer text)) (date_time_answer behavior text)

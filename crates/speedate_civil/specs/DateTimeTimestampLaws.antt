@@ -6,12 +6,12 @@ use Rattle.std.proofs.lemmas.Bool.Decides.{nat_tests}
 use Rattle.std.proofs.lemmas.Int.{ints}
 use Rattle.speedate_base.specs.declared.config.TimestampUnit.TheVariants as unit
 use Rattle.speedate_base.specs.Offset.{seconds_per_day}
-use Rattle.speedate_base.specs.Requirement.{result_and_then}
+use Rattle.speedate_base.specs.Requirement.{result_map, result_and_then}
 use Rattle.speedate_base.specs.RequirementLaws.{meets-all}
-use Rattle.speedate_base.specs.Timestamp.{Instant, instant_answer}
+use Rattle.speedate_base.specs.Timestamp.{Instant, instant_answer, first_second, last_second, range_table}
 use Rattle.speedate_civil.specs.DateAndTime.{DateAndTime, IsDateAndTime, local_second}
 use Rattle.speedate_civil.specs.DateNumberedLaws.{date_after-day_number}
-use Rattle.speedate_civil.specs.DateTimestamp.{range_table, first_second, last_second}
+use Rattle.speedate_civil.specs.DateTimestamp.{day_at, second_at}
 use Rattle.speedate_civil.specs.DateTimeTimestamp.{later_answer, sum_table, date_time_at, instant_date_time, date_time_timestamp_answer}
 use Rattle.speedate_civil.specs.DayNumber.{epoch_day, day_number, date_after}
 use Rattle.speedate_civil.specs.DayNumberLaws.{day_number-small}
@@ -92,7 +92,8 @@ instant_date_time-local value valid =
     let second = second_of_day value.time in
     let few = day_number-small value.date valid.date.day valid.date.year in
     let small : second < seconds_per_day = omega (arith, valid.time.hour, valid.time.minute, valid.time.second) in
-    meets-all (range_table instant) _ (after-first number second, (before-last number second few small, tt))
+    ap (result_map (date_time_at value.time.offset))
+    (meets-all (range_table instant) _ (after-first number second, (before-last number second few small, tt)))
     ∙ ap Ok (date_time-at value valid)
 
 -- its second and its microsecond, as a timestamp, lead back to it, where the offset is attached that it has

@@ -1,5 +1,6 @@
 -- No text that begins as a date is a number.
-use Rattle.std.specs.Prelude.{◌≡◌, ◌≢◌, ℕ, ◌<◌, Bool, true, false, ◌==◌, List, length, slice_index, nat_le, if◌then◌else◌, None, Result, Ok, Err, refl}
+use Rattle.std.specs.Prelude.{◌≡◌, ◌≢◌, ℕ, ◌<◌, Bool, true, false, ◌==◌, List, length, slice_index, nat_le, if◌then◌else◌, Option, Some, None, ℤ, Result, Ok, Err, refl}
+use Rattle.std.specs.Result.{result_and}
 use Rattle.std.specs.Char.{is_ascii_digit}
 use Rattle.std.proofs.Common.{arith, ap, sym, ◌∙◌}
 use Rattle.std.proofs.lemmas.Bool.{eqb-true, leb-true, false≢true}
@@ -7,11 +8,12 @@ use Rattle.speedate_base.specs.declared.faults.ParseError.{ParseError}
 use Rattle.speedate_base.specs.declared.faults.ParseError.TheVariants as fault
 use Rattle.speedate_base.specs.Ascii.{hyphen, full_stop}
 use Rattle.speedate_base.specs.Digits.{four_digits_at}
-use Rattle.speedate_base.specs.NumberLaws.{whole_number-other, number_answer-other}
-use Rattle.speedate_base.specs.Numbers.{NoNumber, number_answer, whole_number}
-use Rattle.speedate_base.specs.Requirement.{result_and_then}
+use Rattle.speedate_base.specs.NumberLaws.{number_answer-other}
+use Rattle.speedate_base.specs.Numbers.{Number, Whole, NoNumber, number_answer, whole_number, whole_or, decimal_answer}
+use Rattle.speedate_base.specs.Requirement.{meets, result_and_then}
+use Rattle.speedate_base.specs.RequirementLaws.{meets-chain}
 use Rattle.speedate_civil.specs.Calendar.{Ymd}
-use Rattle.speedate_civil.specs.DateText.{date_front, date_answer}
+use Rattle.speedate_civil.specs.DateText.{date_front, date_answer, date_table, date_end, date_numbers}
 use Rattle.speedate_civil.specs.NumberText.{may_be_number}
 
 -- a text that meets the first three rows of a table meets the first and the third
@@ -23,20 +25,19 @@ rows-met true true false first second third next answer same one two three = abs
 rows-met true false c first second third next answer same one two three = absurd (two (sym same))
 rows-met false b c first second third next answer same one two three = absurd (one (sym same))
 
--- a text whose fifth byte is a hyphen is no whole number
-hyphen-no_digit : (text : List ℕ) → nat_le 10 (length text) ≡ true → (slice_index text 4 == hyphen) ≡ true → whole_number text ≡ None
-hyphen-no_digit text long is =
+-- a text whose fifth byte is a hyphen is none
+hyphen-no_number : (text : List ℕ) → nat_le 10 (length text) ≡ true → (slice_index text 4 == hyphen) ≡ true → number_answer text ≡ NoNumber
+hyphen-no_number text long is =
     let within : 4 < length text = omega (arith, leb-true 10 (length text) long) in
-    whole_number-other text 4 (omega arith) within (ap is_ascii_digit (eqb-true (slice_index text 4) hyphen is))
+    let byte = eqb-true (slice_index text 4) hyphen is in
+    number_answer-other text 4 (omega arith) within (ap is_ascii_digit byte) (ap (λ (n : ℕ). n == full_stop) byte)
 
--- a text that begins with a date is none
+-- so is one that begins with a date
 pub number_answer-date : (text : List ℕ) (date : Ymd) → date_front text ≡ Ok date → number_answer text ≡ NoNumber
 number_answer-date text date read =
     let rows = rows-met (nat_le 10 (length text)) (four_digits_at text 0) (slice_index text 4 == hyphen)
     fault.TooShort fault.InvalidCharYear fault.InvalidCharDateSep _ (Ok date) read (λ other. cc) (λ other. cc) (λ other. cc) in
-    let within : 4 < length text = omega (arith, leb-true 10 (length text) rows.0) in
-    let byte = eqb-true (slice_index text 4) hyphen rows.1 in
-    number_answer-other text 4 (omega arith) within (ap is_ascii_digit byte) (ap (λ (n : ℕ). n == full_stop) byte)
+    hyphen-no_number text rows.0 rows.1
 
 other-fault : {A : Type 0} (refused fault : ParseError) (answer : Result A ParseError) → may_be_number refused ≡ false → may_be_number fault ≡ true
     → answer ≡ Err refused → answer ≢ Err fault
@@ -44,24 +45,34 @@ other-fault refused fault answer behind number one two =
     let same : refused ≡ fault = cc in
     false≢true (sym behind ∙ ap may_be_number same ∙ number)
 
--- nor is one a whole number that is refused by a fault behind the first hyphen
-pub whole_number-refused : (text : List ℕ) (fault : ParseError) → date_answer text ≡ Err fault → may_be_number fault ≡ false → whole_number text ≡ None
-whole_number-refused text refused read behind =
-    let answer = date_answer text in
-    let rows = rows-met (nat_le 10 (length text)) (four_digits_at text 0) (slice_index text 4 == hyphen)
-    fault.TooShort fault.InvalidCharYear fault.InvalidCharDateSep _ answer refl
-    (other-fault refused fault.TooShort answer behind refl read) (other-fault refused fault.InvalidCharYear answer behind refl read)
-    (other-fault refused fault.InvalidCharDateSep answer behind refl read) in
-    hyphen-no_digit text rows.0 rows.1
-
--- whatever is asked of a date at the front of the text
-pub whole_number-refused_front : {A : Type 0} (next : Ymd → Result A ParseError) (text : List ℕ) (fault : ParseError)
-    → result_and_then next (date_front text) ≡ Err fault → may_be_number fault ≡ false → whole_number text ≡ None
-whole_number-refused_front next text refused read behind =
+-- and one that is refused by a fault behind the first hyphen, whatever is asked of a date at its front
+pub number_answer-refused : {A : Type 0} (next : Ymd → Result A ParseError) (text : List ℕ) (fault : ParseError)
+    → result_and_then next (date_front text) ≡ Err fault → may_be_number fault ≡ false → number_answer text ≡ NoNumber
+number_answer-refused next text refused read behind =
     let front = date_front text in
     let rows = rows-met (nat_le 10 (length text)) (four_digits_at text 0) (slice_index text 4 == hyphen)
     fault.TooShort fault.InvalidCharYear fault.InvalidCharDateSep _ front refl
     (λ same. other-fault refused fault.TooShort _ behind refl read (ap (result_and_then next) same))
     (λ same. other-fault refused fault.InvalidCharYear _ behind refl read (ap (result_and_then next) same))
     (λ same. other-fault refused fault.InvalidCharDateSep _ behind refl read (ap (result_and_then next) same)) in
-    hyphen-no_digit text rows.0 rows.1
+    hyphen-no_number text rows.0 rows.1
+
+-- a text that is no number is no whole number
+no-whole : (whole : Option ℤ) (decimal : Number) → whole_or whole decimal ≡ NoNumber → whole ≡ None
+no-whole (Some number) decimal none = absurd (cc)
+no-whole None decimal none = refl
+
+pub whole_number-none : (text : List ℕ) → number_answer text ≡ NoNumber → whole_number text ≡ None
+whole_number-none text none = no-whole (whole_number text) (decimal_answer text) none
+
+-- what follows a date's front
+next-of : (front : Result Ymd ParseError) (ended : Result Ymd ParseError) → result_and front ended ≡ result_and_then (λ (date : Ymd). ended) front
+next-of (Ok date) ended = refl
+next-of (Err fault) ended = refl
+
+-- the table of a date ends with the row that nothing follows
+pub whole_number-refused : (text : List ℕ) (fault : ParseError) → date_answer text ≡ Err fault → may_be_number fault ≡ false → whole_number text ≡ None
+whole_number-refused text refused read behind =
+    let ended : Result Ymd ParseError = meets (date_end text) (Ok (date_numbers text)) in
+    let chained = sym (next-of (date_front text) ended) ∙ sym (meets-chain (date_table text) (date_numbers text) ended) ∙ read in
+    whole_number-none text (number_answer-refused (λ (date : Ymd). ended) text refused chained behind)

@@ -24,6 +24,7 @@ pub fn nearest_microseconds(digits: &[u8], unit: u64, negative: bool) -> u64
     requires unit { unit ≤ LARGEST_UNIT }
     ensures nearest { with_sign negative result
         ≡ nearest (with_sign negative (digits_value digits.now * unit)) (10 ^ length digits.now) }
+    ensures within { result ≤ unit }
 {
     let twice = twice_microseconds(digits, unit, negative);
     if negative { twice / 2 } else { (twice + 1) / 2 }

@@ -2,6 +2,14 @@
 
 ghost use Rattle.std.specs.Prelude.{◌≡◌, ◌<◌};
 
+use crate::faults::ParseError;
+
+/// The first second of the year 0000, counted from 1970-01-01T00:00:00.
+pub const FIRST_SECOND: i64 = -62_167_219_200;
+
+/// The last second of the year 9999.
+const LAST_SECOND: i64 = 253_402_300_799;
+
 /// An instant: seconds since 1970-01-01T00:00:00, rounded down, and the microseconds that are left.
 #[derive(Clone, Copy, Debug, PartialEq, Eq)]
 pub struct UnixTime {
@@ -13,7 +21,9 @@ pub struct UnixTime {
 }
 
 impl UnixTime {
-    ghost use Rattle.speedate_base.specs.Timestamp.{instant_at};
+    ghost use Rattle.std.specs.Prelude.{IfOk};
+    ghost use Rattle.speedate_base.specs.Requirement.{result_map};
+    ghost use Rattle.speedate_base.specs.Timestamp.{IsInYears, instant_at, range_answer};
     ghost use Rattle.speedate_base.specs.UnixTime.{parts};
 
     /// The instant so many seconds after 1970-01-01T00:00:00: a second before it for -1.
@@ -37,5 +47,32 @@ impl UnixTime {
             second: timestamp.div_euclid(1000),
             microsecond: 1000 * timestamp.rem_euclid(1000) as u32,
         }
+    }
+    /// The instant so many microseconds after 1970-01-01T00:00:00: second -1 and 999,999
+    /// microseconds for -1.
+    #[inline]
+    pub(super) fn from_microseconds(timestamp: i64) -> Self
+        ensures { parts result ≡ instant_at 1000000 timestamp }
+    {
+        UnixTime {
+            second: timestamp.div_euclid(1_000_000),
+            microsecond: timestamp.rem_euclid(1_000_000) as u32,
+        }
+    }
+
+    /// The instant where it lies in the years 0000 to 9999: `DateTooSmall` before them,
+    /// `DateTooLarge` after them.
+    #[inline]
+    pub fn in_years(self) -> Result<Self, ParseError>
+        ensures answer { result_map parts result ≡ range_answer (parts self) }
+        ensures within { IfOk result (λ time. IsInYears (parts time)) }
+    {
+        if self.second < FIRST_SECOND {
+            return Err(ParseError::DateTooSmall);
+        }
+        if self.second > LAST_SECOND {
+            return Err(ParseError::DateTooLarge);
+        }
+        Ok(self)
     }
 }

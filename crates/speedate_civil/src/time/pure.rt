@@ -1,12 +1,11 @@
 //! Times of day without their offsets, at the front of a text.
 
-ghost use Rattle.std.specs.Prelude.{◌≡◌, ◌+◌, ◌≤◌, IfOk, IsTrue, length, drop, nat_le};
+ghost use Rattle.std.specs.Prelude.{◌≡◌, ◌+◌, ◌≤◌, IfOk, IsTrue, length, drop};
 ghost use Rattle.speedate_base.specs.Digits.{two_digit_value};
-ghost use Rattle.speedate_base.specs.Requirement.{◌implies◌};
-ghost use Rattle.speedate_civil.specs.ClockText.{has_point, refuses_digits};
+ghost use Rattle.speedate_civil.specs.ClockText.{has_point};
 
 use crate::time::fraction::Fraction;
-use speedate_base::config::MicrosecondsPrecisionOverflowBehavior;
+use speedate_base::config::{MicrosecondsPrecisionOverflowBehavior, takes_digits};
 use speedate_base::faults::ParseError;
 use speedate_base::numbers::{byte_at, two_digits, two_digits_there};
 
@@ -133,7 +132,7 @@ impl PureTime {
         if fraction.length == 0 {
             return Err(ParseError::SecondFractionMissing);
         }
-        if !takes_digits(behavior, fraction.length) {
+        if !takes_digits(behavior, fraction.length, 6) {
             return Err(ParseError::SecondFractionTooLong);
         }
         Ok(PureTime {
@@ -154,15 +153,4 @@ fn has_point(rest: &[u8]) -> bool
 {
     let byte = byte_at(rest, 5);
     byte == b'.' || byte == b','
-}
-
-/// Whether so many digits of a second are taken.
-#[inline]
-fn takes_digits(behavior: MicrosecondsPrecisionOverflowBehavior, count: usize) -> bool
-    ensures { result ≡ (refuses_digits behavior implies nat_le count 6) }
-{
-    match behavior {
-        MicrosecondsPrecisionOverflowBehavior::Truncate => true,
-        MicrosecondsPrecisionOverflowBehavior::Error => count <= 6,
-    }
 }

@@ -1,0 +1,69 @@
+use Rattle.std.proofs.Common.{◌≡◌, ◌∙◌, ap, sym, subst, ℕ, ◌+◌, ◌-◌, ◌*◌, ◌/◌, ◌^◌, ◌<◌, ◌≤◌, List, Err, true, min, length, lit<, arith, rules}
+use Rattle.std.proofs.lemmas.Int.{to_z-of_z}
+use mir.Syntax.{w64}
+use mir.Val.{SFits}
+use Rattle.std.specs.Char.{is_ascii_digit}
+use Rattle.std.specs.List.{list_all}
+use Rattle.std.proofs.Math.Nat.{mul-le-mul_right, le-mul_of_pos_right}
+use Rattle.speedate_base.specs.declared.util.unit.DecimalUnit.{DecimalUnit}
+use Rattle.speedate_base.specs.declared.util.unit.DecimalUnit.TheVariants as unit
+use Rattle.speedate_base.specs.DecimalTimestamp.{decimal_microsecond}
+use Rattle.speedate_base.specs.DecimalUnit.{row}
+use Rattle.speedate_base.specs.DigitRuns.{digits_value, run_value}
+use Rattle.speedate_base.specs.IntFloat.{parts as decimal_parts}
+use Rattle.speedate_base.specs.Nearest.{nearest}
+use Rattle.speedate_base.specs.Numbers.{with_sign}
+use Rattle.speedate_base.specs.Timestamp.{instant_at, range_answer}
+use Rattle.speedate_base.proofs.DecimalLaws.{decimal-far, decimal_microsecond-sum}
+use Rattle.speedate_base.proofs.RoundingLaws.{run-all}
+use Rattle.speedate_base.proofs.util.decimal.decimal_to_seconds_micros.Goals as goal
+
+-- a unit has microseconds
+worth-some : (given : DecimalUnit) → 0 < 1000000 / (row given).per_second
+worth-some unit.Second = lit< tt
+worth-some unit.Millisecond = lit< tt
+
+-- what is far in numbers of 64 bits is far
+far : (whole : List ℕ) (worth value size : ℕ) → list_all is_ascii_digit whole ≡ true → value ≡ min (run_value whole 0) (2 ^ 64 - 1)
+    → size ≡ min (value * worth) (2 ^ 64 - 1) → 2 ^ 60 < size → 2 ^ 60 < digits_value whole * worth
+far whole worth value size all is product more =
+    let below : value ≤ digits_value whole = omega (arith, is, run-all whole all) in
+    omega (arith, product, more, mul-le-mul_right worth below)
+
+-- and what is not is exact
+near : (whole : List ℕ) (worth value size : ℕ) → list_all is_ascii_digit whole ≡ true → 0 < worth → value ≡ min (run_value whole 0) (2 ^ 64 - 1)
+    → size ≡ min (value * worth) (2 ^ 64 - 1) → size ≤ 2 ^ 60 → size ≡ digits_value whole * worth
+near whole worth value size all some is product less =
+    let small : value ≤ value * worth = le-mul_of_pos_right value some in
+    let exact : value ≡ digits_value whole = omega (arith, is, run-all whole all, small, product, less) in
+    let size_is : size ≡ value * worth = omega (arith, product, less) in
+    size_is ∙ ap (λ (n : ℕ). n * worth) exact
+
+pub returns-then-whole-gt-FAR_MICROSECONDS-clause-answer : goal.returns-then-whole-gt-FAR_MICROSECONDS-clause-answer
+returns-then-whole-gt-FAR_MICROSECONDS-clause-answer c =
+    let decimal = c.args.decimal in
+    let whole = decimal.whole.now in
+    let size = far whole c.microseconds-worth.result c.digit_run.result.value c.saturating_mul-whole.result decimal.whole_digits
+    c.digit_run.ensures.value c.saturating_mul-whole.ensures c.if-whole-gt-FAR_MICROSECONDS.true in
+    let size_is = subst (λ (n : ℕ). 2 ^ 60 < digits_value whole * n) c.microseconds-worth.ensures.worth size in
+    ap Err c.far_fault.ensures ∙ sym (decimal-far (row c.args.unit) (decimal_parts decimal) size_is)
+
+pub returns-clause-answer : goal.returns-clause-answer
+returns-clause-answer c =
+    let decimal = c.args.decimal in
+    let given = c.args.unit in
+    let worth = 1000000 / (row given).per_second in
+    let same_worth = c.microseconds-worth.ensures.worth in
+    let product = c.saturating_mul-whole.ensures ∙ ap (λ (n : ℕ). min (c.digit_run.result.value * n) (2 ^ 64 - 1)) same_worth in
+    let size = near decimal.whole.now worth c.digit_run.result.value c.saturating_mul-whole.result decimal.whole_digits (worth-some given)
+    c.digit_run.ensures.value product c.if-whole-gt-FAR_MICROSECONDS.false in
+    let rest = digits_value decimal.fraction.now in
+    let scale = 10 ^ length decimal.fraction.now in
+    let part = c.nearest_microseconds.result in
+    let nearest_part = c.nearest_microseconds.ensures.nearest ∙ ap (λ (n : ℕ). nearest (with_sign decimal.negative (rest * n)) scale) same_worth in
+    let sum = decimal_microsecond-sum (row given) (decimal_parts decimal) part nearest_part in
+    let signed : c.signed_microseconds.result ≡ decimal_microsecond (row given) (decimal_parts decimal) =
+    c.signed_microseconds.ensures ∙ ap (λ (n : ℕ). with_sign decimal.negative (n + part)) size ∙ sym sum in
+    let fits : SFits w64 c.signed_microseconds.result = search rules in
+    let time = (simp to_z-of_z at c.from_microseconds.ensures) ∙ ap (instant_at 1000000) signed in
+    c.in_years.ensures.answer ∙ ap range_answer time

@@ -1,0 +1,46 @@
+use Rattle.std.proofs.Common.{◌≡◌, ◌∙◌, ap, sym, ℕ, ◌+◌, ◌-◌, ◌*◌, ◌^◌, ◌<◌, true, false, List, nat_le, nat_lt, length, ◌++◌, min, inl, inr, arith}
+use Rattle.std.specs.Char.{is_ascii_digit}
+use Rattle.std.specs.List.{list_all}
+use Rattle.std.proofs.lemmas.Bool.{cases_lt}
+use Rattle.std.proofs.lemmas.Bool.Decides.{nat_tests}
+use Rattle.speedate_base.specs.DigitRuns.{digits_value}
+use Rattle.speedate_base.specs.DigitRunLaws.{digits_value-append, digits_value-lt}
+use Rattle.speedate_base.proofs.DecimalLaws.{same-whole, less-whole, more-whole}
+use Rattle.speedate_base.proofs.RoundingLaws.{run-all}
+use Rattle.speedate_base.specs.NearestLaws.{scale-some}
+use Rattle.speedate_base.proofs.util.decimal.is_inferred_seconds.Goals as goal
+
+-- the digits of a decimal, by its whole part and its fraction
+spread : (whole fraction : List ℕ) → nat_le (digits_value (whole ++ fraction)) (20000000000 * 10 ^ length fraction)
+    ≡ nat_le (digits_value whole * 10 ^ length fraction + digits_value fraction) (20000000000 * 10 ^ length fraction)
+spread whole fraction = ap (λ (n : ℕ). nat_le n (20000000000 * 10 ^ length fraction)) (digits_value-append whole fraction)
+
+pub returns-then-whole-eq-INFERRED_SECONDS_MAX : goal.returns-then-whole-eq-INFERRED_SECONDS_MAX
+returns-then-whole-eq-INFERRED_SECONDS_MAX c =
+    let decimal = c.args.decimal in
+    let whole = decimal.whole.now in
+    let fraction = decimal.fraction.now in
+    let value = run-all whole decimal.whole_digits in
+    let same : digits_value whole ≡ 20000000000 = omega (arith, value, c.digit_run-whole.ensures.value, c.if-whole-eq-INFERRED_SECONDS_MAX.true) in
+    c.are_zeros.ensures ∙ sym (same-whole 20000000000 (10 ^ length fraction) (digits_value fraction))
+    ∙ ap (λ (n : ℕ). nat_le (n * 10 ^ length fraction + digits_value fraction) (20000000000 * 10 ^ length fraction)) (sym same)
+    ∙ sym (spread whole fraction)
+
+-- where the whole part is not the bound, it decides
+other-whole : (whole fraction : List ℕ) (value : ℕ) → list_all is_ascii_digit fraction ≡ true → value ≡ min (digits_value whole) (2 ^ 64 - 1)
+    → (value ≡ 20000000000 → ⊥) → nat_lt value 20000000000 ≡ nat_le (digits_value (whole ++ fraction)) (20000000000 * 10 ^ length fraction)
+other-whole whole fraction value all is other = elim (cases_lt (digits_value whole) 20000000000) [
+  | inl less ↦
+      let test : nat_lt value 20000000000 ≡ true = grind (arith, nat_tests, is, less) in
+      test ∙ sym (spread whole fraction ∙ less-whole (digits_value whole) 20000000000 (10 ^ length fraction) (digits_value fraction) less (digits_value-lt fraction all))
+  | inr most ↦
+      let more : 20000000000 < digits_value whole = grind (arith, is, most, other) in
+      let test : nat_lt value 20000000000 ≡ false = grind (arith, nat_tests, is, more) in
+      test ∙ sym (spread whole fraction ∙ more-whole (digits_value whole) 20000000000 (10 ^ length fraction) (digits_value fraction) more (scale-some (length fraction)))
+]
+
+pub returns : goal.returns
+returns c =
+    let decimal = c.args.decimal in
+    let value = c.digit_run-whole.ensures.value ∙ ap (λ (n : ℕ). min n (2 ^ 64 - 1)) (run-all decimal.whole.now decimal.whole_digits) in
+    other-whole decimal.whole.now decimal.fraction.now _ decimal.fraction_digits value c.if-whole-eq-INFERRED_SECONDS_MAX.false

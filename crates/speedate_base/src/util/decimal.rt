@@ -1,0 +1,116 @@
+//! Decimal timestamps.
+
+ghost use Rattle.std.specs.Prelude.{◌≡◌, ◌<◌, ◌≤◌, ◌^◌, ◌==◌, ◌*◌, IsTrue, IfOk, nat_le, if◌then◌else◌};
+ghost use Rattle.std.specs.Char.{is_ascii_digit};
+ghost use Rattle.std.specs.List.{list_all};
+ghost use Rattle.speedate_base.specs.DecimalTimestamp.{decimal_digits, decimal_scale, decimal_row, decimal_instant};
+ghost use Rattle.speedate_base.specs.DecimalUnit.{row};
+ghost use Rattle.speedate_base.specs.DigitRuns.{digits_value};
+ghost use Rattle.speedate_base.specs.IntFloat.{parts as decimal_parts};
+ghost use Rattle.speedate_base.specs.Numbers.{with_sign};
+ghost use Rattle.speedate_base.specs.Requirement.{result_map};
+ghost use Rattle.speedate_base.specs.declared.faults.ParseError.TheVariants as fault;
+ghost use Rattle.speedate_base.specs.Timestamp.{IsInYears, inferred_seconds_max, range_answer};
+ghost use Rattle.speedate_base.specs.UnixTime.{parts};
+
+use super::{DecimalUnit, INFERRED_SECONDS_MAX, UnixTime, nearest_microseconds};
+use crate::config::TimestampUnit;
+use crate::faults::ParseError;
+use crate::numbers::{Decimal, digit_run};
+
+/// So many microseconds before 1970 lie before the year 0000, and so many after it behind the year
+/// 9999.
+const FAR_MICROSECONDS: u64 = 1 << 60;
+
+/// The unit of a decimal timestamp: where it is to be inferred, seconds for `"20000000000.0"` and
+/// milliseconds for `"20000000000.1"`.
+///
+/// An inferred unit is seconds where the size of the whole decimal is at most 20,000,000,000,
+/// otherwise milliseconds.
+#[inline]
+pub fn decimal_unit(decimal: Decimal<'_>, unit: TimestampUnit) -> DecimalUnit
+    ensures row { row result ≡ decimal_row unit (decimal_parts decimal.entry) }
+{
+    match unit {
+        TimestampUnit::Second => DecimalUnit::Second,
+        TimestampUnit::Millisecond => DecimalUnit::Millisecond,
+        TimestampUnit::Infer => {
+            if is_inferred_seconds(decimal) {
+                DecimalUnit::Second
+            } else {
+                DecimalUnit::Millisecond
+            }
+        }
+    }
+}
+
+/// Whether a decimal timestamp is seconds where its unit is inferred.
+#[inline]
+fn is_inferred_seconds(decimal: Decimal<'_>) -> bool
+    ensures { result ≡ nat_le (decimal_digits (decimal_parts decimal.entry))
+        (inferred_seconds_max * decimal_scale (decimal_parts decimal.entry)) }
+{
+    let whole = digit_run(decimal.whole, 0).value;
+    if whole == INFERRED_SECONDS_MAX {
+        return are_zeros(decimal.fraction);
+    }
+    whole < INFERRED_SECONDS_MAX
+}
+
+/// Whether all digits are 0.
+fn are_zeros(digits: &[u8]) -> bool
+    requires { IsTrue (list_all is_ascii_digit digits.now) }
+    ensures { result ≡ (digits_value digits.now == 0) }
+{
+    for digit in digits {
+        if *digit != b'0' {
+            return false;
+        }
+    }
+    true
+}
+
+/// The instant of a decimal timestamp, to the nearest microsecond: second -1 and 999,999
+/// microseconds for `"-0.0000006"` in seconds. Where two microseconds are as near it is the later
+/// one.
+///
+/// `DateTooSmall` where that microsecond lies before the year 0000, `DateTooLarge` where it lies
+/// after the year 9999.
+#[inline]
+pub fn decimal_to_seconds_micros(
+    decimal: Decimal<'_>,
+    unit: DecimalUnit,
+) -> Result<UnixTime, ParseError>
+    ensures answer { result_map parts result ≡ range_answer (decimal_instant (row unit) (decimal_parts decimal.entry)) }
+    ensures within { IfOk result (λ time. IsInYears (parts time)) }
+{
+    let worth = unit.microseconds();
+    let whole = digit_run(decimal.whole, 0).value.saturating_mul(worth);
+    if whole > FAR_MICROSECONDS {
+        return Err(far_fault(decimal.negative));
+    }
+    let size = whole + nearest_microseconds(decimal.fraction, worth, decimal.negative);
+    UnixTime::from_microseconds(signed_microseconds(decimal.negative, size)).in_years()
+}
+
+/// The fault of a timestamp that is far from 1970, before it where it is negative.
+#[inline]
+fn far_fault(negative: bool) -> ParseError
+    ensures { result ≡ (if negative then fault.DateTooSmall else fault.DateTooLarge) }
+{
+    if negative {
+        ParseError::DateTooSmall
+    } else {
+        ParseError::DateTooLarge
+    }
+}
+
+/// A size in microseconds with its sign.
+#[inline]
+fn signed_microseconds(negative: bool, size: u64) -> i64
+    requires { size < 2 ^ 63 }
+    ensures { result ≡ with_sign negative size }
+{
+    let value = size as i64;
+    if negative { -value } else { value }
+}
