@@ -11,7 +11,6 @@ use Rattle.speedate_base.specs.RequirementLaws.{meets-all}
 use Rattle.speedate_base.specs.Timestamp.{Instant, instant_answer, first_second, last_second, range_table}
 use Rattle.speedate_civil.specs.DateAndTime.{DateAndTime, IsDateAndTime, local_second}
 use Rattle.speedate_civil.specs.DateNumberedLaws.{date_after-day_number}
-use Rattle.speedate_civil.specs.DateTimestamp.{day_at, second_at}
 use Rattle.speedate_civil.specs.DateTimeTimestamp.{later_answer, sum_table, date_time_at, instant_date_time, date_time_timestamp_answer}
 use Rattle.speedate_civil.specs.DayNumber.{epoch_day, day_number, date_after}
 use Rattle.speedate_civil.specs.DayNumberLaws.{day_number-small}

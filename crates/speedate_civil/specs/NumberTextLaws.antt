@@ -9,7 +9,7 @@ use Rattle.speedate_base.specs.declared.faults.ParseError.TheVariants as fault
 use Rattle.speedate_base.specs.Ascii.{hyphen, full_stop}
 use Rattle.speedate_base.specs.Digits.{four_digits_at}
 use Rattle.speedate_base.specs.NumberLaws.{number_answer-other}
-use Rattle.speedate_base.specs.Numbers.{Number, Whole, NoNumber, number_answer, whole_number, whole_or, decimal_answer}
+use Rattle.speedate_base.specs.Numbers.{Number, NoNumber, number_answer, whole_number, whole_or, decimal_answer}
 use Rattle.speedate_base.specs.Requirement.{meets, result_and_then}
 use Rattle.speedate_base.specs.RequirementLaws.{meets-chain}
 use Rattle.speedate_civil.specs.Calendar.{Ymd}

@@ -6,6 +6,7 @@ ghost use Rattle.speedate_base.specs.Requirement.{result_map};
 ghost use Rattle.speedate_base.specs.declared.config.MicrosecondsPrecisionOverflowBehavior.TheVariants as behavior;
 ghost use Rattle.speedate_civil.specs.DateTimeText.{is_separator, date_time_answer};
 
+mod decimal;
 mod text;
 mod timestamp;
 

@@ -7,7 +7,7 @@ ghost use Rattle.std.specs.Option.{option_map};
 ghost use Rattle.speedate_base.specs.declared.config.TimestampUnit.TheVariants as unit;
 ghost use Rattle.speedate_civil.specs.Date.{parts};
 ghost use Rattle.speedate_civil.specs.DateTimestamp.{date_timestamp_answer};
-ghost use Rattle.speedate_civil.specs.DayNumber.{days_of_months, year_length, ordinal_day, day_number, date_numbered, next_date, midnight_second, midnight_millisecond};
+ghost use Rattle.speedate_civil.specs.DayNumber.{days_of_months, year_length, ordinal_day, day_number, date_after, date_numbered, next_date, midnight_second, midnight_millisecond};
 
 use super::{Date, is_leap_year, month_length};
 use speedate_base::util::SECONDS_PER_DAY;
@@ -93,13 +93,23 @@ impl Date {
         if number > LAST_DAY_NUMBER {
             return None;
         }
+        Some(Self::numbered(number))
+    }
+
+    /// The date of a day number up to 3,652,424.
+    #[inline]
+    pub(crate) fn numbered(number: u32) -> Self
+        requires { number ≤ 3652424 }
+        ensures date { parts result ≡ date_after number }
+        ensures number { day_number (parts result) ≡ number }
+    {
         // In quarters of a day a century has 146,097 and a year 1,461, if the last century of each
         // four and the last year of each four are the longer ones: so rounding down finds them.
         let scaled = 4 * (number + DAYS_BEFORE_YEAR_0) + 3;
         let in_century = scaled % 146_097 / 4 * 4 + 3;
         let year = 100 * (scaled / 146_097) + in_century / 1461 - 399;
         let day = in_century % 1461 / 4;
-        Some(day_of_year(year as u16, day as u16))
+        day_of_year(year as u16, day as u16)
     }
 
     /// The day after the date: 2000-01-01 for 1999-12-31. `None` for 9999-12-31.

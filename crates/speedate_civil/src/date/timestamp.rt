@@ -1,28 +1,21 @@
 //! Dates from timestamps, and from texts that are a timestamp instead of a date.
 
-ghost use Rattle.std.specs.Prelude.{◌≡◌, ◌≤◌, ◌==◌, ◌&&◌, Err, IsTrue, pos, ◌+ℤ◌, int_le, unsigned_abs};
-ghost use Rattle.std.specs.Int.{int_div_euclid, int_rem_euclid};
-ghost use Rattle.speedate_base.specs.Offset.{seconds_per_day};
+ghost use Rattle.std.specs.Prelude.{◌≡◌, ◌≤◌, ◌==◌, ◌&&◌, Err, IsTrue, int_le};
 ghost use Rattle.speedate_base.specs.Requirement.{result_map, ◌implies◌};
+ghost use Rattle.speedate_base.specs.Timestamp.{IsInYears, first_second, last_second};
 ghost use Rattle.speedate_base.specs.UnixTime.{parts as instant_parts};
 ghost use Rattle.speedate_base.specs.declared.config.TimestampUnit.TheVariants as unit;
 ghost use Rattle.speedate_civil.specs.Date.{parts};
 ghost use Rattle.speedate_civil.specs.DateText.{date_answer};
-ghost use Rattle.speedate_civil.specs.DateTimestamp.{first_second, last_second, instant_date, date_timestamp_answer, date_or_timestamp};
-ghost use Rattle.speedate_civil.specs.DayNumber.{epoch_day};
+ghost use Rattle.speedate_civil.specs.DateTimestamp.{day_at, second_at, instant_date, date_timestamp_answer, date_or_timestamp};
+ghost use Rattle.speedate_civil.specs.DayNumber.{date_after};
 ghost use Rattle.speedate_civil.specs.NumberText.{may_be_number};
 
 use super::Date;
 use speedate_base::config::DateConfig;
 use speedate_base::faults::ParseError;
 use speedate_base::numbers::int_parse_bytes;
-use speedate_base::util::{SECONDS_PER_DAY, UnixTime, timestamp_to_seconds_micros};
-
-/// The first second of the year 0000, counted from 1970-01-01T00:00:00.
-pub(crate) const FIRST_SECOND: i64 = -62_167_219_200;
-
-/// The last second of the year 9999.
-pub(crate) const LAST_SECOND: i64 = 253_402_300_799;
+use speedate_base::util::{FIRST_SECOND, SECONDS_PER_DAY, UnixTime, timestamp_to_seconds_micros};
 
 impl Date {
     /// Reads a date from a text, or from a timestamp that stands there instead: 2020-02-29 for
@@ -108,38 +101,43 @@ impl Date {
             ≡ date_timestamp_answer config.now.timestamp_unit require_exact timestamp }
     {
         let time = timestamp_to_seconds_micros(timestamp, config.timestamp_unit)?;
-        Self::from_instant(time, require_exact)
+        let within = time.in_years()?;
+        Self::from_instant(within, require_exact)
     }
 
     /// The date on whose day an instant lies.
     #[inline]
     fn from_instant(time: UnixTime, require_exact: bool) -> Result<Self, ParseError>
+        requires within { IsInYears (instant_parts time) }
         ensures date { result_map parts result ≡ instant_date require_exact (instant_parts time) }
     {
-        if time.second < FIRST_SECOND {
-            return Err(ParseError::DateTooSmall);
-        }
-        if time.second > LAST_SECOND {
-            return Err(ParseError::DateTooLarge);
-        }
-        let (number, second) = day_and_second(time.second);
+        let (date, second) = Self::at_second(time.second);
         if !is_taken(require_exact, second, time.microsecond) {
             return Err(ParseError::DateNotExact);
         }
-        match Self::from_day_number(number) {
-            Some(date) => Ok(date),
-            None => Err(ParseError::DateTooLarge),
-        }
+        Ok(date)
+    }
+
+    /// The date on whose day a second of the years 0000 to 9999 lies, and the second of that day.
+    #[inline]
+    pub(crate) fn at_second(second: i64) -> (Self, u32)
+        requires after { IsTrue (int_le first_second second) }
+        requires before { IsTrue (int_le second last_second) }
+        ensures date { parts result.0 ≡ date_after (day_at second) }
+        ensures second { result.1 ≡ second_at second }
+    {
+        let (number, second) = day_and_second(second);
+        (Self::numbered(number), second)
     }
 }
 
 /// The day number of a second of the years 0000 to 9999, and the second of that day.
 #[inline]
-pub(crate) fn day_and_second(second: i64) -> (u32, u32)
+fn day_and_second(second: i64) -> (u32, u32)
     requires after { IsTrue (int_le first_second second) }
     requires before { IsTrue (int_le second last_second) }
-    ensures day { result.0 ≡ unsigned_abs (int_div_euclid second (pos seconds_per_day) +ℤ pos epoch_day) }
-    ensures second { result.1 ≡ unsigned_abs (int_rem_euclid second (pos seconds_per_day)) }
+    ensures day { result.0 ≡ day_at second }
+    ensures second { result.1 ≡ second_at second }
     ensures small { result.0 ≤ 3652424 }
 {
     let seconds = (second - FIRST_SECOND) as u64;

@@ -4,30 +4,37 @@ ghost use Rattle.std.specs.Prelude.{◌≡◌, Ok, Err, IfOk, None};
 ghost use Rattle.std.specs.Option.{ForSome};
 ghost use Rattle.speedate_base.specs.Offset.{IsOffset};
 ghost use Rattle.speedate_base.specs.Requirement.{result_map};
+ghost use Rattle.speedate_base.specs.Timestamp.{IsInYears};
 ghost use Rattle.speedate_base.specs.UnixTime.{parts as instant_parts};
 ghost use Rattle.speedate_base.specs.declared.config.MicrosecondsPrecisionOverflowBehavior.TheVariants as behavior;
 ghost use Rattle.speedate_base.specs.declared.config.TimestampUnit.TheVariants as unit;
 ghost use Rattle.speedate_civil.specs.DateAndTime.{local_second, utc_second, local_millisecond, utc_millisecond, local_microsecond};
 ghost use Rattle.speedate_civil.specs.DateTime.{parts};
 ghost use Rattle.speedate_civil.specs.DateTimeText.{date_time_answer};
-ghost use Rattle.speedate_civil.specs.DateTimeTimestamp.{later_answer, instant_date_time, date_time_timestamp_answer, meant_microsecond, date_time_or_timestamp};
+ghost use Rattle.speedate_civil.specs.DateTimeTimestamp.{later_answer, date_time_at, date_time_timestamp_answer, meant_microsecond, date_time_or_timestamp};
 
 use crate::date::Date;
-use crate::date::timestamp::{FIRST_SECOND, LAST_SECOND, day_and_second, may_be_number};
+use crate::date::timestamp::may_be_number;
 use crate::datetime::DateTime;
 use crate::time::Time;
 use speedate_base::config::DateTimeConfig;
 use speedate_base::faults::ParseError;
-use speedate_base::numbers::int_parse_bytes;
+use speedate_base::numbers::{IntFloat, float_parse_bytes};
 use speedate_base::util::{UnixTime, timestamp_to_seconds_micros};
 
 impl DateTime {
     /// Reads a date-time from a text, or from a timestamp that stands there instead: 12:13:14 on
     /// 29 February 2020 for `"2020-02-29T12:13:14"`, midnight on 7 June 2022 for `"1654560000"`.
     ///
-    /// A text that is no date-time is looked at as a whole number: a timestamp, in seconds or in
-    /// milliseconds by its size. The faults are those of [`DateTime::parse_str_rfc3339`] where the
-    /// text is no whole number either, and of [`DateTime::from_timestamp`] where it is one.
+    /// A text that is no date-time is looked at as a number: a timestamp, in seconds or in
+    /// milliseconds by its size, whole or with a point, as `"1654560000.5"`. The faults are those of
+    /// [`DateTime::parse_str_rfc3339`] where the text is no number either, and of
+    /// [`DateTime::from_timestamp`] where it is a whole one. Where it is a decimal they are, in this
+    /// order:
+    ///
+    /// - `SecondFractionTooLong` for more than six digits behind the point of a timestamp in seconds,
+    ///   `MillisecondFractionTooLong` for more than three in milliseconds;
+    /// - those of [`DateTime::from_decimal_with_config`].
     #[inline(always)]
     pub fn parse_str(text: &str) -> Result<Self, ParseError>
         ensures answer { result_map parts result ≡ date_time_or_timestamp unit.Infer behavior.Error None text.now }
@@ -44,10 +51,11 @@ impl DateTime {
         Self::parse_bytes_with_config(bytes, &DateTimeConfig::default())
     }
 
-    /// Reads a date-time from a text, as [`DateTime::parse_str`] does, with digits of a second past
-    /// the sixth, the unit of timestamps and their offset as the configuration has them:
-    /// 1970-01-01T00:00:01+01:00 for `"1"` and the offset 3,600. The offset is not for texts of a
-    /// date-time.
+    /// Reads a date-time from a text, as [`DateTime::parse_str`] does, with digits past the
+    /// microsecond, the unit of timestamps and their offset as the configuration has them:
+    /// 1970-01-01T00:00:01+01:00 for `"1"` and the offset 3,600. Digits of a timestamp that are not
+    /// refused are not dropped either: it is rounded to the nearest microsecond. The offset is not for
+    /// texts of a date-time.
     #[inline(always)]
     pub fn parse_str_with_config(text: &str, config: &DateTimeConfig) -> Result<Self, ParseError>
         ensures answer { result_map parts result
@@ -91,9 +99,10 @@ impl DateTime {
         if !may_be_number(fault) {
             return Err(fault);
         }
-        match int_parse_bytes(bytes) {
-            Some(timestamp) => Self::from_timestamp_with_config(timestamp, 0, config),
-            None => Err(fault),
+        match float_parse_bytes(bytes) {
+            IntFloat::Int(timestamp) => Self::from_timestamp_with_config(timestamp, 0, config),
+            IntFloat::Float(decimal) => Self::parse_decimal(decimal, config),
+            IntFloat::Err => Err(fault),
         }
     }
 
@@ -141,27 +150,20 @@ impl DateTime {
     {
         let time = timestamp_to_seconds_micros(timestamp, config.timestamp_unit)?;
         let later = later_instant(time, timestamp_microsecond)?;
-        Self::from_instant(later, config.time_config.unix_timestamp_offset)
+        let within = later.in_years()?;
+        Ok(Self::at_instant(within, config.time_config.unix_timestamp_offset))
     }
 
-    /// The date-time at an instant, with the offset attached.
+    /// The date-time at an instant of the years 0000 to 9999, with the offset attached.
     #[inline]
-    fn from_instant(time: UnixTime, offset: Option<i32>) -> Result<Self, ParseError>
-        requires { ForSome offset IsOffset }
-        ensures value { result_map parts result ≡ instant_date_time offset (instant_parts time) }
+    pub(super) fn at_instant(time: UnixTime, offset: Option<i32>) -> Self
+        requires within { IsInYears (instant_parts time) }
+        requires offset { ForSome offset IsOffset }
+        ensures value { parts result ≡ date_time_at offset (instant_parts time) }
     {
-        if time.second < FIRST_SECOND {
-            return Err(ParseError::DateTooSmall);
-        }
-        if time.second > LAST_SECOND {
-            return Err(ParseError::DateTooLarge);
-        }
-        let (number, second) = day_and_second(time.second);
+        let (date, second) = Date::at_second(time.second);
         let time = Time::at_second(second, time.microsecond, offset);
-        match Date::from_day_number(number) {
-            Some(date) => Ok(DateTime { date, time }),
-            None => Err(ParseError::DateTooLarge),
-        }
+        DateTime { date, time }
     }
 
     /// The second since 1970-01-01T00:00:00 that a clock at the offset shows: 86,400 for

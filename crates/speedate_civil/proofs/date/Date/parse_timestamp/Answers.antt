@@ -1,5 +1,6 @@
 use Rattle.std.proofs.Common.{◌≡◌, ◌∙◌, ap₂, sym, true, Result, rules}
 use Rattle.std.specs.Prelude.{Option, ℤ}
+use Rattle.std.specs.Option.{option_map}
 use Rattle.std.proofs.lemmas.Int.{to_z-of_z}
 use mir.Syntax.{w64}
 use mir.Val.{SFits}
@@ -12,8 +13,8 @@ use Rattle.speedate_civil.proofs.date.Date.parse_timestamp.Goals as goal
 
 -- the answer where the number and the table's answer are known
 known : (timestamp : ℤ → Result Ymd ParseError) (first second : Option ℤ) (one two : Result Ymd ParseError) → first ≡ second → one ≡ two
-    → or_number timestamp first one ≡ or_number timestamp second two
-known timestamp first second one two same_number same = ap₂ (or_number timestamp) same_number same
+    → or_number (option_map timestamp first) one ≡ or_number (option_map timestamp second) two
+known timestamp first second one two same_number same = ap₂ (λ number answer. or_number (option_map timestamp number) answer) same_number same
 
 pub returns-then-not-may_be_number : goal.returns-then-not-may_be_number
 returns-then-not-may_be_number c =

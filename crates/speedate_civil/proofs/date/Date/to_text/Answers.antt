@@ -1,4 +1,5 @@
 use Rattle.std.proofs.Common.{◌∙◌, sym, subst, ap, lit<, true, ℕ, List, [], length, arith}
+use Rattle.std.specs.Option.{option_map}
 use Rattle.std.specs.Str.{IsAscii}
 use Rattle.std.proofs.lemmas.Str.Ascii.{IsAscii-nil}
 use Rattle.speedate_civil.specs.Date.{parts}
@@ -26,7 +27,7 @@ returns-clause-reads_back_with_config c config =
     let date = c.args.self.now in
     let bytes = c.ascii_text.ensures.bytes ∙ c.text_bytes.ensures.bytes in
     ap (λ (text : List ℕ). date_or_timestamp config.timestamp_unit text) bytes
-    ∙ ap (or_number (date_timestamp_answer config.timestamp_unit true) (whole_number (date_text (parts date)))) (date_text-reads (parts date) (is_date date))
+    ∙ ap (or_number (option_map (date_timestamp_answer config.timestamp_unit true) (whole_number (date_text (parts date))))) (date_text-reads (parts date) (is_date date))
 
 pub returns-clause-distinct : goal.returns-clause-distinct
 returns-clause-distinct c other same =

@@ -17,6 +17,18 @@ leads-back value second valid none same =
     ∙ ap (λ (offset : Option ℤ). date_time_timestamp_answer unit.Second offset value.time.microsecond (local_second value)) (sym none)
     ∙ date_time_timestamp-leads_back value valid
 
+pub overflow_add-result : goal.overflow_add-result
+overflow_add-result c =
+    let value = c.args.self.now in
+    let small = local_second-small (parts value) (is_date_and_time value) in
+    omega (arith, ints, small, c.timestamp.ensures.second, c.total_seconds.ensures.seconds, c.from.ensures)
+
+pub returns-clause-second : goal.returns-clause-second
+returns-clause-second c =
+    let value = c.args.self.now in
+    let small = local_second-small (parts value) (is_date_and_time value) in
+    omega (arith, ints, small, c.timestamp.ensures.second, c.total_seconds.ensures.seconds, c.from.ensures)
+
 pub returns-clause-leads_back : goal.returns-clause-leads_back
 returns-clause-leads_back c none =
     let value = c.args.self.now in

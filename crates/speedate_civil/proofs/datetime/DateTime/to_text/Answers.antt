@@ -1,9 +1,9 @@
 use Rattle.std.proofs.Common.{◌≡◌, ◌∙◌, sym, ap, subst, ℕ, List, [], ◌++◌, lit<}
 use Rattle.std.specs.Str.{IsAscii}
-use Rattle.speedate_base.specs.Numbers.{whole_number}
+use Rattle.speedate_base.specs.Numbers.{number_answer}
 use Rattle.speedate_civil.specs.DateTime.{parts}
 use Rattle.speedate_civil.specs.DateTimeText.{date_time_answer, date_time_text}
-use Rattle.speedate_civil.specs.DateTimeTimestamp.{date_time_timestamp_answer, date_time_or_timestamp}
+use Rattle.speedate_civil.specs.DateTimeTimestamp.{date_time_number_answer, date_time_or_timestamp}
 use Rattle.speedate_civil.specs.DateTimeLaws.{date_time_text-reads, date_time_text-distinct, date_time_text-IsAscii}
 use Rattle.speedate_civil.specs.NumberText.{or_number}
 use Rattle.speedate_civil.proofs.DateTimeFacts.{is_date_and_time}
@@ -34,7 +34,7 @@ returns-clause-reads_back_with_config c whole config =
     let offset = config.time_config.unix_timestamp_offset in
     let bytes = c.ascii_text.ensures.bytes ∙ c.deref.ensures.0 ∙ alone _ _ _ c.new-bytes.ensures c.push_onto.ensures.text in
     ap (date_time_or_timestamp unit behavior offset) bytes
-    ∙ ap (or_number (date_time_timestamp_answer unit offset 0) (whole_number (date_time_text (parts value))))
+    ∙ ap (or_number (date_time_number_answer unit behavior offset (number_answer (date_time_text (parts value)))))
     (date_time_text-reads behavior (parts value) (is_date_and_time value) whole)
 
 pub returns-clause-distinct : goal.returns-clause-distinct

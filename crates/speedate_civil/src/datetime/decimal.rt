@@ -1,0 +1,83 @@
+//! Date-times from decimal timestamps.
+
+ghost use Rattle.std.specs.Prelude.{◌≡◌, IfOk};
+ghost use Rattle.std.specs.Option.{ForSome};
+ghost use Rattle.speedate_base.specs.DecimalTimestamp.{decimal_row, decimal_scale, decimal_size, decimal_instant};
+ghost use Rattle.speedate_base.specs.DecimalUnit.{row};
+ghost use Rattle.speedate_base.specs.IntFloat.{parts as decimal_parts};
+ghost use Rattle.speedate_base.specs.Nearest.{IsNearest};
+ghost use Rattle.speedate_base.specs.Offset.{IsOffset};
+ghost use Rattle.speedate_base.specs.Requirement.{result_map};
+ghost use Rattle.speedate_civil.specs.DateAndTime.{local_microsecond};
+ghost use Rattle.speedate_civil.specs.DateTime.{parts};
+ghost use Rattle.speedate_civil.specs.DateTimeTimestamp.{instant_date_time, date_time_decimal_answer, date_time_decimal_text};
+
+use crate::datetime::DateTime;
+use speedate_base::config::{DateTimeConfig, takes_digits};
+use speedate_base::faults::ParseError;
+use speedate_base::numbers::Decimal;
+use speedate_base::util::{DecimalUnit, decimal_to_seconds_micros, decimal_unit};
+
+impl DateTime {
+    /// The date-time of a decimal timestamp, in the unit of the configuration and to the nearest
+    /// microsecond, with the configured offset: 1969-12-31T23:59:59.874500 for the decimal of
+    /// `"-125.5"` in milliseconds. The offset is attached and shifts nothing.
+    ///
+    /// A timestamp counts from 1970-01-01T00:00:00, with 86,400 seconds in each day (Unix time). All
+    /// digits count, however many there are. Where two microseconds are as near it is the later one.
+    /// An inferred unit is seconds where the size of the decimal is at most 20,000,000,000, otherwise
+    /// milliseconds.
+    ///
+    /// `DateTooSmall` where that microsecond lies before the year 0000, `DateTooLarge` where it lies
+    /// after the year 9999.
+    #[inline]
+    pub fn from_decimal_with_config(
+        decimal: Decimal<'_>,
+        config: &DateTimeConfig,
+    ) -> Result<Self, ParseError>
+        ensures answer { result_map parts result
+            ≡ date_time_decimal_answer config.now.timestamp_unit
+            config.now.time_config.unix_timestamp_offset (decimal_parts decimal.entry) }
+        ensures nearest { IfOk result (λ value. IsNearest
+            (decimal_size (decimal_row config.now.timestamp_unit (decimal_parts decimal.entry)) (decimal_parts decimal.entry))
+            (decimal_scale (decimal_parts decimal.entry)) (local_microsecond (parts value))) }
+    {
+        let unit = decimal_unit(decimal, config.timestamp_unit);
+        Self::at_decimal(decimal, unit, config.time_config.unix_timestamp_offset)
+    }
+
+    /// The date-time of a decimal timestamp in a text, whose digits are counted where the
+    /// configuration refuses those past the microsecond.
+    #[inline]
+    pub(super) fn parse_decimal(
+        decimal: Decimal<'_>,
+        config: &DateTimeConfig,
+    ) -> Result<Self, ParseError>
+        ensures answer { result_map parts result
+            ≡ date_time_decimal_text config.now.timestamp_unit
+            config.now.time_config.microseconds_precision_overflow_behavior
+            config.now.time_config.unix_timestamp_offset (decimal_parts decimal.entry) }
+    {
+        let unit = decimal_unit(decimal, config.timestamp_unit);
+        let behavior = config.time_config.microseconds_precision_overflow_behavior;
+        if !takes_digits(behavior, decimal.fraction.len(), unit.digits()) {
+            return Err(unit.too_long());
+        }
+        Self::at_decimal(decimal, unit, config.time_config.unix_timestamp_offset)
+    }
+
+    /// The date-time of a decimal timestamp in a unit that is known, with the offset attached.
+    #[inline]
+    fn at_decimal(
+        decimal: Decimal<'_>,
+        unit: DecimalUnit,
+        offset: Option<i32>,
+    ) -> Result<Self, ParseError>
+        requires { ForSome offset IsOffset }
+        ensures answer { result_map parts result
+            ≡ instant_date_time offset (decimal_instant (row unit) (decimal_parts decimal.entry)) }
+    {
+        let time = decimal_to_seconds_micros(decimal, unit)?;
+        Ok(Self::at_instant(time, offset))
+    }
+}
