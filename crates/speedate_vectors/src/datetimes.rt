@@ -356,8 +356,6 @@ fn timestamps_as_texts(rt: HostRuntime) {
         ("-9223372036854775808", "date_too_small"),
         ("9223372036854775808", "invalid_char_date_sep"),
         ("-9223372036854775809", "invalid_char_year"),
-        ("1654646404.5", "invalid_char_date_sep"),
-        ("1.5", "too_short"),
         ("+", "too_short"),
         ("-123456789x", "invalid_char_year"),
     ];
@@ -369,6 +367,7 @@ fn timestamps_as_texts(rt: HostRuntime) {
     }
     for (text, want) in [
         ("1654646404", "invalid_char_date_sep"),
+        ("1654646404.5", "invalid_char_date_sep"),
         ("-1654646404", "invalid_char_year"),
         ("0", "too_short"),
     ] {

@@ -12,6 +12,8 @@ mod dates;
 #[cfg(test)]
 mod datetimes;
 #[cfg(test)]
+mod decimals;
+#[cfg(test)]
 mod faults;
 #[cfg(test)]
 mod numbers;

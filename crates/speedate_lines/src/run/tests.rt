@@ -69,7 +69,7 @@ fn padded(alloc: Global, front: &[u8], byte: u8, count: usize) -> Result<Vec<u8>
 
 #[test]
 fn answers_each_line(rt: HostRuntime) {
-    let cases: [(&[u8], &[u8]); 27] = [
+    let cases: [(&[u8], &[u8]); 28] = [
         (INPUT, OUTPUT),
         (b"", b""),
         (b"\n", b"err unknown_kind\n"),
@@ -94,7 +94,14 @@ fn answers_each_line(rt: HostRuntime) {
         (b"time ", b"err too_short\n"),
         (b"time", b"err unknown_kind\n"),
         (b"datetime 1654646404", b"ok 2022-06-08T00:00:04\n"),
-        (b"datetime 1654646404.5", b"err invalid_char_date_sep\n"),
+        (
+            b"datetime 1654646404.5",
+            b"ok 2022-06-08T00:00:04.500000\n",
+        ),
+        (
+            b"datetime 1654646404.1234567",
+            b"err second_fraction_too_long\n",
+        ),
         (
             b"datetime 2022-01-01_12:13:14.5+0000\n",
             b"ok 2022-01-01T12:13:14.500000Z\n",
