@@ -94,10 +94,7 @@ fn answers_each_line(rt: HostRuntime) {
         (b"time ", b"err too_short\n"),
         (b"time", b"err unknown_kind\n"),
         (b"datetime 1654646404", b"ok 2022-06-08T00:00:04\n"),
-        (
-            b"datetime 1654646404.5",
-            b"ok 2022-06-08T00:00:04.500000\n",
-        ),
+        (b"datetime 1654646404.5", b"ok 2022-06-08T00:00:04.500000\n"),
         (
             b"datetime 1654646404.1234567",
             b"err second_fraction_too_long\n",
