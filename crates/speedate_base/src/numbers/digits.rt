@@ -2,9 +2,11 @@
 
 ghost use Rattle.std.specs.Prelude.{◌≡◌, ◌+◌, ◌-◌, ◌^◌, ◌<◌, ◌≤◌, length, take, min, ◌==◌, IsTrue, Some, None, if◌then◌else◌};
 ghost use Rattle.std.specs.Char.{is_ascii_digit};
-ghost use Rattle.std.specs.Int.{w64, from_le_bytes};
 ghost use Rattle.std.specs.List.{list_all, prefix_len};
 ghost use Rattle.speedate_base.specs.DigitRuns.{run_length, run_value, digits_value};
+
+use super::lanes::{LANES, digits_in_front, eight_digits};
+use std::simd::prelude::*;
 
 /// A run of digits: how many they are, and what they spell.
 #[derive(Clone, Copy, Debug, PartialEq, Eq)]
@@ -104,19 +106,19 @@ pub(crate) fn few_digits(digits: &[u8]) -> Option<u64>
     ensures value { result ≡ (if run_length digits.now 0 == length digits.now
         then Some (digits_value digits.now) else None) }
 {
-    // The digits that fill no word come first.
-    let mut place = digits.len() % WORD;
+    // The digits that fill no vector come first.
+    let mut place = digits.len() % LANES;
     let mut value = one_by_one(&digits[..place])?;
     while place < digits.len() {
-        let next = eight_digits(&digits[place..])?;
-        value = 100_000_000 * value + next;
-        place += WORD;
+        let lanes = u8x8::from_slice(&digits[place..]);
+        if digits_in_front(lanes) < LANES {
+            return None;
+        }
+        value = 100_000_000 * value + eight_digits(lanes);
+        place += LANES;
     }
     Some(value)
 }
-
-/// How many digits are read together.
-const WORD: usize = 8;
 
 /// The number that a few digits spell, or `None` where a byte of them is no digit.
 #[inline]
@@ -133,43 +135,4 @@ fn one_by_one(digits: &[u8]) -> Option<u64>
         value = 10 * value + u64::from(*digit - b'0');
     }
     Some(value)
-}
-
-/// The number that the first eight bytes spell, or `None` where one of them is no digit.
-#[inline]
-fn eight_digits(bytes: &[u8]) -> Option<u64>
-    requires { WORD ≤ length bytes.now }
-    ensures value { result ≡ (if list_all is_ascii_digit (take WORD bytes.now)
-        then Some (digits_value (take WORD bytes.now)) else None) }
-{
-    let word = first_word(bytes);
-    // A digit has the upper half of `0`, and still has it when six is added.
-    if word & UPPER_HALVES != ZEROS || (word + SIXES) & UPPER_HALVES != ZEROS {
-        return None;
-    }
-    // Each step joins neighbours: digits, then pairs, then fours.
-    let ones = word - ZEROS;
-    let pairs = (10 * ones + (ones >> 8)) & 0x00ff_00ff_00ff_00ff;
-    let fours = (100 * pairs + (pairs >> 16)) & 0x0000_ffff_0000_ffff;
-    Some((10_000 * fours + (fours >> 32)) & 0xffff_ffff)
-}
-
-/// The upper half of each byte of a word.
-const UPPER_HALVES: u64 = 0xf0f0_f0f0_f0f0_f0f0;
-
-/// A word of eight `0`.
-const ZEROS: u64 = 0x3030_3030_3030_3030;
-
-/// Six in each byte of a word.
-const SIXES: u64 = 0x0606_0606_0606_0606;
-
-/// The first eight bytes as one number, the first byte lowest.
-#[inline]
-fn first_word(bytes: &[u8]) -> u64
-    requires { WORD ≤ length bytes.now }
-    ensures word { result ≡ from_le_bytes w64 (take WORD bytes.now) }
-{
-    u64::from_le_bytes([
-        bytes[0], bytes[1], bytes[2], bytes[3], bytes[4], bytes[5], bytes[6], bytes[7],
-    ])
 }

@@ -1,10 +1,10 @@
-use Rattle.std.proofs.Common.{◌≡◌, ◌∙◌, ap, sym, subst, ◌+◌, ◌-◌, ◌*◌, ◌%◌, ◌^◌, ◌<◌, ◌≤◌, ℕ, Bool, true, false, List, Some, None, if◌then◌else◌, length, take, drop, refl, arith}
+use Rattle.std.proofs.Common.{◌≡◌, ◌∙◌, ap, sym, ◌+◌, ◌%◌, ◌≤◌, ℕ, Bool, true, false, List, Some, None, if◌then◌else◌, length, take, refl, arith}
 use Rattle.std.specs.List.{list_all}
-use Rattle.std.proofs.lemmas.List.{length-take-le, length-drop, take_all, take_rest}
-use Rattle.std.proofs.Math.Seq.{take-add}
+use Rattle.std.proofs.lemmas.List.{take_all}
 use Rattle.std.specs.Char.{is_ascii_digit}
 use Rattle.speedate_base.specs.DigitRuns.{digits_value}
-use Rattle.speedate_base.specs.DigitRunLaws.{digits_value-append, digits_value-fits, list_all-more, run-part, run-whole}
+use Rattle.speedate_base.specs.DigitRunLaws.{list_all-more, run-part, run-whole}
+use Rattle.speedate_base.proofs.BlockLaws.{block-all, block-other, block-more, block-fits}
 use Rattle.speedate_base.proofs.numbers.digits.few_digits.Goals as goal
 
 some-read : (test : Bool) (value read : ℕ) → Some read ≡ (if test then Some value else None) → (test ≡ true) × (read ≡ value)
@@ -14,26 +14,6 @@ some-read false value read same = cc
 none-read : (test : Bool) (value : ℕ) → None ≡ (if test then Some value else None) → test ≡ false
 none-read true value same = cc
 none-read false value same = refl
-
--- eight more digits were read
-eight_more : (digits : List ℕ) (place value read : ℕ) → length digits ≤ 19 → place < length digits → (length digits - place) % 8 ≡ 0
-    → list_all is_ascii_digit (take place digits) ≡ true → value ≡ digits_value (take place digits)
-    → Some read ≡ (if list_all is_ascii_digit (take 8 (take (length digits - place) (drop place digits)))
-    then Some (digits_value (take 8 (take (length digits - place) (drop place digits)))) else None)
-    → (list_all is_ascii_digit (take (place + 8) digits) ≡ true)
-    × (100000000 * value + read ≡ digits_value (take (place + 8) digits)) × (100000000 * value + read < 2 ^ 64)
-eight_more digits place value read few more whole before is eight =
-    let within : place + 8 ≤ length digits = omega arith in
-    let rest : List ℕ = drop place digits in
-    let found = some-read (list_all is_ascii_digit (take 8 rest)) (digits_value (take 8 rest)) read
-    (subst (λ (rest : List ℕ). Some read ≡ (if list_all is_ascii_digit (take 8 rest) then Some (digits_value (take 8 rest)) else None)) (take_rest digits place) eight) in
-    let all = list_all-more digits place 8 before found.0 in
-    let long = length-take-le 8 rest (omega (arith, length-drop place digits)) in
-    let sum = ap digits_value (take-add place 8 digits) ∙ digits_value-append (take place digits) (take 8 rest)
-    ∙ ap (λ (n : ℕ). digits_value (take place digits) * 10 ^ n + digits_value (take 8 rest)) long in
-    let count = length-take-le (place + 8) digits within in
-    let fits = digits_value-fits (take (place + 8) digits) (omega (arith, count)) all in
-    (all, omega (arith, sum, is, found.1), omega (arith, fits, sum, is, found.1))
 
 pub returns-in_err-value : goal.returns-in_err-value
 returns-in_err-value c =
@@ -56,35 +36,54 @@ loop-place-init c =
       value = read.1;
     }
 
-pub returns-in_err-next : goal.returns-in_err-next
-returns-in_err-next c =
+pub returns-then-digits_in_front-lt-LANES : goal.returns-then-digits_in_front-lt-LANES
+returns-then-digits_in_front-lt-LANES c =
     let digits = c.args.digits.now in
     let place = c.loop-place.place in
-    let other = run-part digits place 8 (ap (λ (rest : List ℕ). list_all is_ascii_digit (take 8 rest)) (sym (take_rest digits place)) ∙ none-read _ _ c.in_err-next.ensures.value) in
+    let within : place + 8 ≤ length digits = omega (arith, c.loop-place.invariant.whole) in
+    let other = run-part digits place 8 (block-other digits place _ within c.digits_in_front.ensures.count c.if-digits_in_front-lt-LANES.true) in
     let none = ap (λ (all : Bool). if all then Some (digits_value digits) else None) other in
     record { value = cc }
 
 pub overflow_mul-value : goal.overflow_mul-value
 overflow_mul-value c =
+    let digits = c.args.digits.now in
+    let place = c.loop-place.place in
     let before = c.loop-place.invariant in
-    let read = eight_more c.args.digits.now c.loop-place.place c.loop-place.value c.in_ok-next.next c.requires c.loop-place-test.true before.whole before.digits before.value c.in_ok-next.ensures.value in
-    omega (arith, read.2)
+    let within : place + 8 ≤ length digits = omega (arith, before.whole) in
+    let next = block-all digits place _ within c.digits_in_front.ensures.count c.if-digits_in_front-lt-LANES.false in
+    let fits = block-fits digits place within (omega (arith, c.requires)) (list_all-more digits place 8 before.digits next) in
+    omega (arith, before.value, fits)
+
+pub eight_digits-requires : goal.eight_digits-requires
+eight_digits-requires c =
+    let digits = c.args.digits.now in
+    let place = c.loop-place.place in
+    let within : place + 8 ≤ length digits = omega (arith, c.loop-place.invariant.whole) in
+    block-all digits place _ within c.digits_in_front.ensures.count c.if-digits_in_front-lt-LANES.false
 
 pub overflow_add-value : goal.overflow_add-value
 overflow_add-value c =
+    let digits = c.args.digits.now in
+    let place = c.loop-place.place in
     let before = c.loop-place.invariant in
-    let read = eight_more c.args.digits.now c.loop-place.place c.loop-place.value c.in_ok-next.next c.requires c.loop-place-test.true before.whole before.digits before.value c.in_ok-next.ensures.value in
-    omega (arith, read.2)
+    let within : place + 8 ≤ length digits = omega (arith, before.whole) in
+    let next = block-all digits place _ within c.digits_in_front.ensures.count c.if-digits_in_front-lt-LANES.false in
+    let fits = block-fits digits place within (omega (arith, c.requires)) (list_all-more digits place 8 before.digits next) in
+    omega (arith, before.value, fits, c.eight_digits.ensures.value)
 
 pub loop-place-preserved : goal.loop-place-preserved
 loop-place-preserved c =
+    let digits = c.args.digits.now in
+    let place = c.loop-place.place in
     let before = c.loop-place.invariant in
-    let read = eight_more c.args.digits.now c.loop-place.place c.loop-place.value c.in_ok-next.next c.requires c.loop-place-test.true before.whole before.digits before.value c.in_ok-next.ensures.value in
+    let within : place + 8 ≤ length digits = omega (arith, before.whole) in
+    let next = block-all digits place _ within c.digits_in_front.ensures.count c.if-digits_in_front-lt-LANES.false in
     record {
-      within = omega (arith, before.whole);
+      within = within;
       whole = omega (arith, before.whole);
-      digits = read.0;
-      value = read.1;
+      digits = list_all-more digits place 8 before.digits next;
+      value = omega (arith, before.value, c.eight_digits.ensures.value, block-more digits place within);
     }
 
 pub returns : goal.returns
