@@ -30,34 +30,27 @@ pub fn digit_run(bytes: &[u8], place: usize) -> DigitRun
 }
 
 /// The place at which the run of digits ends that begins at `place`: 4 for `b"x120."` at place 1.
-#[inline]
+#[inline(always)]
 pub fn run_end(bytes: &[u8], place: usize) -> usize
     requires { place ≤ length bytes.now }
     ensures end { result ≡ place + run_length bytes.now place }
 {
     let mut end = place;
-    while bytes.len() - end >= LANES {
-        let count = digits_in_front(u8x8::from_slice(&bytes[end..]));
-        if count < LANES {
-            return end + count;
-        }
-        end += LANES;
-    }
-    run_end_in_rest(bytes, end)
-}
-
-/// The same, byte by byte: for the bytes that fill no vector.
-#[inline]
-fn run_end_in_rest(bytes: &[u8], place: usize) -> usize
-    requires { place ≤ length bytes.now }
-    ensures end { result ≡ place + run_length bytes.now place }
-{
-    for end in place..bytes.len() {
-        if !bytes[end].is_ascii_digit() {
-            return end;
+    while end < bytes.len() {
+        if bytes.len() - end < LANES {
+            if !bytes[end].is_ascii_digit() {
+                return end;
+            }
+            end += 1;
+        } else {
+            let count = digits_in_front(u8x8::from_slice(&bytes[end..]));
+            if count < LANES {
+                return end + count;
+            }
+            end += LANES;
         }
     }
-    bytes.len()
+    end
 }
 
 /// The number that digits spell, or `u64::MAX` where it is larger; as an error the place of the
