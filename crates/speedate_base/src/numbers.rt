@@ -5,7 +5,7 @@ ghost use Rattle.speedate_base.specs.Numbers.{has_minus, sign_length, with_sign,
 ghost use Rattle.speedate_base.specs.IntFloat.{number_of, JoinsToFloat};
 
 mod digits;
-mod lanes;
+pub(crate) mod lanes;
 mod number;
 mod places;
 
