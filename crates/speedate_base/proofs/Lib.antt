@@ -1,3 +1,4 @@
+mod BlockLaws
 mod WordLaws
 mod RoundingLaws
 mod DecimalLaws

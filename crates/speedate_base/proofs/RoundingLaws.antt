@@ -1,15 +1,15 @@
 -- A fraction's digits taken in blocks, the last ones first.
-use Rattle.std.specs.Prelude.{◌≡◌, ℕ, ◌+◌, ◌-◌, ◌*◌, ◌/◌, ◌%◌, ◌^◌, ◌<◌, ◌≤◌, Bool, true, List, ◌++◌, length, take, drop, min}
+use Rattle.std.specs.Prelude.{◌≡◌, ℕ, ◌+◌, ◌-◌, ◌*◌, ◌/◌, ◌%◌, ◌^◌, ◌<◌, ◌≤◌, Bool, true, List, ◌++◌, length, take, drop}
 use Rattle.std.specs.Char.{is_ascii_digit}
 use Rattle.std.specs.List.{list_all}
 use Rattle.std.proofs.Common.{arith, ap, sym, ◌∙◌, lit<}
-use Rattle.std.proofs.lemmas.Bool.{and_parts, eqb-true}
-use Rattle.std.proofs.lemmas.List.{take-append-drop, take_all}
+use Rattle.std.proofs.lemmas.Bool.{and_parts}
+use Rattle.std.proofs.lemmas.List.{take-append-drop}
 use Rattle.std.proofs.lemmas.List.Folds.{list_all-append}
 use Rattle.std.proofs.lemmas.Nat.{pow-add}
 use Rattle.std.proofs.Math.Nat.{mul-le-mul_right}
-use Rattle.speedate_base.specs.DigitRuns.{run_value, digits_value}
-use Rattle.speedate_base.specs.DigitRunLaws.{digits_value-append, digits_value-lt, digits_value-fits, run-whole}
+use Rattle.speedate_base.specs.DigitRuns.{digits_value}
+use Rattle.speedate_base.specs.DigitRunLaws.{digits_value-append, digits_value-lt}
 use Rattle.speedate_base.specs.Nearest.{quotient}
 use Rattle.speedate_base.specs.NearestLaws.{scale-some, quotient-carried, quotient-multiple}
 
@@ -19,17 +19,6 @@ pub parts-all : (digits : List ℕ) (count : ℕ) → list_all is_ascii_digit di
 parts-all digits count all =
     and_parts _ _ (sym (list_all-append is_ascii_digit (take count digits) (drop count digits))
     ∙ ap (list_all is_ascii_digit) (take-append-drop count digits) ∙ all)
-
--- a run of digits alone spells what they spell
-pub run-all : (digits : List ℕ) → list_all is_ascii_digit digits ≡ true → run_value digits 0 ≡ digits_value digits
-run-all digits all =
-    let whole = eqb-true _ (length digits) (run-whole digits ∙ all) in
-    ap digits_value (take_all _ digits (omega (arith, whole)))
-
--- and few digits fit
-pub few-run : (digits : List ℕ) → length digits ≤ 19 → list_all is_ascii_digit digits ≡ true
-    → min (run_value digits 0) (2 ^ 64 - 1) ≡ digits_value digits
-few-run digits few all = omega (arith, run-all digits all, digits_value-fits digits few all)
 
 -- what few digits spell with zeros behind them
 pub filled-small : (digits : List ℕ) (count : ℕ) → length digits ≤ count → list_all is_ascii_digit digits ≡ true

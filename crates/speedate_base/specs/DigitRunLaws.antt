@@ -3,14 +3,13 @@ use Rattle.std.specs.Prelude.{◌≡◌, ℕ, zero, suc, ◌+◌, ◌-◌, ◌*�
 use Rattle.std.specs.Char.{is_ascii_digit}
 use Rattle.std.specs.List.{prefix_len, list_all}
 use Rattle.std.proofs.Common.{arith, lit<, ap, sym, ◌∙◌, get_or, inl, inr, subst}
-use Rattle.std.proofs.lemmas.List.{length-append, length-take-le, take_more, get_or-take, get_or_past, take-append-drop}
+use Rattle.std.proofs.lemmas.List.{length-append, length-take-le, take_more, get_or-take, get_or_past}
 use Rattle.std.proofs.lemmas.List.Sums.{prefix_len_is, AllPass-from_list_all}
 use Rattle.std.proofs.lemmas.List.Folds.{list_all-append, list_all_more, prefix_len-append}
 use Rattle.std.proofs.lemmas.List.Elements.{All-get_or}
 use Rattle.std.proofs.lemmas.Bool.{and_from, and_parts, eqb-true, eqb-false, eq-eqb, ne_eqb, cases_lt, false≢true}
 use Rattle.std.proofs.lemmas.Bool.Decides.{nat_tests}
 use Rattle.std.proofs.lemmas.Nat.{pow-add}
-use Rattle.std.proofs.Math.Bool.{and-false}
 use Rattle.std.proofs.Math.Seq.{take-add}
 use Rattle.std.proofs.Math.Nat.{mul-le-mul_right, pow-succ', pow-le-pow_right}
 use Rattle.speedate_base.specs.Digits.{digit_value}
@@ -107,16 +106,6 @@ run-whole (byte ∷ bytes) = whole-first bytes (is_ascii_digit byte) (run-whole 
 pub run_length-append : (digits rest : List ℕ) → list_all is_ascii_digit digits ≡ true
     → prefix_len is_ascii_digit (digits ++ rest) ≡ length digits + prefix_len is_ascii_digit rest
 run_length-append digits rest all = rw (prefix_len-append is_ascii_digit digits rest, run-whole digits ∙ all) refl
-
--- so not where a part of them holds another byte
-pub run-part : (bytes : List ℕ) (place count : ℕ) → list_all is_ascii_digit (take count (drop place bytes)) ≡ false
-    → (prefix_len is_ascii_digit bytes == length bytes) ≡ false
-run-part bytes place count other =
-    let rest : List ℕ = drop place bytes in
-    let part = ap (list_all is_ascii_digit) (sym (take-append-drop count rest)) ∙ list_all-append is_ascii_digit (take count rest) (drop count rest)
-    ∙ ap (λ (test : Bool). test && list_all is_ascii_digit (drop count rest)) other in
-    run-whole bytes ∙ ap (list_all is_ascii_digit) (sym (take-append-drop place bytes)) ∙ list_all-append is_ascii_digit (take place bytes) rest
-    ∙ ap (λ (test : Bool). list_all is_ascii_digit (take place bytes) && test) part ∙ and-false (list_all is_ascii_digit (take place bytes))
 
 -- where the digits go on, so does the front
 pub list_all-more : (bytes : List ℕ) (place count : ℕ) → list_all is_ascii_digit (take place bytes) ≡ true

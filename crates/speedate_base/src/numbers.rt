@@ -4,11 +4,12 @@ ghost use Rattle.std.specs.Prelude.{◌≡◌, ◌<◌, ◌≤◌, length, Some,
 ghost use Rattle.speedate_base.specs.Numbers.{has_minus, sign_length, with_sign, fits_i64, whole_number, point_place, decimal_answer, number_answer};
 ghost use Rattle.speedate_base.specs.IntFloat.{number_of, JoinsToFloat};
 
-mod digits;
+pub(crate) mod digits;
+pub(crate) mod lanes;
 mod number;
 mod places;
 
-use digits::{EXACT_DIGITS, few_digits};
+use digits::spelled_number;
 pub use digits::{DigitRun, digit_run, run_end};
 pub use number::{Decimal, IntFloat};
 pub use places::{byte_at, four_digits, two_digits, two_digits_there};
@@ -34,14 +35,10 @@ pub fn int_parse_bytes(bytes: &[u8]) -> Option<i64>
     if digits.is_empty() {
         return None;
     }
-    if digits.len() <= EXACT_DIGITS {
-        return signed(negative, few_digits(digits)?);
+    match spelled_number(digits) {
+        Ok(size) => signed(negative, size),
+        Err(_) => None,
     }
-    let run = digit_run(bytes, start);
-    if start + run.length != bytes.len() {
-        return None;
-    }
-    signed(negative, run.value)
 }
 
 /// The number that a text is: a whole number as for [`int_parse_str`], a decimal, or none.
@@ -64,17 +61,16 @@ pub fn float_parse_bytes(bytes: &[u8]) -> IntFloat<'_>
     ensures joined { JoinsToFloat result bytes.now }
 {
     let (negative, start) = sign(bytes);
-    let run = digit_run(bytes, start);
-    let point = start + run.length;
-    if point < bytes.len() {
-        return decimal(bytes, negative, start, point);
-    }
-    if run.length == 0 {
+    let digits = &bytes[start..];
+    if digits.is_empty() {
         return IntFloat::Err;
     }
-    match signed(negative, run.value) {
-        Some(number) => IntFloat::Int(number),
-        None => IntFloat::Err,
+    match spelled_number(digits) {
+        Ok(size) => match signed(negative, size) {
+            Some(number) => IntFloat::Int(number),
+            None => IntFloat::Err,
+        },
+        Err(count) => decimal(bytes, negative, start, start + count),
     }
 }
 

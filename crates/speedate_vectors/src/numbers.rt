@@ -39,6 +39,16 @@ fn whole_numbers(rt: HostRuntime) {
         ("+123", Some(123)),
         ("1585201087123789", Some(1_585_201_087_123_789)),
         ("00000000000000000001", Some(1)),
+        ("1234567", Some(1_234_567)),
+        ("12345678", Some(12_345_678)),
+        ("123456789", Some(123_456_789)),
+        ("123456789012345", Some(123_456_789_012_345)),
+        ("1234567890123456", Some(1_234_567_890_123_456)),
+        ("12345678901234567", Some(12_345_678_901_234_567)),
+        ("1234567890123456789", Some(1_234_567_890_123_456_789)),
+        ("12345678901234567890", None),
+        ("123456789012345678901234", None),
+        ("00000000000000000000000000000000000000001", Some(1)),
         ("-09223372036854775808", Some(i64::MIN)),
         ("9223372036854775807", Some(i64::MAX)),
         ("9223372036854775808", None),
@@ -87,6 +97,43 @@ fn numbers_and_decimals(rt: HostRuntime) {
         (".5", Want::Float(false, "", "5")),
         ("-.5", Want::Float(true, "", "5")),
         ("00.00", Want::Float(false, "00", "00")),
+        ("1234567.1234567", Want::Float(false, "1234567", "1234567")),
+        (
+            "12345678.12345678",
+            Want::Float(false, "12345678", "12345678"),
+        ),
+        (
+            "123456789.123456789",
+            Want::Float(false, "123456789", "123456789"),
+        ),
+        (
+            "123456789012345.123456789012345",
+            Want::Float(false, "123456789012345", "123456789012345"),
+        ),
+        (
+            "1234567890123456.1234567890123456",
+            Want::Float(false, "1234567890123456", "1234567890123456"),
+        ),
+        (
+            "12345678901234567.12345678901234567",
+            Want::Float(false, "12345678901234567", "12345678901234567"),
+        ),
+        (
+            "1234567890123456789.1234567890123456789",
+            Want::Float(false, "1234567890123456789", "1234567890123456789"),
+        ),
+        (
+            "12345678901234567890.12345678901234567890",
+            Want::Float(false, "12345678901234567890", "12345678901234567890"),
+        ),
+        (
+            "123456789012345678901234.123456789012345678901234",
+            Want::Float(
+                false,
+                "123456789012345678901234",
+                "123456789012345678901234",
+            ),
+        ),
         ("111111111.11111", Want::Float(false, "111111111", "11111")),
         (
             "1111111111111111111111111111.11111",
@@ -187,6 +234,39 @@ fn digits_beside_every_byte(rt: HostRuntime) {
             is_number(want_after),
             "{byte} after"
         );
+    }
+}
+
+#[test]
+fn one_byte_among_zeros(rt: HostRuntime) {
+    for place in 0..24usize {
+        let mut text = [b'0'; 24];
+        text[place] = b'x';
+        assert_eq!(rt; int_parse_bytes(&text), None, "x at {place}");
+        assert!(rt; float_parse_bytes(&text).is_err(), "x at {place}");
+    }
+}
+
+#[test]
+fn one_byte_among_digits(rt: HostRuntime) {
+    let digits = *b"12345678901234567";
+    for place in 0..17usize {
+        for byte in [b'x', b'/', b':', b' ', 0, 0xb1] {
+            let mut text = digits;
+            text[place] = byte;
+            assert_eq!(rt; int_parse_bytes(&text), None, "{byte} at {place}");
+            assert!(rt; float_parse_bytes(&text).is_err(), "{byte} at {place}");
+        }
+        let mut text = digits;
+        text[place] = b'.';
+        assert_eq!(rt; int_parse_bytes(&text), None, "point at {place}");
+        match float_parse_bytes(&text) {
+            IntFloat::Float(decimal) => {
+                assert_eq!(rt; decimal.whole, &digits[..place], "point at {place}");
+                assert_eq!(rt; decimal.fraction, &digits[place + 1..], "point at {place}");
+            }
+            _ => assert!(rt; false, "point at {place}"),
+        }
     }
 }
 

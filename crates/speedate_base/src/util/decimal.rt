@@ -16,7 +16,8 @@ ghost use Rattle.speedate_base.specs.UnixTime.{parts};
 use super::{DecimalUnit, INFERRED_SECONDS_MAX, UnixTime, nearest_microseconds};
 use crate::config::TimestampUnit;
 use crate::faults::ParseError;
-use crate::numbers::{Decimal, digit_run};
+use crate::numbers::Decimal;
+use crate::numbers::digits::digits_number;
 
 /// So many microseconds before 1970 lie before the year 0000, and so many after it behind the year
 /// 9999.
@@ -50,7 +51,7 @@ fn is_inferred_seconds(decimal: Decimal<'_>) -> bool
     ensures { result ≡ nat_le (decimal_digits (decimal_parts decimal.entry))
         (inferred_seconds_max * decimal_scale (decimal_parts decimal.entry)) }
 {
-    let whole = digit_run(decimal.whole, 0).value;
+    let whole = digits_number(decimal.whole);
     if whole == INFERRED_SECONDS_MAX {
         return are_zeros(decimal.fraction);
     }
@@ -85,7 +86,7 @@ pub fn decimal_to_seconds_micros(
     ensures within { IfOk result (λ time. IsInYears (parts time)) }
 {
     let worth = unit.microseconds();
-    let whole = digit_run(decimal.whole, 0).value.saturating_mul(worth);
+    let whole = digits_number(decimal.whole).saturating_mul(worth);
     if whole > FAR_MICROSECONDS {
         return Err(far_fault(decimal.negative));
     }

@@ -7,13 +7,12 @@ ghost use Rattle.speedate_base.specs.DigitRuns.{digits_value};
 ghost use Rattle.speedate_base.specs.Nearest.{nearest, quotient};
 ghost use Rattle.speedate_base.specs.Numbers.{with_sign};
 
-use crate::numbers::digit_run;
+use crate::numbers::digits::one_by_one;
+use crate::numbers::lanes::{LANES, eight_digits};
+use std::simd::prelude::*;
 
 /// The microseconds of the largest unit, a year of 365 days.
 pub const LARGEST_UNIT: u64 = 31_536_000_000_000;
-
-/// How many digits are taken together.
-const BLOCK: usize = 8;
 
 /// The microseconds of a fraction of a unit, to the nearest: 500,000 for the digits `5` of a second.
 /// The unit is given by its microseconds. Where two numbers are as near, it is the later one: the
@@ -42,10 +41,10 @@ pub fn twice_microseconds(digits: &[u8], unit: u64, up: bool) -> u64
     ensures twice { result ≡ quotient up (2 * (digits_value digits.now * unit)) (10 ^ length digits.now) }
     ensures within { result ≤ 2 * unit }
 {
-    let mut place = digits.len() - digits.len() % BLOCK;
+    let mut place = digits.len() - digits.len() % LANES;
     let mut twice = eight_taken(filled_block(&digits[place..]), 0, unit, up);
     while place > 0 {
-        place -= BLOCK;
+        place -= LANES;
         twice = eight_taken(block(&digits[place..]), twice, unit, up);
     }
     twice
@@ -54,23 +53,23 @@ pub fn twice_microseconds(digits: &[u8], unit: u64, up: bool) -> u64
 /// What the first eight digits spell.
 #[inline]
 fn block(digits: &[u8]) -> u64
-    requires long { BLOCK ≤ length digits.now }
+    requires long { LANES ≤ length digits.now }
     requires digits { IsTrue (list_all is_ascii_digit digits.now) }
-    ensures value { result ≡ digits_value (take BLOCK digits.now) }
+    ensures value { result ≡ digits_value (take LANES digits.now) }
     ensures small { result < 100000000 }
 {
-    digit_run(&digits[..BLOCK], 0).value
+    eight_digits(u8x8::from_slice(digits))
 }
 
 /// What fewer than eight digits spell, with zeros behind them up to eight.
 #[inline]
 fn filled_block(digits: &[u8]) -> u64
-    requires short { length digits.now < BLOCK }
+    requires short { length digits.now < LANES }
     requires digits { IsTrue (list_all is_ascii_digit digits.now) }
     ensures value { result ≡ digits_value digits.now * 10 ^ (8 - length digits.now) }
     ensures small { result < 100000000 }
 {
-    digit_run(digits, 0).value * power_of_ten(BLOCK - digits.len())
+    one_by_one(digits).unwrap() * power_of_ten(LANES - digits.len())
 }
 
 /// Ten to a power up to the eighth.

@@ -1,7 +1,12 @@
-use Rattle.std.proofs.Common.{◌≡◌, ◌-◌, true, take, drop}
-use Rattle.std.specs.Char.{is_ascii_digit}
-use Rattle.std.specs.List.{list_all}
+use Rattle.std.proofs.Common.{◌≡◌, ◌+◌, ◌-◌, ◌≤◌, length}
+use Rattle.speedate_base.specs.DigitRuns.{run_length}
 use Rattle.speedate_base.proofs.numbers.digits.run_end.Given as goal
 
 abbrev pub invariant-loop-end : goal.invariant-loop-end
-invariant-loop-end l = list_all is_ascii_digit (take (l.end - l.place) (drop l.place l.bytes)) ≡ true
+invariant-loop-end l = record {
+  within : l.end ≤ length l.bytes;
+  run : l.place + run_length l.bytes l.place ≡ l.end + run_length l.bytes l.end;
+}
+
+abbrev pub decreases-loop-end : goal.decreases-loop-end
+decreases-loop-end l = length l.bytes - l.end

@@ -9,13 +9,12 @@ use Rattle.speedate_base.specs.declared.util.unit.DecimalUnit.{DecimalUnit}
 use Rattle.speedate_base.specs.declared.util.unit.DecimalUnit.TheVariants as unit
 use Rattle.speedate_base.specs.DecimalTimestamp.{decimal_microsecond}
 use Rattle.speedate_base.specs.DecimalUnit.{row}
-use Rattle.speedate_base.specs.DigitRuns.{digits_value, run_value}
+use Rattle.speedate_base.specs.DigitRuns.{digits_value}
 use Rattle.speedate_base.specs.IntFloat.{parts as decimal_parts}
 use Rattle.speedate_base.specs.Nearest.{nearest}
 use Rattle.speedate_base.specs.Numbers.{with_sign}
 use Rattle.speedate_base.specs.Timestamp.{instant_at, range_answer}
 use Rattle.speedate_base.proofs.DecimalLaws.{decimal-far, decimal_microsecond-sum}
-use Rattle.speedate_base.proofs.RoundingLaws.{run-all}
 use Rattle.speedate_base.proofs.util.decimal.decimal_to_seconds_micros.Goals as goal
 
 -- a unit has microseconds
@@ -24,18 +23,18 @@ worth-some unit.Second = lit< tt
 worth-some unit.Millisecond = lit< tt
 
 -- what is far in numbers of 64 bits is far
-far : (whole : List ℕ) (worth value size : ℕ) → list_all is_ascii_digit whole ≡ true → value ≡ min (run_value whole 0) (2 ^ 64 - 1)
+far : (whole : List ℕ) (worth value size : ℕ) → list_all is_ascii_digit whole ≡ true → value ≡ min (digits_value whole) (2 ^ 64 - 1)
     → size ≡ min (value * worth) (2 ^ 64 - 1) → 2 ^ 60 < size → 2 ^ 60 < digits_value whole * worth
 far whole worth value size all is product more =
-    let below : value ≤ digits_value whole = omega (arith, is, run-all whole all) in
+    let below : value ≤ digits_value whole = omega (arith, is) in
     omega (arith, product, more, mul-le-mul_right worth below)
 
 -- and what is not is exact
-near : (whole : List ℕ) (worth value size : ℕ) → list_all is_ascii_digit whole ≡ true → 0 < worth → value ≡ min (run_value whole 0) (2 ^ 64 - 1)
+near : (whole : List ℕ) (worth value size : ℕ) → list_all is_ascii_digit whole ≡ true → 0 < worth → value ≡ min (digits_value whole) (2 ^ 64 - 1)
     → size ≡ min (value * worth) (2 ^ 64 - 1) → size ≤ 2 ^ 60 → size ≡ digits_value whole * worth
 near whole worth value size all some is product less =
     let small : value ≤ value * worth = le-mul_of_pos_right value some in
-    let exact : value ≡ digits_value whole = omega (arith, is, run-all whole all, small, product, less) in
+    let exact : value ≡ digits_value whole = omega (arith, is, small, product, less) in
     let size_is : size ≡ value * worth = omega (arith, product, less) in
     size_is ∙ ap (λ (n : ℕ). n * worth) exact
 
@@ -43,8 +42,8 @@ pub returns-then-whole-gt-FAR_MICROSECONDS-clause-answer : goal.returns-then-who
 returns-then-whole-gt-FAR_MICROSECONDS-clause-answer c =
     let decimal = c.args.decimal in
     let whole = decimal.whole.now in
-    let size = far whole c.microseconds-worth.result c.digit_run.result.value c.saturating_mul-whole.result decimal.whole_digits
-    c.digit_run.ensures.value c.saturating_mul-whole.ensures c.if-whole-gt-FAR_MICROSECONDS.true in
+    let size = far whole c.microseconds-worth.result c.digits_number.result c.saturating_mul-whole.result decimal.whole_digits
+    c.digits_number.ensures.value c.saturating_mul-whole.ensures c.if-whole-gt-FAR_MICROSECONDS.true in
     let size_is = subst (λ (n : ℕ). 2 ^ 60 < digits_value whole * n) c.microseconds-worth.ensures.worth size in
     ap Err c.far_fault.ensures ∙ sym (decimal-far (row c.args.unit) (decimal_parts decimal) size_is)
 
@@ -54,9 +53,9 @@ returns-clause-answer c =
     let given = c.args.unit in
     let worth = 1000000 / (row given).per_second in
     let same_worth = c.microseconds-worth.ensures.worth in
-    let product = c.saturating_mul-whole.ensures ∙ ap (λ (n : ℕ). min (c.digit_run.result.value * n) (2 ^ 64 - 1)) same_worth in
-    let size = near decimal.whole.now worth c.digit_run.result.value c.saturating_mul-whole.result decimal.whole_digits (worth-some given)
-    c.digit_run.ensures.value product c.if-whole-gt-FAR_MICROSECONDS.false in
+    let product = c.saturating_mul-whole.ensures ∙ ap (λ (n : ℕ). min (c.digits_number.result * n) (2 ^ 64 - 1)) same_worth in
+    let size = near decimal.whole.now worth c.digits_number.result c.saturating_mul-whole.result decimal.whole_digits (worth-some given)
+    c.digits_number.ensures.value product c.if-whole-gt-FAR_MICROSECONDS.false in
     let rest = digits_value decimal.fraction.now in
     let scale = 10 ^ length decimal.fraction.now in
     let part = c.nearest_microseconds.result in

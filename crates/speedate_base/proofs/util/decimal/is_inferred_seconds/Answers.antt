@@ -6,7 +6,6 @@ use Rattle.std.proofs.lemmas.Bool.Decides.{nat_tests}
 use Rattle.speedate_base.specs.DigitRuns.{digits_value}
 use Rattle.speedate_base.specs.DigitRunLaws.{digits_value-append, digits_value-lt}
 use Rattle.speedate_base.proofs.DecimalLaws.{same-whole, less-whole, more-whole}
-use Rattle.speedate_base.proofs.RoundingLaws.{run-all}
 use Rattle.speedate_base.specs.NearestLaws.{scale-some}
 use Rattle.speedate_base.proofs.util.decimal.is_inferred_seconds.Goals as goal
 
@@ -20,8 +19,7 @@ returns-then-whole-eq-INFERRED_SECONDS_MAX c =
     let decimal = c.args.decimal in
     let whole = decimal.whole.now in
     let fraction = decimal.fraction.now in
-    let value = run-all whole decimal.whole_digits in
-    let same : digits_value whole ≡ 20000000000 = omega (arith, value, c.digit_run-whole.ensures.value, c.if-whole-eq-INFERRED_SECONDS_MAX.true) in
+    let same : digits_value whole ≡ 20000000000 = omega (arith, c.digits_number-whole.ensures.value, c.if-whole-eq-INFERRED_SECONDS_MAX.true) in
     c.are_zeros.ensures ∙ sym (same-whole 20000000000 (10 ^ length fraction) (digits_value fraction))
     ∙ ap (λ (n : ℕ). nat_le (n * 10 ^ length fraction + digits_value fraction) (20000000000 * 10 ^ length fraction)) (sym same)
     ∙ sym (spread whole fraction)
@@ -42,5 +40,4 @@ other-whole whole fraction value all is other = elim (cases_lt (digits_value who
 pub returns : goal.returns
 returns c =
     let decimal = c.args.decimal in
-    let value = c.digit_run-whole.ensures.value ∙ ap (λ (n : ℕ). min n (2 ^ 64 - 1)) (run-all decimal.whole.now decimal.whole_digits) in
-    other-whole decimal.whole.now decimal.fraction.now _ decimal.fraction_digits value c.if-whole-eq-INFERRED_SECONDS_MAX.false
+    other-whole decimal.whole.now decimal.fraction.now _ decimal.fraction_digits c.digits_number-whole.ensures.value c.if-whole-eq-INFERRED_SECONDS_MAX.false
