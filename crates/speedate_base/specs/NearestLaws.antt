@@ -149,8 +149,20 @@ quotient-zero : (up : Bool) (d : ℕ) → 0 < d → quotient up 0 d ≡ 0
 quotient-zero false d some = div-eq_of_lt some
 quotient-zero true d some = div-eq_of_lt (omega arith)
 
+halved-twice : (negative : Bool) (n : ℕ) → halved negative (2 * n) ≡ n
+halved-twice false n = omega arith
+halved-twice true n = omega arith
+
 -- a number that is a multiple of the divisor is divided
 pub quotient-multiple : (up : Bool) (n d : ℕ) → 0 < d → quotient up (n * d) d ≡ n
 quotient-multiple up n d some =
     let bare : n * d ≡ 0 + n * d = omega arith in
     ap (λ (k : ℕ). quotient up k d) bare ∙ quotient-whole up n 0 d some ∙ ap (λ (k : ℕ). k + n) (quotient-zero up d some) ∙ omega arith
+
+-- a fraction whose digits are whole numbers of what it is counted in is not rounded
+pub nearest-exact : (negative : Bool) (n d : ℕ) → 0 < d → nearest (with_sign negative (n * d)) d ≡ with_sign negative n
+nearest-exact negative n d some =
+    let twice : 2 * (n * d) ≡ 2 * n * d = grind arith in
+    nearest-halved negative (n * d) d some
+    ∙ ap (λ (k : ℕ). with_sign negative (halved negative k)) (ap (λ (k : ℕ). quotient negative k d) twice ∙ quotient-multiple negative (2 * n) d some)
+    ∙ ap (with_sign negative) (halved-twice negative n)

@@ -1,19 +1,21 @@
 //! Decimal timestamps.
 
-ghost use Rattle.std.specs.Prelude.{◌≡◌, ◌<◌, ◌≤◌, ◌^◌, ◌==◌, ◌*◌, IsTrue, IfOk, nat_le, if◌then◌else◌};
+ghost use Rattle.std.specs.Prelude.{◌≡◌, ◌<◌, ◌≤◌, ◌^◌, ◌==◌, ◌*◌, ◌/◌, length, IsTrue, IfOk, nat_le, if◌then◌else◌};
 ghost use Rattle.std.specs.Char.{is_ascii_digit};
 ghost use Rattle.std.specs.List.{list_all};
 ghost use Rattle.speedate_base.specs.DecimalTimestamp.{decimal_digits, decimal_scale, decimal_row, decimal_instant};
 ghost use Rattle.speedate_base.specs.DecimalUnit.{row};
 ghost use Rattle.speedate_base.specs.DigitRuns.{digits_value};
 ghost use Rattle.speedate_base.specs.IntFloat.{parts as decimal_parts};
+ghost use Rattle.speedate_base.specs.Nearest.{nearest};
 ghost use Rattle.speedate_base.specs.Numbers.{with_sign};
 ghost use Rattle.speedate_base.specs.Requirement.{result_map};
 ghost use Rattle.speedate_base.specs.declared.faults.ParseError.TheVariants as fault;
 ghost use Rattle.speedate_base.specs.Timestamp.{IsInYears, inferred_seconds_max, range_answer};
 ghost use Rattle.speedate_base.specs.UnixTime.{parts};
 
-use super::{DecimalUnit, INFERRED_SECONDS_MAX, UnixTime, nearest_microseconds};
+use super::rounding::{filled, nearest_microseconds};
+use super::{DecimalUnit, INFERRED_SECONDS_MAX, UnixTime};
 use crate::config::TimestampUnit;
 use crate::faults::ParseError;
 use crate::numbers::Decimal;
@@ -51,6 +53,10 @@ fn is_inferred_seconds(decimal: Decimal<'_>) -> bool
     ensures { result ≡ nat_le (decimal_digits (decimal_parts decimal.entry))
         (inferred_seconds_max * decimal_scale (decimal_parts decimal.entry)) }
 {
+    // Ten digits spell less than the bound.
+    if decimal.whole.len() <= 10 {
+        return true;
+    }
     let whole = digits_number(decimal.whole);
     if whole == INFERRED_SECONDS_MAX {
         return are_zeros(decimal.fraction);
@@ -90,8 +96,23 @@ pub fn decimal_to_seconds_micros(
     if whole > FAR_MICROSECONDS {
         return Err(far_fault(decimal.negative));
     }
-    let size = whole + nearest_microseconds(decimal.fraction, worth, decimal.negative);
+    let size = whole + fraction_microseconds(decimal.fraction, unit, decimal.negative);
     UnixTime::from_microseconds(signed_microseconds(decimal.negative, size)).in_years()
+}
+
+/// The microseconds of a fraction of the unit, to the nearest.
+#[inline]
+fn fraction_microseconds(digits: &[u8], unit: DecimalUnit, negative: bool) -> u64
+    requires { IsTrue (list_all is_ascii_digit digits.now) }
+    ensures nearest { with_sign negative result
+        ≡ nearest (with_sign negative (digits_value digits.now * (1000000 / (row unit).per_second))) (10 ^ length digits.now) }
+    ensures within { result ≤ 1000000 }
+{
+    // So few digits are whole microseconds.
+    if digits.len() <= unit.digits() {
+        return filled(digits, unit.digits());
+    }
+    nearest_microseconds(digits, unit.microseconds(), negative)
 }
 
 /// The fault of a timestamp that is far from 1970, before it where it is negative.

@@ -42,7 +42,7 @@ pub fn twice_microseconds(digits: &[u8], unit: u64, up: bool) -> u64
     ensures within { result ≤ 2 * unit }
 {
     let mut place = digits.len() - digits.len() % LANES;
-    let mut twice = eight_taken(filled_block(&digits[place..]), 0, unit, up);
+    let mut twice = eight_taken(filled(&digits[place..], LANES), 0, unit, up);
     while place > 0 {
         place -= LANES;
         twice = eight_taken(block(&digits[place..]), twice, unit, up);
@@ -61,15 +61,17 @@ fn block(digits: &[u8]) -> u64
     eight_digits(u8x8::from_slice(digits))
 }
 
-/// What fewer than eight digits spell, with zeros behind them up to eight.
+/// What fewer than eight digits spell, with zeros behind them up to so many places: 120,000 for
+/// `b"12"` and six places.
 #[inline]
-fn filled_block(digits: &[u8]) -> u64
+pub(super) fn filled(digits: &[u8], places: usize) -> u64
     requires short { length digits.now < LANES }
+    requires places { (length digits.now ≤ places) × (places ≤ 8) }
     requires digits { IsTrue (list_all is_ascii_digit digits.now) }
-    ensures value { result ≡ digits_value digits.now * 10 ^ (8 - length digits.now) }
-    ensures small { result < 100000000 }
+    ensures value { result ≡ digits_value digits.now * 10 ^ (places - length digits.now) }
+    ensures small { result < 10 ^ places }
 {
-    one_by_one(digits).unwrap() * power_of_ten(LANES - digits.len())
+    one_by_one(digits).unwrap() * power_of_ten(places - digits.len())
 }
 
 /// Ten to a power up to the eighth.

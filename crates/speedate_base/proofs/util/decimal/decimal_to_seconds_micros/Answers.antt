@@ -1,4 +1,4 @@
-use Rattle.std.proofs.Common.{◌≡◌, ◌∙◌, ap, sym, subst, ℕ, ◌+◌, ◌-◌, ◌*◌, ◌/◌, ◌^◌, ◌<◌, ◌≤◌, List, Err, true, min, length, lit<, arith, rules}
+use Rattle.std.proofs.Common.{◌≡◌, ◌∙◌, ap, sym, subst, ℕ, ◌+◌, ◌-◌, ◌*◌, ◌/◌, ◌^◌, ◌<◌, ◌≤◌, List, Err, true, min, lit<, arith, rules}
 use Rattle.std.proofs.lemmas.Int.{to_z-of_z}
 use mir.Syntax.{w64}
 use mir.Val.{SFits}
@@ -11,7 +11,6 @@ use Rattle.speedate_base.specs.DecimalTimestamp.{decimal_microsecond}
 use Rattle.speedate_base.specs.DecimalUnit.{row}
 use Rattle.speedate_base.specs.DigitRuns.{digits_value}
 use Rattle.speedate_base.specs.IntFloat.{parts as decimal_parts}
-use Rattle.speedate_base.specs.Nearest.{nearest}
 use Rattle.speedate_base.specs.Numbers.{with_sign}
 use Rattle.speedate_base.specs.Timestamp.{instant_at, range_answer}
 use Rattle.speedate_base.proofs.DecimalLaws.{decimal-far, decimal_microsecond-sum}
@@ -56,11 +55,8 @@ returns-clause-answer c =
     let product = c.saturating_mul-whole.ensures ∙ ap (λ (n : ℕ). min (c.digits_number.result * n) (2 ^ 64 - 1)) same_worth in
     let size = near decimal.whole.now worth c.digits_number.result c.saturating_mul-whole.result decimal.whole_digits (worth-some given)
     c.digits_number.ensures.value product c.if-whole-gt-FAR_MICROSECONDS.false in
-    let rest = digits_value decimal.fraction.now in
-    let scale = 10 ^ length decimal.fraction.now in
-    let part = c.nearest_microseconds.result in
-    let nearest_part = c.nearest_microseconds.ensures.nearest ∙ ap (λ (n : ℕ). nearest (with_sign decimal.negative (rest * n)) scale) same_worth in
-    let sum = decimal_microsecond-sum (row given) (decimal_parts decimal) part nearest_part in
+    let part = c.fraction_microseconds.result in
+    let sum = decimal_microsecond-sum (row given) (decimal_parts decimal) part c.fraction_microseconds.ensures.nearest in
     let signed : c.signed_microseconds.result ≡ decimal_microsecond (row given) (decimal_parts decimal) =
     c.signed_microseconds.ensures ∙ ap (λ (n : ℕ). with_sign decimal.negative (n + part)) size ∙ sym sum in
     let fits : SFits w64 c.signed_microseconds.result = search rules in

@@ -1,6 +1,7 @@
-use Rattle.std.proofs.Common.{◌≡◌, ◌∙◌, ap, sym, ℕ, ◌+◌, ◌-◌, ◌*◌, ◌^◌, ◌<◌, true, false, List, nat_le, nat_lt, length, ◌++◌, min, inl, inr, arith}
+use Rattle.std.proofs.Common.{◌≡◌, ◌∙◌, ap, sym, ℕ, ◌+◌, ◌-◌, ◌*◌, ◌^◌, ◌<◌, true, false, List, nat_le, nat_lt, length, ◌++◌, min, inl, inr, lit<, ◌≤◌, arith}
 use Rattle.std.specs.Char.{is_ascii_digit}
 use Rattle.std.specs.List.{list_all}
+use Rattle.std.proofs.Math.Nat.{pow-le-pow_right}
 use Rattle.std.proofs.lemmas.Bool.{cases_lt}
 use Rattle.std.proofs.lemmas.Bool.Decides.{nat_tests}
 use Rattle.speedate_base.specs.DigitRuns.{digits_value}
@@ -13,6 +14,17 @@ use Rattle.speedate_base.proofs.util.decimal.is_inferred_seconds.Goals as goal
 spread : (whole fraction : List ℕ) → nat_le (digits_value (whole ++ fraction)) (20000000000 * 10 ^ length fraction)
     ≡ nat_le (digits_value whole * 10 ^ length fraction + digits_value fraction) (20000000000 * 10 ^ length fraction)
 spread whole fraction = ap (λ (n : ℕ). nat_le n (20000000000 * 10 ^ length fraction)) (digits_value-append whole fraction)
+
+-- ten digits spell less than the bound
+pub returns-then-decimal-le10 : goal.returns-then-decimal-le10
+returns-then-decimal-le10 c =
+    let decimal = c.args.decimal in
+    let whole = decimal.whole.now in
+    let fraction = decimal.fraction.now in
+    let few : length whole ≤ 10 = omega (arith, c.if-decimal-le10.true) in
+    let power : 10 ^ length whole ≤ 10 ^ 10 = pow-le-pow_right {n = 10} (lit< tt) few in
+    let less : digits_value whole < 20000000000 = omega (arith, digits_value-lt whole decimal.whole_digits, power) in
+    sym (spread whole fraction ∙ less-whole (digits_value whole) 20000000000 (10 ^ length fraction) (digits_value fraction) less (digits_value-lt fraction decimal.fraction_digits))
 
 pub returns-then-whole-eq-INFERRED_SECONDS_MAX : goal.returns-then-whole-eq-INFERRED_SECONDS_MAX
 returns-then-whole-eq-INFERRED_SECONDS_MAX c =

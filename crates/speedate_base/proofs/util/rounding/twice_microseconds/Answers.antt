@@ -12,8 +12,8 @@ rest-all : (digits : List ℕ) (place : ℕ) → list_all is_ascii_digit digits 
     → list_all is_ascii_digit (take (length digits - place) (drop place digits)) ≡ true
 rest-all digits place all = ap (list_all is_ascii_digit) (take_rest digits place) ∙ (parts-all digits place all).1
 
-pub filled_block-requires-clause-digits : goal.filled_block-requires-clause-digits
-filled_block-requires-clause-digits c = rest-all c.args.digits.now _ c.requires.digits
+pub filled-requires-clause-digits : goal.filled-requires-clause-digits
+filled-requires-clause-digits c = rest-all c.args.digits.now _ c.requires.digits
 
 pub block-requires-clause-digits : goal.block-requires-clause-digits
 block-requires-clause-digits c = rest-all c.args.digits.now _ c.requires.digits
@@ -23,7 +23,7 @@ loop-place-init c =
     let digits = c.args.digits.now in
     let place = length digits - length digits % 8 in
     let rest : List ℕ = drop place digits in
-    let filled = subst (λ (part : List ℕ). c.filled_block.result ≡ digits_value part * 10 ^ (8 - length part)) (take_rest digits place) c.filled_block.ensures.value in
+    let filled = subst (λ (part : List ℕ). c.filled.result ≡ digits_value part * 10 ^ (8 - length part)) (take_rest digits place) c.filled.ensures.value in
     let taken = c.eight_taken-twice.ensures.twice ∙ ap (λ (n : ℕ). quotient c.args.up (2 * (n * c.args.unit) + 0) 100000000) filled in
     record {
       place = omega arith;
