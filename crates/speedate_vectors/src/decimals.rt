@@ -4,11 +4,11 @@ ghost use Rattle.speedate.specs.Offset.{IsOffset};
 
 mod rounding;
 
+use crate::texts::repeated;
 use speedate::{
     DateTime, DateTimeConfig, IntFloat, MicrosecondsPrecisionOverflowBehavior, ParseError,
     TimeConfig, TimestampUnit, float_parse_bytes,
 };
-use std::alloc::{AllocError, Global};
 use std::process::Abort;
 use std::test::Fail;
 
@@ -47,23 +47,6 @@ fn from_decimal(bytes: &[u8], config: &DateTimeConfig) -> Result<DateTime, Parse
         IntFloat::Float(decimal) => DateTime::from_decimal_with_config(decimal, config),
         _ => Err(ParseError::InvalidCharDateSep),
     }
-}
-
-/// `front`, so many bytes, and `back`.
-fn repeated(
-    alloc: Global,
-    front: &[u8],
-    byte: u8,
-    count: usize,
-    back: &[u8],
-) -> Result<Vec<u8>, AllocError> {
-    let mut text = Vec::new(alloc);
-    text.extend_from_slice(front)?;
-    for _ in 0..count {
-        text.push(byte)?;
-    }
-    text.extend_from_slice(back)?;
-    Ok(text)
 }
 
 /// Reads each text, with the answer beside it.
@@ -339,7 +322,7 @@ fn expect_long<R: AllocGlobal + Abort>(
     cases: &[(&str, u8, usize, &str, &str)],
 ) -> Result<(), Fail> {
     for (front, byte, count, back, want) in cases {
-        let text = repeated(rt.alloc(), front.as_bytes(), *byte, *count, back.as_bytes())?;
+        let text = repeated(rt.alloc(), front, *byte, *count, back.as_bytes())?;
         let answer = DateTime::parse_bytes_with_config(&text, config);
         expect_answer(rt, answer, front.as_bytes(), want);
     }

@@ -20,6 +20,8 @@ mod numbers;
 #[cfg(test)]
 mod shown;
 #[cfg(test)]
+mod texts;
+#[cfg(test)]
 mod times;
 #[cfg(test)]
 mod timestamps;

@@ -1,7 +1,7 @@
 //! Whole numbers and decimals.
 
+use crate::texts::repeated;
 use speedate::{IntFloat, float_parse_bytes, float_parse_str, int_parse_bytes, int_parse_str};
-use std::alloc::{AllocError, Global};
 use std::process::Abort;
 use std::test::Fail;
 
@@ -162,17 +162,6 @@ fn numbers_and_decimals(rt: HostRuntime) {
     }
 }
 
-/// A sign, leading zeros, and digits.
-fn padded(alloc: Global, sign: &str, zeros: usize, digits: &str) -> Result<Vec<u8>, AllocError> {
-    let mut text = Vec::new(alloc);
-    text.extend_from_slice(sign.as_bytes())?;
-    for _ in 0..zeros {
-        text.push(b'0')?;
-    }
-    text.extend_from_slice(digits.as_bytes())?;
-    Ok(text)
-}
-
 #[test]
 fn ends_of_the_range_behind_zeros(rt: HostRuntime) -> Result<(), Fail> {
     let cases = [
@@ -190,7 +179,7 @@ fn ends_of_the_range_behind_zeros(rt: HostRuntime) -> Result<(), Fail> {
     ];
     for (sign, digits, want) in cases {
         for zeros in [0, 1, 18, 19, 20, 400] {
-            let text = padded(rt.alloc(), sign, zeros, digits)?;
+            let text = repeated(rt.alloc(), sign, b'0', zeros, digits.as_bytes())?;
             assert_eq!(rt;
                 int_parse_bytes(&text),
                 want,
@@ -272,9 +261,9 @@ fn one_byte_among_digits(rt: HostRuntime) {
 
 #[test]
 fn long_runs_are_read_whole(rt: HostRuntime) -> Result<(), Fail> {
-    let zeros = padded(rt.alloc(), "", 1_048_576, "1")?;
+    let zeros = repeated(rt.alloc(), "", b'0', 1_048_576, b"1")?;
     assert_eq!(rt; int_parse_bytes(&zeros), Some(1));
-    let decimal = padded(rt.alloc(), "-0.", 1_048_576, "10")?;
+    let decimal = repeated(rt.alloc(), "-0.", b'0', 1_048_576, b"10")?;
     match float_parse_bytes(&decimal) {
         IntFloat::Float(read) => {
             assert!(rt; read.negative);

@@ -1,6 +1,7 @@
 //! Fractions of timestamps, compared with a loop over their digits.
 
-use super::{MILLISECOND, SECOND, TRUNCATE, config, repeated};
+use super::{MILLISECOND, SECOND, TRUNCATE, config};
+use crate::texts::repeated;
 use speedate::DateTime;
 use std::process::Abort;
 use std::test::Fail;
@@ -31,7 +32,7 @@ fn by_digits(digits: &[u8], places: usize, negative: bool) -> i64 {
 fn expect_by_digits<R: AllocGlobal + Abort>(rt: &R, digits: &[u8]) -> Result<(), Fail> {
     for (unit, places, whole) in [(SECOND, 6, 3_000_000), (MILLISECOND, 3, 3_000)] {
         for (negative, front) in [(false, "3."), (true, "-3.")] {
-            let text = repeated(rt.alloc(), front.as_bytes(), b'0', 0, digits)?;
+            let text = repeated(rt.alloc(), front, b'0', 0, digits)?;
             let config = config(unit, TRUNCATE);
             let value = DateTime::parse_bytes_with_config(&text, &config)
                 .ok()
