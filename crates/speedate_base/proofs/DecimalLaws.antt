@@ -2,11 +2,11 @@
 use Rattle.std.specs.Prelude.{◌≡◌, ◌≢◌, ℕ, zero, suc, ◌+◌, ◌*◌, ◌/◌, ◌^◌, ◌<◌, ◌≤◌, ◌==◌, Bool, true, false, nat_le, if◌then◌else◌, List, [], ◌∷◌, length, get_or, ℤ, pos, negsuc, neg_ℤ, int_le, Err, refl}
 use Rattle.std.specs.Char.{is_ascii_digit}
 use Rattle.std.specs.List.{list_all}
-use Rattle.std.proofs.Common.{arith, ap, sym, ◌∙◌}
+use Rattle.std.proofs.Common.{arith, ap, sym, ◌∙◌, lit<}
 use Rattle.std.proofs.lemmas.Bool.{and_parts}
 use Rattle.std.proofs.lemmas.Bool.Decides.{nat_tests}
 use Rattle.std.proofs.lemmas.Int.{ints}
-use Rattle.std.proofs.Math.Nat.{mul-le-mul_right}
+use Rattle.std.proofs.Math.Nat.{mul-le-mul_right, pow-le-pow_right}
 use Rattle.speedate_base.specs.declared.faults.ParseError.TheVariants as fault
 use Rattle.speedate_base.specs.DecimalTimestamp.{decimal_digits, decimal_scale, decimal_microsecond, decimal_instant}
 use Rattle.speedate_base.specs.Digits.{digit_value}
@@ -29,6 +29,17 @@ digits_value-some (digit ∷ digits) zero all within other =
 digits_value-some (digit ∷ digits) (suc place) all within other =
     let parts = and_parts (is_ascii_digit digit) _ all in
     omega (arith, digits_value-some digits place parts.1 (omega arith) other)
+
+-- many digits of which the first is not 0 spell a large number
+pub digits_value-large : (digits : List ℕ) → list_all is_ascii_digit digits ≡ true → 12 ≤ length digits → get_or digits 0 0 ≢ 48
+    → 20000000000 < digits_value digits
+digits_value-large [] all many other = absurd (omega arith)
+digits_value-large (digit ∷ digits) all many other =
+    let parts = and_parts (is_ascii_digit digit) _ all in
+    let more : 1 ≤ digit_value digit = grind (arith, nat_tests, other) in
+    let rest : 11 ≤ length digits = omega arith in
+    let power : 10 ^ 11 ≤ 10 ^ length digits = pow-le-pow_right {n = 10} (lit< tt) rest in
+    omega (arith, mul-le-mul_right (10 ^ length digits) more, power)
 
 -- how a decimal compares with a whole number
 pub same-whole : (bound scale rest : ℕ) → nat_le (bound * scale + rest) (bound * scale) ≡ (rest == 0)

@@ -53,9 +53,12 @@ fn is_inferred_seconds(decimal: Decimal<'_>) -> bool
     ensures { result ≡ nat_le (decimal_digits (decimal_parts decimal.entry))
         (inferred_seconds_max * decimal_scale (decimal_parts decimal.entry)) }
 {
-    // Ten digits spell less than the bound.
+    // Ten digits spell less than the bound, and twelve of which the first is not 0 spell more.
     if decimal.whole.len() <= 10 {
         return true;
+    }
+    if decimal.whole.len() >= 12 && decimal.whole[0] != b'0' {
+        return false;
     }
     let whole = digits_number(decimal.whole);
     if whole == INFERRED_SECONDS_MAX {

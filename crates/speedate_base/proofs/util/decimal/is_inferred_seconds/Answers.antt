@@ -6,7 +6,7 @@ use Rattle.std.proofs.lemmas.Bool.{cases_lt}
 use Rattle.std.proofs.lemmas.Bool.Decides.{nat_tests}
 use Rattle.speedate_base.specs.DigitRuns.{digits_value}
 use Rattle.speedate_base.specs.DigitRunLaws.{digits_value-append, digits_value-lt}
-use Rattle.speedate_base.proofs.DecimalLaws.{same-whole, less-whole, more-whole}
+use Rattle.speedate_base.proofs.DecimalLaws.{digits_value-large, same-whole, less-whole, more-whole}
 use Rattle.speedate_base.specs.NearestLaws.{scale-some}
 use Rattle.speedate_base.proofs.util.decimal.is_inferred_seconds.Goals as goal
 
@@ -25,6 +25,15 @@ returns-then-decimal-le10 c =
     let power : 10 ^ length whole ≤ 10 ^ 10 = pow-le-pow_right {n = 10} (lit< tt) few in
     let less : digits_value whole < 20000000000 = omega (arith, digits_value-lt whole decimal.whole_digits, power) in
     sym (spread whole fraction ∙ less-whole (digits_value whole) 20000000000 (10 ^ length fraction) (digits_value fraction) less (digits_value-lt fraction decimal.fraction_digits))
+
+pub returns-then-decimal-ne48 : goal.returns-then-decimal-ne48
+returns-then-decimal-ne48 c =
+    let decimal = c.args.decimal in
+    let whole = decimal.whole.now in
+    let fraction = decimal.fraction.now in
+    let many : 12 ≤ length whole = omega (arith, c.if-decimal-ge12.true) in
+    let more = digits_value-large whole decimal.whole_digits many c.if-decimal-ne48.true in
+    sym (spread whole fraction ∙ more-whole (digits_value whole) 20000000000 (10 ^ length fraction) (digits_value fraction) more (scale-some (length fraction)))
 
 pub returns-then-whole-eq-INFERRED_SECONDS_MAX : goal.returns-then-whole-eq-INFERRED_SECONDS_MAX
 returns-then-whole-eq-INFERRED_SECONDS_MAX c =
