@@ -2,6 +2,9 @@
 //! one canonical form.
 #![tactic(auto)]
 
+mod duration;
+
+pub use duration::Duration;
 pub use speedate_base::config::{
     DateConfig, DateConfigBuilder, DateTimeConfig, DateTimeConfigBuilder,
     MicrosecondsPrecisionOverflowBehavior, TimeConfig, TimeConfigBuilder, TimestampUnit,
