@@ -1,7 +1,8 @@
 -- The numbers of a duration, its length, and the numbers that have a length.
-use Rattle.std.specs.Prelude.{ℕ, ◌+◌, ◌*◌, ◌/◌, ◌%◌, ◌<◌, ◌≤◌, Bool, if◌then◌else◌, nat_le, List, [], ◌∷◌, ℤ, pos, neg_ℤ, Result, Ok}
+use Rattle.std.specs.Prelude.{ℕ, ◌+◌, ◌*◌, ◌/◌, ◌%◌, ◌<◌, ◌≤◌, Bool, not, nat_le, List, [], ◌∷◌, ℤ, Result, Ok}
 use Rattle.speedate_base.specs.declared.faults.ParseError.{ParseError}
 use Rattle.speedate_base.specs.declared.faults.ParseError.TheVariants as fault
+use Rattle.speedate_base.specs.Numbers.{with_sign}
 use Rattle.speedate_base.specs.Offset.{seconds_per_day}
 use Rattle.speedate_base.specs.Requirement.{Requirement, ◌else_fault◌, meets}
 
@@ -53,18 +54,14 @@ normal_table numbers =
 abbrev pub normal_form : DurationNumbers → Result DurationNumbers ParseError
 normal_form numbers = meets (normal_table numbers) (Ok (of_length numbers.positive (length_microseconds numbers)))
 
--- a size with the sign
-abbrev pub signed_size : Bool → ℕ → ℤ
-signed_size positive size = if positive then pos size else neg_ℤ (pos size)
-
 -- the length in whole seconds with the sign
 abbrev pub signed_seconds : DurationNumbers → ℤ
-signed_seconds numbers = signed_size numbers.positive (length_seconds numbers)
+signed_seconds numbers = with_sign (not numbers.positive) (length_seconds numbers)
 
 -- the length in milliseconds with the sign, cut toward zero
 abbrev pub signed_milliseconds : DurationNumbers → ℤ
-signed_milliseconds numbers = signed_size numbers.positive (1000 * length_seconds numbers + numbers.microsecond / 1000)
+signed_milliseconds numbers = with_sign (not numbers.positive) (1000 * length_seconds numbers + numbers.microsecond / 1000)
 
 -- the microseconds of a second with the sign
 abbrev pub signed_microsecond : DurationNumbers → ℤ
-signed_microsecond numbers = signed_size numbers.positive numbers.microsecond
+signed_microsecond numbers = with_sign (not numbers.positive) numbers.microsecond

@@ -1,12 +1,13 @@
 //! Durations: days, seconds and microseconds, with a sign.
 
-ghost use Rattle.std.specs.Prelude.{◌≡◌, ◌^◌, ◌<◌, ◌≤◌, IfOk};
+ghost use Rattle.std.specs.Prelude.{◌≡◌, ◌<◌, ◌≤◌, IfOk};
 ghost use Rattle.speedate_base.specs.Requirement.{result_map};
-ghost use Rattle.speedate.specs.DurationNumbers.{DurationNumbers, length_seconds, length_microseconds, normal_form, signed_size, signed_seconds, signed_microsecond, signed_milliseconds};
+ghost use Rattle.speedate.specs.DurationNumbers.{DurationNumbers, length_seconds, length_microseconds, normal_form, signed_seconds, signed_microsecond, signed_milliseconds};
 
 mod order;
 
 use speedate_base::faults::ParseError;
+use speedate_base::numbers::with_sign;
 use speedate_base::util::SECONDS_PER_DAY;
 
 /// A length of time: days of 86,400 seconds, seconds of a day, and microseconds of a second, with a
@@ -68,7 +69,7 @@ impl Duration {
     pub fn signed_total_seconds(&self) -> i64
         ensures second { result ≡ signed_seconds (parts self.now) }
     {
-        signed(self.positive, self.seconds())
+        with_sign(!self.positive, self.seconds())
     }
 
     /// The milliseconds with the sign, cut toward zero: -1,001 for 1.0019 seconds that are not
@@ -78,7 +79,7 @@ impl Duration {
         ensures millisecond { result ≡ signed_milliseconds (parts self.now) }
     {
         let milliseconds = 1000 * self.seconds() + u64::from(self.microsecond / 1000);
-        signed(self.positive, milliseconds)
+        with_sign(!self.positive, milliseconds)
     }
 
     /// The microseconds of a second with the sign: -1,000 for a second and 1,000 microseconds that
@@ -102,14 +103,4 @@ impl Duration {
     {
         u64::from(self.day) * u64::from(SECONDS_PER_DAY) + u64::from(self.second)
     }
-}
-
-/// A size with the sign.
-#[inline]
-fn signed(positive: bool, size: u64) -> i64
-    requires { size < 2 ^ 63 }
-    ensures { result ≡ signed_size positive size }
-{
-    let value = size as i64;
-    if positive { value } else { -value }
 }

@@ -3,6 +3,7 @@
 #![tactic(auto)]
 
 mod duration;
+pub mod laws;
 
 pub use duration::Duration;
 pub use speedate_base::config::{
