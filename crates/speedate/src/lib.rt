@@ -2,6 +2,10 @@
 //! one canonical form.
 #![tactic(auto)]
 
+mod duration;
+pub mod laws;
+
+pub use duration::Duration;
 pub use speedate_base::config::{
     DateConfig, DateConfigBuilder, DateTimeConfig, DateTimeConfigBuilder,
     MicrosecondsPrecisionOverflowBehavior, TimeConfig, TimeConfigBuilder, TimestampUnit,

@@ -1,6 +1,6 @@
 //! Whole numbers and decimals, and the digits that they are made of.
 
-ghost use Rattle.std.specs.Prelude.{◌≡◌, ◌<◌, ◌≤◌, length, Some, None, if◌then◌else◌};
+ghost use Rattle.std.specs.Prelude.{◌≡◌, ◌^◌, ◌<◌, ◌≤◌, length, Some, None, if◌then◌else◌};
 ghost use Rattle.speedate_base.specs.Numbers.{has_minus, sign_length, with_sign, fits_i64, whole_number, point_place, decimal_answer, number_answer};
 ghost use Rattle.speedate_base.specs.IntFloat.{number_of, JoinsToFloat};
 
@@ -113,14 +113,23 @@ fn sign(bytes: &[u8]) -> (bool, usize)
     }
 }
 
+/// A size with its sign: -12 for 12.
+#[inline]
+pub fn with_sign(negative: bool, size: u64) -> i64
+    requires { size < 2 ^ 63 }
+    ensures number { result ≡ with_sign negative size }
+{
+    let number = size as i64;
+    if negative { -number } else { number }
+}
+
 /// A size with its sign, where it fits.
 #[inline]
 fn signed(negative: bool, size: u64) -> Option<i64>
     ensures value { result ≡ (if fits_i64 negative size then Some (with_sign negative size) else None) }
 {
     if size <= i64::MAX as u64 {
-        let value = size as i64;
-        Some(if negative { -value } else { value })
+        Some(with_sign(negative, size))
     } else if negative && size == 1 << 63 {
         Some(i64::MIN)
     } else {

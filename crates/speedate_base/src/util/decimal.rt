@@ -18,8 +18,8 @@ use super::rounding::{filled, nearest_microseconds};
 use super::{DecimalUnit, INFERRED_SECONDS_MAX, UnixTime};
 use crate::config::TimestampUnit;
 use crate::faults::ParseError;
-use crate::numbers::Decimal;
 use crate::numbers::digits::digits_number;
+use crate::numbers::{Decimal, with_sign};
 
 /// So many microseconds before 1970 lie before the year 0000, and so many after it behind the year
 /// 9999.
@@ -100,7 +100,7 @@ pub fn decimal_to_seconds_micros(
         return Err(far_fault(decimal.negative));
     }
     let size = whole + fraction_microseconds(decimal.fraction, unit, decimal.negative);
-    UnixTime::from_microseconds(signed_microseconds(decimal.negative, size)).in_years()
+    UnixTime::from_microseconds(with_sign(decimal.negative, size)).in_years()
 }
 
 /// The microseconds of a fraction of the unit, to the nearest.
@@ -128,14 +128,4 @@ fn far_fault(negative: bool) -> ParseError
     } else {
         ParseError::DateTooLarge
     }
-}
-
-/// A size in microseconds with its sign.
-#[inline]
-fn signed_microseconds(negative: bool, size: u64) -> i64
-    requires { size < 2 ^ 63 }
-    ensures { result ≡ with_sign negative size }
-{
-    let value = size as i64;
-    if negative { -value } else { value }
 }

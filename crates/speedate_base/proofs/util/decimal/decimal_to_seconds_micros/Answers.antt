@@ -57,8 +57,8 @@ returns-clause-answer c =
     c.digits_number.ensures.value product c.if-whole-gt-FAR_MICROSECONDS.false in
     let part = c.fraction_microseconds.result in
     let sum = decimal_microsecond-sum (row given) (decimal_parts decimal) part c.fraction_microseconds.ensures.nearest in
-    let signed : c.signed_microseconds.result ≡ decimal_microsecond (row given) (decimal_parts decimal) =
-    c.signed_microseconds.ensures ∙ ap (λ (n : ℕ). with_sign decimal.negative (n + part)) size ∙ sym sum in
-    let fits : SFits w64 c.signed_microseconds.result = search rules in
+    let signed : c.with_sign.result ≡ decimal_microsecond (row given) (decimal_parts decimal) =
+    c.with_sign.ensures.number ∙ ap (λ (n : ℕ). with_sign decimal.negative (n + part)) size ∙ sym sum in
+    let fits : SFits w64 c.with_sign.result = search rules in
     let time = (simp to_z-of_z at c.from_microseconds.ensures) ∙ ap (instant_at 1000000) signed in
     c.in_years.ensures.answer ∙ ap range_answer time

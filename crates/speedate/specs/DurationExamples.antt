@@ -1,0 +1,37 @@
+-- Examples of durations and the ends of ranges, each true by computation alone.
+use Rattle.std.specs.Prelude.{◌≡◌, true, false, pos, neg_ℤ, Ok, Err, refl}
+use Rattle.std.specs.declared.cmp.Ordering.TheVariants as ordering
+use Rattle.speedate_base.specs.declared.faults.ParseError.TheVariants as fault
+use Rattle.speedate.specs.DurationNumbers.{normal_form, signed_milliseconds}
+use Rattle.speedate.specs.DurationOrder.{duration_order}
+
+-- whole seconds are carried, and then whole days
+carried : normal_form (record { positive = false; day = 1; second = 86500; microsecond = 1000123 })
+    ≡ Ok (record { positive = false; day = 2; second = 101; microsecond = 123 })
+carried = refl
+
+-- the last length, and one microsecond more
+last : normal_form (record { positive = true; day = 999999999; second = 86399; microsecond = 999999 })
+    ≡ Ok (record { positive = true; day = 999999999; second = 86399; microsecond = 999999 })
+last = refl
+
+past : normal_form (record { positive = true; day = 999999999; second = 86399; microsecond = 1000000 }) ≡ Err fault.DurationDaysTooLarge
+past = refl
+
+-- a sum that passes 32 bits
+over : normal_form (record { positive = true; day = 0; second = 4294967295; microsecond = 1000000 }) ≡ Err fault.DurationValueTooLarge
+over = refl
+
+-- nothing that is not positive is before nothing that is
+nothing : duration_order (record { positive = false; day = 0; second = 0; microsecond = 0 }) (record { positive = true; day = 0; second = 0; microsecond = 0 })
+    ≡ ordering.Less
+nothing = refl
+
+-- the longer of two that are not positive comes first
+longer : duration_order (record { positive = false; day = 4; second = 0; microsecond = 0 }) (record { positive = false; day = 3; second = 0; microsecond = 0 })
+    ≡ ordering.Less
+longer = refl
+
+-- milliseconds are cut toward zero
+cut : signed_milliseconds (record { positive = false; day = 0; second = 1; microsecond = 1999 }) ≡ neg_ℤ (pos 1001)
+cut = refl

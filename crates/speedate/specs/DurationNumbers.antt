@@ -1,0 +1,67 @@
+-- The numbers of a duration, its length, and the numbers that have a length.
+use Rattle.std.specs.Prelude.{ℕ, ◌+◌, ◌*◌, ◌/◌, ◌%◌, ◌<◌, ◌≤◌, Bool, not, nat_le, List, [], ◌∷◌, ℤ, Result, Ok}
+use Rattle.speedate_base.specs.declared.faults.ParseError.{ParseError}
+use Rattle.speedate_base.specs.declared.faults.ParseError.TheVariants as fault
+use Rattle.speedate_base.specs.Numbers.{with_sign}
+use Rattle.speedate_base.specs.Offset.{seconds_per_day}
+use Rattle.speedate_base.specs.Requirement.{Requirement, ◌else_fault◌, meets}
+
+-- a duration by its sign, its days, the seconds of a day and the microseconds of a second
+pub record DurationNumbers : Type 0 where
+  pub positive : Bool
+  pub day : ℕ
+  pub second : ℕ
+  pub microsecond : ℕ
+
+-- its numbers are in their ranges
+pub record IsDuration (numbers : DurationNumbers) : Type 0 where
+  pub day : numbers.day ≤ 999999999
+  pub second : numbers.second < seconds_per_day
+  pub microsecond : numbers.microsecond < 1000000
+
+-- its length in seconds, and in microseconds, without its sign
+abbrev pub length_seconds : DurationNumbers → ℕ
+length_seconds numbers = numbers.day * seconds_per_day + numbers.second
+
+abbrev pub length_microseconds : DurationNumbers → ℕ
+length_microseconds numbers = length_seconds numbers * 1000000 + numbers.microsecond
+
+-- the numbers in their ranges, but for the days, that have a length in microseconds
+abbrev pub of_length : Bool → ℕ → DurationNumbers
+of_length positive length = record {
+  positive = positive;
+  day = length / 1000000 / seconds_per_day;
+  second = length / 1000000 % seconds_per_day;
+  microsecond = length % 1000000;
+}
+
+-- the seconds with the whole seconds of the microseconds, and the days with the whole days of those
+abbrev pub carried_second : DurationNumbers → ℕ
+carried_second numbers = numbers.second + numbers.microsecond / 1000000
+
+abbrev pub carried_day : DurationNumbers → ℕ
+carried_day numbers = numbers.day + carried_second numbers / seconds_per_day
+
+-- what numbers of any size have to meet to be brought into their ranges: sums are counted in 32 bits
+abbrev pub normal_table : DurationNumbers → List Requirement
+normal_table numbers =
+    (nat_le (carried_second numbers) 4294967295 else_fault fault.DurationValueTooLarge)
+    ∷ (nat_le (carried_day numbers) 4294967295 else_fault fault.DurationValueTooLarge)
+    ∷ (nat_le (carried_day numbers) 999999999 else_fault fault.DurationDaysTooLarge)
+    ∷ []
+
+-- the normal form: the numbers in their ranges that have the same length, or the fault
+abbrev pub normal_form : DurationNumbers → Result DurationNumbers ParseError
+normal_form numbers = meets (normal_table numbers) (Ok (of_length numbers.positive (length_microseconds numbers)))
+
+-- the length in whole seconds with the sign
+abbrev pub signed_seconds : DurationNumbers → ℤ
+signed_seconds numbers = with_sign (not numbers.positive) (length_seconds numbers)
+
+-- the length in milliseconds with the sign, cut toward zero
+abbrev pub signed_milliseconds : DurationNumbers → ℤ
+signed_milliseconds numbers = with_sign (not numbers.positive) (1000 * length_seconds numbers + numbers.microsecond / 1000)
+
+-- the microseconds of a second with the sign
+abbrev pub signed_microsecond : DurationNumbers → ℤ
+signed_microsecond numbers = with_sign (not numbers.positive) numbers.microsecond
