@@ -5,6 +5,7 @@ ghost use Rattle.speedate_base.specs.Requirement.{result_map};
 ghost use Rattle.speedate.specs.DurationNumbers.{DurationNumbers, length_seconds, length_microseconds, normal_form, signed_seconds, signed_microsecond, signed_milliseconds};
 
 mod order;
+mod text;
 
 use speedate_base::faults::ParseError;
 use speedate_base::numbers::with_sign;

@@ -27,9 +27,29 @@ digit_zero = 48
 abbrev pub colon : ℕ
 colon = 58
 
+-- `D`, `H`, `M`, `P` and `S`
+abbrev pub capital_d : ℕ
+capital_d = 68
+
+abbrev pub capital_h : ℕ
+capital_h = 72
+
+abbrev pub capital_m : ℕ
+capital_m = 77
+
+abbrev pub capital_p : ℕ
+capital_p = 80
+
+abbrev pub capital_s : ℕ
+capital_s = 83
+
 -- `T`
 abbrev pub capital_t : ℕ
 capital_t = 84
+
+-- `Y`
+abbrev pub capital_y : ℕ
+capital_y = 89
 
 -- `Z`
 abbrev pub capital_z : ℕ

@@ -3,7 +3,7 @@
 ghost use Rattle.std.specs.Prelude.{◌≡◌, ◌<◌, ◌≤◌, ◌+◌, ◌++◌, length};
 ghost use Rattle.std.specs.Str.{IsAscii};
 ghost use Rattle.arrayvec.specs.ArrayVec.{array_vec_len};
-ghost use Rattle.speedate_base.specs.Digits.{two_digit_text};
+ghost use Rattle.speedate_base.specs.Digits.{two_digit_text, six_digit_text};
 
 use arrayvec::{ArrayString, ArrayVec};
 use std::str;
@@ -37,4 +37,16 @@ pub fn two_digit_text(number: u8) -> [u8; 2]
     ensures digits { result ≡ two_digit_text number }
 {
     [b'0' + number / 10, b'0' + number % 10]
+}
+
+/// The six digits of a number below 1,000,000: `b"000120"` for 120.
+#[inline]
+pub fn six_digit_text(number: u32) -> [u8; 6]
+    requires small { number ≤ 999999 }
+    ensures digits { result ≡ six_digit_text number }
+{
+    let [d1, d2] = two_digit_text((number / 10_000) as u8);
+    let [d3, d4] = two_digit_text((number / 100 % 100) as u8);
+    let [d5, d6] = two_digit_text((number % 100) as u8);
+    [d1, d2, d3, d4, d5, d6]
 }

@@ -1,8 +1,11 @@
 //! Durations: their normal form, their totals and their order.
 
+use crate::shown::expect_shown;
+use arrayvec::ArrayString;
 use speedate::{Duration, ParseError};
 use std::cmp::Ordering;
 use std::process::Abort;
+use std::test::Fail;
 
 /// The numbers of a duration: its sign, days, seconds and microseconds.
 type Numbers = (bool, u32, u32, u32);
@@ -151,4 +154,52 @@ fn sorts_by_sign_and_length(rt: HostRuntime) {
             assert_eq!(rt; left == right, want == Ordering::Equal, "{one:?} {two:?}");
         }
     }
+}
+
+#[test]
+fn texts(rt: HostRuntime) -> Result<(), Fail> {
+    let cases: [(Numbers, &str); 27] = [
+        ((true, 0, 0, 0), "PT0S"),
+        ((false, 0, 0, 0), "-PT0S"),
+        // each part alone
+        ((true, 365, 0, 0), "P1Y"),
+        ((true, 730, 0, 0), "P2Y"),
+        ((true, 1, 0, 0), "P1D"),
+        ((true, 364, 0, 0), "P364D"),
+        ((true, 0, 3600, 0), "PT1H"),
+        ((true, 0, 82_800, 0), "PT23H"),
+        ((true, 0, 60, 0), "PT1M"),
+        ((true, 0, 3540, 0), "PT59M"),
+        ((true, 0, 1, 0), "PT1S"),
+        ((true, 0, 59, 0), "PT59S"),
+        ((true, 0, 0, 1), "PT0.000001S"),
+        ((true, 0, 0, 500_000), "PT0.5S"),
+        ((true, 0, 0, 120_500), "PT0.1205S"),
+        ((true, 0, 0, 999_999), "PT0.999999S"),
+        ((false, 0, 1, 1_000), "-PT1.001S"),
+        // parts together
+        ((true, 366, 0, 0), "P1Y1D"),
+        ((true, 1, 63, 0), "P1DT1M3S"),
+        ((true, 1, 3642, 0), "P1DT1H42S"),
+        ((false, 1, 42, 0), "-P1DT42S"),
+        ((true, 0, 3601, 0), "PT1H1S"),
+        ((true, 0, 63, 654_321), "PT1M3.654321S"),
+        ((true, 365, 0, 1), "P1YT0.000001S"),
+        ((true, 428, 14_706, 0), "P1Y63DT4H5M6S"),
+        (
+            (true, 999_999_999, 86_399, 999_999),
+            "P2739726Y9DT23H59M59.999999S",
+        ),
+        (
+            (false, 999_999_989, 86_399, 999_999),
+            "-P2739725Y364DT23H59M59.999999S",
+        ),
+    ];
+    for (given, want) in cases {
+        let duration = new(given).ok().expect(&rt, "a duration");
+        let printed: ArrayString<31> = duration.to_text();
+        assert_eq!(rt; printed.as_str(), want, "{given:?}");
+        expect_shown(&rt, &duration, want)?;
+    }
+    Ok(())
 }

@@ -4,7 +4,7 @@ ghost use Rattle.std.specs.Prelude.{◌≡◌, ◌≤◌, ◌∷◌, Some};
 ghost use Rattle.speedate_base.specs.Ascii.{full_stop};
 ghost use Rattle.speedate_base.specs.Digits.{six_digit_text};
 
-use crate::text::{ascii_text, push, two_digit_text};
+use crate::text::{ascii_text, push, six_digit_text, two_digit_text};
 use crate::time::Time;
 use crate::time::offset::push_offset;
 use arrayvec::{ArrayString, ArrayVec};
@@ -71,9 +71,7 @@ fn fraction_text(microsecond: u32) -> [u8; 7]
     requires { microsecond ≤ 999999 }
     ensures { result ≡ full_stop ∷ six_digit_text microsecond }
 {
-    let [f1, f2] = two_digit_text((microsecond / 10_000) as u8);
-    let [f3, f4] = two_digit_text((microsecond / 100 % 100) as u8);
-    let [f5, f6] = two_digit_text((microsecond % 100) as u8);
+    let [f1, f2, f3, f4, f5, f6] = six_digit_text(microsecond);
     [b'.', f1, f2, f3, f4, f5, f6]
 }
 

@@ -1,0 +1,2 @@
+mod NumberText
+mod DurationFacts

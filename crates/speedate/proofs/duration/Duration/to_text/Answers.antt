@@ -1,0 +1,50 @@
+use Rattle.std.proofs.Common.{◌≡◌, ◌∙◌, ap, sym, subst, ◌++◌, ◌/◌, ◌%◌, ℕ, List, [], length, append_assoc, lit<, arith}
+use Rattle.std.specs.Str.{IsAscii}
+use Rattle.speedate_base.specs.Ascii.{capital_y, capital_d}
+use Rattle.speedate.specs.Duration.{parts}
+use Rattle.speedate.specs.DurationTextLaws.{counted-length, start-length, duration_text-IsAscii}
+use Rattle.speedate.proofs.DurationFacts.{is_duration}
+use Rattle.speedate.proofs.duration.Duration.to_text.Goals as goal
+
+pub push_counted-requires : goal.push_counted-requires
+push_counted-requires c =
+    let years = c.args.self.now.day / 365 in
+    let none : length c.new-bytes.result.items ≡ 0 = ap length c.new-bytes.ensures in
+    let start = start-length c.args.self.now.positive in
+    let years_length = counted-length 7 years capital_y (lit< tt) (omega (arith, c.args.self.now.day_in_range)) (omega (arith, c.args.self.now.day_in_range)) in
+    (lit< tt, omega (arith, none, c.push.ensures.len, ap length c.start_text.ensures, start, years_length))
+
+pub push_counted-requires-2 : goal.push_counted-requires-2
+push_counted-requires-2 c =
+    let years = c.args.self.now.day / 365 in
+    let days = c.args.self.now.day % 365 in
+    let none : length c.new-bytes.result.items ≡ 0 = ap length c.new-bytes.ensures in
+    let start = start-length c.args.self.now.positive in
+    let years_length = counted-length 7 years capital_y (lit< tt) (omega (arith, c.args.self.now.day_in_range)) (omega (arith, c.args.self.now.day_in_range)) in
+    let days_length = counted-length 3 days capital_d (lit< tt) (omega arith) (omega arith) in
+    (lit< tt, omega (arith, none, c.push.ensures.len, ap length c.start_text.ensures, start, c.push_counted.ensures.len, years_length, days_length))
+
+pub push_rest-requires : goal.push_rest-requires
+push_rest-requires c =
+    let years = c.args.self.now.day / 365 in
+    let days = c.args.self.now.day % 365 in
+    let none : length c.new-bytes.result.items ≡ 0 = ap length c.new-bytes.ensures in
+    let start = start-length c.args.self.now.positive in
+    let years_length = counted-length 7 years capital_y (lit< tt) (omega (arith, c.args.self.now.day_in_range)) (omega (arith, c.args.self.now.day_in_range)) in
+    let days_length = counted-length 3 days capital_d (lit< tt) (omega arith) (omega arith) in
+    (lit< tt, omega (arith, none, c.push.ensures.len, ap length c.start_text.ensures, start, c.push_counted.ensures.len, c.push_counted-2.ensures.len, years_length, days_length))
+
+-- four pieces that were appended to nothing, one after another
+joined : (none first second third fourth printed start years days rest : List ℕ) → none ≡ [] → first ≡ none ++ printed → printed ≡ start
+    → second ≡ first ++ years → third ≡ second ++ days → fourth ≡ third ++ rest → fourth ≡ start ++ (years ++ days) ++ rest
+joined none first second third fourth printed start years days rest empty one is two three four =
+    let begun : first ≡ start = one ∙ ap (λ (front : List ℕ). front ++ printed) empty ∙ is in
+    four ∙ ap (λ (front : List ℕ). front ++ rest) (three ∙ ap (λ (front : List ℕ). front ++ days) (two ∙ ap (λ (front : List ℕ). front ++ years) begun))
+    ∙ simp append_assoc
+
+pub ascii_text-requires : goal.ascii_text-requires
+ascii_text-requires c =
+    let duration = c.args.self.now in
+    let bytes = c.deref.ensures.0 ∙ joined _ _ _ _ _ _ _ _ _ _ c.new-bytes.ensures c.push.ensures.bytes c.start_text.ensures
+    c.push_counted.ensures.text c.push_counted-2.ensures.text c.push_rest.ensures.text in
+    (lit< tt, (subst IsAscii (sym bytes) (duration_text-IsAscii (parts duration) (is_duration duration)), c.deref.ensures.1))
