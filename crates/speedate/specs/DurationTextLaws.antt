@@ -37,7 +37,7 @@ kept-length digit true [] is = rw is (omega arith)
 kept-length digit false [] is = rw is (omega arith)
 kept-length digit test (next ∷ rest) is = omega arith
 
-pub without-length : (digits : List ℕ) → length (without_last_zeros digits) ≤ length digits
+without-length : (digits : List ℕ) → length (without_last_zeros digits) ≤ length digits
 without-length [] = omega arith
 without-length (digit ∷ digits) =
     omega (arith, kept-length digit (digit == digit_zero) (without_last_zeros digits) refl, without-length digits)
@@ -63,10 +63,22 @@ chosen-IsAscii : (none : Bool) (text : List ℕ) → IsAscii text → IsAscii (i
 chosen-IsAscii true text ascii = IsAscii-nil
 chosen-IsAscii false text ascii = ascii
 
-pub counted-length : (places number unit : ℕ) → 0 < places → number < 10 ^ places → number < 2 ^ 32 → length (counted_text number unit) ≤ places + 1
+counted-length : (places number unit : ℕ) → 0 < places → number < 10 ^ places → number < 2 ^ 32 → length (counted_text number unit) ≤ places + 1
 counted-length places number unit some small fits =
     chosen-length (number == 0) (decimal number ++ unit ∷ []) (places + 1)
     (omega (arith, length-append (decimal number) (unit ∷ []), length-decimal-le places number some small (omega (arith, fits))))
+
+pub years-length : (day : ℕ) → day ≤ 999999999 → length (counted_text (day / 365) capital_y) ≤ 8
+years-length day few = counted-length 7 (day / 365) capital_y (lit< tt) (omega (arith, few)) (omega (arith, few))
+
+pub days-length : (day : ℕ) → length (counted_text (day % 365) capital_d) ≤ 4
+days-length day = counted-length 3 (day % 365) capital_d (lit< tt) (omega arith) (omega arith)
+
+pub hours-length : (second : ℕ) → second < 86400 → length (counted_text (second / 3600) capital_h) ≤ 3
+hours-length second few = counted-length 2 (second / 3600) capital_h (lit< tt) (omega (arith, few)) (omega (arith, few))
+
+pub minutes-length : (second : ℕ) → length (counted_text (second / 60 % 60) capital_m) ≤ 3
+minutes-length second = counted-length 2 (second / 60 % 60) capital_m (lit< tt) (omega arith) (omega arith)
 
 counted-IsAscii : (number unit : ℕ) → number < 2 ^ 32 → unit < 128 → IsAscii (counted_text number unit)
 counted-IsAscii number unit fits small =
@@ -74,7 +86,7 @@ counted-IsAscii number unit fits small =
     (IsAscii-append (decimal number) (unit ∷ []) (IsAscii-decimal number (omega (arith, fits))) (IsAscii-cons unit [] small IsAscii-nil))
 
 -- a fraction
-pub fraction-length : (microsecond : ℕ) → length (short_fraction_text microsecond) ≤ 7
+fraction-length : (microsecond : ℕ) → length (short_fraction_text microsecond) ≤ 7
 fraction-length microsecond =
     chosen-length (microsecond == 0) (full_stop ∷ without_last_zeros (six_digit_text microsecond)) 7
     (omega (arith, without-length (six_digit_text microsecond)))

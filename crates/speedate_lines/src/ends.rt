@@ -12,6 +12,7 @@ pub enum Calls {
 }
 
 impl Calls {
+    /// Whether this call is one of them: 3 is one of `From(2)`, and none of `One(2)`.
     pub fn has(self, call: u64) -> bool {
         match self {
             Calls::None => false,

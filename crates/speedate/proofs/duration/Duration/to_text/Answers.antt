@@ -1,38 +1,34 @@
-use Rattle.std.proofs.Common.{◌≡◌, ◌∙◌, ap, sym, subst, ◌++◌, ◌/◌, ◌%◌, ℕ, List, [], length, append_assoc, lit<, arith}
+use Rattle.std.proofs.Common.{◌≡◌, ◌∙◌, ap, sym, subst, ◌++◌, ℕ, List, [], length, append_assoc, lit<, arith}
 use Rattle.std.specs.Str.{IsAscii}
-use Rattle.speedate_base.specs.Ascii.{capital_y, capital_d}
 use Rattle.speedate.specs.Duration.{parts}
-use Rattle.speedate.specs.DurationTextLaws.{counted-length, start-length, duration_text-IsAscii}
+use Rattle.speedate.specs.DurationTextLaws.{start-length, years-length, days-length, duration_text-IsAscii}
 use Rattle.speedate.proofs.DurationFacts.{is_duration}
 use Rattle.speedate.proofs.duration.Duration.to_text.Goals as goal
 
 pub push_counted-requires : goal.push_counted-requires
 push_counted-requires c =
-    let years = c.args.self.now.day / 365 in
     let none : length c.new-bytes.result.items ≡ 0 = ap length c.new-bytes.ensures in
     let start = start-length c.args.self.now.positive in
-    let years_length = counted-length 7 years capital_y (lit< tt) (omega (arith, c.args.self.now.day_in_range)) (omega (arith, c.args.self.now.day_in_range)) in
-    (lit< tt, omega (arith, none, c.push.ensures.len, ap length c.start_text.ensures, start, years_length))
+    let years = years-length c.args.self.now.day c.args.self.now.day_in_range in
+    (lit< tt, omega (arith, none, c.push.ensures.len, ap length c.start_text.ensures, start, years))
 
 pub push_counted-requires-2 : goal.push_counted-requires-2
 push_counted-requires-2 c =
-    let years = c.args.self.now.day / 365 in
-    let days = c.args.self.now.day % 365 in
+    let day = c.args.self.now.day in
     let none : length c.new-bytes.result.items ≡ 0 = ap length c.new-bytes.ensures in
     let start = start-length c.args.self.now.positive in
-    let years_length = counted-length 7 years capital_y (lit< tt) (omega (arith, c.args.self.now.day_in_range)) (omega (arith, c.args.self.now.day_in_range)) in
-    let days_length = counted-length 3 days capital_d (lit< tt) (omega arith) (omega arith) in
-    (lit< tt, omega (arith, none, c.push.ensures.len, ap length c.start_text.ensures, start, c.push_counted.ensures.len, years_length, days_length))
+    let years = years-length day c.args.self.now.day_in_range in
+    (lit< tt, omega (arith, none, c.push.ensures.len, ap length c.start_text.ensures, start, c.push_counted.ensures.len, years, days-length day))
 
 pub push_rest-requires : goal.push_rest-requires
 push_rest-requires c =
-    let years = c.args.self.now.day / 365 in
-    let days = c.args.self.now.day % 365 in
+    let day = c.args.self.now.day in
     let none : length c.new-bytes.result.items ≡ 0 = ap length c.new-bytes.ensures in
     let start = start-length c.args.self.now.positive in
-    let years_length = counted-length 7 years capital_y (lit< tt) (omega (arith, c.args.self.now.day_in_range)) (omega (arith, c.args.self.now.day_in_range)) in
-    let days_length = counted-length 3 days capital_d (lit< tt) (omega arith) (omega arith) in
-    (lit< tt, omega (arith, none, c.push.ensures.len, ap length c.start_text.ensures, start, c.push_counted.ensures.len, c.push_counted-2.ensures.len, years_length, days_length))
+    let years = years-length day c.args.self.now.day_in_range in (
+      lit< tt,
+      omega (arith, none, c.push.ensures.len, ap length c.start_text.ensures, start, c.push_counted.ensures.len, c.push_counted-2.ensures.len, years, days-length day),
+    )
 
 -- four pieces that were appended to nothing, one after another
 joined : (none first second third fourth printed start years days rest : List ℕ) → none ≡ [] → first ≡ none ++ printed → printed ≡ start
