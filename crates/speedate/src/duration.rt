@@ -1,14 +1,19 @@
 //! Durations: days, seconds and microseconds, with a sign.
 
 ghost use Rattle.std.specs.Prelude.{◌≡◌, ◌<◌, ◌≤◌, IfOk};
-ghost use Rattle.speedate_base.specs.Requirement.{result_map};
+ghost use Rattle.speedate_base.specs.Requirement.{result_map, result_and_then};
+ghost use Rattle.speedate.specs.DurationForm.{has_day_letter, has_days, form_answer, duration_answer};
 ghost use Rattle.speedate.specs.DurationNumbers.{DurationNumbers, length_seconds, length_microseconds, normal_form, signed_seconds, signed_microsecond, signed_milliseconds};
 
+mod clock;
+mod days;
 mod order;
 mod text;
 
+use days::is_day_letter;
+use speedate_base::config::{MicrosecondsPrecisionOverflowBehavior, TimeConfig};
 use speedate_base::faults::ParseError;
-use speedate_base::numbers::with_sign;
+use speedate_base::numbers::{sign, with_sign};
 use speedate_base::util::SECONDS_PER_DAY;
 
 /// A length of time: days of 86,400 seconds, seconds of a day, and microseconds of a second, with a
@@ -32,6 +37,7 @@ pub struct Duration {
 
 impl Duration {
     ghost use Rattle.speedate.specs.Duration.{parts};
+    ghost use Rattle.speedate_base.specs.declared.config.MicrosecondsPrecisionOverflowBehavior.TheVariants as behavior;
 
     /// The duration of so many days, seconds and microseconds, of any size, brought into their
     /// ranges: 2 days, 101 seconds and 123 microseconds for 1 day, 86,500 seconds and 1,000,123
@@ -63,6 +69,65 @@ impl Duration {
             second: second % SECONDS_PER_DAY,
             microsecond: microsecond % 1_000_000,
         })
+    }
+
+    /// Reads a duration from a text: DOC
+    #[inline]
+    pub fn parse_str(text: &str) -> Result<Self, ParseError>
+        ensures answer { result_map parts result ≡ duration_answer behavior.Error text.now }
+    {
+        Self::parse_bytes(text.as_bytes())
+    }
+
+    /// Reads a duration from the bytes of a text
+    #[inline]
+    pub fn parse_bytes(bytes: &[u8]) -> Result<Self, ParseError>
+        ensures answer { result_map parts result ≡ duration_answer behavior.Error bytes.now }
+    {
+        Self::parse(bytes, MicrosecondsPrecisionOverflowBehavior::Error)
+    }
+
+    /// Reads a duration with config
+    #[inline]
+    pub fn parse_bytes_with_config(bytes: &[u8], config: &TimeConfig) -> Result<Self, ParseError>
+        ensures answer { result_map parts result
+            ≡ duration_answer config.now.microseconds_precision_overflow_behavior bytes.now }
+    {
+        Self::parse(bytes, config.microseconds_precision_overflow_behavior)
+    }
+
+    /// Reads a duration, with or without a sign.
+    #[inline]
+    fn parse(
+        bytes: &[u8],
+        behavior: MicrosecondsPrecisionOverflowBehavior,
+    ) -> Result<Self, ParseError>
+        ensures answer { result_map parts result ≡ duration_answer behavior bytes.now }
+    {
+        let (negative, length) = sign(bytes);
+        Self::unsigned(&bytes[length..], !negative, behavior)
+    }
+
+    /// Reads a duration whose sign was read, in the form that its text has.
+    #[tactic(auto, using(crate::proofs::DurationFacts::normal_form_answered), unfolding(crate::specs::DurationForm::form_answer))]
+    #[inline]
+    fn unsigned(
+        bytes: &[u8],
+        positive: bool,
+        behavior: MicrosecondsPrecisionOverflowBehavior,
+    ) -> Result<Self, ParseError>
+        ensures answer { result_map parts result ≡ result_and_then normal_form (form_answer behavior positive bytes.now) }
+    {
+        if bytes.is_empty() {
+            return Err(ParseError::TooShort);
+        }
+        if bytes[0] == b'P' {
+            return Err(ParseError::DurationInvalidNumber);
+        }
+        if has_days(bytes) {
+            return Self::from_days(bytes, positive, behavior);
+        }
+        Self::from_clock(bytes, positive, behavior)
     }
 
     /// The whole seconds with the sign: -86,401 for a day and a second that are not positive.
@@ -104,4 +169,21 @@ impl Duration {
     {
         u64::from(self.day) * u64::from(SECONDS_PER_DAY) + u64::from(self.second)
     }
+}
+
+/// Whether a text has days: the letter of a day stands anywhere in it, or it is too short for a
+/// clock.
+#[inline]
+fn has_days(bytes: &[u8]) -> bool
+    ensures { result ≡ has_days bytes.now }
+{
+    bytes.len() < 5 || has_day_letter(bytes)
+}
+
+/// Whether the letter of a day stands anywhere.
+#[inline]
+fn has_day_letter(bytes: &[u8]) -> bool
+    ensures { result ≡ has_day_letter bytes.now }
+{
+    bytes.iter().any(|&byte| is_day_letter(byte))
 }

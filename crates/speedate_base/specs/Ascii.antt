@@ -27,7 +27,10 @@ digit_zero = 48
 abbrev pub colon : ℕ
 colon = 58
 
--- `D`, `H`, `M`, `P` and `S`
+-- `A`, `D`, `H`, `M`, `P` and `S`
+abbrev pub capital_a : ℕ
+capital_a = 65
+
 abbrev pub capital_d : ℕ
 capital_d = 68
 
@@ -58,6 +61,13 @@ capital_z = 90
 -- `_`
 abbrev pub low_line : ℕ
 low_line = 95
+
+-- `a` and `d`
+abbrev pub small_a : ℕ
+small_a = 97
+
+abbrev pub small_d : ℕ
+small_d = 100
 
 -- `t`
 abbrev pub small_t : ℕ

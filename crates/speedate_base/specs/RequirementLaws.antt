@@ -1,8 +1,9 @@
 -- How tables chain.
 use Rattle.std.specs.Prelude.{◌≡◌, Bool, true, false, List, [], ◌∷◌, Result, Ok, Err, if◌then◌else◌, refl}
 use Rattle.std.specs.Result.{result_and}
+use Rattle.std.proofs.Common.{◌∙◌, ap, sym}
 use Rattle.speedate_base.specs.declared.faults.ParseError.{ParseError}
-use Rattle.speedate_base.specs.Requirement.{Requirement, meets, AllHold}
+use Rattle.speedate_base.specs.Requirement.{Requirement, meets, AllHold, result_and_then}
 
 row-chain : {A B : Type 0} (holds : Bool) (fault : ParseError) (first : Result A ParseError) (second next : Result B ParseError)
     → second ≡ result_and first next → (if holds then second else Err fault) ≡ result_and (if holds then first else Err fault) next
@@ -15,6 +16,23 @@ pub meets-chain : {A B : Type 0} (rows : List Requirement) (value : A) (next : R
 meets-chain [] value next = refl
 meets-chain (row ∷ rows) value next =
     row-chain row.holds row.fault (meets rows (Ok value)) (meets rows next) next (meets-chain rows value next)
+
+-- so the answer to a table's front, as a call gave it, goes on to what comes next
+pub meets-next : {A B : Type 0} (rows : List Requirement) (value : A) (front : Result A ParseError) (next : Result B ParseError)
+    → front ≡ meets rows (Ok value) → result_and front next ≡ meets rows next
+meets-next rows value front next same = ap (λ answer. result_and answer next) same ∙ sym (meets-chain rows value next)
+
+row-and_then : {A B : Type 0} (step : A → Result B ParseError) (holds : Bool) (fault : ParseError) (first : Result A ParseError) (second : Result B ParseError)
+    → result_and_then step first ≡ second → result_and_then step (if holds then first else Err fault) ≡ (if holds then second else Err fault)
+row-and_then step true fault first second same = same
+row-and_then step false fault first second same = refl
+
+-- what is done with the answer of a table is done behind it
+pub meets-and_then : {A B : Type 0} (step : A → Result B ParseError) (rows : List Requirement) (next : Result A ParseError)
+    → result_and_then step (meets rows next) ≡ meets rows (result_and_then step next)
+meets-and_then step [] next = refl
+meets-and_then step (row ∷ rows) next =
+    row-and_then step row.holds row.fault (meets rows next) (meets rows (result_and_then step next)) (meets-and_then step rows next)
 
 -- where every row holds, what comes next is the answer
 pub meets-all : {A : Type 0} (rows : List Requirement) (next : Result A ParseError) → AllHold rows → meets rows next ≡ next

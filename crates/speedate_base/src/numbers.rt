@@ -99,9 +99,10 @@ fn decimal(bytes: &[u8], negative: bool, start: usize, point: usize) -> IntFloat
     })
 }
 
-/// Whether a text begins with `-`, and how many bytes its sign has.
-#[inline]
-fn sign(bytes: &[u8]) -> (bool, usize)
+/// Whether a text begins with `-`, and how many bytes its sign has: 1 for `b"+12"`, whose sign is
+/// a `+`, and 0 where it has none.
+#[inline(always)]
+pub fn sign(bytes: &[u8]) -> (bool, usize)
     ensures negative { result.0 ≡ has_minus bytes.now }
     ensures len { result.1 ≡ sign_length bytes.now }
     ensures within { result.1 ≤ length bytes.now }

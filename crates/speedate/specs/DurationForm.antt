@@ -1,0 +1,32 @@
+-- The forms of a duration, and which of them a text has. These rules are the library's own.
+use Rattle.std.specs.Prelude.{ℕ, Bool, not, ◌||◌, List, length, drop, slice_index, nat_lt, ◌==◌, if◌then◌else◌, Result, Err}
+use Rattle.std.specs.List.{list_any}
+use Rattle.speedate_base.specs.declared.config.MicrosecondsPrecisionOverflowBehavior.{MicrosecondsPrecisionOverflowBehavior}
+use Rattle.speedate_base.specs.declared.faults.ParseError.{ParseError}
+use Rattle.speedate_base.specs.declared.faults.ParseError.TheVariants as fault
+use Rattle.speedate_base.specs.Ascii.{capital_p}
+use Rattle.speedate_base.specs.Numbers.{has_minus, sign_length}
+use Rattle.speedate_base.specs.Requirement.{result_and_then}
+use Rattle.speedate.specs.ClockForm.{clock_form}
+use Rattle.speedate.specs.DayForm.{is_day_letter, day_form}
+use Rattle.speedate.specs.DurationNumbers.{DurationNumbers, normal_form}
+
+-- the letter of a day stands anywhere in a text
+abbrev pub has_day_letter : List ℕ → Bool
+has_day_letter text = list_any is_day_letter text
+
+-- a text has days: by that letter, or since it is too short for a clock
+abbrev pub has_days : List ℕ → Bool
+has_days text = nat_lt (length text) 5 || has_day_letter text
+
+-- the numbers that a text without a sign says, or the text's fault
+unfoldable pub form_answer : MicrosecondsPrecisionOverflowBehavior → Bool → List ℕ → Result DurationNumbers ParseError
+form_answer behavior positive text =
+    if length text == 0 then Err fault.TooShort
+    else (if slice_index text 0 == capital_p then Err fault.DurationInvalidNumber
+    else (if has_days text then day_form behavior positive text else clock_form behavior positive text))
+
+-- the duration that a text is, or the text's fault; those of the normal form come last
+abbrev pub duration_answer : MicrosecondsPrecisionOverflowBehavior → List ℕ → Result DurationNumbers ParseError
+duration_answer behavior text =
+    result_and_then normal_form (form_answer behavior (not (has_minus text)) (drop (sign_length text) text))
