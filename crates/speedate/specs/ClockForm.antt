@@ -1,7 +1,7 @@
 -- A duration as a clock shows it: hours, a minute, and a second with a fraction. This form is the library's own.
 -- `text` begins with the hours; from the minute on it is a time of day.
-use Rattle.std.specs.Prelude.{ℕ, ◌+◌, ◌*◌, ◌/◌, ◌%◌, Bool, List, [], ◌∷◌, length, drop, position, nat_le, nat_lt, ◌==◌, Option, Result, Ok}
-use Rattle.std.specs.Option.{unwrap_or}
+use Rattle.std.specs.Prelude.{ℕ, ◌+◌, ◌*◌, ◌/◌, ◌%◌, Bool, ◌&&◌, List, [], ◌∷◌, length, drop, nat_le, nat_lt, ◌==◌, Result, Ok}
+use Rattle.std.specs.List.{position_or_len}
 use Rattle.speedate_base.specs.declared.config.MicrosecondsPrecisionOverflowBehavior.{MicrosecondsPrecisionOverflowBehavior}
 use Rattle.speedate_base.specs.declared.faults.ParseError.{ParseError}
 use Rattle.speedate_base.specs.declared.faults.ParseError.TheVariants as fault
@@ -12,29 +12,34 @@ use Rattle.speedate_base.specs.Requirement.{Requirement, ◌else_fault◌, ◌im
 use Rattle.speedate_civil.specs.ClockText.{Clock, minute_front}
 use Rattle.speedate.specs.DurationNumbers.{DurationNumbers}
 
--- the place of the first `:`
-abbrev pub colon_place : List ℕ → Option ℕ
-colon_place text = position (λ byte. byte == colon) text
-
--- how many bytes stand before it, or in all where there is none
+-- how many bytes stand before the first `:`, or in all where there is none
 abbrev pub hours_length : List ℕ → ℕ
-hours_length text = unwrap_or (colon_place text) (length text)
+hours_length text = position_or_len (λ byte. byte == colon) text
 
--- what follows it
+-- what follows that `:`
 abbrev pub behind_hours : List ℕ → List ℕ
 behind_hours text = drop (hours_length text + 1) text
 
--- what a text has to meet to go on to its minute: the hours have at most ten bytes, may be left out, and are at most
--- 2,400,000,000; what follows them has at most 12 bytes where digits are refused
-abbrev pub hours_table : MicrosecondsPrecisionOverflowBehavior → List ℕ → List Requirement
-hours_table behavior text =
+-- at most ten digits, or none, and `:` begin a text
+abbrev pub has_hours : List ℕ → Bool
+has_hours text = nat_lt (hours_length text) (length text) && nat_le (hours_length text) 10 && (run_length text 0 == hours_length text)
+
+-- what a text has to meet to begin with hours: at most ten digits, or none, and `:`
+abbrev pub hours_digits : List ℕ → List Requirement
+hours_digits text =
     (nat_le 5 (length text) else_fault fault.TooShort)
     ∷ (nat_lt (hours_length text) (length text) else_fault fault.InvalidCharHour)
     ∷ (nat_le (hours_length text) 10 else_fault fault.DurationHourValueTooLarge)
     ∷ ((run_length text 0 == hours_length text) else_fault fault.InvalidCharHour)
-    ∷ (nat_le (run_value text 0) 2400000000 else_fault fault.DurationHourValueTooLarge)
-    ∷ ((refuses_digits behavior implies nat_le (length (behind_hours text)) 12) else_fault fault.SecondFractionTooLong)
-    ∷ (nat_le 2 (length (behind_hours text)) else_fault fault.TooShort)
+    ∷ []
+
+-- and then to go on to the minute: there are at most 2,400,000,000 hours, and what follows them has at least two bytes,
+-- and at most 12 where digits are refused
+abbrev pub hours_range : MicrosecondsPrecisionOverflowBehavior → ℕ → List ℕ → List Requirement
+hours_range behavior hours rest =
+    (nat_le hours 2400000000 else_fault fault.DurationHourValueTooLarge)
+    ∷ ((refuses_digits behavior implies nat_le (length rest) 12) else_fault fault.SecondFractionTooLong)
+    ∷ (nat_le 2 (length rest) else_fault fault.TooShort)
     ∷ []
 
 -- and then: the clock takes all that follows the hours
@@ -56,9 +61,10 @@ whole_clock positive hours rest clock = meets (end_table rest clock) (Ok (clock_
 
 -- the duration of so many hours and of the clock that follows them
 abbrev pub after_hours : MicrosecondsPrecisionOverflowBehavior → Bool → ℕ → List ℕ → Result DurationNumbers ParseError
-after_hours behavior positive hours rest = result_and_then (whole_clock positive hours rest) (minute_front behavior rest)
+after_hours behavior positive hours rest =
+    meets (hours_range behavior hours rest) (result_and_then (whole_clock positive hours rest) (minute_front behavior rest))
 
 -- the duration that a text is in this form, or the text's fault
 unfoldable pub clock_form : MicrosecondsPrecisionOverflowBehavior → Bool → List ℕ → Result DurationNumbers ParseError
 clock_form behavior positive text =
-    meets (hours_table behavior text) (after_hours behavior positive (run_value text 0) (behind_hours text))
+    meets (hours_digits text) (after_hours behavior positive (run_value text 0) (behind_hours text))

@@ -13,7 +13,7 @@ mod text;
 use days::is_day_letter;
 use speedate_base::config::{MicrosecondsPrecisionOverflowBehavior, TimeConfig};
 use speedate_base::faults::ParseError;
-use speedate_base::numbers::{sign, with_sign};
+use speedate_base::numbers::{digit_run, sign, with_sign};
 use speedate_base::util::SECONDS_PER_DAY;
 
 /// A length of time: days of 86,400 seconds, seconds of a day, and microseconds of a second, with a
@@ -72,7 +72,7 @@ impl Duration {
     }
 
     /// Reads a duration from a text: DOC
-    #[inline]
+    #[inline(always)]
     pub fn parse_str(text: &str) -> Result<Self, ParseError>
         ensures answer { result_map parts result ≡ duration_answer behavior.Error text.now }
     {
@@ -80,7 +80,7 @@ impl Duration {
     }
 
     /// Reads a duration from the bytes of a text
-    #[inline]
+    #[inline(always)]
     pub fn parse_bytes(bytes: &[u8]) -> Result<Self, ParseError>
         ensures answer { result_map parts result ≡ duration_answer behavior.Error bytes.now }
     {
@@ -88,7 +88,7 @@ impl Duration {
     }
 
     /// Reads a duration with config
-    #[inline]
+    #[inline(always)]
     pub fn parse_bytes_with_config(bytes: &[u8], config: &TimeConfig) -> Result<Self, ParseError>
         ensures answer { result_map parts result
             ≡ duration_answer config.now.microseconds_precision_overflow_behavior bytes.now }
@@ -97,7 +97,7 @@ impl Duration {
     }
 
     /// Reads a duration, with or without a sign.
-    #[inline]
+    #[inline(always)]
     fn parse(
         bytes: &[u8],
         behavior: MicrosecondsPrecisionOverflowBehavior,
@@ -110,7 +110,7 @@ impl Duration {
 
     /// Reads a duration whose sign was read, in the form that its text has.
     #[tactic(auto, using(crate::proofs::DurationFacts::normal_form_answered), unfolding(crate::specs::DurationForm::form_answer))]
-    #[inline]
+    #[inline(always)]
     fn unsigned(
         bytes: &[u8],
         positive: bool,
@@ -124,10 +124,11 @@ impl Duration {
         if bytes[0] == b'P' {
             return Err(ParseError::DurationInvalidNumber);
         }
+        let number = digit_run(bytes, 0);
         if has_days(bytes) {
-            return Self::from_days(bytes, positive, behavior);
+            return Self::from_days(bytes, number, positive, behavior);
         }
-        Self::from_clock(bytes, positive, behavior)
+        Self::from_clock(bytes, number, positive, behavior)
     }
 
     /// The whole seconds with the sign: -86,401 for a day and a second that are not positive.

@@ -1,14 +1,16 @@
 //! The form of a duration that a clock shows.
 
-ghost use Rattle.std.specs.Prelude.{◌≡◌, ◌+◌, ◌<◌, ◌≤◌, length, Ok, IfOk, IfSome};
-ghost use Rattle.speedate_base.specs.DigitRuns.{run_value};
-ghost use Rattle.speedate_base.specs.Requirement.{meets, result_map};
-ghost use Rattle.speedate.specs.ClockForm.{colon_place, hours_length, hours_table, after_hours, clock_form};
+ghost use Rattle.std.specs.Prelude.{◌≡◌, ◌+◌, ◌-◌, ◌^◌, ◌<◌, ◌≤◌, length, min, position, ◌==◌, false, Ok, Err, IfOk, IsTrue};
+ghost use Rattle.speedate_base.specs.Ascii.{colon};
+ghost use Rattle.speedate_base.specs.DigitRuns.{run_length, run_value};
+ghost use Rattle.speedate_base.specs.Requirement.{meets, result_map, result_and_then};
+ghost use Rattle.speedate_civil.specs.ClockText.{minute_front};
+ghost use Rattle.speedate.specs.ClockForm.{hours_length, behind_hours, has_hours, hours_digits, whole_clock, after_hours, clock_form};
 
 use super::Duration;
 use speedate_base::config::{MicrosecondsPrecisionOverflowBehavior, takes_digits};
 use speedate_base::faults::ParseError;
-use speedate_base::numbers::digit_run;
+use speedate_base::numbers::{DigitRun, byte_at};
 use speedate_civil::time::PureTime;
 
 /// How many bytes the hours have at most.
@@ -23,31 +25,57 @@ const REST_LENGTH_MAX: usize = 12;
 impl Duration {
     ghost use Rattle.speedate.specs.Duration.{parts};
 
-    /// Reads a duration as a clock shows it, its hours first: a day, an hour and three seconds from
-    /// `b"25:00:03"`.
+    /// Reads a duration as a clock shows it, whose hours are the digits at its front: a day, an hour
+    /// and three seconds from `b"25:00:03"`.
     #[tactic(auto, unfolding(crate::specs::ClockForm::clock_form))]
-    #[inline]
+    #[inline(always)]
     pub(super) fn from_clock(
         bytes: &[u8],
+        hours: DigitRun,
         positive: bool,
         behavior: MicrosecondsPrecisionOverflowBehavior,
     ) -> Result<Self, ParseError>
+        requires len { hours.length ≡ run_length bytes.now 0 }
+        requires value { hours.value ≡ min (run_value bytes.now 0) (2 ^ 64 - 1) }
         ensures answer { result_map parts result ≡ clock_form behavior positive bytes.now }
     {
-        let (hours, length) = hours_at_front(bytes, behavior)?;
-        Self::after_hours(&bytes[length + 1..], hours, positive, behavior)
+        let end = hours_end(bytes, hours.length)?;
+        Self::after_hours(&bytes[end + 1..], hours.value, positive, behavior)
     }
 
     /// Reads what follows the hours of a clock, from its minute on.
-    #[inline]
+    #[inline(always)]
     fn after_hours(
+        rest: &[u8],
+        hours: u64,
+        positive: bool,
+        behavior: MicrosecondsPrecisionOverflowBehavior,
+    ) -> Result<Self, ParseError>
+        ensures answer { result_map parts result ≡ after_hours behavior positive hours rest.now }
+    {
+        if hours > HOURS_MAX {
+            return Err(ParseError::DurationHourValueTooLarge);
+        }
+        if !takes_digits(behavior, rest.len(), REST_LENGTH_MAX) {
+            return Err(ParseError::SecondFractionTooLong);
+        }
+        if rest.len() < 2 {
+            return Err(ParseError::TooShort);
+        }
+        Self::whole_clock(rest, hours as u32, positive, behavior)
+    }
+
+    /// Reads the minute and the second of a clock, which are all of `rest`.
+    #[inline(always)]
+    fn whole_clock(
         rest: &[u8],
         hours: u32,
         positive: bool,
         behavior: MicrosecondsPrecisionOverflowBehavior,
     ) -> Result<Self, ParseError>
         requires { hours ≤ 2400000000 }
-        ensures answer { result_map parts result ≡ after_hours behavior positive hours rest.now }
+        ensures answer { result_map parts result
+            ≡ result_and_then (whole_clock positive hours rest.now) (minute_front behavior rest.now) }
     {
         let clock = PureTime::parse_from_minute(rest, 0, behavior)?;
         if clock.size != rest.len() {
@@ -62,48 +90,49 @@ impl Duration {
     }
 }
 
-/// Reads the hours at the front of a clock: how many they are, and how many bytes they have. It tests
-/// the length of what follows them too.
-#[inline]
-fn hours_at_front(
-    bytes: &[u8],
-    behavior: MicrosecondsPrecisionOverflowBehavior,
-) -> Result<(u32, usize), ParseError>
-    ensures answer { result ≡ meets (hours_table behavior bytes.now) (Ok (run_value bytes.now 0, hours_length bytes.now)) }
-    ensures count { IfOk result (λ hours. hours.0 ≡ run_value bytes.now 0) }
-    ensures len { IfOk result (λ hours. hours.1 ≡ hours_length bytes.now) }
-    ensures small { IfOk result (λ hours. hours.0 ≤ 2400000000) }
-    ensures within { IfOk result (λ hours. hours.1 + 3 ≤ length bytes.now) }
+/// Where the hours at the front end, whose digits end at `end`: at the `:` that follows them.
+#[inline(always)]
+fn hours_end(bytes: &[u8], end: usize) -> Result<usize, ParseError>
+    requires { end ≡ run_length bytes.now 0 }
+    ensures answer { result ≡ meets (hours_digits bytes.now) (Ok (hours_length bytes.now)) }
+    ensures len { IfOk result (λ place. place ≡ hours_length bytes.now) }
+    ensures within { IfOk result (λ place. place < length bytes.now) }
 {
     if bytes.len() < 5 {
         return Err(ParseError::TooShort);
     }
-    let length = colon_place(bytes).ok_or(ParseError::InvalidCharHour)?;
-    if length > HOURS_LENGTH_MAX {
-        return Err(ParseError::DurationHourValueTooLarge);
+    if !has_hours(bytes, end) {
+        return Err(hours_fault(bytes));
     }
-    let hours = digit_run(bytes, 0);
-    if hours.length != length {
-        return Err(ParseError::InvalidCharHour);
+    Ok(end)
+}
+
+/// Whether the digits at the front, which end at `end`, are at most ten, and `:` follows them.
+#[inline(always)]
+fn has_hours(bytes: &[u8], end: usize) -> bool
+    requires { end ≡ run_length bytes.now 0 }
+    ensures value { result ≡ has_hours bytes.now }
+    ensures len { IsTrue result → end ≡ hours_length bytes.now }
+    ensures within { IsTrue result → end < length bytes.now }
+{
+    byte_at(bytes, end) == b':' && end <= HOURS_LENGTH_MAX
+}
+
+/// The fault of a clock that does not begin with hours and `:`.
+fn hours_fault(bytes: &[u8]) -> ParseError
+    requires long { 5 ≤ length bytes.now }
+    requires other { has_hours bytes.now ≡ false }
+    ensures fault { Err result ≡ meets (hours_digits bytes.now) (Ok (hours_length bytes.now)) }
+{
+    match colon_place(bytes) {
+        Some(place) if place > HOURS_LENGTH_MAX => ParseError::DurationHourValueTooLarge,
+        _ => ParseError::InvalidCharHour,
     }
-    if hours.value > HOURS_MAX {
-        return Err(ParseError::DurationHourValueTooLarge);
-    }
-    let rest = &bytes[length + 1..];
-    if !takes_digits(behavior, rest.len(), REST_LENGTH_MAX) {
-        return Err(ParseError::SecondFractionTooLong);
-    }
-    if rest.len() < 2 {
-        return Err(ParseError::TooShort);
-    }
-    Ok((hours.value as u32, length))
 }
 
 /// The place of the first `:`.
-#[inline]
 fn colon_place(bytes: &[u8]) -> Option<usize>
-    ensures place { result ≡ colon_place bytes.now }
-    ensures within { IfSome result (λ place. place < length bytes.now) }
+    ensures place { result ≡ position (λ byte. byte == colon) bytes.now }
 {
     bytes.iter().position(|&byte| byte == b':')
 }

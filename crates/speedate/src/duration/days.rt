@@ -1,6 +1,6 @@
 //! The form of a duration that begins with days.
 
-ghost use Rattle.std.specs.Prelude.{◌≡◌, ◌≤◌, length, Ok, IfOk};
+ghost use Rattle.std.specs.Prelude.{◌≡◌, ◌-◌, ◌^◌, ◌≤◌, length, min, Ok, IfOk};
 ghost use Rattle.speedate_base.specs.Requirement.{meets, result_map};
 ghost use Rattle.speedate_base.specs.DigitRuns.{run_length, run_value};
 ghost use Rattle.speedate.specs.DayForm.{is_day_letter, letter_place, ending_length, begins_ending, gap_length, days_length, days_table, after_days, rest_answer, day_form};
@@ -8,30 +8,33 @@ ghost use Rattle.speedate.specs.DayForm.{is_day_letter, letter_place, ending_len
 use super::Duration;
 use speedate_base::config::MicrosecondsPrecisionOverflowBehavior;
 use speedate_base::faults::ParseError;
-use speedate_base::numbers::{byte_at, digit_run};
+use speedate_base::numbers::{DigitRun, byte_at, digit_run};
 
 impl Duration {
     ghost use Rattle.speedate_base.specs.Requirement.{result_and_then};
     ghost use Rattle.speedate.specs.Duration.{parts};
     ghost use Rattle.speedate.specs.DurationNumbers.{normal_form};
 
-    /// Reads a duration whose days come first, in its normal form: a day and ten hours from
+    /// Reads a duration whose days, the digits at its front, come first: a day and ten hours from
     /// `b"1 day, 10:00"`.
     #[tactic(auto, unfolding(crate::specs::DayForm::day_form))]
-    #[inline]
+    #[inline(always)]
     pub(super) fn from_days(
         bytes: &[u8],
+        days: DigitRun,
         positive: bool,
         behavior: MicrosecondsPrecisionOverflowBehavior,
     ) -> Result<Self, ParseError>
+        requires len { days.length ≡ run_length bytes.now 0 }
+        requires value { days.value ≡ min (run_value bytes.now 0) (2 ^ 64 - 1) }
         ensures answer { result_map parts result ≡ result_and_then normal_form (day_form behavior positive bytes.now) }
     {
-        let (days, length) = days_at_front(bytes)?;
-        Self::after_days(&bytes[length..], days, positive, behavior)
+        let (count, length) = days_at_front(bytes, days)?;
+        Self::after_days(&bytes[length..], count, positive, behavior)
     }
 
     /// Reads what follows the days, and joins it to them.
-    #[inline]
+    #[inline(always)]
     fn after_days(
         rest: &[u8],
         days: u32,
@@ -45,7 +48,7 @@ impl Duration {
     }
 
     /// Reads what follows the days: nothing, or a clock of fewer than 24 hours.
-    #[inline]
+    #[inline(always)]
     fn from_rest(
         bytes: &[u8],
         positive: bool,
@@ -61,7 +64,7 @@ impl Duration {
                 microsecond: 0,
             });
         }
-        let clock = Self::from_clock(bytes, positive, behavior)?;
+        let clock = Self::from_clock(bytes, digit_run(bytes, 0), positive, behavior)?;
         if clock.day != 0 {
             return Err(ParseError::DurationHourValueTooLarge);
         }
@@ -69,16 +72,17 @@ impl Duration {
     }
 }
 
-/// Reads the days at the front: how many they are, and how many bytes they and what parts them from
-/// a clock have.
-#[inline]
-fn days_at_front(bytes: &[u8]) -> Result<(u32, usize), ParseError>
+/// How many days the digits at the front are, and how many bytes these and what parts them from a
+/// clock have.
+#[inline(always)]
+fn days_at_front(bytes: &[u8], days: DigitRun) -> Result<(u32, usize), ParseError>
+    requires len { days.length ≡ run_length bytes.now 0 }
+    requires value { days.value ≡ min (run_value bytes.now 0) (2 ^ 64 - 1) }
     ensures answer { result ≡ meets (days_table bytes.now) (Ok (run_value bytes.now 0, days_length bytes.now)) }
     ensures count { IfOk result (λ days. days.0 ≡ run_value bytes.now 0) }
     ensures len { IfOk result (λ days. days.1 ≡ days_length bytes.now) }
     ensures within { IfOk result (λ days. days.1 ≤ length bytes.now) }
 {
-    let days = digit_run(bytes, 0);
     if days.length == 0 {
         return Err(ParseError::DurationInvalidNumber);
     }
@@ -99,7 +103,7 @@ fn days_at_front(bytes: &[u8]) -> Result<(u32, usize), ParseError>
 }
 
 /// Whether a byte is the letter of a day.
-#[inline]
+#[inline(always)]
 pub(super) fn is_day_letter(byte: u8) -> bool
     ensures { result ≡ is_day_letter byte }
 {
@@ -108,7 +112,7 @@ pub(super) fn is_day_letter(byte: u8) -> bool
 
 /// The place of that letter, where the number of the days ends at `end`: behind one space if there
 /// is one.
-#[inline]
+#[inline(always)]
 fn letter_place(bytes: &[u8], end: usize) -> usize
     requires end { end ≡ run_length bytes.now 0 }
     requires within { end ≤ length bytes.now }
@@ -123,7 +127,7 @@ fn letter_place(bytes: &[u8], end: usize) -> usize
 }
 
 /// How many bytes of `ays`, `ay`, `AYS` or `AY` stand at the front of a text: the longest of them.
-#[inline]
+#[inline(always)]
 fn ending_length(text: &[u8]) -> usize
     ensures len { result ≡ ending_length text.now }
     ensures within { result ≤ length text.now }
@@ -136,7 +140,7 @@ fn ending_length(text: &[u8]) -> usize
 }
 
 /// Whether `a` or `A` stands at the front of a text.
-#[inline]
+#[inline(always)]
 fn begins_ending(text: &[u8]) -> bool
     ensures { result ≡ begins_ending text.now }
 {
@@ -144,7 +148,7 @@ fn begins_ending(text: &[u8]) -> bool
 }
 
 /// How many bytes part the days from a clock, at the front of a text: a comma, a space, or both.
-#[inline]
+#[inline(always)]
 fn gap_length(text: &[u8]) -> usize
     ensures len { result ≡ gap_length text.now }
     ensures within { result ≤ length text.now }

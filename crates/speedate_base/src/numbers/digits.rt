@@ -6,6 +6,7 @@ ghost use Rattle.std.specs.List.{list_all};
 ghost use Rattle.speedate_base.specs.DigitRuns.{run_length, run_value, digits_value};
 
 use super::lanes::{LANES, digits_in_front, eight_digits};
+use super::places::byte_at;
 use std::simd::prelude::*;
 
 /// A run of digits: how many they are, and what they spell.
@@ -18,16 +19,41 @@ pub struct DigitRun {
 }
 
 /// The run of digits that begins at `place`: 3 digits that spell 120 for `b"x120."` at place 1.
-#[inline]
+#[inline(always)]
 pub fn digit_run(bytes: &[u8], place: usize) -> DigitRun
     requires { place ≤ length bytes.now }
     ensures length { result.length ≡ run_length bytes.now place }
     ensures value { result.value ≡ min (run_value bytes.now place) (2 ^ 64 - 1) }
 {
-    let end = run_end(bytes, place);
+    run_in_front(&bytes[place..])
+}
+
+/// The run of digits at the front of bytes. A run of few digits is read on the way to its end.
+#[inline(always)]
+fn run_in_front(bytes: &[u8]) -> DigitRun
+    ensures length { result.length ≡ run_length bytes.now 0 }
+    ensures value { result.value ≡ min (run_value bytes.now 0) (2 ^ 64 - 1) }
+{
+    let mut value = 0;
+    for length in 0..LANES {
+        let byte = byte_at(bytes, length);
+        if !byte.is_ascii_digit() {
+            return DigitRun { length, value };
+        }
+        value = 10 * value + u64::from(byte - b'0');
+    }
+    long_run(bytes)
+}
+
+/// The same of any number of digits.
+fn long_run(bytes: &[u8]) -> DigitRun
+    ensures length { result.length ≡ run_length bytes.now 0 }
+    ensures value { result.value ≡ min (run_value bytes.now 0) (2 ^ 64 - 1) }
+{
+    let length = run_end(bytes, 0);
     DigitRun {
-        length: end - place,
-        value: digits_number(&bytes[place..end]),
+        length,
+        value: digits_number(&bytes[..length]),
     }
 }
 

@@ -74,7 +74,7 @@ impl PureTime {
     /// minutes and 14 seconds, in five bytes, from `b"12:13:14"` at place 3. The faults are
     /// `InvalidCharMinute`, where two digits are not there too, and those of
     /// [`PureTime::parse`] behind it but for the hour's.
-    #[inline]
+    #[inline(always)]
     pub fn parse_from_minute(
         bytes: &[u8],
         place: usize,

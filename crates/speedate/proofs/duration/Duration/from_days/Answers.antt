@@ -8,15 +8,15 @@ use Rattle.speedate.specs.DayForm.{day_form, days_table, days_length, after_days
 use Rattle.speedate.specs.DurationNumbers.{normal_form}
 use Rattle.speedate.proofs.duration.Duration.from_days.Goals as goal
 
-pub returns-in_err-days : goal.returns-in_err-days
+pub returns-in_err-count : goal.returns-in_err-count
 unfolding day_form
-returns-in_err-days c =
+returns-in_err-count c =
     let text = c.args.bytes.now in
     let last = after_days c.args.behavior c.args.positive (run_value text 0) (drop (days_length text) text) in
     let p = err_from_is_err_and c.from_residual.result c.from_residual.ensures.1 in
     rw (p.1, p.2) (record {
       answer =
-          meets-next (days_table text) (run_value text 0, days_length text) _ (result_and_then normal_form last) c.in_err-days.ensures.answer
+          meets-next (days_table text) (run_value text 0, days_length text) _ (result_and_then normal_form last) c.in_err-count.ensures.answer
           ∙ sym (meets-and_then normal_form (days_table text) last);
     })
 
@@ -25,11 +25,11 @@ unfolding day_form
 returns c =
     let text = c.args.bytes.now in
     let last = after_days c.args.behavior c.args.positive (run_value text 0) (drop (days_length text) text) in
-    let rest = take_rest text _ ∙ ap (λ (n : ℕ). drop n text) c.in_ok-days.ensures.len in
+    let rest = take_rest text _ ∙ ap (λ (n : ℕ). drop n text) c.in_ok-count.ensures.len in
     record {
       answer =
           c.after_days.ensures.answer
-          ∙ ap₂ (λ (days : ℕ) (rest : List ℕ). result_and_then normal_form (after_days c.args.behavior c.args.positive days rest)) c.in_ok-days.ensures.count rest
-          ∙ meets-next (days_table text) (run_value text 0, days_length text) _ (result_and_then normal_form last) c.in_ok-days.ensures.answer
+          ∙ ap₂ (λ (days : ℕ) (rest : List ℕ). result_and_then normal_form (after_days c.args.behavior c.args.positive days rest)) c.in_ok-count.ensures.count rest
+          ∙ meets-next (days_table text) (run_value text 0, days_length text) _ (result_and_then normal_form last) c.in_ok-count.ensures.answer
           ∙ sym (meets-and_then normal_form (days_table text) last);
     }

@@ -1,0 +1,66 @@
+-- Where the hours of a clock end.
+use Rattle.std.specs.Prelude.{◌≡◌, ℕ, ◌-◌, ◌^◌, ◌<◌, min, Bool, true, false, List, length, ◌==◌, ◌&&◌, nat_lt, nat_le, refl}
+use Rattle.std.specs.Char.{is_ascii_digit}
+use Rattle.std.proofs.Common.{arith, ◌∙◌, ap, sym, get_or, inl, inr}
+use Rattle.std.proofs.lemmas.Bool.{cases_lt, eqb-true, and_parts, false≢true}
+use Rattle.std.proofs.lemmas.Bool.Decides.{nat_tests}
+use Rattle.std.proofs.lemmas.List.{get_or_past}
+use Rattle.std.proofs.lemmas.List.Sums.{position_or_len_is, passes_at_first, prefix_len_passes}
+use Rattle.speedate_base.specs.declared.config.MicrosecondsPrecisionOverflowBehavior.{MicrosecondsPrecisionOverflowBehavior}
+use Rattle.speedate_base.specs.Ascii.{colon}
+use Rattle.speedate_base.specs.DigitRuns.{run_length}
+use Rattle.speedate.specs.ClockForm.{hours_length, has_hours, after_hours}
+
+digit-no_colon : (byte : ℕ) → is_ascii_digit byte ≡ true → (byte == colon) ≡ false
+digit-no_colon byte digit = grind (arith, nat_tests)
+
+-- where `:` follows the digits at the front, they are the hours
+pub hours_length-run : (text : List ℕ) → get_or text (run_length text 0) 0 ≡ colon → (run_length text 0 < length text) × (hours_length text ≡ run_length text 0)
+hours_length-run text ends =
+    let end = run_length text 0 in
+    let within : end < length text = elim (cases_lt end (length text)) [
+      | inl within ↦ within
+      | inr past ↦ omega (arith, ends, get_or_past text end 0 past)
+    ] in (
+      within,
+      position_or_len_is (λ byte. byte == colon) text end 0 (omega (arith, within))
+          (λ k before. digit-no_colon (get_or text k 0) (prefix_len_passes is_ascii_digit text k 0 before)) (λ _. ap (λ byte. byte == colon) ends),
+    )
+
+-- otherwise no hours begin the text
+has_hours-none : (text : List ℕ) (has : Bool) → has_hours text ≡ has → (get_or text (run_length text 0) 0 == colon) ≡ false → has ≡ false
+has_hours-none text false same other = refl
+has_hours-none text true same other =
+    let front = nat_lt (hours_length text) (length text) in
+    let few = nat_le (hours_length text) 10 in
+    let parts = and_parts (front && few) (run_length text 0 == hours_length text) same in
+    let ends : run_length text 0 ≡ hours_length text = eqb-true (run_length text 0) (hours_length text) parts.1 in
+    let within : hours_length text < length text = grind (arith, nat_tests, (and_parts front few parts.0).0) in
+    absurd (false≢true (sym other ∙ ap (λ (n : ℕ). get_or text n 0 == colon) ends ∙ passes_at_first (λ byte. byte == colon) text 0 within))
+
+last-two : (within few whole : Bool) → within ≡ true → whole ≡ true → (within && few && whole) ≡ few
+last-two true true true one two = refl
+last-two true false true one two = refl
+last-two false few whole one two = absurd (cc)
+last-two true few false one two = absurd (cc)
+
+-- so hours begin a text where `:` follows its first digits, and these are at most ten
+pub has_hours-run : (text : List ℕ) (ends : Bool) → (get_or text (run_length text 0) 0 == colon) ≡ ends → has_hours text ≡ (ends && nat_le (run_length text 0) 10)
+has_hours-run text false other = has_hours-none text (has_hours text) refl other
+has_hours-run text true ends =
+    let end = run_length text 0 in
+    let run = hours_length-run text (eqb-true _ _ ends) in
+    let within : nat_lt (hours_length text) (length text) ≡ true = grind (arith, nat_tests, run.0, run.1) in
+    let same : (end == hours_length text) ≡ true = grind (arith, nat_tests, run.1) in
+    last-two _ (nat_le (hours_length text) 10) _ within same ∙ ap (λ (n : ℕ). nat_le n 10) run.1
+
+-- a number of hours that does not fit 64 bits is refused like the largest that does
+pub after_hours-saturated : (behavior : MicrosecondsPrecisionOverflowBehavior) (positive : Bool) (hours : ℕ) (rest : List ℕ)
+    → after_hours behavior positive (min hours (2 ^ 64 - 1)) rest ≡ after_hours behavior positive hours rest
+after_hours-saturated behavior positive hours rest = elim (cases_lt hours (2 ^ 64)) [
+  | inl fits ↦ let same : min hours (2 ^ 64 - 1) ≡ hours = omega (arith, fits) in ap (λ (n : ℕ). after_hours behavior positive n rest) same
+  | inr past ↦
+      let one : nat_le (min hours (2 ^ 64 - 1)) 2400000000 ≡ false = grind (arith, nat_tests, past) in
+      let two : nat_le hours 2400000000 ≡ false = grind (arith, nat_tests, past) in
+      rw (one, two) refl
+]
