@@ -36,8 +36,8 @@ pub struct Duration {
 }
 
 impl Duration {
-    ghost use Rattle.speedate.specs.Duration.{parts};
     ghost use Rattle.speedate_base.specs.declared.config.MicrosecondsPrecisionOverflowBehavior.TheVariants as behavior;
+    ghost use Rattle.speedate.specs.Duration.{parts};
 
     /// The duration of so many days, seconds and microseconds, of any size, brought into their
     /// ranges: 2 days, 101 seconds and 123 microseconds for 1 day, 86,500 seconds and 1,000,123
@@ -71,7 +71,27 @@ impl Duration {
         })
     }
 
-    /// Reads a duration from a text: DOC
+    /// Reads a duration from a text: the duration that the text is, as one of a day, an hour and 42
+    /// seconds for `"1 day, 1:00:42"`, or the text's one fault.
+    ///
+    /// One `+` or `-` may come first. The form of what follows is this library's own: hours,
+    /// minutes and seconds as a clock shows them, `24:01:03.5`, or days with or without such a
+    /// clock behind them, `2 days, 10:20`. It has days where a `d` or `D` stands anywhere in it, or
+    /// where it has fewer than five bytes. The faults, in the order in which they are looked for:
+    ///
+    /// - `TooShort` where nothing follows the sign;
+    /// - of days: `DurationInvalidNumber` where no digit comes first, `DurationValueTooLarge` where
+    ///   their number is over 4,294,967,295, `DurationInvalidDays` where no `d`, `day` or `days`
+    ///   follows it, all small or all in capitals but for the `d`; then those of a clock behind
+    ///   them, and `DurationHourValueTooLarge` where that has 24 hours or more;
+    /// - of a clock: `TooShort` where it has less than five bytes; `InvalidCharHour` where it has no
+    ///   `:`, or something else than digits in front of it, and `DurationHourValueTooLarge` where
+    ///   that has over ten bytes or is over 2,400,000,000; `SecondFractionTooLong` where more than
+    ///   12 bytes follow the `:`, and `TooShort` where less than two do; those of a time of day
+    ///   from its minute on; and `ExtraCharacters` where something follows;
+    /// - `DurationDaysTooLarge` where there are then more than 999,999,999 days;
+    /// - `DurationInvalidNumber` for every text that has a `P` behind its sign: ISO 8601 durations
+    ///   are not read yet.
     #[inline(always)]
     pub fn parse_str(text: &str) -> Result<Self, ParseError>
         ensures answer { result_map parts result ≡ duration_answer behavior.Error text.now }
@@ -79,7 +99,8 @@ impl Duration {
         Self::parse_bytes(text.as_bytes())
     }
 
-    /// Reads a duration from the bytes of a text
+    /// Reads a duration from the bytes of a text, as [`Duration::parse_str`] does: a second that is
+    /// not positive from `b"-00:00:01"`. The bytes need not be text.
     #[inline(always)]
     pub fn parse_bytes(bytes: &[u8]) -> Result<Self, ParseError>
         ensures answer { result_map parts result ≡ duration_answer behavior.Error bytes.now }
@@ -87,7 +108,10 @@ impl Duration {
         Self::parse(bytes, MicrosecondsPrecisionOverflowBehavior::Error)
     }
 
-    /// Reads a duration with config
+    /// Reads a duration from the bytes of a text, as [`Duration::parse_str`] does, but for the
+    /// digits of a second past the sixth: with the behavior `Truncate` they are dropped, so that
+    /// `b"00:00:01.1234567"` is a second and 123,456 microseconds. The offset of the configuration
+    /// does not matter.
     #[inline(always)]
     pub fn parse_bytes_with_config(bytes: &[u8], config: &TimeConfig) -> Result<Self, ParseError>
         ensures answer { result_map parts result
