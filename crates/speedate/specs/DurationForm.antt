@@ -1,5 +1,5 @@
 -- The forms of a duration, and which of them a text has. These rules are the library's own.
-use Rattle.std.specs.Prelude.{ℕ, Bool, not, ◌||◌, List, length, drop, slice_index, nat_lt, ◌==◌, if◌then◌else◌, Result, Err}
+use Rattle.std.specs.Prelude.{◌≡◌, MatchBool, ℕ, Bool, not, ◌||◌, List, length, drop, slice_index, nat_lt, ◌==◌, if◌then◌else◌, Result, Err}
 use Rattle.std.specs.List.{list_any}
 use Rattle.speedate_base.specs.declared.config.MicrosecondsPrecisionOverflowBehavior.{MicrosecondsPrecisionOverflowBehavior}
 use Rattle.speedate_base.specs.declared.faults.ParseError.{ParseError}
@@ -9,6 +9,7 @@ use Rattle.speedate_base.specs.Numbers.{has_minus, sign_length}
 use Rattle.speedate_base.specs.Requirement.{result_and_then}
 use Rattle.speedate.specs.ClockForm.{clock_form}
 use Rattle.speedate.specs.DayForm.{is_day_letter, day_form}
+use Rattle.speedate.specs.IsoForm.{IsIsoAnswer}
 use Rattle.speedate.specs.DurationNumbers.{DurationNumbers, normal_form}
 
 -- the letter of a day stands anywhere in a text
@@ -19,14 +20,19 @@ has_day_letter text = list_any is_day_letter text
 abbrev pub has_days : List ℕ → Bool
 has_days text = nat_lt (length text) 5 || has_day_letter text
 
--- the numbers that a text without a sign says, or the text's fault
+-- the numbers that a text says as days or as a clock, or the text's fault
 unfoldable pub form_answer : MicrosecondsPrecisionOverflowBehavior → Bool → List ℕ → Result DurationNumbers ParseError
 form_answer behavior positive text =
     if length text == 0 then Err fault.TooShort
-    else (if slice_index text 0 == capital_p then Err fault.DurationInvalidNumber
-    else (if has_days text then day_form behavior positive text else clock_form behavior positive text))
+    else (if has_days text then day_form behavior positive text else clock_form behavior positive text)
 
--- the duration that a text is, or the text's fault; those of the normal form come last
-abbrev pub duration_answer : MicrosecondsPrecisionOverflowBehavior → List ℕ → Result DurationNumbers ParseError
-duration_answer behavior text =
-    result_and_then normal_form (form_answer behavior (not (has_minus text)) (drop (sign_length text) text))
+-- the answer to a text without a sign: as ISO 8601 has durations where it begins with `P`
+abbrev pub IsFormAnswer : MicrosecondsPrecisionOverflowBehavior → Bool → List ℕ → Result DurationNumbers ParseError → Type 0
+IsFormAnswer behavior positive text answer =
+    MatchBool (slice_index text 0 == capital_p) (IsIsoAnswer positive (drop 1 text) answer) (answer ≡ form_answer behavior positive text)
+
+-- the answer to a text: a duration in its normal form, whose faults come last, or the text's fault
+abbrev pub IsDurationAnswer : MicrosecondsPrecisionOverflowBehavior → List ℕ → Result DurationNumbers ParseError → Type 0
+IsDurationAnswer behavior text answer =
+    (form : Result DurationNumbers ParseError) × IsFormAnswer behavior (not (has_minus text)) (drop (sign_length text) text) form
+    × (answer ≡ result_and_then normal_form form)

@@ -50,7 +50,10 @@ capital_s = 83
 abbrev pub capital_t : ℕ
 capital_t = 84
 
--- `Y`
+-- `W` and `Y`
+abbrev pub capital_w : ℕ
+capital_w = 87
+
 abbrev pub capital_y : ℕ
 capital_y = 89
 

@@ -1,0 +1,181 @@
+-- ISO 8601 durations behind their `P`: years, months, weeks and days, and behind a `T` hours, minutes and seconds.
+-- Departs from it: quantities may come in any order on their side and more than once, and weeks beside others; the last
+-- one may have a fraction whatever its unit; a `T` may come last; a year has 365 days and a month 30; a sign may come
+-- before the `P`.
+use Rattle.std.specs.Prelude.{◌≡◌, ℕ, ◌+◌, ◌-◌, ◌*◌, ◌/◌, ◌%◌, ◌^◌, Bool, true, false, not, IsTrue, ◌&&◌, ◌||◌, List, [], ◌∷◌, ◌++◌, length, take, drop, slice_index, nat_le, nat_lt, ◌==◌, if◌then◌else◌, Option, Some, None, pos, unsigned_abs, Result, Ok, Err}
+use Rattle.std.specs.Char.{is_ascii_digit}
+use Rattle.std.specs.List.{list_all, flat_map}
+use Rattle.std.specs.Option.{is_some}
+use Rattle.speedate_base.specs.declared.faults.ParseError.{ParseError}
+use Rattle.speedate_base.specs.declared.faults.ParseError.TheVariants as fault
+use Rattle.speedate_base.specs.Ascii.{comma, full_stop, capital_d, capital_h, capital_m, capital_s, capital_t, capital_w, capital_y}
+use Rattle.speedate_base.specs.DigitRuns.{run_length, digits_value}
+use Rattle.speedate_base.specs.Nearest.{nearest}
+use Rattle.speedate_base.specs.Offset.{seconds_per_day}
+use Rattle.speedate_base.specs.Requirement.{Requirement, ◌else_fault◌, meets, AllHold}
+use Rattle.speedate.specs.DurationNumbers.{DurationNumbers}
+
+-- a unit by its letter, and what one of it is: whole days, or seconds
+pub record DurationUnit : Type 0 where
+  pub letter : ℕ
+  pub day : ℕ
+  pub second : ℕ
+
+abbrev pub unit : ℕ → ℕ → ℕ → DurationUnit
+unit letter day second = record { letter = letter; day = day; second = second }
+
+-- the units before the `T`, and those behind it
+abbrev pub units : Bool → List DurationUnit
+units false = unit capital_y 365 0 ∷ unit capital_m 30 0 ∷ unit capital_w 7 0 ∷ unit capital_d 1 0 ∷ []
+units true = unit capital_h 0 3600 ∷ unit capital_m 0 60 ∷ unit capital_s 0 1 ∷ []
+
+-- the unit of a letter, if the letter has one
+abbrev pub unit_in : List DurationUnit → ℕ → Option DurationUnit
+unit_in [] letter = None
+unit_in (unit ∷ units) letter = if letter == unit.letter then Some unit else unit_in units letter
+
+-- a quantity: the digits of its number, its fraction, which is a sign and digits or nothing, and the letter of its unit
+pub record Quantity : Type 0 where
+  pub number : List ℕ
+  pub fraction : List ℕ
+  pub letter : ℕ
+
+-- an item: a `T`, or a quantity
+pub data Item : Type 0 where
+  Mark : Item
+  Amount : Quantity → Item
+
+-- its text
+abbrev pub item_text : Item → List ℕ
+item_text Mark = capital_t ∷ []
+item_text (Amount quantity) = quantity.number ++ quantity.fraction ++ quantity.letter ∷ []
+
+-- the sign of a fraction
+abbrev pub is_point : ℕ → Bool
+is_point byte = (byte == full_stop) || (byte == comma)
+
+-- a fraction is nothing, or a sign and digits, possibly none
+abbrev pub IsFraction : List ℕ → Type 0
+IsFraction [] = Unit {0}
+IsFraction (sign ∷ digits) = IsTrue (is_point sign) × IsTrue (list_all is_ascii_digit digits)
+
+-- the bytes of an item are what they are called
+abbrev pub IsItem : Item → Type 0
+IsItem Mark = Unit {0}
+IsItem (Amount quantity) = IsTrue (list_all is_ascii_digit quantity.number) × IsFraction quantity.fraction
+
+-- a quantity has a fraction, if only its sign
+abbrev pub has_fraction : Quantity → Bool
+has_fraction quantity = nat_lt 0 (length quantity.fraction)
+
+-- how many bytes the fraction has that stands at the front of a text
+abbrev pub fraction_length : List ℕ → ℕ
+fraction_length text = if is_point (slice_index text 0) then 1 + run_length text 1 else 0
+
+-- the item that begins a text, whole or cut short: behind the end of the text its letter is 0
+abbrev pub quantity_at : List ℕ → Quantity
+quantity_at text =
+    let rest = drop (run_length text 0) text in
+    record {
+      number = take (run_length text 0) text;
+      fraction = take (fraction_length rest) rest;
+      letter = slice_index rest (fraction_length rest);
+    }
+
+abbrev pub item_at : List ℕ → Item
+item_at text = if slice_index text 0 == capital_t then Mark else Amount (quantity_at text)
+
+-- what the items so far add up to: whether there was a `T`, a fraction, a quantity; days, seconds and microseconds
+pub record Sums : Type 0 where
+  pub mark : Bool
+  pub fraction : Bool
+  pub some : Bool
+  pub day : ℕ
+  pub second : ℕ
+  pub microsecond : ℕ
+
+-- of no items
+abbrev pub no_sums : Sums
+no_sums = record { mark = false; fraction = false; some = false; day = 0; second = 0; microsecond = 0 }
+
+-- the seconds of one of a unit
+abbrev pub unit_seconds : DurationUnit → ℕ
+unit_seconds unit = seconds_per_day * unit.day + unit.second
+
+-- the whole seconds of a fraction of a unit
+abbrev pub fraction_seconds : DurationUnit → List ℕ → ℕ
+fraction_seconds unit digits = digits_value digits * unit_seconds unit / 10 ^ length digits
+
+-- the microseconds that are nearest to it, without those seconds: a second of them where it is rounded up to one
+abbrev pub fraction_microseconds : DurationUnit → List ℕ → ℕ
+fraction_microseconds unit digits =
+    unsigned_abs (nearest (pos (digits_value digits * (1000000 * unit_seconds unit))) (10 ^ length digits))
+    - 1000000 * fraction_seconds unit digits
+
+-- the sums with so many of a unit, and with a fraction of it
+abbrev pub with_amount : DurationUnit → Quantity → Sums → Sums
+with_amount unit quantity sums =
+    let digits = drop 1 quantity.fraction in
+    record {
+      mark = sums.mark;
+      fraction = sums.fraction || has_fraction quantity;
+      some = true;
+      day = sums.day + digits_value quantity.number * unit.day + fraction_seconds unit digits / seconds_per_day;
+      second = sums.second + digits_value quantity.number * unit.second + fraction_seconds unit digits % seconds_per_day;
+      microsecond = sums.microsecond + fraction_microseconds unit digits;
+    }
+
+-- the sums with an item; a quantity whose letter has no unit adds nothing
+abbrev pub with_quantity : Option DurationUnit → Quantity → Sums → Sums
+with_quantity None quantity sums = sums
+with_quantity (Some unit) quantity sums = with_amount unit quantity sums
+
+abbrev pub with_item : Item → Sums → Sums
+with_item Mark sums = record sums { mark = true }
+with_item (Amount quantity) sums = with_quantity (unit_in (units sums.mark) quantity.letter) quantity sums
+
+-- the fault of a letter that is no unit of its side
+abbrev pub unit_fault : Bool → ParseError
+unit_fault false = fault.DurationInvalidDateUnit
+unit_fault true = fault.DurationInvalidTimeUnit
+
+-- what an item has to meet behind others: at most one `T`; a number; at most one fraction, and nothing behind it; a unit
+-- of its side; and sums that are counted in 32 bits
+abbrev pub item_table : Sums → Item → List Requirement
+item_table sums Mark = (not sums.mark else_fault fault.DurationTRepeated) ∷ []
+item_table sums (Amount quantity) =
+    (nat_lt 0 (length quantity.number) else_fault fault.DurationInvalidNumber)
+    ∷ (nat_le (digits_value quantity.number) 4294967295 else_fault fault.DurationValueTooLarge)
+    ∷ (not sums.fraction else_fault fault.DurationInvalidFraction)
+    ∷ (is_some (unit_in (units sums.mark) quantity.letter) else_fault unit_fault sums.mark)
+    ∷ ((nat_le (with_item (Amount quantity) sums).day 4294967295 && nat_le (with_item (Amount quantity) sums).second 4294967295) else_fault fault.DurationValueTooLarge)
+    ∷ []
+
+-- the sums of a list of items behind others
+abbrev pub with_items : List Item → Sums → Sums
+with_items [] sums = sums
+with_items (item ∷ items) sums = with_items items (with_item item sums)
+
+-- each of a list of items is one, and meets the table behind those before it
+abbrev pub AreGood : Sums → List Item → Type 0
+AreGood sums [] = Unit {0}
+AreGood sums (item ∷ items) = IsItem item × AllHold (item_table sums item) × AreGood (with_item item sums) items
+
+-- the numbers of a duration by its sums
+abbrev pub sums_numbers : Bool → Sums → DurationNumbers
+sums_numbers positive sums = record { positive = positive; day = sums.day; second = sums.second; microsecond = sums.microsecond }
+
+-- how good items end: with nothing behind them, and then with a quantity among them or not; or with what has a fault
+abbrev pub Ends : Bool → Sums → List ℕ → Result DurationNumbers ParseError → Type 0
+Ends positive sums [] answer = answer ≡ (if sums.some then Ok (sums_numbers positive sums) else Err fault.TooShort)
+Ends positive sums (byte ∷ rest) answer =
+    (fault : ParseError) × (meets (item_table sums (item_at (byte ∷ rest))) (Ok (sums_numbers positive sums)) ≡ Err fault) × (answer ≡ Err fault)
+
+-- the answer to a text behind items: it is good items and an end
+abbrev pub IsAnswerFrom : Bool → Sums → List ℕ → Result DurationNumbers ParseError → Type 0
+IsAnswerFrom positive sums text answer =
+    (items : List Item) × (rest : List ℕ) × (text ≡ flat_map item_text items ++ rest) × AreGood sums items × Ends positive (with_items items sums) rest answer
+
+-- the answer to what follows a `P`
+abbrev pub IsIsoAnswer : Bool → List ℕ → Result DurationNumbers ParseError → Type 0
+IsIsoAnswer positive text answer = IsAnswerFrom positive no_sums text answer
