@@ -31,8 +31,12 @@ abbrev pub IsFormAnswer : MicrosecondsPrecisionOverflowBehavior → Bool → Lis
 IsFormAnswer behavior positive text answer =
     MatchBool (slice_index text 0 == capital_p) (IsIsoAnswer positive (drop 1 text) answer) (answer ≡ form_answer behavior positive text)
 
--- the answer to a text: a duration in its normal form, whose faults come last, or the text's fault
+-- its answer in normal form, whose faults come last
+abbrev pub IsNormalAnswer : MicrosecondsPrecisionOverflowBehavior → Bool → List ℕ → Result DurationNumbers ParseError → Type 0
+IsNormalAnswer behavior positive text answer =
+    (form : Result DurationNumbers ParseError) × IsFormAnswer behavior positive text form × (answer ≡ result_and_then normal_form form)
+
+-- the answer to a text: the duration that it is, or its fault
 abbrev pub IsDurationAnswer : MicrosecondsPrecisionOverflowBehavior → List ℕ → Result DurationNumbers ParseError → Type 0
 IsDurationAnswer behavior text answer =
-    (form : Result DurationNumbers ParseError) × IsFormAnswer behavior (not (has_minus text)) (drop (sign_length text) text) form
-    × (answer ≡ result_and_then normal_form form)
+    IsNormalAnswer behavior (not (has_minus text)) (drop (sign_length text) text) answer

@@ -64,10 +64,6 @@ abbrev pub IsItem : Item → Type 0
 IsItem Mark = Unit {0}
 IsItem (Amount quantity) = IsTrue (list_all is_ascii_digit quantity.number) × IsFraction quantity.fraction
 
--- a quantity has a fraction, if only its sign
-abbrev pub has_fraction : Quantity → Bool
-has_fraction quantity = nat_lt 0 (length quantity.fraction)
-
 -- how many bytes the fraction has that stands at the front of a text
 abbrev pub fraction_length : List ℕ → ℕ
 fraction_length text = if is_point (slice_index text 0) then 1 + run_length text 1 else 0
@@ -84,6 +80,13 @@ quantity_at text =
 
 abbrev pub item_at : List ℕ → Item
 item_at text = if slice_index text 0 == capital_t then Mark else Amount (quantity_at text)
+
+-- how many bytes such an item has
+abbrev pub quantity_length : List ℕ → ℕ
+quantity_length text = run_length text 0 + fraction_length (drop (run_length text 0) text) + 1
+
+abbrev pub item_length : List ℕ → ℕ
+item_length text = if slice_index text 0 == capital_t then 1 else quantity_length text
 
 -- what the items so far add up to: whether there was a `T`, a fraction, a quantity; days, seconds and microseconds
 pub record Sums : Type 0 where
@@ -113,22 +116,26 @@ fraction_microseconds unit digits =
     - 1000000 * fraction_seconds unit digits
 
 -- the sums with so many of a unit, and with a fraction of it
-abbrev pub with_amount : DurationUnit → Quantity → Sums → Sums
-with_amount unit quantity sums =
-    let digits = drop 1 quantity.fraction in
+abbrev pub with_amount : DurationUnit → ℕ → List ℕ → Sums → Sums
+with_amount unit number fraction sums =
+    let digits = drop 1 fraction in
     record {
       mark = sums.mark;
-      fraction = sums.fraction || has_fraction quantity;
+      fraction = sums.fraction || nat_lt 0 (length fraction);
       some = true;
-      day = sums.day + digits_value quantity.number * unit.day + fraction_seconds unit digits / seconds_per_day;
-      second = sums.second + digits_value quantity.number * unit.second + fraction_seconds unit digits % seconds_per_day;
+      day = sums.day + number * unit.day + fraction_seconds unit digits / seconds_per_day;
+      second = sums.second + number * unit.second + fraction_seconds unit digits % seconds_per_day;
       microsecond = sums.microsecond + fraction_microseconds unit digits;
     }
+
+-- sums are counted in 32 bits
+abbrev pub are_counted : Sums → Bool
+are_counted sums = nat_le sums.day 4294967295 && nat_le sums.second 4294967295
 
 -- the sums with an item; a quantity whose letter has no unit adds nothing
 abbrev pub with_quantity : Option DurationUnit → Quantity → Sums → Sums
 with_quantity None quantity sums = sums
-with_quantity (Some unit) quantity sums = with_amount unit quantity sums
+with_quantity (Some unit) quantity sums = with_amount unit (digits_value quantity.number) quantity.fraction sums
 
 abbrev pub with_item : Item → Sums → Sums
 with_item Mark sums = record sums { mark = true }
@@ -148,7 +155,7 @@ item_table sums (Amount quantity) =
     ∷ (nat_le (digits_value quantity.number) 4294967295 else_fault fault.DurationValueTooLarge)
     ∷ (not sums.fraction else_fault fault.DurationInvalidFraction)
     ∷ (is_some (unit_in (units sums.mark) quantity.letter) else_fault unit_fault sums.mark)
-    ∷ ((nat_le (with_item (Amount quantity) sums).day 4294967295 && nat_le (with_item (Amount quantity) sums).second 4294967295) else_fault fault.DurationValueTooLarge)
+    ∷ (are_counted (with_item (Amount quantity) sums) else_fault fault.DurationValueTooLarge)
     ∷ []
 
 -- the sums of a list of items behind others

@@ -1,19 +1,23 @@
 //! Durations: days, seconds and microseconds, with a sign.
 
-ghost use Rattle.std.specs.Prelude.{◌≡◌, ◌<◌, ◌≤◌, IfOk};
+ghost use Rattle.std.specs.Prelude.{◌≡◌, ◌<◌, ◌≤◌, IfOk, Result};
+ghost use Rattle.speedate_base.specs.declared.faults.ParseError.{ParseError};
 ghost use Rattle.speedate_base.specs.Requirement.{result_map, result_and_then};
-ghost use Rattle.speedate.specs.DurationForm.{has_day_letter, has_days, form_answer, duration_answer};
+ghost use Rattle.speedate.specs.DurationForm.{has_day_letter, has_days, form_answer, IsNormalAnswer, IsDurationAnswer};
+ghost use Rattle.speedate.specs.IsoForm.{IsIsoAnswer};
 ghost use Rattle.speedate.specs.DurationNumbers.{DurationNumbers, length_seconds, length_microseconds, normal_form, signed_seconds, signed_microsecond, signed_milliseconds};
 
 mod clock;
 mod days;
+mod iso;
 mod order;
 mod text;
 
 use days::is_day_letter;
+use iso::Sums;
 use speedate_base::config::{MicrosecondsPrecisionOverflowBehavior, TimeConfig};
 use speedate_base::faults::ParseError;
-use speedate_base::numbers::{digit_run, sign, with_sign};
+use speedate_base::numbers::{byte_at, digit_run, sign, with_sign};
 use speedate_base::util::SECONDS_PER_DAY;
 
 /// A length of time: days of 86,400 seconds, seconds of a day, and microseconds of a second, with a
@@ -94,7 +98,7 @@ impl Duration {
     ///   are not read yet.
     #[inline(always)]
     pub fn parse_str(text: &str) -> Result<Self, ParseError>
-        ensures answer { result_map parts result ≡ duration_answer behavior.Error text.now }
+        ensures answer { IsDurationAnswer behavior.Error text.now (result_map parts result) }
     {
         Self::parse_bytes(text.as_bytes())
     }
@@ -103,7 +107,7 @@ impl Duration {
     /// not positive from `b"-00:00:01"`. The bytes need not be text.
     #[inline(always)]
     pub fn parse_bytes(bytes: &[u8]) -> Result<Self, ParseError>
-        ensures answer { result_map parts result ≡ duration_answer behavior.Error bytes.now }
+        ensures answer { IsDurationAnswer behavior.Error bytes.now (result_map parts result) }
     {
         Self::parse(bytes, MicrosecondsPrecisionOverflowBehavior::Error)
     }
@@ -114,8 +118,7 @@ impl Duration {
     /// does not matter.
     #[inline(always)]
     pub fn parse_bytes_with_config(bytes: &[u8], config: &TimeConfig) -> Result<Self, ParseError>
-        ensures answer { result_map parts result
-            ≡ duration_answer config.now.microseconds_precision_overflow_behavior bytes.now }
+        ensures answer { IsDurationAnswer config.now.microseconds_precision_overflow_behavior bytes.now (result_map parts result) }
     {
         Self::parse(bytes, config.microseconds_precision_overflow_behavior)
     }
@@ -126,16 +129,40 @@ impl Duration {
         bytes: &[u8],
         behavior: MicrosecondsPrecisionOverflowBehavior,
     ) -> Result<Self, ParseError>
-        ensures answer { result_map parts result ≡ duration_answer behavior bytes.now }
+        ensures answer { IsDurationAnswer behavior bytes.now (result_map parts result) }
     {
         let (negative, length) = sign(bytes);
         Self::unsigned(&bytes[length..], !negative, behavior)
     }
 
     /// Reads a duration whose sign was read, in the form that its text has.
-    #[tactic(auto, using(crate::proofs::DurationFacts::normal_form_answered), unfolding(crate::specs::DurationForm::form_answer))]
     #[inline(always)]
     fn unsigned(
+        bytes: &[u8],
+        positive: bool,
+        behavior: MicrosecondsPrecisionOverflowBehavior,
+    ) -> Result<Self, ParseError>
+        ensures answer { IsNormalAnswer behavior positive bytes.now (result_map parts result) }
+    {
+        if byte_at(bytes, 0) == b'P' {
+            return Self::from_iso(&bytes[1..], positive);
+        }
+        Self::days_or_clock(bytes, positive, behavior)
+    }
+
+    /// Reads what follows the `P` of a duration.
+    #[inline(always)]
+    fn from_iso(body: &[u8], positive: bool) -> Result<Self, ParseError>
+        ensures answer { (form : Result DurationNumbers ParseError) × IsIsoAnswer positive body.now form × (result_map parts result ≡ result_and_then normal_form form) }
+    {
+        let sums = Sums::read(body)?;
+        Self::new(positive, sums.day, sums.second, sums.microsecond)
+    }
+
+    /// Reads a duration of days, or one that a clock shows.
+    #[tactic(auto, using(crate::proofs::DurationFacts::normal_form_answered), unfolding(crate::specs::DurationForm::form_answer))]
+    #[inline(always)]
+    fn days_or_clock(
         bytes: &[u8],
         positive: bool,
         behavior: MicrosecondsPrecisionOverflowBehavior,
@@ -144,9 +171,6 @@ impl Duration {
     {
         if bytes.is_empty() {
             return Err(ParseError::TooShort);
-        }
-        if bytes[0] == b'P' {
-            return Err(ParseError::DurationInvalidNumber);
         }
         let number = digit_run(bytes, 0);
         if has_days(bytes) {

@@ -38,3 +38,16 @@ meets-and_then step (row ∷ rows) next =
 pub meets-all : {A : Type 0} (rows : List Requirement) (next : Result A ParseError) → AllHold rows → meets rows next ≡ next
 meets-all [] next all = refl
 meets-all (row ∷ rows) next all = rw (all.0) (meets-all rows next all.1)
+
+-- where a table lets a value through, its rows hold, and that value is the answer
+row-value : {A : Type 0} (holds : Bool) (fault : ParseError) (rest : Result A ParseError) (value : A)
+    → (if holds then rest else Err fault) ≡ Ok value → (holds ≡ true) × (rest ≡ Ok value)
+row-value true fault rest value same = (refl, same)
+row-value false fault rest value same = absurd (cc)
+
+pub meets-value : {A : Type 0} (rows : List Requirement) (given value : A) → meets rows (Ok given) ≡ Ok value → AllHold rows × (given ≡ value)
+meets-value [] given value same = (tt, cc)
+meets-value (row ∷ rows) given value same =
+    let first = row-value row.holds row.fault (meets rows (Ok given)) value same in
+    let others = meets-value rows given value first.1 in
+    ((first.0, others.0), others.1)

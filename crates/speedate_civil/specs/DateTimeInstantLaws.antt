@@ -13,6 +13,7 @@ use Rattle.speedate_base.specs.NearestLaws.{nearest-is, scale-some}
 use Rattle.speedate_base.specs.Numbers.{DecimalParts}
 use Rattle.speedate_base.specs.Offset.{seconds_per_day}
 use Rattle.speedate_base.specs.Requirement.{Requirement, AllHold, meets, result_map, result_and_then}
+use Rattle.speedate_base.specs.RequirementLaws.{meets-value}
 use Rattle.speedate_base.specs.Timestamp.{Instant, instant_at, instant_answer, per_second, unit_row, unit_table, inferred_seconds_max, first_second, range_table, range_answer}
 use Rattle.speedate_civil.specs.DateAndTime.{DateAndTime, local_second, local_microsecond}
 use Rattle.speedate_civil.specs.DateTimestamp.{day_at, second_at}
@@ -24,19 +25,6 @@ use Rattle.speedate_civil.specs.TimeOfDay.{second_of_day, time_at}
 -- an instant in microseconds
 abbrev instant_microsecond : Instant → ℤ
 instant_microsecond instant = pos 1000000 *ℤ instant.second +ℤ pos instant.microsecond
-
--- where a table lets a value through, its rows hold, and that value is the answer
-row-value : {A : Type 0} (holds : Bool) (fault : ParseError) (rest : Result A ParseError) (value : A)
-    → (if holds then rest else Err fault) ≡ Ok value → (holds ≡ true) × (rest ≡ Ok value)
-row-value true fault rest value same = (refl, same)
-row-value false fault rest value same = absurd (cc)
-
-meets-value : {A : Type 0} (rows : List Requirement) (given value : A) → meets rows (Ok given) ≡ Ok value → AllHold rows × (given ≡ value)
-meets-value [] given value same = (tt, cc)
-meets-value (row ∷ rows) given value same =
-    let first = row-value row.holds row.fault (meets rows (Ok given)) value same in
-    let others = meets-value rows given value first.1 in
-    ((first.0, others.0), others.1)
 
 -- an answer of two steps is that of the second, to what the first answered
 two-steps : {A B : Type 0} (next : A → Result B ParseError) (front : Result A ParseError) (value : B)

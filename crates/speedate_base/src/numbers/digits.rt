@@ -62,6 +62,7 @@ fn long_run(bytes: &[u8]) -> DigitRun
 pub fn run_end(bytes: &[u8], place: usize) -> usize
     requires { place ≤ length bytes.now }
     ensures end { result ≡ place + run_length bytes.now place }
+    ensures within { result ≤ length bytes.now }
 {
     let mut end = place;
     while end < bytes.len() {
