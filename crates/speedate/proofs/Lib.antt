@@ -1,3 +1,2 @@
 mod NumberText
 mod DurationFacts
-mod IsoFacts
