@@ -1,24 +1,24 @@
 -- A text has one answer as an ISO 8601 duration, and quantities of one side can be exchanged.
-use Rattle.std.specs.Prelude.{◌≡◌, MatchBool, ℕ, zero, suc, ◌+◌, ◌<◌, Bool, true, false, not, IsTrue, ◌&&◌, ◌||◌, List, [], ◌∷◌, ◌++◌, length, take, drop, slice_index, nat_le, nat_lt, ◌==◌, if◌then◌else◌, Option, Some, None, Result, Ok, Err, refl}
+use Rattle.std.specs.Prelude.{◌≡◌, MatchBool, ℕ, zero, suc, ◌+◌, ◌≤◌, Bool, true, false, not, IsTrue, ◌&&◌, ◌||◌, List, [], ◌∷◌, ◌++◌, length, take, drop, slice_index, nat_le, nat_lt, ◌==◌, if◌then◌else◌, Option, Some, None, Result, Ok, Err, refl}
 use Rattle.std.specs.Char.{is_ascii_digit}
 use Rattle.std.specs.List.{list_all, prefix_len, flat_map}
 use Rattle.std.specs.Option.{is_some}
 use Rattle.std.proofs.Common.{arith, ap, sym, ◌∙◌, append_assoc, get_or, inl, inr, subst}
 use Rattle.std.proofs.Math.Seq.{take-append_seam, drop-append_seam, get_or-append_seam}
-use Rattle.std.proofs.lemmas.Bool.{and_parts, false≢true}
+use Rattle.std.proofs.lemmas.Bool.{and_from, and_parts, or_from, false≢true}
 use Rattle.std.proofs.lemmas.Bool.Decides.{nat_tests}
 use Rattle.std.proofs.lemmas.List.{append_cancel_left}
 use Rattle.speedate_base.specs.declared.config.MicrosecondsPrecisionOverflowBehavior.{MicrosecondsPrecisionOverflowBehavior}
 use Rattle.speedate_base.specs.declared.faults.ParseError.{ParseError}
 use Rattle.speedate_base.specs.declared.faults.ParseError.TheVariants as fault
 use Rattle.speedate_base.specs.Ascii.{capital_p, capital_t}
-use Rattle.speedate_base.specs.DigitRuns.{run_length}
+use Rattle.speedate_base.specs.DigitRuns.{run_length, digits_value}
 use Rattle.speedate_base.specs.DigitRunLaws.{run_length-append}
 use Rattle.speedate_base.specs.Numbers.{has_minus, sign_length}
 use Rattle.speedate_base.specs.Requirement.{meets, AllHold, result_and_then}
 use Rattle.speedate_base.specs.RequirementLaws.{meets-all}
 use Rattle.speedate.specs.DurationNumbers.{DurationNumbers, normal_form}
-use Rattle.speedate.specs.IsoForm.{DurationUnit, units, unit_in, Quantity, Item, Mark, Amount, item_text, is_point, IsFraction, IsItem, fraction_length, quantity_at, item_at, Sums, with_item, with_items, item_table, AreGood, sums_numbers, Ends, IsAnswerFrom, IsIsoAnswer, no_sums}
+use Rattle.speedate.specs.IsoForm.{DurationUnit, units, unit_in, Quantity, has_fraction, Item, Mark, Amount, item_text, is_point, IsFraction, IsItem, fraction_length, quantity_at, item_at, Sums, with_amount, with_quantity, with_item, with_items, item_table, AreGood, sums_numbers, Ends, IsAnswerFrom, IsIsoAnswer, no_sums}
 use Rattle.speedate.specs.DurationForm.{form_answer, IsDurationAnswer}
 
 abbrev Answer : Type 0
@@ -152,3 +152,168 @@ duration_answer-only behavior text first second one two =
     let body = drop (sign_length text) text in
     let same = form-only (slice_index body 0 == capital_p) positive (drop 1 body) (form_answer behavior positive body) one.0 two.0 one.1 two.1 in
     one.2 ∙ ap (result_and_then normal_form) same ∙ sym two.2
+
+-- an item in front of an answer
+answer-with : (positive : Bool) (sums : Sums) (item : Item) (text : List ℕ) (answer : Answer) → IsItem item → AllHold (item_table sums item)
+    → IsAnswerFrom positive (with_item item sums) text answer → IsAnswerFrom positive sums (item_text item ++ text) answer
+answer-with positive sums item text answer is all from =
+    let joined = ap (λ (text : List ℕ). item_text item ++ text) from.2 ∙ sym (append_assoc (item_text item) (flat_map item_text from.0) from.1) in
+    (item ∷ from.0, from.1, joined, (is, all, from.3), from.4)
+
+-- a quantity without a fraction that can be refused for its size alone
+abbrev pub IsPlain : Sums → Quantity → Type 0
+IsPlain sums quantity =
+    IsItem (Amount quantity) × (nat_lt 0 (length quantity.number) ≡ true) × (has_fraction quantity ≡ false) × (sums.fraction ≡ false)
+    × (is_some (unit_in (units sums.mark) quantity.letter) ≡ true)
+
+-- whether its number and the sums with it are counted in 32 bits
+abbrev fits : Sums → Quantity → Bool
+fits sums quantity =
+    nat_le (digits_value quantity.number) 4294967295
+    && (nat_le (with_item (Amount quantity) sums).day 4294967295 && nat_le (with_item (Amount quantity) sums).second 4294967295)
+
+two-rows : {A : Type 0} (number sums : Bool) (fault : ParseError) (next : Result A ParseError)
+    → (if number then (if sums then next else Err fault) else Err fault) ≡ (if number && sums then next else Err fault)
+two-rows true sums fault next = refl
+two-rows false sums fault next = refl
+
+plain-table : {A : Type 0} (sums : Sums) (quantity : Quantity) (next : Result A ParseError) → IsPlain sums quantity
+    → meets (item_table sums (Amount quantity)) next ≡ (if fits sums quantity then next else Err fault.DurationValueTooLarge)
+plain-table sums quantity next plain =
+    rw (plain.1, plain.3, plain.4) (two-rows (nat_le (digits_value quantity.number) 4294967295) _ fault.DurationValueTooLarge next)
+
+plain-good : (sums : Sums) (quantity : Quantity) → IsPlain sums quantity → fits sums quantity ≡ true → AllHold (item_table sums (Amount quantity))
+plain-good sums quantity plain fit =
+    let tests = and_parts (nat_le (digits_value quantity.number) 4294967295) _ fit in
+    (plain.1, (tests.0, (ap not plain.3, (plain.4, (tests.1, tt)))))
+
+-- one that does not fit ends what is read
+ends-large : (positive : Bool) (sums : Sums) (text : List ℕ)
+    → meets (item_table sums (item_at text)) (Ok (sums_numbers positive sums)) ≡ Err fault.DurationValueTooLarge → Ends positive sums text (Err fault.DurationValueTooLarge)
+ends-large positive sums [] same = absurd (cc)
+ends-large positive sums (byte ∷ rest) same = (fault.DurationValueTooLarge, same, refl)
+
+answer-large : (positive : Bool) (sums : Sums) (quantity : Quantity) (text : List ℕ) → IsPlain sums quantity → fits sums quantity ≡ false
+    → IsAnswerFrom positive sums (item_text (Amount quantity) ++ text) (Err fault.DurationValueTooLarge)
+answer-large positive sums quantity text plain large =
+    let there = item_at-amount sums.mark quantity text plain.0 plain.1 plain.4 in
+    let numbers : Answer = Ok (sums_numbers positive sums) in
+    let refused = ap (λ (item : Item). meets (item_table sums item) numbers) there ∙ plain-table sums quantity numbers plain
+    ∙ ap (λ (test : Bool). if test then numbers else Err fault.DurationValueTooLarge) large in
+    ([], item_text (Amount quantity) ++ text, refl, tt, ends-large positive sums (item_text (Amount quantity) ++ text) refused)
+
+-- a quantity leaves the side and adds to the sums
+amount-mark : (unit : Option DurationUnit) (quantity : Quantity) (sums : Sums) → (with_quantity unit quantity sums).mark ≡ sums.mark
+amount-mark None quantity sums = refl
+amount-mark (Some unit) quantity sums = refl
+
+amount-fraction : (unit : Option DurationUnit) (quantity : Quantity) (sums : Sums) → has_fraction quantity ≡ false → sums.fraction ≡ false
+    → (with_quantity unit quantity sums).fraction ≡ false
+amount-fraction None quantity sums none whole = whole
+amount-fraction (Some unit) quantity sums none whole = or_from sums.fraction (has_fraction quantity) whole none
+
+amount-grows : (unit : Option DurationUnit) (quantity : Quantity) (sums : Sums)
+    → (sums.day ≤ (with_quantity unit quantity sums).day) × (sums.second ≤ (with_quantity unit quantity sums).second)
+amount-grows None quantity sums = (omega arith, omega arith)
+amount-grows (Some unit) quantity sums = (omega arith, omega arith)
+
+or-swap : (a b c : Bool) → (a || b || c) ≡ (a || c || b)
+or-swap true b c = refl
+or-swap false true true = refl
+or-swap false true false = refl
+or-swap false false true = refl
+or-swap false false false = refl
+
+add-swap : (a b c d e : ℕ) → a + b + c + d + e ≡ a + d + e + b + c
+add-swap a b c d e = omega arith
+
+more-swap : (a b c : ℕ) → a + b + c ≡ a + c + b
+more-swap a b c = omega arith
+
+amounts-swap : (one two : Option DurationUnit) (first second : Quantity) (sums : Sums)
+    → with_quantity two second (with_quantity one first sums) ≡ with_quantity one first (with_quantity two second sums)
+amounts-swap None two first second sums = refl
+amounts-swap (Some one) None first second sums = refl
+amounts-swap (Some one) (Some two) first second sums =
+    let fractions = or-swap sums.fraction (has_fraction first) (has_fraction second) in
+    let days = add-swap sums.day _ _ _ _ in
+    let seconds = add-swap sums.second _ _ _ _ in
+    let microseconds = more-swap sums.microsecond _ _ in
+    λ i. record { mark = sums.mark; fraction = fractions i; some = true; day = days i; second = seconds i; microsecond = microseconds i }
+
+with_amount-next : (first second : Quantity) (sums : Sums) → with_item (Amount second) (with_item (Amount first) sums)
+    ≡ with_quantity (unit_in (units sums.mark) second.letter) second (with_quantity (unit_in (units sums.mark) first.letter) first sums)
+with_amount-next first second sums =
+    let next = with_item (Amount first) sums in
+    ap (λ (mark : Bool). with_quantity (unit_in (units mark) second.letter) second next) (amount-mark (unit_in (units sums.mark) first.letter) first sums)
+
+-- the sums of two quantities do not depend on their order
+pub amounts-exchanged : (first second : Quantity) (sums : Sums)
+    → with_item (Amount second) (with_item (Amount first) sums) ≡ with_item (Amount first) (with_item (Amount second) sums)
+amounts-exchanged first second sums =
+    with_amount-next first second sums ∙ amounts-swap (unit_in (units sums.mark) first.letter) (unit_in (units sums.mark) second.letter) first second sums
+    ∙ sym (with_amount-next second first sums)
+
+plain-next : (sums : Sums) (first second : Quantity) → IsPlain sums first → IsPlain sums second → IsPlain (with_item (Amount first) sums) second
+plain-next sums first second one two =
+    let unit = unit_in (units sums.mark) first.letter in
+    let has = ap (λ (mark : Bool). is_some (unit_in (units mark) second.letter)) (amount-mark unit first sums) ∙ two.4 in
+    (two.0, two.1, two.2, amount-fraction unit first sums one.2 one.3, has)
+
+-- nor does it whether both fit
+fits-exchanged : (sums : Sums) (first second : Quantity) → (fits sums first && fits (with_item (Amount first) sums) second) ≡ true
+    → (fits sums second && fits (with_item (Amount second) sums) first) ≡ true
+fits-exchanged sums first second both =
+    let front = with_item (Amount second) sums in
+    let tests = and_parts (fits sums first) _ both in
+    let one = and_parts (nat_le (digits_value first.number) 4294967295) _ tests.0 in
+    let two = and_parts (nat_le (digits_value second.number) 4294967295) _ tests.1 in
+    let total = and_parts (nat_le (with_item (Amount second) (with_item (Amount first) sums)).day 4294967295) _ two.1 in
+    let day = ap (λ (sums : Sums). nat_le sums.day 4294967295) (sym (amounts-exchanged first second sums)) ∙ total.0 in
+    let second_sum = ap (λ (sums : Sums). nat_le sums.second 4294967295) (sym (amounts-exchanged first second sums)) ∙ total.1 in
+    let grows = amount-grows (unit_in (units front.mark) first.letter) first front in
+    let few_days : nat_le front.day 4294967295 ≡ true = grind (arith, nat_tests, grows.0, day) in
+    let few_seconds : nat_le front.second 4294967295 ≡ true = grind (arith, nat_tests, grows.1, second_sum) in
+    and_from _ _ (and_from _ _ two.0 (and_from _ _ few_days few_seconds)) (and_from _ _ one.0 (and_from _ _ day second_sum))
+
+-- where they do not, the answer is that fault in either order
+pair-large : (positive : Bool) (sums : Sums) (first second : Quantity) (rest : List ℕ) (test : Bool) → fits sums first ≡ test
+    → (test && fits (with_item (Amount first) sums) second) ≡ false → IsPlain sums first → IsPlain sums second
+    → IsAnswerFrom positive sums (item_text (Amount first) ++ (item_text (Amount second) ++ rest)) (Err fault.DurationValueTooLarge)
+pair-large positive sums first second rest false fit both one two = answer-large positive sums first (item_text (Amount second) ++ rest) one fit
+pair-large positive sums first second rest true fit both one two =
+    answer-with positive sums (Amount first) (item_text (Amount second) ++ rest) (Err fault.DurationValueTooLarge) one.0 (plain-good sums first one fit)
+        (answer-large positive (with_item (Amount first) sums) second rest (plain-next sums first second one two) both)
+
+exchanged : (positive : Bool) (sums : Sums) (first second : Quantity) (rest : List ℕ) (answer : Answer) (there back : Bool)
+    → (fits sums first && fits (with_item (Amount first) sums) second) ≡ there → (fits sums second && fits (with_item (Amount second) sums) first) ≡ back
+    → IsPlain sums first → IsPlain sums second
+    → IsAnswerFrom positive sums (item_text (Amount first) ++ (item_text (Amount second) ++ rest)) answer
+    → IsAnswerFrom positive sums (item_text (Amount second) ++ (item_text (Amount first) ++ rest)) answer
+exchanged positive sums first second rest answer true back both turned one two from =
+    let forth = and_parts (fits sums first) _ both in
+    let tests = and_parts (fits sums second) _ (fits-exchanged sums first second both) in
+    let behind_first = answer-without positive sums (Amount first) (item_text (Amount second) ++ rest) answer one.0 (plain-good sums first one forth.0) from in
+    let second_good = plain-good (with_item (Amount first) sums) second (plain-next sums first second one two) forth.1 in
+    let behind = answer-without positive (with_item (Amount first) sums) (Amount second) rest answer two.0 second_good behind_first in
+    let moved = subst (λ (sums : Sums). IsAnswerFrom positive sums rest answer) (amounts-exchanged first second sums) behind in
+    let first_good = plain-good (with_item (Amount second) sums) first (plain-next sums second first two one) tests.1 in
+    let with_first = answer-with positive (with_item (Amount second) sums) (Amount first) rest answer one.0 first_good moved in
+    answer-with positive sums (Amount second) (item_text (Amount first) ++ rest) answer two.0 (plain-good sums second two tests.0) with_first
+exchanged positive sums first second rest answer false true both turned one two from = absurd (false≢true (sym both ∙ fits-exchanged sums second first turned))
+exchanged positive sums first second rest answer false false both turned one two from =
+    let large = pair-large positive sums first second rest (fits sums first) refl both one two in
+    let same = answer-only positive sums _ _ _ large from in
+    subst (λ (answer : Answer). IsAnswerFrom positive sums (item_text (Amount second) ++ (item_text (Amount first) ++ rest)) answer) same
+        (pair-large positive sums second first rest (fits sums second) refl turned two one)
+
+-- two neighbouring quantities of one side, both without a fraction, can be exchanged
+pub answer-exchanged : (positive : Bool) (sums : Sums) (first second : Quantity) (rest : List ℕ) (answer : Answer) → IsPlain sums first → IsPlain sums second
+    → IsAnswerFrom positive sums (item_text (Amount first) ++ item_text (Amount second) ++ rest) answer
+    → IsAnswerFrom positive sums (item_text (Amount second) ++ item_text (Amount first) ++ rest) answer
+answer-exchanged positive sums first second rest answer one two from =
+    let text = append_assoc (item_text (Amount first)) (item_text (Amount second)) rest in
+    let turned = append_assoc (item_text (Amount second)) (item_text (Amount first)) rest in
+    let nested = subst (λ (text : List ℕ). IsAnswerFrom positive sums text answer) text from in
+    subst (λ (text : List ℕ). IsAnswerFrom positive sums text answer) (sym turned)
+        (exchanged positive sums first second rest answer _ _ refl refl one two nested)
