@@ -1,9 +1,11 @@
--- A text has one answer as an ISO 8601 duration, and quantities of one side can be exchanged.
-use Rattle.std.specs.Prelude.{◌≡◌, MatchBool, ℕ, zero, suc, ◌+◌, ◌≤◌, Bool, true, false, not, IsTrue, ◌&&◌, ◌||◌, List, [], ◌∷◌, ◌++◌, length, take, drop, slice_index, nat_le, nat_lt, ◌==◌, if◌then◌else◌, Option, Some, None, Result, Ok, Err, refl}
+-- A text has one answer as a duration, and in an ISO 8601 duration quantities of one side can be exchanged.
+use Rattle.std.specs.Prelude.{◌≡◌, MatchBool, ℕ, ◌+◌, ◌≤◌, Bool, true, false, not, ◌&&◌, ◌||◌, List, [], ◌∷◌, ◌++◌, length, drop, slice_index, nat_le, nat_lt, ◌==◌, if◌then◌else◌, Option, Some, None, Result, Ok, Err, refl}
 use Rattle.std.specs.Char.{is_ascii_digit}
 use Rattle.std.specs.List.{list_all, prefix_len, flat_map}
 use Rattle.std.specs.Option.{is_some}
-use Rattle.std.proofs.Common.{arith, ap, sym, ◌∙◌, append_assoc, get_or, inl, inr, subst}
+use Rattle.std.proofs.Common.{arith, ap, sym, ◌∙◌, append_assoc, subst}
+use Rattle.std.proofs.Math.Bool.{or_assoc, or_comm}
+use Rattle.std.proofs.Math.Nat.{add_right_comm}
 use Rattle.std.proofs.Math.Seq.{take-append_seam, drop-append_seam, get_or-append_seam}
 use Rattle.std.proofs.lemmas.Bool.{and_from, and_parts, or_from, false≢true}
 use Rattle.std.proofs.lemmas.Bool.Decides.{nat_tests}
@@ -12,13 +14,13 @@ use Rattle.speedate_base.specs.declared.config.MicrosecondsPrecisionOverflowBeha
 use Rattle.speedate_base.specs.declared.faults.ParseError.{ParseError}
 use Rattle.speedate_base.specs.declared.faults.ParseError.TheVariants as fault
 use Rattle.speedate_base.specs.Ascii.{capital_p, capital_t}
-use Rattle.speedate_base.specs.DigitRuns.{run_length, digits_value}
+use Rattle.speedate_base.specs.DigitRuns.{digits_value}
 use Rattle.speedate_base.specs.DigitRunLaws.{run_length-append}
 use Rattle.speedate_base.specs.Numbers.{has_minus, sign_length}
 use Rattle.speedate_base.specs.Requirement.{meets, AllHold, result_and_then}
 use Rattle.speedate_base.specs.RequirementLaws.{meets-all}
 use Rattle.speedate.specs.DurationNumbers.{DurationNumbers, normal_form}
-use Rattle.speedate.specs.IsoForm.{DurationUnit, units, unit_in, Quantity, has_fraction, Item, Mark, Amount, item_text, is_point, IsFraction, IsItem, fraction_length, quantity_at, item_at, Sums, with_amount, with_quantity, with_item, with_items, item_table, AreGood, sums_numbers, Ends, IsAnswerFrom, IsIsoAnswer, no_sums}
+use Rattle.speedate.specs.IsoForm.{DurationUnit, units, unit_in, Quantity, has_fraction, Item, Mark, Amount, item_text, is_point, IsFraction, IsItem, fraction_length, quantity_at, item_at, Sums, with_quantity, with_item, with_items, item_table, AreGood, sums_numbers, Ends, IsAnswerFrom, IsIsoAnswer, no_sums}
 use Rattle.speedate.specs.DurationForm.{form_answer, IsDurationAnswer}
 
 abbrev Answer : Type 0
@@ -51,7 +53,8 @@ number-ended number [] letter rest all is digit = run-ended number letter rest a
 number-ended number (sign ∷ digits) letter rest all is digit = run-ended number sign (digits ++ letter ∷ rest) all (point-no_digit sign is.0)
 
 -- digits begin with no `T`
-number-no_mark : (number rest : List ℕ) → nat_lt 0 (length number) ≡ true → list_all is_ascii_digit number ≡ true → (slice_index (number ++ rest) 0 == capital_t) ≡ false
+number-no_mark : (number rest : List ℕ) → nat_lt 0 (length number) ≡ true → list_all is_ascii_digit number ≡ true
+    → (slice_index (number ++ rest) 0 == capital_t) ≡ false
 number-no_mark [] rest some all = absurd (cc)
 number-no_mark (digit ∷ number) rest some all = grind (arith, nat_tests, (and_parts (is_ascii_digit digit) _ all).0)
 
@@ -69,6 +72,7 @@ quantity_at-text quantity rest is digit point =
       get_or-append_seam quantity.fraction quantity.letter rest 0,
     ) refl
 
+-- its text is its parts in front of what follows
 amount-joined : (quantity : Quantity) (rest : List ℕ) → item_text (Amount quantity) ++ rest ≡ quantity.number ++ (quantity.fraction ++ quantity.letter ∷ rest)
 amount-joined quantity rest = simp append_assoc
 
@@ -78,7 +82,7 @@ item_at-amount : (mark : Bool) (quantity : Quantity) (rest : List ℕ) → IsIte
 item_at-amount mark quantity rest is some has =
     let unit = unit-letter mark quantity.letter has in
     rw (amount-joined quantity rest, number-no_mark quantity.number (quantity.fraction ++ quantity.letter ∷ rest) some is.0)
-        (ap Amount (quantity_at-text quantity rest is unit.0 unit.1))
+    (ap Amount (quantity_at-text quantity rest is unit.0 unit.1))
 
 -- and a good item is read back from its text
 pub item_at-text : (sums : Sums) (item : Item) (rest : List ℕ) → IsItem item → AllHold (item_table sums item) → item_at (item_text item ++ rest) ≡ item
@@ -111,12 +115,15 @@ without-item positive sums item text answer (next ∷ items) rest is all same go
     let left = append_cancel_left (item_text item) text behind (joined ∙ ap (λ (item : Item). item_text item ++ behind) one) in
     subst (λ (item : Item). IsAnswerFrom positive (with_item item sums) text answer) one (items, rest, left, good.2, ends)
 
+-- the same of an answer as it is given
 pub answer-without : (positive : Bool) (sums : Sums) (item : Item) (text : List ℕ) (answer : Answer) → IsItem item → AllHold (item_table sums item)
     → IsAnswerFrom positive sums (item_text item ++ text) answer → IsAnswerFrom positive (with_item item sums) text answer
 answer-without positive sums item text answer is all from = without-item positive sums item text answer from.0 from.1 is all from.2 from.3 from.4
 
+-- where no good item begins a text, its end is its answer
 ended-only : (positive : Bool) (sums : Sums) (text : List ℕ) (first second : Answer) (items : List Item) (rest : List ℕ)
-    → Ends positive sums text first → text ≡ flat_map item_text items ++ rest → AreGood sums items → Ends positive (with_items items sums) rest second → first ≡ second
+    → Ends positive sums text first → text ≡ flat_map item_text items ++ rest → AreGood sums items → Ends positive (with_items items sums) rest second
+    → first ≡ second
 ended-only positive sums text first second [] rest one same good two =
     ends-only positive sums rest first second (subst (λ (text : List ℕ). Ends positive sums text first) same one) two
 ended-only positive sums text first second (item ∷ items) rest one same good two =
@@ -124,6 +131,7 @@ ended-only positive sums text first second (item ∷ items) rest one same good t
     let there = ap item_at joined ∙ item_at-text sums item (flat_map item_text items ++ rest) good.0 good.1 in
     absurd (ends-no_item positive sums text first one (subst (λ (item : Item). AllHold (item_table sums item)) (sym there) good.1))
 
+-- after good items and an end the answer is no other
 only : (positive : Bool) (sums : Sums) (items : List Item) (rest text : List ℕ) (first second : Answer) → text ≡ flat_map item_text items ++ rest
     → AreGood sums items → Ends positive (with_items items sums) rest first → IsAnswerFrom positive sums text second → first ≡ second
 only positive sums [] rest text first second same good ends from =
@@ -139,12 +147,13 @@ pub answer-only : (positive : Bool) (sums : Sums) (text : List ℕ) (first secon
     → IsAnswerFrom positive sums text first → IsAnswerFrom positive sums text second → first ≡ second
 answer-only positive sums text first second one two = only positive sums one.0 one.1 text first second one.2 one.3 one.4 two
 
+-- and so has one behind a `P`, and one in the other forms
 form-only : (begins positive : Bool) (text : List ℕ) (form first second : Answer) → MatchBool begins (IsIsoAnswer positive text first) (first ≡ form)
     → MatchBool begins (IsIsoAnswer positive text second) (second ≡ form) → first ≡ second
 form-only true positive text form first second one two = answer-only positive no_sums text first second one two
 form-only false positive text form first second one two = one ∙ sym two
 
--- also with a sign, and in its normal form
+-- also behind a sign, and in its normal form
 pub duration_answer-only : (behavior : MicrosecondsPrecisionOverflowBehavior) (text : List ℕ) (first second : Answer)
     → IsDurationAnswer behavior text first → IsDurationAnswer behavior text second → first ≡ second
 duration_answer-only behavior text first second one two =
@@ -153,8 +162,8 @@ duration_answer-only behavior text first second one two =
     let same = form-only (slice_index body 0 == capital_p) positive (drop 1 body) (form_answer behavior positive body) one.0 two.0 one.1 two.1 in
     one.2 ∙ ap (result_and_then normal_form) same ∙ sym two.2
 
--- an item in front of an answer
-answer-with : (positive : Bool) (sums : Sums) (item : Item) (text : List ℕ) (answer : Answer) → IsItem item → AllHold (item_table sums item)
+-- a good item in front of a text leaves the text's answer
+pub answer-with : (positive : Bool) (sums : Sums) (item : Item) (text : List ℕ) (answer : Answer) → IsItem item → AllHold (item_table sums item)
     → IsAnswerFrom positive (with_item item sums) text answer → IsAnswerFrom positive sums (item_text item ++ text) answer
 answer-with positive sums item text answer is all from =
     let joined = ap (λ (text : List ℕ). item_text item ++ text) from.2 ∙ sym (append_assoc (item_text item) (flat_map item_text from.0) from.1) in
@@ -172,27 +181,32 @@ fits sums quantity =
     nat_le (digits_value quantity.number) 4294967295
     && (nat_le (with_item (Amount quantity) sums).day 4294967295 && nat_le (with_item (Amount quantity) sums).second 4294967295)
 
+-- two rows of one fault are one row
 two-rows : {A : Type 0} (number sums : Bool) (fault : ParseError) (next : Result A ParseError)
     → (if number then (if sums then next else Err fault) else Err fault) ≡ (if number && sums then next else Err fault)
 two-rows true sums fault next = refl
 two-rows false sums fault next = refl
 
+-- the table of such a quantity is that test
 plain-table : {A : Type 0} (sums : Sums) (quantity : Quantity) (next : Result A ParseError) → IsPlain sums quantity
     → meets (item_table sums (Amount quantity)) next ≡ (if fits sums quantity then next else Err fault.DurationValueTooLarge)
 plain-table sums quantity next plain =
     rw (plain.1, plain.3, plain.4) (two-rows (nat_le (digits_value quantity.number) 4294967295) _ fault.DurationValueTooLarge next)
 
+-- one that fits meets each row
 plain-good : (sums : Sums) (quantity : Quantity) → IsPlain sums quantity → fits sums quantity ≡ true → AllHold (item_table sums (Amount quantity))
 plain-good sums quantity plain fit =
     let tests = and_parts (nat_le (digits_value quantity.number) 4294967295) _ fit in
     (plain.1, (tests.0, (ap not plain.3, (plain.4, (tests.1, tt)))))
 
--- one that does not fit ends what is read
+-- that fault ends a text
 ends-large : (positive : Bool) (sums : Sums) (text : List ℕ)
-    → meets (item_table sums (item_at text)) (Ok (sums_numbers positive sums)) ≡ Err fault.DurationValueTooLarge → Ends positive sums text (Err fault.DurationValueTooLarge)
+    → meets (item_table sums (item_at text)) (Ok (sums_numbers positive sums)) ≡ Err fault.DurationValueTooLarge
+    → Ends positive sums text (Err fault.DurationValueTooLarge)
 ends-large positive sums [] same = absurd (cc)
 ends-large positive sums (byte ∷ rest) same = (fault.DurationValueTooLarge, same, refl)
 
+-- so one that does not fit has it as the answer, whatever follows
 answer-large : (positive : Bool) (sums : Sums) (quantity : Quantity) (text : List ℕ) → IsPlain sums quantity → fits sums quantity ≡ false
     → IsAnswerFrom positive sums (item_text (Amount quantity) ++ text) (Err fault.DurationValueTooLarge)
 answer-large positive sums quantity text plain large =
@@ -202,34 +216,31 @@ answer-large positive sums quantity text plain large =
     ∙ ap (λ (test : Bool). if test then numbers else Err fault.DurationValueTooLarge) large in
     ([], item_text (Amount quantity) ++ text, refl, tt, ends-large positive sums (item_text (Amount quantity) ++ text) refused)
 
--- a quantity leaves the side and adds to the sums
+-- a quantity leaves the side as it is
 amount-mark : (unit : Option DurationUnit) (quantity : Quantity) (sums : Sums) → (with_quantity unit quantity sums).mark ≡ sums.mark
 amount-mark None quantity sums = refl
 amount-mark (Some unit) quantity sums = refl
 
+-- without a fraction it brings none
 amount-fraction : (unit : Option DurationUnit) (quantity : Quantity) (sums : Sums) → has_fraction quantity ≡ false → sums.fraction ≡ false
     → (with_quantity unit quantity sums).fraction ≡ false
 amount-fraction None quantity sums none whole = whole
 amount-fraction (Some unit) quantity sums none whole = or_from sums.fraction (has_fraction quantity) whole none
 
+-- and it takes nothing from the sums
 amount-grows : (unit : Option DurationUnit) (quantity : Quantity) (sums : Sums)
     → (sums.day ≤ (with_quantity unit quantity sums).day) × (sums.second ≤ (with_quantity unit quantity sums).second)
 amount-grows None quantity sums = (omega arith, omega arith)
 amount-grows (Some unit) quantity sums = (omega arith, omega arith)
 
+-- how sums of two quantities are exchanged, field by field
 or-swap : (a b c : Bool) → (a || b || c) ≡ (a || c || b)
-or-swap true b c = refl
-or-swap false true true = refl
-or-swap false true false = refl
-or-swap false false true = refl
-or-swap false false false = refl
+or-swap a b c = or_assoc a b c ∙ ap (λ (test : Bool). a || test) (or_comm b c) ∙ sym (or_assoc a c b)
 
 add-swap : (a b c d e : ℕ) → a + b + c + d + e ≡ a + d + e + b + c
 add-swap a b c d e = omega arith
 
-more-swap : (a b c : ℕ) → a + b + c ≡ a + c + b
-more-swap a b c = omega arith
-
+-- whatever their units are
 amounts-swap : (one two : Option DurationUnit) (first second : Quantity) (sums : Sums)
     → with_quantity two second (with_quantity one first sums) ≡ with_quantity one first (with_quantity two second sums)
 amounts-swap None two first second sums = refl
@@ -238,29 +249,31 @@ amounts-swap (Some one) (Some two) first second sums =
     let fractions = or-swap sums.fraction (has_fraction first) (has_fraction second) in
     let days = add-swap sums.day _ _ _ _ in
     let seconds = add-swap sums.second _ _ _ _ in
-    let microseconds = more-swap sums.microsecond _ _ in
+    let microseconds = add_right_comm sums.microsecond _ _ in
     λ i. record { mark = sums.mark; fraction = fractions i; some = true; day = days i; second = seconds i; microsecond = microseconds i }
 
+-- the unit of the second does not depend on the first
 with_amount-next : (first second : Quantity) (sums : Sums) → with_item (Amount second) (with_item (Amount first) sums)
     ≡ with_quantity (unit_in (units sums.mark) second.letter) second (with_quantity (unit_in (units sums.mark) first.letter) first sums)
 with_amount-next first second sums =
     let next = with_item (Amount first) sums in
     ap (λ (mark : Bool). with_quantity (unit_in (units mark) second.letter) second next) (amount-mark (unit_in (units sums.mark) first.letter) first sums)
 
--- the sums of two quantities do not depend on their order
+-- so the sums of two quantities do not depend on their order
 pub amounts-exchanged : (first second : Quantity) (sums : Sums)
     → with_item (Amount second) (with_item (Amount first) sums) ≡ with_item (Amount first) (with_item (Amount second) sums)
 amounts-exchanged first second sums =
     with_amount-next first second sums ∙ amounts-swap (unit_in (units sums.mark) first.letter) (unit_in (units sums.mark) second.letter) first second sums
     ∙ sym (with_amount-next second first sums)
 
+-- a quantity behind another one can still be refused for its size alone
 plain-next : (sums : Sums) (first second : Quantity) → IsPlain sums first → IsPlain sums second → IsPlain (with_item (Amount first) sums) second
 plain-next sums first second one two =
     let unit = unit_in (units sums.mark) first.letter in
     let has = ap (λ (mark : Bool). is_some (unit_in (units mark) second.letter)) (amount-mark unit first sums) ∙ two.4 in
     (two.0, two.1, two.2, amount-fraction unit first sums one.2 one.3, has)
 
--- nor does it whether both fit
+-- nor does it depend on it whether both fit
 fits-exchanged : (sums : Sums) (first second : Quantity) → (fits sums first && fits (with_item (Amount first) sums) second) ≡ true
     → (fits sums second && fits (with_item (Amount second) sums) first) ≡ true
 fits-exchanged sums first second both =
@@ -276,38 +289,55 @@ fits-exchanged sums first second both =
     let few_seconds : nat_le front.second 4294967295 ≡ true = grind (arith, nat_tests, grows.1, second_sum) in
     and_from _ _ (and_from _ _ two.0 (and_from _ _ few_days few_seconds)) (and_from _ _ one.0 (and_from _ _ day second_sum))
 
--- where they do not, the answer is that fault in either order
+-- where both fit, the answer is the answer to what follows them
+pair-with : (positive : Bool) (sums : Sums) (first second : Quantity) (rest : List ℕ) (answer : Answer)
+    → (fits sums first && fits (with_item (Amount first) sums) second) ≡ true → IsPlain sums first → IsPlain sums second
+    → IsAnswerFrom positive (with_item (Amount second) (with_item (Amount first) sums)) rest answer
+    → IsAnswerFrom positive sums (item_text (Amount first) ++ (item_text (Amount second) ++ rest)) answer
+pair-with positive sums first second rest answer both one two from =
+    let next = with_item (Amount first) sums in
+    let tests = and_parts (fits sums first) _ both in
+    let good = plain-good next second (plain-next sums first second one two) tests.1 in
+    answer-with positive sums (Amount first) (item_text (Amount second) ++ rest) answer one.0 (plain-good sums first one tests.0)
+    (answer-with positive next (Amount second) rest answer two.0 good from)
+
+pair-without : (positive : Bool) (sums : Sums) (first second : Quantity) (rest : List ℕ) (answer : Answer)
+    → (fits sums first && fits (with_item (Amount first) sums) second) ≡ true → IsPlain sums first → IsPlain sums second
+    → IsAnswerFrom positive sums (item_text (Amount first) ++ (item_text (Amount second) ++ rest)) answer
+    → IsAnswerFrom positive (with_item (Amount second) (with_item (Amount first) sums)) rest answer
+pair-without positive sums first second rest answer both one two from =
+    let next = with_item (Amount first) sums in
+    let tests = and_parts (fits sums first) _ both in
+    let good = plain-good next second (plain-next sums first second one two) tests.1 in
+    answer-without positive next (Amount second) rest answer two.0 good
+    (answer-without positive sums (Amount first) (item_text (Amount second) ++ rest) answer one.0 (plain-good sums first one tests.0) from)
+
+-- where one does not, the answer is its fault
 pair-large : (positive : Bool) (sums : Sums) (first second : Quantity) (rest : List ℕ) (test : Bool) → fits sums first ≡ test
     → (test && fits (with_item (Amount first) sums) second) ≡ false → IsPlain sums first → IsPlain sums second
     → IsAnswerFrom positive sums (item_text (Amount first) ++ (item_text (Amount second) ++ rest)) (Err fault.DurationValueTooLarge)
 pair-large positive sums first second rest false fit both one two = answer-large positive sums first (item_text (Amount second) ++ rest) one fit
 pair-large positive sums first second rest true fit both one two =
     answer-with positive sums (Amount first) (item_text (Amount second) ++ rest) (Err fault.DurationValueTooLarge) one.0 (plain-good sums first one fit)
-        (answer-large positive (with_item (Amount first) sums) second rest (plain-next sums first second one two) both)
+    (answer-large positive (with_item (Amount first) sums) second rest (plain-next sums first second one two) both)
 
+-- either way the order does not count
 exchanged : (positive : Bool) (sums : Sums) (first second : Quantity) (rest : List ℕ) (answer : Answer) (there back : Bool)
     → (fits sums first && fits (with_item (Amount first) sums) second) ≡ there → (fits sums second && fits (with_item (Amount second) sums) first) ≡ back
     → IsPlain sums first → IsPlain sums second
     → IsAnswerFrom positive sums (item_text (Amount first) ++ (item_text (Amount second) ++ rest)) answer
     → IsAnswerFrom positive sums (item_text (Amount second) ++ (item_text (Amount first) ++ rest)) answer
 exchanged positive sums first second rest answer true back both turned one two from =
-    let forth = and_parts (fits sums first) _ both in
-    let tests = and_parts (fits sums second) _ (fits-exchanged sums first second both) in
-    let behind_first = answer-without positive sums (Amount first) (item_text (Amount second) ++ rest) answer one.0 (plain-good sums first one forth.0) from in
-    let second_good = plain-good (with_item (Amount first) sums) second (plain-next sums first second one two) forth.1 in
-    let behind = answer-without positive (with_item (Amount first) sums) (Amount second) rest answer two.0 second_good behind_first in
+    let behind = pair-without positive sums first second rest answer both one two from in
     let moved = subst (λ (sums : Sums). IsAnswerFrom positive sums rest answer) (amounts-exchanged first second sums) behind in
-    let first_good = plain-good (with_item (Amount second) sums) first (plain-next sums second first two one) tests.1 in
-    let with_first = answer-with positive (with_item (Amount second) sums) (Amount first) rest answer one.0 first_good moved in
-    answer-with positive sums (Amount second) (item_text (Amount first) ++ rest) answer two.0 (plain-good sums second two tests.0) with_first
+    pair-with positive sums second first rest answer (fits-exchanged sums first second both) two one moved
 exchanged positive sums first second rest answer false true both turned one two from = absurd (false≢true (sym both ∙ fits-exchanged sums second first turned))
 exchanged positive sums first second rest answer false false both turned one two from =
-    let large = pair-large positive sums first second rest (fits sums first) refl both one two in
-    let same = answer-only positive sums _ _ _ large from in
+    let same = answer-only positive sums _ _ _ (pair-large positive sums first second rest (fits sums first) refl both one two) from in
     subst (λ (answer : Answer). IsAnswerFrom positive sums (item_text (Amount second) ++ (item_text (Amount first) ++ rest)) answer) same
-        (pair-large positive sums second first rest (fits sums second) refl turned two one)
+    (pair-large positive sums second first rest (fits sums second) refl turned two one)
 
--- two neighbouring quantities of one side, both without a fraction, can be exchanged
+-- two neighbouring quantities of one side, both without a fraction, can be exchanged, also where one of them is refused
 pub answer-exchanged : (positive : Bool) (sums : Sums) (first second : Quantity) (rest : List ℕ) (answer : Answer) → IsPlain sums first → IsPlain sums second
     → IsAnswerFrom positive sums (item_text (Amount first) ++ item_text (Amount second) ++ rest) answer
     → IsAnswerFrom positive sums (item_text (Amount second) ++ item_text (Amount first) ++ rest) answer
@@ -316,4 +346,20 @@ answer-exchanged positive sums first second rest answer one two from =
     let turned = append_assoc (item_text (Amount second)) (item_text (Amount first)) rest in
     let nested = subst (λ (text : List ℕ). IsAnswerFrom positive sums text answer) text from in
     subst (λ (text : List ℕ). IsAnswerFrom positive sums text answer) (sym turned)
-        (exchanged positive sums first second rest answer _ _ refl refl one two nested)
+    (exchanged positive sums first second rest answer _ _ refl refl one two nested)
+
+-- wherever they stand behind good items
+pub answer-exchanged_behind : (positive : Bool) (sums : Sums) (items : List Item) (first second : Quantity) (rest : List ℕ) (answer : Answer)
+    → AreGood sums items → IsPlain (with_items items sums) first → IsPlain (with_items items sums) second
+    → IsAnswerFrom positive sums (flat_map item_text items ++ (item_text (Amount first) ++ item_text (Amount second) ++ rest)) answer
+    → IsAnswerFrom positive sums (flat_map item_text items ++ (item_text (Amount second) ++ item_text (Amount first) ++ rest)) answer
+answer-exchanged_behind positive sums [] first second rest answer good one two from = answer-exchanged positive sums first second rest answer one two from
+answer-exchanged_behind positive sums (item ∷ items) first second rest answer good one two from =
+    let text = item_text (Amount first) ++ item_text (Amount second) ++ rest in
+    let turned = item_text (Amount second) ++ item_text (Amount first) ++ rest in
+    let joined = append_assoc (item_text item) (flat_map item_text items) text in
+    let behind = answer-without positive sums item (flat_map item_text items ++ text) answer good.0 good.1
+    (subst (λ (text : List ℕ). IsAnswerFrom positive sums text answer) joined from) in
+    let next = answer-exchanged_behind positive (with_item item sums) items first second rest answer good.2 one two behind in
+    subst (λ (text : List ℕ). IsAnswerFrom positive sums text answer) (sym (append_assoc (item_text item) (flat_map item_text items) turned))
+    (answer-with positive sums item (flat_map item_text items ++ turned) answer good.0 good.1 next)
