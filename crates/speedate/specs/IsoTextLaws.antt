@@ -1,5 +1,5 @@
 -- The text by which a duration is printed is read as the duration.
-use Rattle.std.specs.Prelude.{◌≡◌, ℕ, suc, ◌+◌, ◌-◌, ◌*◌, ◌/◌, ◌%◌, ◌^◌, ◌<◌, ◌≤◌, Bool, true, false, not, ◌&&◌, ◌==◌, nat_lt, nat_le, if◌then◌else◌, List, [], ◌∷◌, ◌++◌, length, drop, Some, pos, unsigned_abs, Result, Ok, codes, refl}
+use Rattle.std.specs.Prelude.{◌≡◌, ℕ, ◌+◌, ◌-◌, ◌*◌, ◌/◌, ◌%◌, ◌^◌, ◌<◌, ◌≤◌, Bool, true, false, not, ◌&&◌, ◌==◌, nat_lt, nat_le, if◌then◌else◌, List, [], ◌∷◌, ◌++◌, length, drop, Some, pos, unsigned_abs, Result, Ok, codes, refl}
 use Rattle.std.specs.Char.{is_ascii_digit}
 use Rattle.std.specs.Fmt.{decimal}
 use Rattle.std.specs.List.{list_all, flat_map}
@@ -27,25 +27,29 @@ use Rattle.speedate_base.specs.Offset.{seconds_per_day}
 use Rattle.speedate.specs.DurationForm.{IsFormAnswer, IsDurationAnswer}
 use Rattle.speedate.specs.DurationLaws.{normal_form-same}
 use Rattle.speedate.specs.DurationNumbers.{DurationNumbers, IsDuration}
-use Rattle.speedate.specs.DurationText.{counted_text, kept_digit, without_last_zeros, short_fraction_text, seconds_text, hours_text, days_text, start_text, rest_text, is_whole_days, duration_text}
-use Rattle.speedate.specs.IsoForm.{DurationUnit, unit, units, unit_in, Quantity, Item, Mark, Amount, item_text, IsFraction, Sums, no_sums, unit_seconds, fraction_seconds, fraction_microseconds, with_amount, with_quantity, with_item, with_items, AreGood, Ends, sums_numbers, IsIsoAnswer}
+use Rattle.speedate.specs.DurationText.{counted_text, kept_digit, without_last_zeros, short_fraction_text, hours_text, days_text, start_text, rest_text, is_whole_days, duration_text}
+use Rattle.speedate.specs.IsoForm.{DurationUnit, unit, units, unit_in, Quantity, Item, Mark, Amount, item_text, IsFraction, Sums, no_sums, unit_seconds, fraction_seconds, fraction_microseconds, with_quantity, with_item, with_items, AreGood, Ends, sums_numbers, IsIsoAnswer}
 
 -- a number without leading zeros is digits that spell it
-digits_test : IsDigitsTest (λ (digits : List ℕ). list_all is_ascii_digit digits ≡ true)
+abbrev AreDigits : List ℕ → Type 0
+AreDigits digits = list_all is_ascii_digit digits ≡ true
+
+digits_test : IsDigitsTest AreDigits
 digits_test = record {
   empty = refl;
   parts = λ c cs all. let tests = and_parts (is_ascii_digit c) _ all in (grind (arith, nat_tests, tests.0), tests.1);
   more = λ c cs range all. and_from _ _ (grind (arith, nat_tests, range)) all;
 }
 
-digits_model : IsNumeralModel (λ (digits : List ℕ). list_all is_ascii_digit digits ≡ true) digits_value
-digits_model = numerals_by_weight (λ (digits : List ℕ). list_all is_ascii_digit digits ≡ true) digits_test digits_value (record { empty = refl; more = λ c cs range. refl })
+digits_model : IsNumeralModel AreDigits digits_value
+digits_model = numerals_by_weight AreDigits digits_test digits_value (record { empty = refl; more = λ c cs range. refl })
 
--- zeros at the end of digits leave them as they were as a fraction
+-- one more digit in front of two fractions of one worth
 more-worth : (value kept whole few few_more many many_more : ℕ) → few_more ≡ 10 * few → many_more ≡ 10 * many → kept * many ≡ whole * few
     → (value * few + kept) * many_more ≡ (value * many + whole) * few_more
 more-worth value kept whole few few_more many many_more few_is many_is same = rw (few_is, many_is) (grind (arith, same))
 
+-- zeros at the end of a fraction's digits do not change its worth
 kept-worth : (digit : ℕ) (test : Bool) (kept digits : List ℕ) → (digit == digit_zero) ≡ test
     → digits_value kept * 10 ^ length digits ≡ digits_value digits * 10 ^ length kept
     → digits_value (kept_digit digit kept) * 10 ^ length (digit ∷ digits) ≡ digits_value (digit ∷ digits) * 10 ^ length (kept_digit digit kept)
@@ -64,12 +68,12 @@ without-worth (digit ∷ digits) =
 
 -- what stays of digits is digits
 kept-digits : (digit : ℕ) (test : Bool) (kept : List ℕ) → (digit == digit_zero) ≡ test → is_ascii_digit digit ≡ true
-    → list_all is_ascii_digit kept ≡ true → list_all is_ascii_digit (kept_digit digit kept) ≡ true
+    → AreDigits kept → AreDigits (kept_digit digit kept)
 kept-digits digit true [] is one all = rw is refl
 kept-digits digit false [] is one all = rw is (and_from _ _ one refl)
 kept-digits digit test (next ∷ kept) is one all = and_from _ _ one all
 
-without-digits : (digits : List ℕ) → list_all is_ascii_digit digits ≡ true → list_all is_ascii_digit (without_last_zeros digits) ≡ true
+without-digits : (digits : List ℕ) → AreDigits digits → AreDigits (without_last_zeros digits)
 without-digits [] all = refl
 without-digits (digit ∷ digits) all =
     let tests = and_parts (is_ascii_digit digit) _ all in
@@ -85,12 +89,12 @@ no-microseconds unit =
     rw (none, no-seconds unit) refl
 
 -- digits that are so many millionths, as a fraction of a second
-second-seconds : (digits : List ℕ) → list_all is_ascii_digit digits ≡ true → fraction_seconds (unit capital_s 0 1) digits ≡ 0
+second-seconds : (digits : List ℕ) → AreDigits digits → fraction_seconds (unit capital_s 0 1) digits ≡ 0
 second-seconds digits all =
     let once : digits_value digits * 1 ≡ digits_value digits = omega arith in
     rw once (div-eq_of_lt (digits_value-lt digits all))
 
-second-microseconds : (digits : List ℕ) (microsecond : ℕ) → list_all is_ascii_digit digits ≡ true
+second-microseconds : (digits : List ℕ) (microsecond : ℕ) → AreDigits digits
     → digits_value digits * 1000000 ≡ microsecond * 10 ^ length digits → fraction_microseconds (unit capital_s 0 1) digits ≡ microsecond
 second-microseconds digits microsecond all same =
     let scale = 10 ^ length digits in
@@ -104,16 +108,17 @@ abbrev pub Leads : Sums → List ℕ → Sums → Type 0
 Leads before text after =
     (items : List Item) × (flat_map item_text items ≡ text) × AreGood before items × (with_items items before ≡ after)
 
-with_items-append : (items more : List Item) (sums : Sums) → with_items (items ++ more) sums ≡ with_items more (with_items items sums)
+pub with_items-append : (items more : List Item) (sums : Sums) → with_items (items ++ more) sums ≡ with_items more (with_items items sums)
 with_items-append [] more sums = refl
 with_items-append (item ∷ items) more sums = with_items-append items more (with_item item sums)
 
-AreGood-append : (items more : List Item) (sums : Sums) → AreGood sums items → AreGood (with_items items sums) more → AreGood sums (items ++ more)
+pub AreGood-append : (items more : List Item) (sums : Sums) → AreGood sums items → AreGood (with_items items sums) more → AreGood sums (items ++ more)
 AreGood-append [] more sums good next = next
 AreGood-append (item ∷ items) more sums good next = (good.0, good.1, AreGood-append items more (with_item item sums) good.2 next)
 
 -- texts lead on one after the other
-pub leads-append : (before between after : Sums) (text more : List ℕ) → Leads before text between → Leads between more after → Leads before (text ++ more) after
+pub leads-append : (before between after : Sums) (text more : List ℕ)
+    → Leads before text between → Leads between more after → Leads before (text ++ more) after
 leads-append before between after text more first second = (
   first.0 ++ second.0,
   flat_map-append item_text first.0 second.0 ∙ (λ i. first.1 i ++ second.1 i),
@@ -122,11 +127,31 @@ leads-append before between after text more first second = (
 )
 
 -- sums with no fraction so far
-abbrev pub whole_sums : Bool → Bool → ℕ → ℕ → Sums
+abbrev whole_sums : Bool → Bool → ℕ → ℕ → Sums
 whole_sums mark some day second = record { mark = mark; fraction = false; some = some; day = day; second = second; microsecond = 0 }
 
+-- sums whose last item is printed seconds
+abbrev clock_sums : Bool → ℕ → ℕ → ℕ → Sums
+clock_sums some day second microsecond = record {
+  mark = true;
+  fraction = nat_lt 0 (length (short_fraction_text microsecond));
+  some = some;
+  day = day;
+  second = second;
+  microsecond = microsecond;
+}
+
+-- so many of a unit of one side bring days and seconds to others, all of which fit
+record Adds (unit : DurationUnit) (mark : Bool) (number day second days seconds : ℕ) : Type 0 where
+  found : unit_in (units mark) unit.letter ≡ Some unit
+  day_sum : day + number * unit.day ≡ days
+  second_sum : second + number * unit.second ≡ seconds
+  few : number ≤ 4294967295
+  few_days : days ≤ 4294967295
+  few_seconds : seconds ≤ 4294967295
+
 -- a fraction of a unit is less than a second, and is so many microseconds
-abbrev pub IsMicroseconds : DurationUnit → List ℕ → ℕ → Type 0
+abbrev IsMicroseconds : DurationUnit → List ℕ → ℕ → Type 0
 IsMicroseconds unit fraction microsecond =
     IsFraction fraction × (fraction_seconds unit (drop 1 fraction) ≡ 0) × (fraction_microseconds unit (drop 1 fraction) ≡ microsecond)
 
@@ -134,74 +159,72 @@ no-fraction : (unit : DurationUnit) → IsMicroseconds unit [] 0
 no-fraction unit = (tt, no-seconds unit, no-microseconds unit)
 
 -- a number, its fraction and its unit lead to the sums with so many of the unit
-amount-leads : (unit : DurationUnit) (number day days second seconds microsecond : ℕ) (fraction : List ℕ) (mark some : Bool)
-    → unit_in (units mark) unit.letter ≡ Some unit → IsMicroseconds unit fraction microsecond → number ≤ 4294967295
-    → day + number * unit.day ≡ days → second + number * unit.second ≡ seconds → days ≤ 4294967295 → seconds ≤ 4294967295
+amount-leads : (unit : DurationUnit) (mark some : Bool) (number day second days seconds microsecond : ℕ) (fraction : List ℕ)
+    → Adds unit mark number day second days seconds → IsMicroseconds unit fraction microsecond
     → Leads (whole_sums mark some day second) (decimal number ++ fraction ++ unit.letter ∷ [])
     (record { mark = mark; fraction = nat_lt 0 (length fraction); some = true; day = days; second = seconds; microsecond = microsecond })
-amount-leads unit number day days second seconds microsecond fraction mark some found means small day_sum second_sum few_days few_seconds =
+amount-leads unit mark some number day second days seconds microsecond fraction adds means =
     let sums = whole_sums mark some day second in
     let quantity : Quantity = record { number = decimal number; fraction = fraction; letter = unit.letter } in
-    let fits : number < 2 ^ 64 = omega (arith, small) in
-    let spelled = digits_value-decimal digits_model number fits in
+    let small : number < 2 ^ 64 = omega (arith, adds.few) in
+    let spelled = digits_value-decimal digits_model number small in
+    let fits : digits_value (decimal number) ≤ 4294967295 = omega (arith, spelled, adds.few) in
     let day_is : day + digits_value (decimal number) * unit.day + fraction_seconds unit (drop 1 fraction) / seconds_per_day ≡ days =
-    rw (spelled, means.1, day_sum) (omega arith) in
+    rw (spelled, means.1, adds.day_sum) (omega arith) in
     let second_is : second + digits_value (decimal number) * unit.second + fraction_seconds unit (drop 1 fraction) % seconds_per_day ≡ seconds =
-    rw (spelled, means.1, second_sum) (omega arith) in
+    rw (spelled, means.1, adds.second_sum) (omega arith) in
     let microsecond_is : 0 + fraction_microseconds unit (drop 1 fraction) ≡ microsecond = omega (arith, means.2) in
-    let after = ap (λ one. with_quantity one quantity sums) found
+    let sum = ap (λ one. with_quantity one quantity sums) adds.found
     ∙ (λ i. record { mark = mark; fraction = nat_lt 0 (length fraction); some = true; day = day_is i; second = second_is i; microsecond = microsecond_is i }) in
-    let fit = ap (λ (sums : Sums). nat_le sums.day 4294967295 && nat_le sums.second 4294967295) after
-    ∙ and_from _ _ (le-leb days 4294967295 few_days) (le-leb seconds 4294967295 few_seconds) in
-    let number_fits : digits_value (decimal number) ≤ 4294967295 = omega (arith, spelled, small) in (
+    let sum_fits = ap (λ (sums : Sums). nat_le sums.day 4294967295 && nat_le sums.second 4294967295) sum
+    ∙ and_from _ _ (le-leb days 4294967295 adds.few_days) (le-leb seconds 4294967295 adds.few_seconds) in
+    let some_digits = lt-ltb 0 (length (decimal number)) (decimal_nonempty number small) in (
       Amount quantity ∷ [],
-      append-nil (decimal number ++ fraction ++ unit.letter ∷ []),
+      append-nil (item_text (Amount quantity)),
       (
-        (digits_decimal digits_model number fits, means.0),
-        (lt-ltb 0 (length (decimal number)) (decimal_nonempty number fits), (le-leb _ 4294967295 number_fits, (refl, (ap is_some found, (fit, tt))))),
+        (digits_decimal digits_model number small, means.0),
+        (some_digits, (le-leb _ 4294967295 fits, (refl, (ap is_some adds.found, (sum_fits, tt))))),
         tt,
       ),
-      after,
+      sum,
     )
 
 -- so do a number and its unit
-whole-leads : (unit : DurationUnit) (number day days second seconds : ℕ) (mark some : Bool)
-    → unit_in (units mark) unit.letter ≡ Some unit → number ≤ 4294967295
-    → day + number * unit.day ≡ days → second + number * unit.second ≡ seconds → days ≤ 4294967295 → seconds ≤ 4294967295
+whole-leads : (unit : DurationUnit) (mark some : Bool) (number day second days seconds : ℕ) → Adds unit mark number day second days seconds
     → Leads (whole_sums mark some day second) (decimal number ++ unit.letter ∷ []) (whole_sums mark true days seconds)
-whole-leads unit number day days second seconds mark some found small day_sum second_sum few_days few_seconds =
-    subst (λ (text : List ℕ). Leads (whole_sums mark some day second) (text ++ unit.letter ∷ []) (whole_sums mark true days seconds)) (append-nil (decimal number))
-    (amount-leads unit number day days second seconds 0 [] mark some found (no-fraction unit) small day_sum second_sum few_days few_seconds)
+whole-leads unit mark some number day second days seconds adds =
+    subst (λ (digits : List ℕ). Leads (whole_sums mark some day second) (digits ++ unit.letter ∷ []) (whole_sums mark true days seconds))
+    (append-nil (decimal number))
+    (amount-leads unit mark some number day second days seconds 0 [] adds (no-fraction unit))
 
 -- and where there is nothing for none
-counted-of : (unit : DurationUnit) (number day days second seconds : ℕ) (mark some none : Bool) → (number == 0) ≡ none
-    → unit_in (units mark) unit.letter ≡ Some unit → number ≤ 4294967295
-    → day + number * unit.day ≡ days → second + number * unit.second ≡ seconds → days ≤ 4294967295 → seconds ≤ 4294967295
-    → Leads (whole_sums mark some day second) (if none then [] else decimal number ++ unit.letter ∷ []) (whole_sums mark (if none then some else true) days seconds)
-counted-of unit number day days second seconds mark some true none found small day_sum second_sum few_days few_seconds =
+counted-of : (unit : DurationUnit) (mark some none : Bool) (number day second days seconds : ℕ)
+    → (number == 0) ≡ none → Adds unit mark number day second days seconds
+    → Leads (whole_sums mark some day second) (if none then [] else decimal number ++ unit.letter ∷ [])
+    (whole_sums mark (if none then some else true) days seconds)
+counted-of unit mark some true number day second days seconds none adds =
     let zero_is = eqb-true number 0 none in
-    let day_is : day ≡ days = grind (arith, zero_is, day_sum) in
-    let second_is : second ≡ seconds = grind (arith, zero_is, second_sum) in
+    let day_is : day ≡ days = grind (arith, zero_is, adds.day_sum) in
+    let second_is : second ≡ seconds = grind (arith, zero_is, adds.second_sum) in
     ([], refl, tt, λ i. whole_sums mark some (day_is i) (second_is i))
-counted-of unit number day days second seconds mark some false other found small day_sum second_sum few_days few_seconds =
-    whole-leads unit number day days second seconds mark some found small day_sum second_sum few_days few_seconds
+counted-of unit mark some false number day second days seconds other adds = whole-leads unit mark some number day second days seconds adds
 
-counted-leads : (unit : DurationUnit) (number day days second seconds : ℕ) (mark some : Bool)
-    → unit_in (units mark) unit.letter ≡ Some unit → number ≤ 4294967295
-    → day + number * unit.day ≡ days → second + number * unit.second ≡ seconds → days ≤ 4294967295 → seconds ≤ 4294967295
+counted-leads : (unit : DurationUnit) (mark some : Bool) (number day second days seconds : ℕ) → Adds unit mark number day second days seconds
     → Leads (whole_sums mark some day second) (counted_text number unit.letter) (whole_sums mark (if number == 0 then some else true) days seconds)
-counted-leads unit number day days second seconds mark some = counted-of unit number day days second seconds mark some (number == 0) refl
+counted-leads unit mark some number day second days seconds = counted-of unit mark some (number == 0) number day second days seconds refl
 
--- a `T` leads to the time's side
+-- a `T` leads to the other side
 mark-leads : (some : Bool) (day second : ℕ) → Leads (whole_sums false some day second) (capital_t ∷ []) (whole_sums true some day second)
 mark-leads some day second = (Mark ∷ [], refl, (tt, (refl, tt), tt), refl)
 
 -- no seconds at all
 zero-leads : (some : Bool) (day : ℕ) → day ≤ 4294967295 → Leads (whole_sums false some day 0) (codes "T0S") (whole_sums true true day 0)
 zero-leads some day few =
-    let none : 0 ≤ 4294967295 = omega arith in
-    subst (λ (digits : List ℕ). Leads (whole_sums false some day 0) (capital_t ∷ digits ++ capital_s ∷ []) (whole_sums true true day 0)) (decimal_digit 0 (lit< tt))
-    (leads-append _ _ _ (capital_t ∷ []) _ (mark-leads some day 0) (whole-leads (unit capital_s 0 1) 0 day day 0 0 true some refl none (omega arith) refl few none))
+    let adds : Adds (unit capital_s 0 1) true 0 day 0 day 0 =
+    record { found = refl; day_sum = omega arith; second_sum = refl; few = omega arith; few_days = few; few_seconds = omega arith } in
+    subst (λ (digits : List ℕ). Leads (whole_sums false some day 0) (capital_t ∷ digits ++ capital_s ∷ []) (whole_sums true true day 0))
+    (decimal_digit 0 (lit< tt))
+    (leads-append _ _ _ (capital_t ∷ []) _ (mark-leads some day 0) (whole-leads (unit capital_s 0 1) true some 0 day 0 day 0 adds))
 
 -- the printed fraction of a second is its microseconds
 fraction-of : (microsecond : ℕ) (none : Bool) → (microsecond == 0) ≡ none → microsecond < 1000000
@@ -215,75 +238,69 @@ fraction-of microsecond false other small =
     let worth = without-worth (six_digit_text microsecond) ∙ ap (λ (n : ℕ). n * 10 ^ length digits) spelled in
     ((refl, all), second-seconds digits all, second-microseconds digits microsecond all worth)
 
--- seconds with their fraction
-seconds-of : (number microsecond day second seconds : ℕ) (some none : Bool) → ((number == 0) && (microsecond == 0)) ≡ none
-    → number ≤ 4294967295 → microsecond < 1000000 → second + number ≡ seconds → day ≤ 4294967295 → seconds ≤ 4294967295
+-- seconds with their fraction lead to what they add up to
+seconds-of : (some none : Bool) (number microsecond day second seconds : ℕ) → ((number == 0) && (microsecond == 0)) ≡ none
+    → microsecond < 1000000 → Adds (unit capital_s 0 1) true number day second day seconds
     → Leads (whole_sums true some day second) (if none then [] else decimal number ++ short_fraction_text microsecond ++ capital_s ∷ [])
-    (record { mark = true; fraction = nat_lt 0 (length (short_fraction_text microsecond)); some = if none then some else true; day = day; second = seconds; microsecond = microsecond })
-seconds-of number microsecond day second seconds some true none small few sum few_days few_seconds =
+    (clock_sums (if none then some else true) day seconds microsecond)
+seconds-of some true number microsecond day second seconds none small adds =
     let tests = and_parts (number == 0) (microsecond == 0) none in
-    let number_is = eqb-true number 0 tests.0 in
+    let second_is : second ≡ seconds = omega (arith, eqb-true number 0 tests.0, adds.second_sum) in
     let microsecond_is = sym (eqb-true microsecond 0 tests.1) in
-    let second_is : second ≡ seconds = omega (arith, number_is, sum) in (
-      [],
-      refl,
-      tt,
-      λ i. record {
-        mark = true;
-        fraction = nat_lt 0 (length (short_fraction_text (microsecond_is i)));
-        some = some;
-        day = day;
-        second = second_is i;
-        microsecond = microsecond_is i;
-      },
-    )
-seconds-of number microsecond day second seconds some false other small few sum few_days few_seconds =
-    amount-leads (unit capital_s 0 1) number day day second seconds microsecond (short_fraction_text microsecond) true some refl
-    (fraction-of microsecond (microsecond == 0) refl few) small (omega arith) (omega (arith, sum)) few_days few_seconds
+    ([], refl, tt, λ i. clock_sums some day (second_is i) (microsecond_is i))
+seconds-of some false number microsecond day second seconds other small adds =
+    amount-leads (unit capital_s 0 1) true some number day second day seconds microsecond (short_fraction_text microsecond) adds
+    (fraction-of microsecond (microsecond == 0) refl small)
 
--- years and days
+-- there are years or days exactly if there are days
 days-some : (day : ℕ) → (if day % 365 == 0 then (if day / 365 == 0 then false else true) else true) ≡ not (day == 0)
 days-some day = grind (arith, nat_tests)
 
+-- years and days lead to the days
 days-leads : (day : ℕ) → day ≤ 999999999
     → Leads no_sums (counted_text (day / 365) capital_y ++ counted_text (day % 365) capital_d) (whole_sums false (not (day == 0)) day 0)
 days-leads day few =
+    let text = counted_text (day / 365) capital_y ++ counted_text (day % 365) capital_d in
     let years = day / 365 * 365 in
-    let none : 0 ≤ 4294967295 = omega arith in
-    let first = counted-leads (unit capital_y 365 0) (day / 365) 0 years 0 0 false false refl (omega (arith, few)) (omega arith) (omega arith) (omega (arith, few)) none in
-    let second = counted-leads (unit capital_d 1 0) (day % 365) years day 0 0 false _ refl (omega arith) (omega arith) (omega arith) (omega (arith, few)) none in
-    subst (λ (some : Bool). Leads no_sums (counted_text (day / 365) capital_y ++ counted_text (day % 365) capital_d) (whole_sums false some day 0)) (days-some day)
-    (leads-append no_sums _ _ _ _ first second)
+    let few_years : day / 365 ≤ 4294967295 = omega (arith, few) in
+    let years_add : Adds (unit capital_y 365 0) false (day / 365) 0 0 years 0 =
+    record { found = refl; day_sum = omega arith; second_sum = omega arith; few = few_years; few_days = omega (arith, few); few_seconds = omega arith } in
+    let days_add : Adds (unit capital_d 1 0) false (day % 365) years 0 day 0 =
+    record { found = refl; day_sum = omega arith; second_sum = omega arith; few = omega arith; few_days = omega (arith, few); few_seconds = omega arith } in
+    subst (λ (some : Bool). Leads no_sums text (whole_sums false some day 0)) (days-some day)
+    (leads-append no_sums _ _ _ _
+    (counted-leads (unit capital_y 365 0) false false (day / 365) 0 0 years 0 years_add)
+    (counted-leads (unit capital_d 1 0) false _ (day % 365) years 0 day 0 days_add))
 
--- hours, minutes and seconds
+-- there are hours, minutes or seconds where there is something behind the days
 hours-some : (second microsecond : ℕ) (some : Bool) → ((second == 0) && (microsecond == 0)) ≡ false
     → (if (second % 60 == 0) && (microsecond == 0) then (if second / 60 % 60 == 0 then (if second / 3600 == 0 then some else true) else true) else true) ≡ true
 hours-some second microsecond some other = grind (arith, nat_tests)
 
+-- hours, minutes and seconds lead to the seconds and microseconds
 hours-leads : (numbers : DurationNumbers) (some : Bool) → IsDuration numbers → is_whole_days numbers ≡ false
-    → Leads (whole_sums true some numbers.day 0) (hours_text numbers)
-    (record { mark = true; fraction = nat_lt 0 (length (short_fraction_text numbers.microsecond)); some = true; day = numbers.day; second = numbers.second; microsecond = numbers.microsecond })
+    → Leads (whole_sums true some numbers.day 0) (hours_text numbers) (clock_sums true numbers.day numbers.second numbers.microsecond)
 hours-leads numbers some valid other =
+    let day = numbers.day in
     let hours = numbers.second / 3600 * 3600 in
     let minutes = hours + numbers.second / 60 % 60 * 60 in
-    let few_days : numbers.day ≤ 4294967295 = omega (arith, valid.day) in
-    let few_minutes : minutes ≤ 4294967295 = omega (arith, valid.second) in
-    let few_seconds : numbers.second ≤ 4294967295 = omega (arith, valid.second) in
-    let few_last : numbers.second % 60 ≤ 4294967295 = omega arith in
-    let sum : minutes + numbers.second % 60 ≡ numbers.second = omega arith in
-    let first = counted-leads (unit capital_h 0 3600) (numbers.second / 3600) numbers.day numbers.day 0 hours true some refl
-    (omega (arith, valid.second)) (omega arith) (omega arith) few_days (omega (arith, valid.second)) in
-    let second = counted-leads (unit capital_m 0 60) (numbers.second / 60 % 60) numbers.day numbers.day hours minutes true _ refl
-    (omega arith) (omega arith) (omega arith) few_days few_minutes in
-    let third = seconds-of (numbers.second % 60) numbers.microsecond numbers.day minutes numbers.second _ _ refl
-    few_last valid.microsecond sum few_days few_seconds in
-    subst
-    (λ (some_last : Bool). Leads (whole_sums true some numbers.day 0) (hours_text numbers)
-    (record { mark = true; fraction = nat_lt 0 (length (short_fraction_text numbers.microsecond)); some = some_last; day = numbers.day; second = numbers.second; microsecond = numbers.microsecond }))
+    let few : day ≤ 4294967295 = omega (arith, valid.day) in
+    let few_hours : numbers.second / 3600 ≤ 4294967295 = omega (arith, valid.second) in
+    let hours_add : Adds (unit capital_h 0 3600) true (numbers.second / 3600) day 0 day hours =
+    record { found = refl; day_sum = omega arith; second_sum = omega arith; few = few_hours; few_days = few; few_seconds = omega (arith, valid.second) } in
+    let minutes_add : Adds (unit capital_m 0 60) true (numbers.second / 60 % 60) day hours day minutes =
+    record { found = refl; day_sum = omega arith; second_sum = omega arith; few = omega arith; few_days = few; few_seconds = omega (arith, valid.second) } in
+    let seconds_add : Adds (unit capital_s 0 1) true (numbers.second % 60) day minutes day numbers.second =
+    record { found = refl; day_sum = omega arith; second_sum = omega arith; few = omega arith; few_days = few; few_seconds = omega (arith, valid.second) } in
+    subst (λ (last : Bool). Leads (whole_sums true some day 0) (hours_text numbers) (clock_sums last day numbers.second numbers.microsecond))
     (hours-some numbers.second numbers.microsecond some other)
-    (leads-append _ _ _ _ _ (leads-append _ _ _ _ _ first second) third)
+    (leads-append _ _ _ _ _
+    (leads-append _ _ _ _ _
+    (counted-leads (unit capital_h 0 3600) true some (numbers.second / 3600) day 0 day hours hours_add)
+    (counted-leads (unit capital_m 0 60) true _ (numbers.second / 60 % 60) day hours day minutes minutes_add))
+    (seconds-of _ _ (numbers.second % 60) numbers.microsecond day minutes numbers.second refl valid.microsecond seconds_add))
 
--- what leads from no sums to those of a duration is answered by it
+-- a text that leads from no sums to those of a duration is answered by it
 leads-answer : (numbers : DurationNumbers) (text : List ℕ) (after : Sums) → Leads no_sums text after → after.some ≡ true
     → sums_numbers numbers.positive after ≡ numbers → IsIsoAnswer numbers.positive text (Ok numbers)
 leads-answer numbers text after leads some same = (
@@ -294,30 +311,36 @@ leads-answer numbers text after leads some same = (
   subst (λ (sums : Sums). Ends numbers.positive sums [] (Ok numbers)) (sym leads.3) (rw some (ap Ok (sym same))),
 )
 
+-- the sums of whole days
+whole-numbers : (numbers : DurationNumbers) → is_whole_days numbers ≡ true
+    → sums_numbers numbers.positive (whole_sums true true numbers.day 0) ≡ numbers
+whole-numbers numbers whole =
+    let tests = and_parts (numbers.second == 0) (numbers.microsecond == 0) whole in
+    let second_is = sym (eqb-true numbers.second 0 tests.0) in
+    let microsecond_is = sym (eqb-true numbers.microsecond 0 tests.1) in
+    λ i. record { positive = numbers.positive; day = numbers.day; second = second_is i; microsecond = microsecond_is i }
+
 -- what is printed behind the `P` is answered by the duration
 rest-answer : (numbers : DurationNumbers) (whole none : Bool) → IsDuration numbers → is_whole_days numbers ≡ whole → (numbers.day == 0) ≡ none
     → IsIsoAnswer numbers.positive (days_text numbers ++ (if whole then (if none then codes "T0S" else []) else capital_t ∷ hours_text numbers)) (Ok numbers)
 rest-answer numbers true true valid whole none =
-    let tests = and_parts (numbers.second == 0) (numbers.microsecond == 0) whole in
-    let second_is : 0 ≡ numbers.second = sym (eqb-true numbers.second 0 tests.0) in
-    let microsecond_is : 0 ≡ numbers.microsecond = sym (eqb-true numbers.microsecond 0 tests.1) in
     leads-answer numbers _ _
-    (leads-append no_sums _ _ _ _ (days-leads numbers.day valid.day) (zero-leads _ numbers.day (omega (arith, valid.day)))) refl
-    (λ i. record { positive = numbers.positive; day = numbers.day; second = second_is i; microsecond = microsecond_is i })
+    (leads-append no_sums _ _ _ _ (days-leads numbers.day valid.day) (zero-leads _ numbers.day (omega (arith, valid.day))))
+    refl (whole-numbers numbers whole)
 rest-answer numbers true false valid whole some =
-    let tests = and_parts (numbers.second == 0) (numbers.microsecond == 0) whole in
-    let second_is : 0 ≡ numbers.second = sym (eqb-true numbers.second 0 tests.0) in
-    let microsecond_is : 0 ≡ numbers.microsecond = sym (eqb-true numbers.microsecond 0 tests.1) in
-    leads-answer numbers _ _ (leads-append no_sums _ _ _ _ (days-leads numbers.day valid.day) ([], refl, tt, refl)) (ap not some)
-    (λ i. record { positive = numbers.positive; day = numbers.day; second = second_is i; microsecond = microsecond_is i })
+    leads-answer numbers _ _
+    (leads-append no_sums _ _ _ _ (days-leads numbers.day valid.day) ([], refl, tt, refl))
+    (ap not some) (whole-numbers numbers whole)
 rest-answer numbers false none valid other is =
     leads-answer numbers _ _
     (leads-append no_sums _ _ _ _ (days-leads numbers.day valid.day)
-    (leads-append _ _ _ (capital_t ∷ []) _ (mark-leads _ numbers.day 0) (hours-leads numbers _ valid other))) refl refl
+    (leads-append _ _ _ (capital_t ∷ []) _ (mark-leads _ numbers.day 0) (hours-leads numbers _ valid other)))
+    refl refl
 
--- behind `P`, and behind a sign
-start-answer : (behavior : MicrosecondsPrecisionOverflowBehavior) (positive : Bool) (text : List ℕ) (answer : Result DurationNumbers ParseError) → IsIsoAnswer positive text answer
-    → IsFormAnswer behavior (not (has_minus (start_text positive ++ text))) (drop (sign_length (start_text positive ++ text)) (start_text positive ++ text)) answer
+-- a `P` with a sign or without one stands for what is behind it
+start-answer : (behavior : MicrosecondsPrecisionOverflowBehavior) (positive : Bool) (text : List ℕ) (answer : Result DurationNumbers ParseError)
+    → IsIsoAnswer positive text answer
+    → let printed = start_text positive ++ text in IsFormAnswer behavior (not (has_minus printed)) (drop (sign_length printed) printed) answer
 start-answer behavior true text answer is = is
 start-answer behavior false text answer is = is
 
@@ -325,16 +348,18 @@ start-answer behavior false text answer is = is
 pub duration_text-reads : (behavior : MicrosecondsPrecisionOverflowBehavior) (numbers : DurationNumbers) → IsDuration numbers
     → IsDurationAnswer behavior (duration_text numbers) (Ok numbers)
 duration_text-reads behavior numbers valid =
-    let text = days_text numbers ++ rest_text numbers in
     let reads = rest-answer numbers (is_whole_days numbers) (numbers.day == 0) valid refl refl in
-    subst (λ (printed : List ℕ). IsDurationAnswer behavior printed (Ok numbers)) (sym (append_assoc (start_text numbers.positive) (days_text numbers) (rest_text numbers)))
-    (Ok numbers, start-answer behavior numbers.positive text (Ok numbers) reads, sym (normal_form-same numbers valid))
+    subst (λ (printed : List ℕ). IsDurationAnswer behavior printed (Ok numbers))
+    (sym (append_assoc (start_text numbers.positive) (days_text numbers) (rest_text numbers)))
+    (Ok numbers, start-answer behavior numbers.positive (days_text numbers ++ rest_text numbers) (Ok numbers) reads, sym (normal_form-same numbers valid))
 
 -- two durations with one text are one duration, where a text has one answer
 pub duration_text-distinct
-    : ((text : List ℕ) (one two : Result DurationNumbers ParseError) → IsDurationAnswer behavior.Error text one → IsDurationAnswer behavior.Error text two → one ≡ two)
+    : (only : (text : List ℕ) (one two : Result DurationNumbers ParseError) → IsDurationAnswer behavior.Error text one
+    → IsDurationAnswer behavior.Error text two → one ≡ two)
     → (first second : DurationNumbers) → IsDuration first → IsDuration second → duration_text first ≡ duration_text second → first ≡ second
 duration_text-distinct only first second one two same =
+    let reads = duration_text-reads behavior.Error first one in
     let other = subst (λ (text : List ℕ). IsDurationAnswer behavior.Error text (Ok second)) (sym same) (duration_text-reads behavior.Error second two) in
-    let joined = only (duration_text first) (Ok first) (Ok second) (duration_text-reads behavior.Error first one) other in
+    let joined = only (duration_text first) (Ok first) (Ok second) reads other in
     cc
