@@ -1,0 +1,365 @@
+-- The text by which a duration is printed is read as the duration.
+use Rattle.std.specs.Prelude.{◌≡◌, ℕ, ◌+◌, ◌-◌, ◌*◌, ◌/◌, ◌%◌, ◌^◌, ◌<◌, ◌≤◌, Bool, true, false, not, ◌&&◌, ◌==◌, nat_lt, nat_le, if◌then◌else◌, List, [], ◌∷◌, ◌++◌, length, drop, Some, pos, unsigned_abs, Result, Ok, codes, refl}
+use Rattle.std.specs.Char.{is_ascii_digit}
+use Rattle.std.specs.Fmt.{decimal}
+use Rattle.std.specs.List.{list_all, flat_map}
+use Rattle.std.specs.Option.{is_some}
+use Rattle.std.proofs.Common.{arith, ap, sym, ◌∙◌, subst, append_assoc, lit<}
+use Rattle.std.proofs.lemmas.Bool.{and_from, and_parts, eqb-true, lt-ltb, le-leb}
+use Rattle.std.proofs.lemmas.Bool.Decides.{nat_tests}
+use Rattle.std.proofs.lemmas.Fmt.{digits_decimal, digits_value-decimal, decimal_nonempty, decimal_digit}
+use Rattle.std.proofs.lemmas.Grind.{flat_map-append}
+use Rattle.std.proofs.lemmas.List.{append-nil}
+use Rattle.std.proofs.lemmas.Str.Parse.{IsDigitsTest, IsNumeralModel, numerals_by_weight}
+use Rattle.std.proofs.Math.Nat.{pow-succ', div-eq_of_lt}
+use Rattle.speedate_base.specs.declared.config.MicrosecondsPrecisionOverflowBehavior.{MicrosecondsPrecisionOverflowBehavior}
+use Rattle.speedate_base.specs.declared.config.MicrosecondsPrecisionOverflowBehavior.TheVariants as behavior
+use Rattle.speedate_base.specs.declared.faults.ParseError.{ParseError}
+use Rattle.speedate_base.specs.Ascii.{digit_zero, full_stop, capital_d, capital_h, capital_m, capital_s, capital_t, capital_y}
+use Rattle.speedate_base.specs.Digits.{digit_value, six_digit_text}
+use Rattle.speedate_base.specs.DigitLaws.{six_digits-printed}
+use Rattle.speedate_base.specs.DigitRuns.{digits_value}
+use Rattle.speedate_base.specs.DigitRunLaws.{digits_value-lt}
+use Rattle.speedate_base.specs.Nearest.{nearest}
+use Rattle.speedate_base.specs.NearestLaws.{nearest-exact, scale-some}
+use Rattle.speedate_base.specs.Numbers.{has_minus, sign_length}
+use Rattle.speedate_base.specs.Offset.{seconds_per_day}
+use Rattle.speedate.specs.DurationForm.{IsFormAnswer, IsDurationAnswer}
+use Rattle.speedate.specs.DurationLaws.{normal_form-same}
+use Rattle.speedate.specs.DurationNumbers.{DurationNumbers, IsDuration}
+use Rattle.speedate.specs.DurationText.{counted_text, kept_digit, without_last_zeros, short_fraction_text, hours_text, days_text, start_text, rest_text, is_whole_days, duration_text}
+use Rattle.speedate.specs.IsoForm.{DurationUnit, unit, units, unit_in, Quantity, Item, Mark, Amount, item_text, IsFraction, Sums, no_sums, unit_seconds, fraction_seconds, fraction_microseconds, with_quantity, with_item, with_items, AreGood, Ends, sums_numbers, IsIsoAnswer}
+
+-- a number without leading zeros is digits that spell it
+abbrev AreDigits : List ℕ → Type 0
+AreDigits digits = list_all is_ascii_digit digits ≡ true
+
+digits_test : IsDigitsTest AreDigits
+digits_test = record {
+  empty = refl;
+  parts = λ c cs all. let tests = and_parts (is_ascii_digit c) _ all in (grind (arith, nat_tests, tests.0), tests.1);
+  more = λ c cs range all. and_from _ _ (grind (arith, nat_tests, range)) all;
+}
+
+digits_model : IsNumeralModel AreDigits digits_value
+digits_model = numerals_by_weight AreDigits digits_test digits_value (record { empty = refl; more = λ c cs range. refl })
+
+-- one more digit in front of two fractions of one worth
+more-worth : (value kept whole few few_more many many_more : ℕ) → few_more ≡ 10 * few → many_more ≡ 10 * many → kept * many ≡ whole * few
+    → (value * few + kept) * many_more ≡ (value * many + whole) * few_more
+more-worth value kept whole few few_more many many_more few_is many_is same = rw (few_is, many_is) (grind (arith, same))
+
+-- zeros at the end of a fraction's digits do not change its worth
+kept-worth : (digit : ℕ) (test : Bool) (kept digits : List ℕ) → (digit == digit_zero) ≡ test
+    → digits_value kept * 10 ^ length digits ≡ digits_value digits * 10 ^ length kept
+    → digits_value (kept_digit digit kept) * 10 ^ length (digit ∷ digits) ≡ digits_value (digit ∷ digits) * 10 ^ length (kept_digit digit kept)
+kept-worth digit true [] digits is same = rw is (grind (arith, eqb-true digit digit_zero is, same))
+kept-worth digit false [] digits is same =
+    rw is (more-worth (digit_value digit) 0 (digits_value digits) 1 10 (10 ^ length digits) _ refl (pow-succ' 10 (length digits)) same)
+kept-worth digit test (next ∷ kept) digits is same =
+    more-worth (digit_value digit) (digits_value (next ∷ kept)) (digits_value digits) (10 ^ length (next ∷ kept)) _ (10 ^ length digits) _
+    (pow-succ' 10 (length (next ∷ kept))) (pow-succ' 10 (length digits)) same
+
+without-worth : (digits : List ℕ)
+    → digits_value (without_last_zeros digits) * 10 ^ length digits ≡ digits_value digits * 10 ^ length (without_last_zeros digits)
+without-worth [] = refl
+without-worth (digit ∷ digits) =
+    kept-worth digit (digit == digit_zero) (without_last_zeros digits) digits refl (without-worth digits)
+
+-- what stays of digits is digits
+kept-digits : (digit : ℕ) (test : Bool) (kept : List ℕ) → (digit == digit_zero) ≡ test → is_ascii_digit digit ≡ true
+    → AreDigits kept → AreDigits (kept_digit digit kept)
+kept-digits digit true [] is one all = rw is refl
+kept-digits digit false [] is one all = rw is (and_from _ _ one refl)
+kept-digits digit test (next ∷ kept) is one all = and_from _ _ one all
+
+without-digits : (digits : List ℕ) → AreDigits digits → AreDigits (without_last_zeros digits)
+without-digits [] all = refl
+without-digits (digit ∷ digits) all =
+    let tests = and_parts (is_ascii_digit digit) _ all in
+    kept-digits digit (digit == digit_zero) (without_last_zeros digits) refl tests.0 (without-digits digits tests.1)
+
+-- no fraction is no seconds and no microseconds
+no-seconds : (unit : DurationUnit) → fraction_seconds unit [] ≡ 0
+no-seconds unit = omega arith
+
+no-microseconds : (unit : DurationUnit) → fraction_microseconds unit [] ≡ 0
+no-microseconds unit =
+    let none : 0 * (1000000 * unit_seconds unit) ≡ 0 = omega arith in
+    rw (none, no-seconds unit) refl
+
+-- digits that are so many millionths, as a fraction of a second
+second-seconds : (digits : List ℕ) → AreDigits digits → fraction_seconds (unit capital_s 0 1) digits ≡ 0
+second-seconds digits all =
+    let once : digits_value digits * 1 ≡ digits_value digits = omega arith in
+    rw once (div-eq_of_lt (digits_value-lt digits all))
+
+second-microseconds : (digits : List ℕ) (microsecond : ℕ) → AreDigits digits
+    → digits_value digits * 1000000 ≡ microsecond * 10 ^ length digits → fraction_microseconds (unit capital_s 0 1) digits ≡ microsecond
+second-microseconds digits microsecond all same =
+    let scale = 10 ^ length digits in
+    let exact : nearest (pos (digits_value digits * 1000000)) scale ≡ pos microsecond =
+    ap (λ (n : ℕ). nearest (pos n) scale) same ∙ nearest-exact false microsecond scale (scale-some (length digits)) in
+    ap (λ z. unsigned_abs z - 1000000 * fraction_seconds (unit capital_s 0 1) digits) exact
+    ∙ ap (λ (n : ℕ). microsecond - 1000000 * n) (second-seconds digits all) ∙ omega arith
+
+-- a text leads from sums to others: it is good items behind the first that add up to the second
+abbrev pub Leads : Sums → List ℕ → Sums → Type 0
+Leads before text after =
+    (items : List Item) × (flat_map item_text items ≡ text) × AreGood before items × (with_items items before ≡ after)
+
+pub with_items-append : (items more : List Item) (sums : Sums) → with_items (items ++ more) sums ≡ with_items more (with_items items sums)
+with_items-append [] more sums = refl
+with_items-append (item ∷ items) more sums = with_items-append items more (with_item item sums)
+
+pub AreGood-append : (items more : List Item) (sums : Sums) → AreGood sums items → AreGood (with_items items sums) more → AreGood sums (items ++ more)
+AreGood-append [] more sums good next = next
+AreGood-append (item ∷ items) more sums good next = (good.0, good.1, AreGood-append items more (with_item item sums) good.2 next)
+
+-- texts lead on one after the other
+pub leads-append : (before between after : Sums) (text more : List ℕ)
+    → Leads before text between → Leads between more after → Leads before (text ++ more) after
+leads-append before between after text more first second = (
+  first.0 ++ second.0,
+  flat_map-append item_text first.0 second.0 ∙ (λ i. first.1 i ++ second.1 i),
+  AreGood-append first.0 second.0 before first.2 (subst (λ (sums : Sums). AreGood sums second.0) (sym first.3) second.2),
+  with_items-append first.0 second.0 before ∙ ap (with_items second.0) first.3 ∙ second.3,
+)
+
+-- sums with no fraction so far
+abbrev whole_sums : Bool → Bool → ℕ → ℕ → Sums
+whole_sums mark some day second = record { mark = mark; fraction = false; some = some; day = day; second = second; microsecond = 0 }
+
+-- sums whose last item is printed seconds
+abbrev clock_sums : Bool → ℕ → ℕ → ℕ → Sums
+clock_sums some day second microsecond = record {
+  mark = true;
+  fraction = nat_lt 0 (length (short_fraction_text microsecond));
+  some = some;
+  day = day;
+  second = second;
+  microsecond = microsecond;
+}
+
+-- so many of a unit of one side bring days and seconds to others, all of which fit
+record Adds (unit : DurationUnit) (mark : Bool) (number day second days seconds : ℕ) : Type 0 where
+  found : unit_in (units mark) unit.letter ≡ Some unit
+  day_sum : day + number * unit.day ≡ days
+  second_sum : second + number * unit.second ≡ seconds
+  few : number ≤ 4294967295
+  few_days : days ≤ 4294967295
+  few_seconds : seconds ≤ 4294967295
+
+-- a fraction of a unit is less than a second, and is so many microseconds
+abbrev IsMicroseconds : DurationUnit → List ℕ → ℕ → Type 0
+IsMicroseconds unit fraction microsecond =
+    IsFraction fraction × (fraction_seconds unit (drop 1 fraction) ≡ 0) × (fraction_microseconds unit (drop 1 fraction) ≡ microsecond)
+
+no-fraction : (unit : DurationUnit) → IsMicroseconds unit [] 0
+no-fraction unit = (tt, no-seconds unit, no-microseconds unit)
+
+-- a number, its fraction and its unit lead to the sums with so many of the unit
+amount-leads : (unit : DurationUnit) (mark some : Bool) (number day second days seconds microsecond : ℕ) (fraction : List ℕ)
+    → Adds unit mark number day second days seconds → IsMicroseconds unit fraction microsecond
+    → Leads (whole_sums mark some day second) (decimal number ++ fraction ++ unit.letter ∷ [])
+    (record { mark = mark; fraction = nat_lt 0 (length fraction); some = true; day = days; second = seconds; microsecond = microsecond })
+amount-leads unit mark some number day second days seconds microsecond fraction adds means =
+    let sums = whole_sums mark some day second in
+    let quantity : Quantity = record { number = decimal number; fraction = fraction; letter = unit.letter } in
+    let small : number < 2 ^ 64 = omega (arith, adds.few) in
+    let spelled = digits_value-decimal digits_model number small in
+    let fits : digits_value (decimal number) ≤ 4294967295 = omega (arith, spelled, adds.few) in
+    let day_is : day + digits_value (decimal number) * unit.day + fraction_seconds unit (drop 1 fraction) / seconds_per_day ≡ days =
+    rw (spelled, means.1, adds.day_sum) (omega arith) in
+    let second_is : second + digits_value (decimal number) * unit.second + fraction_seconds unit (drop 1 fraction) % seconds_per_day ≡ seconds =
+    rw (spelled, means.1, adds.second_sum) (omega arith) in
+    let microsecond_is : 0 + fraction_microseconds unit (drop 1 fraction) ≡ microsecond = omega (arith, means.2) in
+    let sum = ap (λ one. with_quantity one quantity sums) adds.found
+    ∙ (λ i. record { mark = mark; fraction = nat_lt 0 (length fraction); some = true; day = day_is i; second = second_is i; microsecond = microsecond_is i }) in
+    let sum_fits = ap (λ (sums : Sums). nat_le sums.day 4294967295 && nat_le sums.second 4294967295) sum
+    ∙ and_from _ _ (le-leb days 4294967295 adds.few_days) (le-leb seconds 4294967295 adds.few_seconds) in
+    let some_digits = lt-ltb 0 (length (decimal number)) (decimal_nonempty number small) in (
+      Amount quantity ∷ [],
+      append-nil (item_text (Amount quantity)),
+      (
+        (digits_decimal digits_model number small, means.0),
+        (some_digits, (le-leb _ 4294967295 fits, (refl, (ap is_some adds.found, (sum_fits, tt))))),
+        tt,
+      ),
+      sum,
+    )
+
+-- so do a number and its unit
+whole-leads : (unit : DurationUnit) (mark some : Bool) (number day second days seconds : ℕ) → Adds unit mark number day second days seconds
+    → Leads (whole_sums mark some day second) (decimal number ++ unit.letter ∷ []) (whole_sums mark true days seconds)
+whole-leads unit mark some number day second days seconds adds =
+    subst (λ (digits : List ℕ). Leads (whole_sums mark some day second) (digits ++ unit.letter ∷ []) (whole_sums mark true days seconds))
+    (append-nil (decimal number))
+    (amount-leads unit mark some number day second days seconds 0 [] adds (no-fraction unit))
+
+-- and where there is nothing for none
+counted-of : (unit : DurationUnit) (mark some none : Bool) (number day second days seconds : ℕ)
+    → (number == 0) ≡ none → Adds unit mark number day second days seconds
+    → Leads (whole_sums mark some day second) (if none then [] else decimal number ++ unit.letter ∷ [])
+    (whole_sums mark (if none then some else true) days seconds)
+counted-of unit mark some true number day second days seconds none adds =
+    let zero_is = eqb-true number 0 none in
+    let day_is : day ≡ days = grind (arith, zero_is, adds.day_sum) in
+    let second_is : second ≡ seconds = grind (arith, zero_is, adds.second_sum) in
+    ([], refl, tt, λ i. whole_sums mark some (day_is i) (second_is i))
+counted-of unit mark some false number day second days seconds other adds = whole-leads unit mark some number day second days seconds adds
+
+counted-leads : (unit : DurationUnit) (mark some : Bool) (number day second days seconds : ℕ) → Adds unit mark number day second days seconds
+    → Leads (whole_sums mark some day second) (counted_text number unit.letter) (whole_sums mark (if number == 0 then some else true) days seconds)
+counted-leads unit mark some number day second days seconds = counted-of unit mark some (number == 0) number day second days seconds refl
+
+-- a `T` leads to the other side
+mark-leads : (some : Bool) (day second : ℕ) → Leads (whole_sums false some day second) (capital_t ∷ []) (whole_sums true some day second)
+mark-leads some day second = (Mark ∷ [], refl, (tt, (refl, tt), tt), refl)
+
+-- no seconds at all
+zero-leads : (some : Bool) (day : ℕ) → day ≤ 4294967295 → Leads (whole_sums false some day 0) (codes "T0S") (whole_sums true true day 0)
+zero-leads some day few =
+    let adds : Adds (unit capital_s 0 1) true 0 day 0 day 0 =
+    record { found = refl; day_sum = omega arith; second_sum = refl; few = omega arith; few_days = few; few_seconds = omega arith } in
+    subst (λ (digits : List ℕ). Leads (whole_sums false some day 0) (capital_t ∷ digits ++ capital_s ∷ []) (whole_sums true true day 0))
+    (decimal_digit 0 (lit< tt))
+    (leads-append _ _ _ (capital_t ∷ []) _ (mark-leads some day 0) (whole-leads (unit capital_s 0 1) true some 0 day 0 day 0 adds))
+
+-- the printed fraction of a second is its microseconds
+fraction-of : (microsecond : ℕ) (none : Bool) → (microsecond == 0) ≡ none → microsecond < 1000000
+    → IsMicroseconds (unit capital_s 0 1) (if none then [] else full_stop ∷ without_last_zeros (six_digit_text microsecond)) microsecond
+fraction-of microsecond true none small =
+    subst (IsMicroseconds (unit capital_s 0 1) []) (sym (eqb-true microsecond 0 none)) (no-fraction (unit capital_s 0 1))
+fraction-of microsecond false other small =
+    let digits = without_last_zeros (six_digit_text microsecond) in
+    let all = without-digits (six_digit_text microsecond) (six_digits-printed microsecond small) in
+    let spelled : digits_value (six_digit_text microsecond) ≡ microsecond = omega arith in
+    let worth = without-worth (six_digit_text microsecond) ∙ ap (λ (n : ℕ). n * 10 ^ length digits) spelled in
+    ((refl, all), second-seconds digits all, second-microseconds digits microsecond all worth)
+
+-- seconds with their fraction lead to what they add up to
+seconds-of : (some none : Bool) (number microsecond day second seconds : ℕ) → ((number == 0) && (microsecond == 0)) ≡ none
+    → microsecond < 1000000 → Adds (unit capital_s 0 1) true number day second day seconds
+    → Leads (whole_sums true some day second) (if none then [] else decimal number ++ short_fraction_text microsecond ++ capital_s ∷ [])
+    (clock_sums (if none then some else true) day seconds microsecond)
+seconds-of some true number microsecond day second seconds none small adds =
+    let tests = and_parts (number == 0) (microsecond == 0) none in
+    let second_is : second ≡ seconds = omega (arith, eqb-true number 0 tests.0, adds.second_sum) in
+    let microsecond_is = sym (eqb-true microsecond 0 tests.1) in
+    ([], refl, tt, λ i. clock_sums some day (second_is i) (microsecond_is i))
+seconds-of some false number microsecond day second seconds other small adds =
+    amount-leads (unit capital_s 0 1) true some number day second day seconds microsecond (short_fraction_text microsecond) adds
+    (fraction-of microsecond (microsecond == 0) refl small)
+
+-- there are years or days exactly if there are days
+days-some : (day : ℕ) → (if day % 365 == 0 then (if day / 365 == 0 then false else true) else true) ≡ not (day == 0)
+days-some day = grind (arith, nat_tests)
+
+-- years and days lead to the days
+days-leads : (day : ℕ) → day ≤ 999999999
+    → Leads no_sums (counted_text (day / 365) capital_y ++ counted_text (day % 365) capital_d) (whole_sums false (not (day == 0)) day 0)
+days-leads day few =
+    let text = counted_text (day / 365) capital_y ++ counted_text (day % 365) capital_d in
+    let years = day / 365 * 365 in
+    let few_years : day / 365 ≤ 4294967295 = omega (arith, few) in
+    let years_add : Adds (unit capital_y 365 0) false (day / 365) 0 0 years 0 =
+    record { found = refl; day_sum = omega arith; second_sum = omega arith; few = few_years; few_days = omega (arith, few); few_seconds = omega arith } in
+    let days_add : Adds (unit capital_d 1 0) false (day % 365) years 0 day 0 =
+    record { found = refl; day_sum = omega arith; second_sum = omega arith; few = omega arith; few_days = omega (arith, few); few_seconds = omega arith } in
+    subst (λ (some : Bool). Leads no_sums text (whole_sums false some day 0)) (days-some day)
+    (leads-append no_sums _ _ _ _
+    (counted-leads (unit capital_y 365 0) false false (day / 365) 0 0 years 0 years_add)
+    (counted-leads (unit capital_d 1 0) false _ (day % 365) years 0 day 0 days_add))
+
+-- there are hours, minutes or seconds where there is something behind the days
+hours-some : (second microsecond : ℕ) (some : Bool) → ((second == 0) && (microsecond == 0)) ≡ false
+    → (if (second % 60 == 0) && (microsecond == 0) then (if second / 60 % 60 == 0 then (if second / 3600 == 0 then some else true) else true) else true) ≡ true
+hours-some second microsecond some other = grind (arith, nat_tests)
+
+-- hours, minutes and seconds lead to the seconds and microseconds
+hours-leads : (numbers : DurationNumbers) (some : Bool) → IsDuration numbers → is_whole_days numbers ≡ false
+    → Leads (whole_sums true some numbers.day 0) (hours_text numbers) (clock_sums true numbers.day numbers.second numbers.microsecond)
+hours-leads numbers some valid other =
+    let day = numbers.day in
+    let hours = numbers.second / 3600 * 3600 in
+    let minutes = hours + numbers.second / 60 % 60 * 60 in
+    let few : day ≤ 4294967295 = omega (arith, valid.day) in
+    let few_hours : numbers.second / 3600 ≤ 4294967295 = omega (arith, valid.second) in
+    let hours_add : Adds (unit capital_h 0 3600) true (numbers.second / 3600) day 0 day hours =
+    record { found = refl; day_sum = omega arith; second_sum = omega arith; few = few_hours; few_days = few; few_seconds = omega (arith, valid.second) } in
+    let minutes_add : Adds (unit capital_m 0 60) true (numbers.second / 60 % 60) day hours day minutes =
+    record { found = refl; day_sum = omega arith; second_sum = omega arith; few = omega arith; few_days = few; few_seconds = omega (arith, valid.second) } in
+    let seconds_add : Adds (unit capital_s 0 1) true (numbers.second % 60) day minutes day numbers.second =
+    record { found = refl; day_sum = omega arith; second_sum = omega arith; few = omega arith; few_days = few; few_seconds = omega (arith, valid.second) } in
+    subst (λ (last : Bool). Leads (whole_sums true some day 0) (hours_text numbers) (clock_sums last day numbers.second numbers.microsecond))
+    (hours-some numbers.second numbers.microsecond some other)
+    (leads-append _ _ _ _ _
+    (leads-append _ _ _ _ _
+    (counted-leads (unit capital_h 0 3600) true some (numbers.second / 3600) day 0 day hours hours_add)
+    (counted-leads (unit capital_m 0 60) true _ (numbers.second / 60 % 60) day hours day minutes minutes_add))
+    (seconds-of _ _ (numbers.second % 60) numbers.microsecond day minutes numbers.second refl valid.microsecond seconds_add))
+
+-- a text that leads from no sums to those of a duration is answered by it
+leads-answer : (numbers : DurationNumbers) (text : List ℕ) (after : Sums) → Leads no_sums text after → after.some ≡ true
+    → sums_numbers numbers.positive after ≡ numbers → IsIsoAnswer numbers.positive text (Ok numbers)
+leads-answer numbers text after leads some same = (
+  leads.0,
+  [],
+  sym (append-nil (flat_map item_text leads.0) ∙ leads.1),
+  leads.2,
+  subst (λ (sums : Sums). Ends numbers.positive sums [] (Ok numbers)) (sym leads.3) (rw some (ap Ok (sym same))),
+)
+
+-- the sums of whole days
+whole-numbers : (numbers : DurationNumbers) → is_whole_days numbers ≡ true
+    → sums_numbers numbers.positive (whole_sums true true numbers.day 0) ≡ numbers
+whole-numbers numbers whole =
+    let tests = and_parts (numbers.second == 0) (numbers.microsecond == 0) whole in
+    let second_is = sym (eqb-true numbers.second 0 tests.0) in
+    let microsecond_is = sym (eqb-true numbers.microsecond 0 tests.1) in
+    λ i. record { positive = numbers.positive; day = numbers.day; second = second_is i; microsecond = microsecond_is i }
+
+-- what is printed behind the `P` is answered by the duration
+rest-answer : (numbers : DurationNumbers) (whole none : Bool) → IsDuration numbers → is_whole_days numbers ≡ whole → (numbers.day == 0) ≡ none
+    → IsIsoAnswer numbers.positive (days_text numbers ++ (if whole then (if none then codes "T0S" else []) else capital_t ∷ hours_text numbers)) (Ok numbers)
+rest-answer numbers true true valid whole none =
+    leads-answer numbers _ _
+    (leads-append no_sums _ _ _ _ (days-leads numbers.day valid.day) (zero-leads _ numbers.day (omega (arith, valid.day))))
+    refl (whole-numbers numbers whole)
+rest-answer numbers true false valid whole some =
+    leads-answer numbers _ _
+    (leads-append no_sums _ _ _ _ (days-leads numbers.day valid.day) ([], refl, tt, refl))
+    (ap not some) (whole-numbers numbers whole)
+rest-answer numbers false none valid other is =
+    leads-answer numbers _ _
+    (leads-append no_sums _ _ _ _ (days-leads numbers.day valid.day)
+    (leads-append _ _ _ (capital_t ∷ []) _ (mark-leads _ numbers.day 0) (hours-leads numbers _ valid other)))
+    refl refl
+
+-- a `P` with a sign or without one stands for what is behind it
+start-answer : (behavior : MicrosecondsPrecisionOverflowBehavior) (positive : Bool) (text : List ℕ) (answer : Result DurationNumbers ParseError)
+    → IsIsoAnswer positive text answer
+    → let printed = start_text positive ++ text in IsFormAnswer behavior (not (has_minus printed)) (drop (sign_length printed) printed) answer
+start-answer behavior true text answer is = is
+start-answer behavior false text answer is = is
+
+-- the printed text of a duration is answered by it
+pub duration_text-reads : (behavior : MicrosecondsPrecisionOverflowBehavior) (numbers : DurationNumbers) → IsDuration numbers
+    → IsDurationAnswer behavior (duration_text numbers) (Ok numbers)
+duration_text-reads behavior numbers valid =
+    let reads = rest-answer numbers (is_whole_days numbers) (numbers.day == 0) valid refl refl in
+    subst (λ (printed : List ℕ). IsDurationAnswer behavior printed (Ok numbers))
+    (sym (append_assoc (start_text numbers.positive) (days_text numbers) (rest_text numbers)))
+    (Ok numbers, start-answer behavior numbers.positive (days_text numbers ++ rest_text numbers) (Ok numbers) reads, sym (normal_form-same numbers valid))
+
+-- two durations with one text are one duration, where a text has one answer
+pub duration_text-distinct
+    : (only : (text : List ℕ) (one two : Result DurationNumbers ParseError) → IsDurationAnswer behavior.Error text one
+    → IsDurationAnswer behavior.Error text two → one ≡ two)
+    → (first second : DurationNumbers) → IsDuration first → IsDuration second → duration_text first ≡ duration_text second → first ≡ second
+duration_text-distinct only first second one two same =
+    let reads = duration_text-reads behavior.Error first one in
+    let other = subst (λ (text : List ℕ). IsDurationAnswer behavior.Error text (Ok second)) (sym same) (duration_text-reads behavior.Error second two) in
+    let joined = only (duration_text first) (Ok first) (Ok second) reads other in
+    cc
