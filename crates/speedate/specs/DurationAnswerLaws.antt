@@ -1,17 +1,17 @@
 -- The answer that is read from the left is the answer.
-use Rattle.std.specs.Prelude.{◌≡◌, ℕ, zero, suc, ◌+◌, ◌-◌, ◌<◌, ◌≤◌, Bool, true, false, not, MatchBool, List, [], ◌∷◌, length, drop, slice_index, ◌==◌, if◌then◌else◌, Result, Ok, Err, refl}
-use Rattle.std.proofs.Common.{arith, ap, sym, ◌∙◌, subst, lt_irrefl}
+use Rattle.std.specs.Prelude.{◌≡◌, ℕ, zero, suc, ◌<◌, ◌≤◌, Bool, true, false, not, MatchBool, List, [], ◌∷◌, length, drop, slice_index, ◌==◌, if◌then◌else◌, Result, Ok, Err, refl}
+use Rattle.std.proofs.Common.{arith, sym, subst, lt_irrefl}
 use Rattle.std.proofs.lemmas.List.{length-drop}
 use Rattle.speedate_base.specs.declared.config.MicrosecondsPrecisionOverflowBehavior.{MicrosecondsPrecisionOverflowBehavior}
 use Rattle.speedate_base.specs.declared.faults.ParseError.{ParseError}
 use Rattle.speedate_base.specs.Ascii.{capital_p, capital_t}
 use Rattle.speedate_base.specs.Numbers.{has_minus, sign_length}
-use Rattle.speedate_base.specs.Requirement.{Requirement, meets}
+use Rattle.speedate_base.specs.Requirement.{meets}
 use Rattle.speedate_base.specs.RequirementLaws.{meets-all, meets-next, meets-value}
 use Rattle.speedate.specs.DurationAnswer.{iso_answer, unsigned_answer, duration_answer}
-use Rattle.speedate.specs.DurationForm.{form_answer, IsFormAnswer, IsNormalAnswer, IsDurationAnswer}
+use Rattle.speedate.specs.DurationForm.{form_answer, IsDurationAnswer}
 use Rattle.speedate.specs.DurationNumbers.{DurationNumbers}
-use Rattle.speedate.specs.IsoForm.{Sums, Item, no_sums, item_at, item_length, quantity_length, item_table, with_item, sums_numbers, IsAnswerFrom, IsIsoAnswer}
+use Rattle.speedate.specs.IsoForm.{Sums, no_sums, item_at, item_length, quantity_length, item_table, with_item, IsAnswerFrom, IsIsoAnswer}
 use Rattle.speedate.specs.IsoFrontLaws.{answer-behind, answer-refused}
 
 -- an item has a byte
@@ -45,7 +45,7 @@ iso_answer-from (suc most) positive sums (byte ∷ rest) few =
 
 form-is : (behavior : MicrosecondsPrecisionOverflowBehavior) (positive : Bool) (text : List ℕ) (iso : Bool)
     → MatchBool iso (IsIsoAnswer positive (drop 1 text) (if iso then iso_answer (length text) positive no_sums (drop 1 text) else form_answer behavior positive text))
-      ((if iso then iso_answer (length text) positive no_sums (drop 1 text) else form_answer behavior positive text) ≡ form_answer behavior positive text)
+    ((if iso then iso_answer (length text) positive no_sums (drop 1 text) else form_answer behavior positive text) ≡ form_answer behavior positive text)
 form-is behavior positive text true = iso_answer-from (length text) positive no_sums (drop 1 text) (omega (arith, length-drop 1 text))
 form-is behavior positive text false = refl
 
