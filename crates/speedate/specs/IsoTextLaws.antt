@@ -28,6 +28,7 @@ use Rattle.speedate.specs.DurationForm.{IsFormAnswer, IsDurationAnswer}
 use Rattle.speedate.specs.DurationLaws.{normal_form-same}
 use Rattle.speedate.specs.DurationNumbers.{DurationNumbers, IsDuration}
 use Rattle.speedate.specs.DurationText.{counted_text, kept_digit, without_last_zeros, short_fraction_text, hours_text, days_text, start_text, rest_text, is_whole_days, duration_text}
+use Rattle.speedate.specs.IsoFormLaws.{duration_answer-only}
 use Rattle.speedate.specs.IsoForm.{DurationUnit, unit, units, unit_in, Quantity, Item, Mark, Amount, item_text, IsFraction, Sums, no_sums, unit_seconds, fraction_seconds, fraction_microseconds, with_quantity, with_item, with_items, AreGood, Ends, sums_numbers, IsIsoAnswer}
 
 -- a number without leading zeros is digits that spell it
@@ -353,13 +354,10 @@ duration_text-reads behavior numbers valid =
     (sym (append_assoc (start_text numbers.positive) (days_text numbers) (rest_text numbers)))
     (Ok numbers, start-answer behavior numbers.positive (days_text numbers ++ rest_text numbers) (Ok numbers) reads, sym (normal_form-same numbers valid))
 
--- two durations with one text are one duration, where a text has one answer
-pub duration_text-distinct
-    : (only : (text : List ℕ) (one two : Result DurationNumbers ParseError) → IsDurationAnswer behavior.Error text one
-    → IsDurationAnswer behavior.Error text two → one ≡ two)
-    → (first second : DurationNumbers) → IsDuration first → IsDuration second → duration_text first ≡ duration_text second → first ≡ second
-duration_text-distinct only first second one two same =
+-- so two durations with one text are one duration
+pub duration_text-distinct : (first second : DurationNumbers) → IsDuration first → IsDuration second → duration_text first ≡ duration_text second → first ≡ second
+duration_text-distinct first second one two same =
     let reads = duration_text-reads behavior.Error first one in
     let other = subst (λ (text : List ℕ). IsDurationAnswer behavior.Error text (Ok second)) (sym same) (duration_text-reads behavior.Error second two) in
-    let joined = only (duration_text first) (Ok first) (Ok second) reads other in
+    let joined = duration_answer-only behavior.Error (duration_text first) (Ok first) (Ok second) reads other in
     cc

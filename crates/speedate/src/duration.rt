@@ -99,6 +99,7 @@ impl Duration {
     #[inline(always)]
     pub fn parse_str(text: &str) -> Result<Self, ParseError>
         ensures answer { IsDurationAnswer behavior.Error text.now (result_map parts result) }
+        ensures only { (other : Result DurationNumbers ParseError) → IsDurationAnswer behavior.Error text.now other → other ≡ result_map parts result }
     {
         Self::parse_bytes(text.as_bytes())
     }
@@ -108,6 +109,7 @@ impl Duration {
     #[inline(always)]
     pub fn parse_bytes(bytes: &[u8]) -> Result<Self, ParseError>
         ensures answer { IsDurationAnswer behavior.Error bytes.now (result_map parts result) }
+        ensures only { (other : Result DurationNumbers ParseError) → IsDurationAnswer behavior.Error bytes.now other → other ≡ result_map parts result }
     {
         Self::parse(bytes, MicrosecondsPrecisionOverflowBehavior::Error)
     }
@@ -119,6 +121,7 @@ impl Duration {
     #[inline(always)]
     pub fn parse_bytes_with_config(bytes: &[u8], config: &TimeConfig) -> Result<Self, ParseError>
         ensures answer { IsDurationAnswer config.now.microseconds_precision_overflow_behavior bytes.now (result_map parts result) }
+        ensures only { (other : Result DurationNumbers ParseError) → IsDurationAnswer config.now.microseconds_precision_overflow_behavior bytes.now other → other ≡ result_map parts result }
     {
         Self::parse(bytes, config.microseconds_precision_overflow_behavior)
     }
@@ -130,6 +133,7 @@ impl Duration {
         behavior: MicrosecondsPrecisionOverflowBehavior,
     ) -> Result<Self, ParseError>
         ensures answer { IsDurationAnswer behavior bytes.now (result_map parts result) }
+        ensures only { (other : Result DurationNumbers ParseError) → IsDurationAnswer behavior bytes.now other → other ≡ result_map parts result }
     {
         let (negative, length) = sign(bytes);
         Self::unsigned(&bytes[length..], !negative, behavior)

@@ -1,6 +1,6 @@
 //! The text of a duration.
 
-ghost use Rattle.std.specs.Prelude.{◌≡◌, ◌≢◌, ◌+◌, ◌++◌, ◌<◌, ◌≤◌, length, take, drop, Some};
+ghost use Rattle.std.specs.Prelude.{◌≡◌, ◌≢◌, ◌+◌, ◌++◌, ◌<◌, ◌≤◌, length, take, drop, Some, Ok};
 ghost use Rattle.std.specs.Fmt.{decimal};
 ghost use Rattle.arrayvec.specs.ArrayVec.{array_vec_len};
 ghost use Rattle.speedate_base.specs.Digits.{six_digit_text};
@@ -124,15 +124,20 @@ fn start_text(positive: bool) -> &'static [u8]
 }
 
 impl Duration {
+    ghost use Rattle.speedate_base.specs.declared.config.TimeConfig.{TimeConfig};
+    ghost use Rattle.speedate.specs.declared.duration.Duration.{Duration};
     ghost use Rattle.speedate.specs.Duration.{parts};
+    ghost use Rattle.speedate.specs.DurationForm.{IsDurationAnswer};
 
     /// The canonical text: a sign where the duration is not positive, `P`, and the years of 365 days,
     /// the days, and behind a `T` the hours, minutes and seconds that are not 0, as
     /// `-P1Y2DT3H4M5.06S`. The fraction of a second has no zeros at its end. A duration of nothing
-    /// is `PT0S` or `-PT0S`.
+    /// is `PT0S` or `-PT0S`. Every configuration reads it back as the duration.
     #[inline]
     pub fn to_text(&self) -> ArrayString<TEXT_MAX>
         ensures text { result.bytes ≡ duration_text (parts self.now) }
+        ensures reads_back { (config : TimeConfig) → IsDurationAnswer config.microseconds_precision_overflow_behavior result.bytes (Ok (parts self.now)) }
+        ensures distinct { (other : Duration) → result.bytes ≡ duration_text (parts other) → parts self.now ≡ parts other }
     {
         let mut bytes: ArrayVec<u8, TEXT_MAX> = ArrayVec::new();
         push(start_text(self.positive), &mut bytes);

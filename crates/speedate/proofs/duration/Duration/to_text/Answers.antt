@@ -1,7 +1,9 @@
-use Rattle.std.proofs.Common.{◌≡◌, ◌∙◌, ap, sym, subst, ◌++◌, ℕ, List, [], length, append_assoc, lit<, arith}
+use Rattle.std.proofs.Common.{◌≡◌, ◌∙◌, ap, sym, subst, ◌++◌, ℕ, List, [], Ok, length, append_assoc, lit<, arith}
 use Rattle.std.specs.Str.{IsAscii}
 use Rattle.speedate.specs.Duration.{parts}
 use Rattle.speedate.specs.DurationTextLaws.{start-length, years-length, days-length, duration_text-IsAscii}
+use Rattle.speedate.specs.DurationForm.{IsDurationAnswer}
+use Rattle.speedate.specs.IsoTextLaws.{duration_text-reads, duration_text-distinct}
 use Rattle.speedate.proofs.DurationFacts.{is_duration}
 use Rattle.speedate.proofs.duration.Duration.to_text.Goals as goal
 
@@ -44,3 +46,18 @@ ascii_text-requires c =
     let bytes = c.deref.ensures.0 ∙ joined _ _ _ _ _ _ _ _ _ _ c.new-bytes.ensures c.push.ensures.bytes c.start_text.ensures
     c.push_counted.ensures.text c.push_counted-2.ensures.text c.push_rest.ensures.text in
     (lit< tt, (subst IsAscii (sym bytes) (duration_text-IsAscii (parts duration) (is_duration duration)), c.deref.ensures.1))
+
+pub returns-clause-reads_back : goal.returns-clause-reads_back
+returns-clause-reads_back c config =
+    let duration = c.args.self.now in
+    let behavior = config.microseconds_precision_overflow_behavior in
+    let bytes = c.ascii_text.ensures.bytes ∙ c.deref.ensures.0 ∙ joined _ _ _ _ _ _ _ _ _ _ c.new-bytes.ensures c.push.ensures.bytes c.start_text.ensures
+    c.push_counted.ensures.text c.push_counted-2.ensures.text c.push_rest.ensures.text in
+    subst (λ (text : List ℕ). IsDurationAnswer behavior text (Ok (parts duration))) (sym bytes) (duration_text-reads behavior (parts duration) (is_duration duration))
+
+pub returns-clause-distinct : goal.returns-clause-distinct
+returns-clause-distinct c other same =
+    let duration = c.args.self.now in
+    let bytes = c.ascii_text.ensures.bytes ∙ c.deref.ensures.0 ∙ joined _ _ _ _ _ _ _ _ _ _ c.new-bytes.ensures c.push.ensures.bytes c.start_text.ensures
+    c.push_counted.ensures.text c.push_counted-2.ensures.text c.push_rest.ensures.text in
+    duration_text-distinct (parts duration) (parts other) (is_duration duration) (is_duration other) (sym bytes ∙ same)
