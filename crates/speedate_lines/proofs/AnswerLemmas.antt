@@ -1,9 +1,10 @@
 -- The answer to a line, case by case.
-use Rattle.std.proofs.Common.{◌≡◌, ◌∙◌, ap, sym, ℕ, ◌<◌, ◌≤◌, true, false, List, [], ◌∷◌, ◌++◌, length, take, drop, Result, Ok, refl}
+use Rattle.std.proofs.Common.{◌≡◌, ◌∙◌, ap, sym, ℕ, ◌<◌, ◌≤◌, true, false, List, [], ◌∷◌, ◌++◌, length, take, drop, Result, Ok, Err, refl}
 use Rattle.std.specs.Prelude.{codes, bytes_eq}
 use Rattle.std.proofs.lemmas.Bool.{lt-ltb, le-ltb}
 use Rattle.speedate.specs.declared.ParseError.{ParseError}
 use Rattle.speedate.specs.Ascii.{line_feed}
+use Rattle.speedate.specs.Fault.{fault_name}
 use Rattle.speedate_lines.specs.Lines.{longest_line}
 use Rattle.speedate_lines.specs.Answer.{Kind, kinds, front, answer_by_kind, line_answer, reply, ok_answer, err_answer}
 
@@ -40,4 +41,12 @@ pub reply-printed : {A : Type 0} (text : A → List ℕ) (value : A) (read : Res
     → new ≡ old ++ (reply text read ++ line_feed ∷ [])
 reply-printed {A = A} text value read old new printed appended print answered =
     appended ∙ ap (λ (bytes : List ℕ). old ++ (ok_answer bytes ++ line_feed ∷ [])) print
+    ∙ ap (λ (result : Result A ParseError). old ++ (reply text result ++ line_feed ∷ [])) answered
+
+-- and the name of a fault is the reply to a text that was refused
+pub reply-refused : {A : Type 0} (text : A → List ℕ) (fault : ParseError) (read : Result A ParseError) (old new name : List ℕ)
+    → new ≡ old ++ (err_answer name ++ line_feed ∷ []) → name ≡ fault_name fault → Err fault ≡ read
+    → new ≡ old ++ (reply text read ++ line_feed ∷ [])
+reply-refused {A = A} text fault read old new name appended named answered =
+    appended ∙ ap (λ (bytes : List ℕ). old ++ (err_answer bytes ++ line_feed ∷ [])) named
     ∙ ap (λ (result : Result A ParseError). old ++ (reply text result ++ line_feed ∷ [])) answered

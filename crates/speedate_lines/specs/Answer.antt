@@ -9,6 +9,8 @@ use Rattle.speedate.specs.DateText.{date_text}
 use Rattle.speedate.specs.DateTimestamp.{date_or_timestamp}
 use Rattle.speedate.specs.DateTimeText.{date_time_text}
 use Rattle.speedate.specs.DateTimeTimestamp.{date_time_or_timestamp}
+use Rattle.speedate.specs.DurationAnswer.{duration_answer}
+use Rattle.speedate.specs.DurationText.{duration_text}
 use Rattle.speedate.specs.TimeText.{time_answer, time_text}
 use Rattle.speedate.specs.Ascii.{space, line_feed}
 use Rattle.speedate_lines.specs.Lines.{longest_line}
@@ -43,9 +45,12 @@ date_time_kind = record {
   reply_to = λ text. reply date_time_text (date_time_or_timestamp unit.Infer behavior.Error None text);
 }
 
+abbrev pub duration_kind : Kind
+duration_kind = record { word = codes "duration"; reply_to = λ text. reply duration_text (duration_answer behavior.Error text) }
+
 -- all kinds
 abbrev pub kinds : List Kind
-kinds = date_kind ∷ time_kind ∷ date_time_kind ∷ []
+kinds = date_kind ∷ time_kind ∷ date_time_kind ∷ duration_kind ∷ []
 
 -- what a line of a kind begins with: the kind's word and a space
 abbrev pub front : Kind → List ℕ

@@ -5,10 +5,10 @@ ghost use Rattle.arrayvec.specs.ArrayVec.{array_vec_len};
 ghost use Rattle.speedate.specs.Ascii.{line_feed};
 ghost use Rattle.speedate.specs.DateTime.{parts};
 ghost use Rattle.speedate.specs.DateTimeText.{date_time_text};
-ghost use Rattle.speedate_lines.specs.Answer.{line_answer, ok_answer, err_answer, date_kind, time_kind, date_time_kind};
+ghost use Rattle.speedate_lines.specs.Answer.{line_answer, ok_answer, err_answer, date_kind, time_kind, date_time_kind, duration_kind};
 
 use arrayvec::ArrayVec;
-use speedate::{Date, DateTime, Time};
+use speedate::{Date, DateTime, Duration, Time};
 use speedate_civil::text::push;
 
 /// A longer line is answered without being looked at.
@@ -44,6 +44,8 @@ pub fn answer_line(line: &[u8], pending: &mut Pending)
         answer_time(text, pending)
     } else if let Some(text) = line.strip_prefix(b"datetime ") {
         answer_date_time(text, pending)
+    } else if let Some(text) = line.strip_prefix(b"duration ") {
+        answer_duration(text, pending)
     } else {
         refuse("unknown_kind", pending)
     }
@@ -84,6 +86,19 @@ fn answer_date_time(text: &[u8], pending: &mut Pending)
 {
     match DateTime::parse_bytes(text) {
         Ok(value) => accept_date_time(&value, pending),
+        Err(fault) => refuse(fault.name(), pending),
+    }
+}
+
+/// Appends the answer to the text of a duration.
+#[inline]
+fn answer_duration(text: &[u8], pending: &mut Pending)
+    requires { array_vec_len pending.old + ANSWER_MAX ≤ PENDING_MAX }
+    ensures answered { pending.new.items ≡ pending.old.items
+        ++ (duration_kind.reply_to text.now ++ line_feed ∷ []) }
+{
+    match Duration::parse_bytes(text) {
+        Ok(duration) => accept(&duration.to_text(), pending),
         Err(fault) => refuse(fault.name(), pending),
     }
 }
