@@ -1,8 +1,9 @@
 //! The form of a duration that ISO 8601 has.
 
-ghost use Rattle.std.specs.Prelude.{◌≡◌, ◌+◌, ◌*◌, ◌<◌, ◌≤◌, length, drop, IsTrue, Bool, false, Ok, Err, IfOk, if◌then◌else◌};
+ghost use Rattle.std.specs.Prelude.{◌≡◌, ◌+◌, ◌*◌, ◌<◌, ◌≤◌, length, take, drop, slice_index, IsTrue, Bool, false, Ok, Err, IfOk, if◌then◌else◌};
 ghost use Rattle.std.specs.Char.{is_ascii_digit};
 ghost use Rattle.std.specs.List.{list_all};
+ghost use Rattle.speedate_base.specs.DigitRuns.{run_length, digits_value};
 ghost use Rattle.std.specs.Option.{option_map};
 ghost use Rattle.speedate_base.specs.declared.faults.ParseError.TheVariants as fault;
 ghost use Rattle.speedate_base.specs.Requirement.{meets, result_map};
@@ -10,7 +11,7 @@ ghost use Rattle.speedate.specs.IsoForm.{Amount, units, unit_in, is_point, fract
 
 use super::Duration;
 use speedate_base::faults::ParseError;
-use speedate_base::numbers::{byte_at, digit_run, run_end};
+use speedate_base::numbers::{DigitRun, byte_at, digit_run, run_end};
 use speedate_base::util::{SECONDS_PER_DAY, twice_microseconds};
 
 /// A unit of time: its letter, and what one of it is, whole days or seconds.
@@ -147,6 +148,29 @@ impl Sums {
             return Err(ParseError::DurationInvalidFraction);
         }
         let rest = &text[number.length..];
+        if begins_fraction(rest) {
+            return self.take_fraction(text, number);
+        }
+        let letter = byte_at(rest, 0);
+        let unit = DurationUnit::of_letter(letter, self.mark).ok_or(unit_fault(self.mark))?;
+        self.add(number.value as u32, &unit, &[])?;
+        Ok(number.length + 1)
+    }
+
+    /// Reads the quantity that begins a text, where its number was read and may have a fraction.
+    #[inline(never)]
+    fn take_fraction(&mut self, text: &[u8], number: DigitRun) -> Result<usize, ParseError>
+        requires len { number.length ≡ run_length text.now 0 }
+        requires some { 0 < number.length }
+        requires value { number.value ≡ digits_value (take (run_length text.now 0) text.now) }
+        requires small { number.value ≤ 4294967295 }
+        requires none { self.old.fraction ≡ false }
+        ensures answer { result ≡ meets (item_table (sums_parts self.old) (Amount (quantity_at text.now))) (Ok (quantity_length text.now)) }
+        ensures sums { IfOk result (λ _. sums_parts self.new ≡ with_item (Amount (quantity_at text.now)) (sums_parts self.old)) }
+        ensures some { IfOk result (λ size. 0 < size) }
+        ensures within { IfOk result (λ size. size ≤ length text.now) }
+    {
+        let rest = &text[number.length..];
         let size = fraction_length(rest);
         let letter = byte_at(rest, size);
         let unit = DurationUnit::of_letter(letter, self.mark).ok_or(unit_fault(self.mark))?;
@@ -163,17 +187,17 @@ impl Sums {
             then Ok tt else Err fault.DurationValueTooLarge) }
         ensures sums { IfOk result (λ _. sums_parts self.new ≡ with_amount (unit_parts unit.now) number fraction.now (sums_parts self.old)) }
     {
-        let (second, microsecond) = match fraction {
+        let (whole, microsecond) = match fraction {
             [] => (0, 0),
             [_, digits @ ..] => unit.fraction(digits),
         };
         let number = u64::from(number);
         let day = u64::from(self.day)
             + number * u64::from(unit.day)
-            + u64::from(second / SECONDS_PER_DAY);
+            + u64::from(whole / SECONDS_PER_DAY);
         let second = u64::from(self.second)
             + number * u64::from(unit.second)
-            + u64::from(second % SECONDS_PER_DAY);
+            + u64::from(whole % SECONDS_PER_DAY);
         if day > u64::from(u32::MAX) || second > u64::from(u32::MAX) {
             return Err(ParseError::DurationValueTooLarge);
         }
@@ -195,12 +219,20 @@ fn fraction_length(text: &[u8]) -> usize
     ensures len { result ≡ fraction_length text.now }
     ensures within { result ≤ length text.now }
 {
-    let byte = byte_at(text, 0);
-    if byte == b'.' || byte == b',' {
+    if begins_fraction(text) {
         run_end(text, 1)
     } else {
         0
     }
+}
+
+/// Whether the sign of a fraction stands at the front of a text.
+#[inline(always)]
+fn begins_fraction(text: &[u8]) -> bool
+    ensures point { result ≡ is_point (slice_index text.now 0) }
+    ensures some { IsTrue result → 0 < length text.now }
+{
+    matches!(text, [b'.' | b',', ..])
 }
 
 /// The fault of a letter that is no unit before the `T`, or behind it.
