@@ -1,7 +1,10 @@
-//! Durations from texts.
+//! Durations from texts: as a clock shows them, and as days.
 
 ghost use Rattle.std.specs.Option.{ForSome};
 ghost use Rattle.speedate.specs.Offset.{IsOffset};
+
+mod fractions;
+mod iso;
 
 use speedate::{Duration, MicrosecondsPrecisionOverflowBehavior, TimeConfig};
 use std::process::Abort;

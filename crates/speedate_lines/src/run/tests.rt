@@ -69,7 +69,7 @@ fn padded(alloc: Global, front: &[u8], byte: u8, count: usize) -> Result<Vec<u8>
 
 #[test]
 fn answers_each_line(rt: HostRuntime) {
-    let cases: [(&[u8], &[u8]); 28] = [
+    let cases: [(&[u8], &[u8]); 38] = [
         (INPUT, OUTPUT),
         (b"", b""),
         (b"\n", b"err unknown_kind\n"),
@@ -105,6 +105,19 @@ fn answers_each_line(rt: HostRuntime) {
         ),
         (b"datetime", b"err unknown_kind\n"),
         (b"datetime2020-01-01", b"err unknown_kind\n"),
+        (b"duration P0.1Y", b"ok P36DT12H\n"),
+        (b"duration P1Y2Y", b"ok P3Y\n"),
+        (b"duration 1 day", b"ok P1D\n"),
+        (b"duration -PT0S", b"ok -PT0S\n"),
+        (b"duration P99999999999X", b"err duration_value_too_large\n"),
+        (b"duration P1DT1MT1S", b"err duration_t_repeated\n"),
+        (b"duration P1DT24H", b"ok P2D\n"),
+        (
+            b"duration -P2739725Y364DT23H59M59.999999S",
+            b"ok -P2739725Y364DT23H59M59.999999S\n",
+        ),
+        (b"duration ", b"err too_short\n"),
+        (b"duration", b"err unknown_kind\n"),
         (b"time 12:13\r\n", b"err invalid_char_tz_sign\n"),
         (
             b"time 23:59\ndate 2000-02-29\ntime 2000-02-29\ndate 23:59",
