@@ -78,12 +78,21 @@ impl Duration {
     /// Reads a duration from a text: the duration that the text is, as one of a day, an hour and 42
     /// seconds for `"1 day, 1:00:42"`, or the text's one fault.
     ///
-    /// One `+` or `-` may come first. The form of what follows is this library's own: hours,
-    /// minutes and seconds as a clock shows them, `24:01:03.5`, or days with or without such a
-    /// clock behind them, `2 days, 10:20`. It has days where a `d` or `D` stands anywhere in it, or
-    /// where it has fewer than five bytes. The faults, in the order in which they are looked for:
+    /// One `+` or `-` may come first. What follows is an ISO 8601 duration where it begins with `P`,
+    /// `P1Y2DT3H4M5.5S`: quantities in any order on their side of the `T`, the last one with a
+    /// fraction of any number of digits, which is taken to its nearest microsecond; a year has 365
+    /// days and a month 30. The other forms are this library's own: hours, minutes and seconds as a
+    /// clock shows them, `24:01:03.5`, or days with or without such a clock behind them,
+    /// `2 days, 10:20`. It has days where a `d` or `D` stands anywhere in it, or where it has fewer
+    /// than five bytes. The faults, in the order in which they are looked for:
     ///
     /// - `TooShort` where nothing follows the sign;
+    /// - behind a `P`, at the first item that has one: `DurationTRepeated` for a second `T`;
+    ///   `DurationInvalidNumber` where no digit comes first; `DurationValueTooLarge` where the number
+    ///   is over 4,294,967,295; `DurationInvalidFraction` behind a quantity with a fraction;
+    ///   `DurationInvalidDateUnit` or `DurationInvalidTimeUnit` for another letter than a unit's;
+    ///   `DurationValueTooLarge` where the days or the seconds so far are over 4,294,967,295; and
+    ///   `TooShort` where all items are good and none is a quantity;
     /// - of days: `DurationInvalidNumber` where no digit comes first, `DurationValueTooLarge` where
     ///   their number is over 4,294,967,295, `DurationInvalidDays` where no `d`, `day` or `days`
     ///   follows it, all small or all in capitals but for the `d`; then those of a clock behind
@@ -93,9 +102,7 @@ impl Duration {
     ///   that has over ten bytes or is over 2,400,000,000; `SecondFractionTooLong` where more than
     ///   12 bytes follow the `:`, and `TooShort` where less than two do; those of a time of day
     ///   from its minute on; and `ExtraCharacters` where something follows;
-    /// - `DurationDaysTooLarge` where there are then more than 999,999,999 days;
-    /// - `DurationInvalidNumber` for every text that has a `P` behind its sign: ISO 8601 durations
-    ///   are not read yet.
+    /// - `DurationValueTooLarge` and `DurationDaysTooLarge` as [`Duration::new`] has them, last.
     #[inline(always)]
     pub fn parse_str(text: &str) -> Result<Self, ParseError>
         ensures answer { IsDurationAnswer behavior.Error text.now (result_map parts result) }
