@@ -5,6 +5,7 @@ use Rattle.speedate_base.specs.declared.config.MicrosecondsPrecisionOverflowBeha
 use Rattle.speedate_base.specs.declared.faults.ParseError.TheVariants as fault
 use Rattle.speedate.specs.ClockForm.{clock_form}
 use Rattle.speedate.specs.DayForm.{day_form}
+use Rattle.speedate.specs.DurationAnswer.{iso_answer, unsigned_answer, duration_answer}
 use Rattle.speedate.specs.DurationForm.{form_answer}
 use Rattle.speedate.specs.DurationNumbers.{normal_form, signed_milliseconds}
 use Rattle.speedate.specs.DurationOrder.{duration_order}
@@ -39,6 +40,19 @@ longer = refl
 -- milliseconds are cut toward zero
 cut : signed_milliseconds (record { positive = false; day = 0; second = 1; microsecond = 1999 }) ≡ neg_ℤ (pos 1001)
 cut = refl
+
+-- ISO 8601: quantities in any order, a tie away from nothing, and the first item that is refused
+iso : duration_answer behavior.Error (codes "-P3DT6S5M") ≡ Ok (record { positive = false; day = 3; second = 306; microsecond = 0 })
+unfolding iso_answer unsigned_answer
+iso = refl
+
+iso-tie : duration_answer behavior.Error (codes "-PT0.0000005S") ≡ Ok (record { positive = false; day = 0; second = 0; microsecond = 1 })
+unfolding iso_answer unsigned_answer
+iso-tie = refl
+
+iso-refused : duration_answer behavior.Error (codes "P1.D1D") ≡ Err fault.DurationInvalidFraction
+unfolding iso_answer unsigned_answer
+iso-refused = refl
 
 -- a clock, and days with a clock behind them
 clock : form_answer behavior.Error true (codes "24:01:03.5") ≡ Ok (record { positive = true; day = 1; second = 63; microsecond = 500000 })
