@@ -22,6 +22,7 @@ use Rattle.speedate_base.specs.RequirementLaws.{meets-all}
 use Rattle.speedate.specs.DurationNumbers.{DurationNumbers, normal_form}
 use Rattle.speedate.specs.IsoForm.{DurationUnit, units, unit_in, Quantity, Item, Mark, Amount, item_text, is_point, IsFraction, IsItem, fraction_length, quantity_at, item_at, Sums, with_quantity, with_item, with_items, item_table, AreGood, sums_numbers, Ends, IsAnswerFrom, IsIsoAnswer, no_sums}
 use Rattle.speedate.specs.DurationForm.{form_answer, IsDurationAnswer}
+use Rattle.speedate.specs.Exchanged.{has_fraction, IsPlain}
 
 abbrev Answer : Type 0
 Answer = Result DurationNumbers ParseError
@@ -168,16 +169,6 @@ pub answer-with : (positive : Bool) (sums : Sums) (item : Item) (text : List ℕ
 answer-with positive sums item text answer is all from =
     let joined = ap (λ (text : List ℕ). item_text item ++ text) from.2 ∙ sym (append_assoc (item_text item) (flat_map item_text from.0) from.1) in
     (item ∷ from.0, from.1, joined, (is, all, from.3), from.4)
-
--- a quantity has a fraction, if only its sign
-abbrev pub has_fraction : Quantity → Bool
-has_fraction quantity = nat_lt 0 (length quantity.fraction)
-
--- a quantity without a fraction that can be refused for its size alone
-abbrev pub IsPlain : Sums → Quantity → Type 0
-IsPlain sums quantity =
-    IsItem (Amount quantity) × (nat_lt 0 (length quantity.number) ≡ true) × (has_fraction quantity ≡ false) × (sums.fraction ≡ false)
-    × (is_some (unit_in (units sums.mark) quantity.letter) ≡ true)
 
 -- whether its number and the sums with it are counted in 32 bits
 abbrev fits : Sums → Quantity → Bool

@@ -1,9 +1,10 @@
 //! Durations: days, seconds and microseconds, with a sign.
 
-ghost use Rattle.std.specs.Prelude.{◌≡◌, ◌<◌, ◌≤◌, IfOk, Result};
+ghost use Rattle.std.specs.Prelude.{◌≡◌, ℕ, ◌<◌, ◌≤◌, IfOk, List, Result};
 ghost use Rattle.speedate_base.specs.declared.faults.ParseError.{ParseError};
 ghost use Rattle.speedate_base.specs.Requirement.{result_map, result_and_then};
 ghost use Rattle.speedate.specs.DurationForm.{has_day_letter, has_days, form_answer, IsNormalAnswer, IsDurationAnswer};
+ghost use Rattle.speedate.specs.Exchanged.{AreExchanged};
 ghost use Rattle.speedate.specs.IsoForm.{IsIsoAnswer};
 ghost use Rattle.speedate.specs.DurationNumbers.{DurationNumbers, length_seconds, length_microseconds, normal_form, signed_seconds, signed_microsecond, signed_milliseconds};
 
@@ -125,10 +126,14 @@ impl Duration {
     /// digits of a second past the sixth: with the behavior `Truncate` they are dropped, so that
     /// `b"00:00:01.1234567"` is a second and 123,456 microseconds. The offset of the configuration
     /// does not matter.
+    ///
+    /// Two neighbouring quantities of an ISO 8601 duration on one side of its `T`, both without a
+    /// fraction sign, can be exchanged: `b"P1DT2H3M"` and `b"P1DT3M2H"` have one answer.
     #[inline(always)]
     pub fn parse_bytes_with_config(bytes: &[u8], config: &TimeConfig) -> Result<Self, ParseError>
         ensures answer { IsDurationAnswer config.now.microseconds_precision_overflow_behavior bytes.now (result_map parts result) }
         ensures only { (other : Result DurationNumbers ParseError) → IsDurationAnswer config.now.microseconds_precision_overflow_behavior bytes.now other → other ≡ result_map parts result }
+        ensures exchanged { (other : List ℕ) → AreExchanged bytes.now other → IsDurationAnswer config.now.microseconds_precision_overflow_behavior other (result_map parts result) }
     {
         Self::parse(bytes, config.microseconds_precision_overflow_behavior)
     }

@@ -1,4 +1,4 @@
-use Rattle.std.proofs.Common.{◌≡◌, ◌∙◌, sym, ap, subst, ℕ, List, Result}
+use Rattle.std.proofs.Common.{sym, subst, ℕ, List}
 use Rattle.speedate_base.specs.declared.config.MicrosecondsPrecisionOverflowBehavior.TheVariants as behavior
 use Rattle.speedate.specs.DurationForm.{IsDurationAnswer}
 use Rattle.speedate.proofs.duration.Duration.parse_str.Goals as goal

@@ -1,0 +1,37 @@
+-- ISO 8601 durations that are one but for the order of two neighbouring quantities of one side.
+use Rattle.std.specs.Prelude.{◌≡◌, ℕ, Bool, true, false, List, ◌∷◌, ◌++◌, length, nat_lt}
+use Rattle.std.specs.List.{flat_map}
+use Rattle.std.specs.Option.{is_some}
+use Rattle.speedate_base.specs.Ascii.{capital_p}
+use Rattle.speedate_base.specs.Numbers.{IsSign}
+use Rattle.speedate.specs.IsoForm.{units, unit_in, Quantity, Item, Amount, item_text, IsItem, Sums, no_sums, with_items, AreGood}
+
+-- a quantity has a fraction, if only its sign
+abbrev pub has_fraction : Quantity → Bool
+has_fraction quantity = nat_lt 0 (length quantity.fraction)
+
+-- a quantity without a fraction that can be refused for its size alone
+abbrev pub IsPlain : Sums → Quantity → Type 0
+IsPlain sums quantity =
+    IsItem (Amount quantity) × (nat_lt 0 (length quantity.number) ≡ true) × (has_fraction quantity ≡ false) × (sums.fraction ≡ false)
+    × (is_some (unit_in (units sums.mark) quantity.letter) ≡ true)
+
+-- the text of a duration that has two quantities, one next to the other, behind items and in front of a rest
+abbrev pub pair_text : List ℕ → List Item → Quantity → Quantity → List ℕ → List ℕ
+pair_text sign items first second rest =
+    sign ++ capital_p ∷ (flat_map item_text items ++ (item_text (Amount first) ++ item_text (Amount second) ++ rest))
+
+-- two texts are one but for the order of two neighbouring quantities of one side, which have no fraction sign
+pub record AreExchanged (one two : List ℕ) : Type 0 where
+  pub negative : Bool
+  pub sign : List ℕ
+  pub items : List Item
+  pub first : Quantity
+  pub second : Quantity
+  pub rest : List ℕ
+  pub is_sign : IsSign negative sign
+  pub are_good : AreGood no_sums items
+  pub is_plain_first : IsPlain (with_items items no_sums) first
+  pub is_plain_second : IsPlain (with_items items no_sums) second
+  pub is_one : one ≡ pair_text sign items first second rest
+  pub is_two : two ≡ pair_text sign items second first rest
