@@ -1,7 +1,7 @@
 -- What stands at the front of a text as an item, and how the answer to a text goes on behind it.
 use Rattle.std.specs.Prelude.{◌≡◌, ℕ, suc, ◌+◌, ◌<◌, Bool, true, false, List, [], ◌∷◌, ◌++◌, length, take, drop, slice_index, if◌then◌else◌, ◌==◌, Result, Ok, Err, refl}
 use Rattle.std.specs.Char.{is_ascii_digit}
-use Rattle.std.specs.List.{list_all, flat_map}
+use Rattle.std.specs.List.{list_all}
 use Rattle.std.specs.Option.{is_some}
 use Rattle.std.proofs.Common.{arith, ap, sym, ◌∙◌, get_or, inl, inr, subst, lt_irrefl}
 use Rattle.std.proofs.lemmas.Bool.{cases_lt, eqb-true, false≢true}
@@ -13,6 +13,7 @@ use Rattle.speedate_base.specs.NumberLaws.{run-digits}
 use Rattle.speedate_base.specs.Requirement.{meets, AllHold}
 use Rattle.speedate_base.specs.RequirementLaws.{meets-next}
 use Rattle.speedate.specs.DurationNumbers.{DurationNumbers}
+use Rattle.speedate.specs.IsoFormLaws.{answer-with}
 use Rattle.speedate.specs.IsoForm.{Item, Amount, Mark, Sums, IsItem, quantity_at, quantity_length, item_at, item_length, item_text, item_table, with_item, Ends, IsAnswerFrom, sums_numbers, units, unit_in, is_point, fraction_length, IsFraction}
 
 -- behind the sign of a fraction stand digits
@@ -69,13 +70,8 @@ quantity-front sums text hold =
 after-item : (positive : Bool) (sums : Sums) (item : Item) (text rest : List ℕ) (answer : Result DurationNumbers ParseError)
     → text ≡ item_text item ++ rest → IsItem item → AllHold (item_table sums item)
     → IsAnswerFrom positive (with_item item sums) rest answer → IsAnswerFrom positive sums text answer
-after-item positive sums item text rest answer same is hold (items, end, rest_is, good, ends) = (
-  item ∷ items,
-  end,
-  same ∙ ap (λ (behind : List ℕ). item_text item ++ behind) rest_is ∙ sym (append_assoc (item_text item) (flat_map item_text items) end),
-  (is, hold, good),
-  ends,
-)
+after-item positive sums item text rest answer same is hold behind =
+    subst (λ (text : List ℕ). IsAnswerFrom positive sums text answer) (sym same) (answer-with positive sums item rest answer is hold behind)
 
 front-item : (positive : Bool) (sums : Sums) (text : List ℕ) (answer : Result DurationNumbers ParseError) (mark : Bool)
     → (slice_index text 0 == capital_t) ≡ mark → 0 < length text
