@@ -15,5 +15,5 @@ pub use speedate_base::numbers::{
     Decimal, IntFloat, float_parse_bytes, float_parse_str, int_parse_bytes, int_parse_str,
 };
 pub use speedate_civil::date::Date;
-pub use speedate_civil::datetime::DateTime;
+pub use speedate_civil::datetime::{DateTime, Moment};
 pub use speedate_civil::time::Time;

@@ -15,7 +15,7 @@ use crate::faults::ParseError;
 pub use decimal::{decimal_to_seconds_micros, decimal_unit};
 pub use rounding::{LARGEST_UNIT, nearest_microseconds, twice_microseconds};
 pub use unit::DecimalUnit;
-pub use unix_time::{FIRST_SECOND, UnixTime};
+pub use unix_time::{FIRST_SECOND, LAST_SECOND, UnixTime};
 
 /// The seconds of a day.
 pub const SECONDS_PER_DAY: u32 = 86_400;

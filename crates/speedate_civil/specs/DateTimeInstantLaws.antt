@@ -1,5 +1,5 @@
 -- The date-time of a timestamp lies as many microseconds after 1970-01-01T00:00:00 as the timestamp means.
-use Rattle.std.specs.Prelude.{◌≡◌, ℕ, suc, ◌/◌, ◌≤◌, Bool, true, false, if◌then◌else◌, nat_le, int_le, List, [], ◌∷◌, length, Option, ℤ, pos, negsuc, ◌+ℤ◌, ◌-ℤ◌, ◌*ℤ◌, unsigned_abs, Result, Ok, Err, refl}
+use Rattle.std.specs.Prelude.{◌≡◌, ℕ, suc, ◌/◌, ◌≤◌, Bool, true, false, nat_le, int_le, length, Option, ℤ, pos, negsuc, ◌+ℤ◌, ◌-ℤ◌, ◌*ℤ◌, unsigned_abs, Result, Ok, Err, refl}
 use Rattle.std.specs.Int.{int_div_euclid, int_rem_euclid}
 use Rattle.std.proofs.Common.{arith, ◌∙◌, ap, sym, subst}
 use Rattle.std.proofs.lemmas.Bool.Decides.{nat_tests}
@@ -12,13 +12,13 @@ use Rattle.speedate_base.specs.Nearest.{IsNearest}
 use Rattle.speedate_base.specs.NearestLaws.{nearest-is, scale-some}
 use Rattle.speedate_base.specs.Numbers.{DecimalParts}
 use Rattle.speedate_base.specs.Offset.{seconds_per_day}
-use Rattle.speedate_base.specs.Requirement.{Requirement, AllHold, meets, result_map, result_and_then}
+use Rattle.speedate_base.specs.Requirement.{result_map, result_and_then}
 use Rattle.speedate_base.specs.RequirementLaws.{meets-value}
 use Rattle.speedate_base.specs.Timestamp.{Instant, instant_at, instant_answer, per_second, unit_row, unit_table, inferred_seconds_max, first_second, range_table, range_answer}
 use Rattle.speedate_civil.specs.DateAndTime.{DateAndTime, local_second, local_microsecond}
 use Rattle.speedate_civil.specs.DateTimestamp.{day_at, second_at}
 use Rattle.speedate_civil.specs.DayNumber.{epoch_day}
-use Rattle.speedate_civil.specs.DateTimeTimestamp.{later_instant, later_answer, sum_table, date_time_at, instant_date_time, date_time_timestamp_answer, date_time_decimal_answer, meant_microsecond}
+use Rattle.speedate_civil.specs.DateTimeTimestamp.{IsShownAt, later_instant, later_answer, sum_table, date_time_at, instant_date_time, date_time_timestamp_answer, date_time_decimal_answer, meant_microsecond}
 use Rattle.speedate_civil.specs.DayNumberLaws.{day_number-date_after}
 use Rattle.speedate_civil.specs.TimeOfDay.{second_of_day, time_at}
 
@@ -80,6 +80,11 @@ local-is offset instant after =
     ap (λ (n : ℕ). (pos n -ℤ pos epoch_day) *ℤ pos seconds_per_day +ℤ pos (second_of_day (time_at second instant.microsecond offset))) (day_number-date_after day)
     ∙ ap (λ (n : ℕ). (pos day -ℤ pos epoch_day) *ℤ pos seconds_per_day +ℤ pos n) (second_of_day-time_at second instant.microsecond offset)
     ∙ second-joined instant.second after
+
+-- a clock shows an instant as the date-time at it
+pub date_time_at-shown : (offset : Option ℤ) (instant : Instant) → int_le first_second instant.second ≡ true
+    → IsShownAt offset instant (date_time_at offset instant)
+date_time_at-shown offset instant after = record { second = local-is offset instant after; microsecond = refl; attached = refl }
 
 -- the date-time at an instant is at that instant
 instant_date_time-is : (offset : Option ℤ) (instant : Instant) (value : DateAndTime) → instant_date_time offset instant ≡ Ok value

@@ -1,5 +1,5 @@
 -- Date-times from timestamps (Unix time), and from texts that are a timestamp instead.
-use Rattle.std.specs.Prelude.{ℕ, ◌+◌, ◌/◌, ◌%◌, ◌^◌, List, [], ◌∷◌, nat_lt, Option, Some, None, ℤ, pos, ◌+ℤ◌, ◌*ℤ◌, int_lt, Result, Ok}
+use Rattle.std.specs.Prelude.{◌≡◌, ℕ, ◌+◌, ◌/◌, ◌%◌, ◌^◌, List, [], ◌∷◌, nat_lt, Option, Some, None, ℤ, pos, ◌+ℤ◌, ◌*ℤ◌, int_lt, Result, Ok}
 use Rattle.speedate_base.specs.declared.config.MicrosecondsPrecisionOverflowBehavior.{MicrosecondsPrecisionOverflowBehavior}
 use Rattle.speedate_base.specs.declared.config.TimestampUnit.{TimestampUnit}
 use Rattle.speedate_base.specs.declared.faults.ParseError.{ParseError}
@@ -8,7 +8,7 @@ use Rattle.speedate_base.specs.DecimalTimestamp.{decimal_row, decimal_instant, d
 use Rattle.speedate_base.specs.Numbers.{DecimalParts, Number, Whole, Fractional, NoNumber, number_answer}
 use Rattle.speedate_base.specs.Requirement.{Requirement, ◌else_fault◌, meets, result_map, result_and_then}
 use Rattle.speedate_base.specs.Timestamp.{Instant, per_second, instant_answer, range_answer}
-use Rattle.speedate_civil.specs.DateAndTime.{DateAndTime}
+use Rattle.speedate_civil.specs.DateAndTime.{DateAndTime, local_second}
 use Rattle.speedate_civil.specs.DateTimestamp.{day_at, second_at}
 use Rattle.speedate_civil.specs.DateTimeText.{date_time_answer}
 use Rattle.speedate_civil.specs.DayNumber.{date_after}
@@ -40,7 +40,13 @@ date_time_at offset instant = record {
   time = time_at (second_at instant.second) instant.microsecond offset;
 }
 
--- it, or the fault of an instant outside the years 0000 to 9999
+-- a clock at an offset shows an instant as a date-time
+pub record IsShownAt (offset : Option ℤ) (instant : Instant) (value : DateAndTime) : Type 0 where
+  pub second : local_second value ≡ instant.second
+  pub microsecond : value.time.microsecond ≡ instant.microsecond
+  pub attached : value.time.offset ≡ offset
+
+-- the date-time at an instant, or the fault of one outside the years 0000 to 9999
 abbrev pub instant_date_time : Option ℤ → Instant → Result DateAndTime ParseError
 instant_date_time offset instant = result_map (date_time_at offset) (range_answer instant)
 

@@ -7,11 +7,14 @@ ghost use Rattle.speedate_base.specs.declared.config.MicrosecondsPrecisionOverfl
 ghost use Rattle.speedate_civil.specs.DateTimeText.{is_separator, date_time_answer};
 
 mod decimal;
+mod now;
 mod text;
 mod timestamp;
+mod timezone;
 
 use crate::date::Date;
 use crate::time::Time;
+pub use now::Moment;
 use speedate_base::config::TimeConfig;
 use speedate_base::faults::ParseError;
 use speedate_base::numbers::byte_at;

@@ -6,7 +6,7 @@ ghost use Rattle.speedate_civil.specs.Date.{parts};
 ghost use Rattle.speedate_civil.specs.DayNumber.{day_number};
 
 use crate::date::Date;
-use crate::datetime::DateTime;
+use crate::datetime::{DateTime, Moment};
 use crate::time::{PureTime, Time};
 use std::alloc::AllocError;
 
@@ -39,6 +39,13 @@ pub fn same_date_time(first: &DateTime, second: &DateTime) -> bool
     first == second
 }
 
+/// Whether two moments are one: false where their microseconds differ.
+pub fn same_moment(first: &Moment, second: &Moment) -> bool
+    ensures same { IsTrue result ↔ (first.now ≡ second.now) }
+{
+    first == second
+}
+
 /// Whether two times without offsets are one, and take as many bytes of their texts.
 pub fn same_pure_time(first: &PureTime, second: &PureTime) -> bool
     ensures same { IsTrue result ↔ (first.now ≡ second.now) }
@@ -58,6 +65,13 @@ pub fn clone_time(time: &Time) -> Result<Time, AllocError>
     ensures clone { result ≡ Ok time.now }
 {
     time.clone()
+}
+
+/// A second moment that is the same.
+pub fn clone_moment(moment: &Moment) -> Result<Moment, AllocError>
+    ensures clone { result ≡ Ok moment.now }
+{
+    moment.clone()
 }
 
 /// A second date-time that is the same, offset and all.

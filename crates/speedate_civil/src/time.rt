@@ -8,8 +8,10 @@ mod fraction;
 mod offset;
 mod pure;
 mod text;
+mod timezone;
 
 use offset::read_offset;
+pub(crate) use offset::{clock_shift, is_offset};
 pub use pure::PureTime;
 use speedate_base::config::{MicrosecondsPrecisionOverflowBehavior, TimeConfig};
 use speedate_base::faults::ParseError;

@@ -22,6 +22,8 @@ mod faults;
 #[cfg(test)]
 mod numbers;
 #[cfg(test)]
+mod offsets;
+#[cfg(test)]
 mod shown;
 #[cfg(test)]
 mod texts;

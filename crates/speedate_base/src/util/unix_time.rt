@@ -8,7 +8,7 @@ use crate::faults::ParseError;
 pub const FIRST_SECOND: i64 = -62_167_219_200;
 
 /// The last second of the year 9999.
-const LAST_SECOND: i64 = 253_402_300_799;
+pub const LAST_SECOND: i64 = 253_402_300_799;
 
 /// An instant: seconds since 1970-01-01T00:00:00, rounded down, and the microseconds that are left.
 #[derive(Clone, Copy, Debug, PartialEq, Eq)]
@@ -48,6 +48,7 @@ impl UnixTime {
             microsecond: 1000 * timestamp.rem_euclid(1000) as u32,
         }
     }
+
     /// The instant so many microseconds after 1970-01-01T00:00:00: second -1 and 999,999
     /// microseconds for -1.
     #[inline]

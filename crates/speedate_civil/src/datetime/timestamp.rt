@@ -11,7 +11,7 @@ ghost use Rattle.speedate_base.specs.declared.config.TimestampUnit.TheVariants a
 ghost use Rattle.speedate_civil.specs.DateAndTime.{local_second, utc_second, local_millisecond, utc_millisecond, local_microsecond};
 ghost use Rattle.speedate_civil.specs.DateTime.{parts};
 ghost use Rattle.speedate_civil.specs.DateTimeText.{date_time_answer};
-ghost use Rattle.speedate_civil.specs.DateTimeTimestamp.{later_answer, date_time_at, date_time_timestamp_answer, meant_microsecond, date_time_or_timestamp};
+ghost use Rattle.speedate_civil.specs.DateTimeTimestamp.{IsShownAt, later_answer, date_time_at, instant_date_time, date_time_timestamp_answer, meant_microsecond, date_time_or_timestamp};
 
 use crate::date::Date;
 use crate::date::timestamp::may_be_number;
@@ -150,8 +150,19 @@ impl DateTime {
     {
         let time = timestamp_to_seconds_micros(timestamp, config.timestamp_unit)?;
         let later = later_instant(time, timestamp_microsecond)?;
-        let within = later.in_years()?;
-        Ok(Self::at_instant(within, config.time_config.unix_timestamp_offset))
+        Self::of_instant(later, config.time_config.unix_timestamp_offset)
+    }
+
+    /// The date-time at an instant, with the offset attached: `DateTooSmall` before the year 0000,
+    /// `DateTooLarge` after the year 9999.
+    #[inline]
+    pub(super) fn of_instant(time: UnixTime, offset: Option<i32>) -> Result<Self, ParseError>
+        requires { ForSome offset IsOffset }
+        ensures answer { result_map parts result ≡ instant_date_time offset (instant_parts time) }
+        ensures shown { IfOk result (λ value. IsShownAt offset (instant_parts time) (parts value)) }
+    {
+        let within = time.in_years()?;
+        Ok(Self::at_instant(within, offset))
     }
 
     /// The date-time at an instant of the years 0000 to 9999, with the offset attached.
@@ -160,6 +171,7 @@ impl DateTime {
         requires within { IsInYears (instant_parts time) }
         requires offset { ForSome offset IsOffset }
         ensures value { parts result ≡ date_time_at offset (instant_parts time) }
+        ensures shown { IsShownAt offset (instant_parts time) (parts result) }
     {
         let (date, second) = Date::at_second(time.second);
         let time = Time::at_second(second, time.microsecond, offset);

@@ -1,12 +1,14 @@
 //! Offsets from UTC, behind a time.
 
-ghost use Rattle.std.specs.Prelude.{◌≡◌, ◌≤◌, ◌+◌, ◌<◌, ◌∷◌, ◌++◌, IfOk, length, if◌then◌else◌, unsigned_abs};
+ghost use Rattle.std.specs.Prelude.{◌≡◌, ◌≤◌, ◌+◌, ◌<◌, ◌∷◌, ◌*◌, ◌++◌, ◌-ℤ◌, IfOk, Ok, IsTrue, length, if◌then◌else◌, pos, unsigned_abs};
 ghost use Rattle.std.specs.Int.{is_negative};
-ghost use Rattle.std.specs.Option.{ForSome};
+ghost use Rattle.std.specs.Option.{ForSome, unwrap_or};
 ghost use Rattle.arrayvec.specs.ArrayVec.{array_vec_len};
 ghost use Rattle.speedate_base.specs.Ascii.{plus_sign, hyphen};
 ghost use Rattle.speedate_base.specs.Numbers.{with_sign};
 ghost use Rattle.speedate_base.specs.Offset.{IsOffset, seconds_per_day};
+ghost use Rattle.speedate_base.specs.Requirement.{meets};
+ghost use Rattle.speedate_civil.specs.OffsetMove.{is_offset, move_table};
 ghost use Rattle.speedate_civil.specs.OffsetText.{offset_answer, signed_answer, offset_minute_place, offset_size_text, offset_text};
 
 use crate::text::{push, two_digit_text};
@@ -66,6 +68,44 @@ fn with_sign(west: bool, size: u32) -> i32
     ensures range { IsOffset result }
 {
     if west { -(size as i32) } else { size as i32 }
+}
+
+/// Whether an offset in seconds is less than 24 hours: false for 86,400 and for `i32::MIN`.
+#[inline]
+pub(crate) fn is_offset(offset: i32) -> bool
+    ensures value { result ≡ is_offset offset }
+    ensures range { IsTrue result → IsOffset offset }
+{
+    offset.unsigned_abs() < SECONDS_PER_DAY
+}
+
+/// The seconds by which a clock moves from the offset at which it shows a time to another one: 3,600
+/// from `Some(0)` to 3,600. `OutOfRangeTz` where the other one is of 24 hours or more, `TzRequired`
+/// where there is no offset.
+#[inline]
+pub(crate) fn clock_shift(old: Option<i32>, offset: i32) -> Result<i32, ParseError>
+    requires { ForSome old IsOffset }
+    ensures answer { result ≡ meets (move_table offset old) (Ok (offset -ℤ unwrap_or old (pos 0))) }
+    ensures range { IfOk result (λ shift. IsOffset offset × (unsigned_abs shift < 2 * seconds_per_day)) }
+{
+    if !is_offset(offset) {
+        return Err(ParseError::OutOfRangeTz);
+    }
+    match old {
+        Some(old) => Ok(difference(offset, old)),
+        None => Err(ParseError::TzRequired),
+    }
+}
+
+/// How much larger one offset is than another.
+#[inline]
+fn difference(offset: i32, old: i32) -> i32
+    requires offset { IsOffset offset }
+    requires old { IsOffset old }
+    ensures value { result ≡ offset -ℤ old }
+    ensures range { unsigned_abs result < 2 * seconds_per_day }
+{
+    offset - old
 }
 
 /// The place of the minute behind an hour of two digits and an optional `:`.

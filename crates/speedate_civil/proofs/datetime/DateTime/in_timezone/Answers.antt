@@ -1,0 +1,61 @@
+use Rattle.std.proofs.Common.{◌≡◌, ◌∙◌, ◌<◌, ap, sym, subst, rules, Result, Ok, Err, Some, IfOk, unsigned_abs}
+use Rattle.std.specs.Prelude.{ℤ, pos, ◌+ℤ◌}
+use Rattle.std.specs.Option.{unwrap_or}
+use Rattle.std.proofs.lemmas.Int.{to_z-of_z}
+use mir.Syntax.{w32, w64}
+use mir.Val.{SFits}
+use Rattle.speedate_base.specs.declared.faults.ParseError.{ParseError}
+use Rattle.speedate_base.specs.Requirement.{AllHold}
+use Rattle.speedate_base.specs.RequirementLaws.{meets-all}
+use Rattle.speedate_base.specs.Timestamp.{Instant}
+use Rattle.speedate_civil.specs.declared.datetime.DateTime.{DateTime}
+use Rattle.speedate_civil.specs.DateAndTime.{DateAndTime, utc_second}
+use Rattle.speedate_civil.specs.DateTime.{parts}
+use Rattle.speedate_civil.specs.DateTimeTimestamp.{IsShownAt, instant_date_time}
+use Rattle.speedate_civil.specs.OffsetMove.{move_table}
+use Rattle.speedate_civil.specs.OffsetMoveLaws.{second-moved, instant-kept}
+use Rattle.speedate_civil.proofs.DateTimeFacts.{is_date_and_time, local_second-small}
+use Rattle.speedate_civil.proofs.datetime.DateTime.in_timezone.Goals as goal
+
+pub shifted-requires : goal.shifted-requires
+shifted-requires c =
+    let value = c.args.self.now in
+    let fits : SFits w64 c.timestamp.result = search rules in
+    rw (to_z-of_z w64 c.timestamp.result fits) (subst (λ (second : ℤ). unsigned_abs second < 300000000000) (sym c.timestamp.ensures.second) (local_second-small (parts value) (is_date_and_time value)))
+
+-- the offset can be had, and the second is the one that its clock shows
+found : (c : goal.After-of_instant)
+    → AllHold (move_table c.args.tz_offset c.args.self.now.time.tz_offset) × (c.shifted.result ≡ utc_second (parts c.args.self.now) +ℤ c.args.tz_offset)
+found c =
+    let local : SFits w64 c.timestamp.result = search rules in
+    let shift : SFits w32 c.in_ok-shift.shift = search rules in
+    let offset : SFits w32 c.args.tz_offset = search rules in
+    let sum = simp to_z-of_z at c.shifted.ensures in
+    let moved = simp to_z-of_z at c.in_ok-shift.ensures.answer in
+    second-moved (parts c.args.self.now) c.args.tz_offset c.in_ok-shift.shift c.timestamp.result c.shifted.result moved c.timestamp.ensures.second sum
+
+pub returns-clause-answer : goal.returns-clause-answer
+returns-clause-answer c =
+    let value = parts c.args.self.now in
+    let offset = c.args.tz_offset in
+    let second : SFits w64 c.shifted.result = search rules in
+    let given : SFits w32 offset = search rules in
+    let answer = simp to_z-of_z at c.of_instant.ensures.answer in
+    answer
+    ∙ ap (λ (second : ℤ). instant_date_time (Some offset) (record { second = second; microsecond = value.time.microsecond })) (found c).1
+    ∙ sym (meets-all (move_table offset value.time.offset) _ (found c).0)
+
+-- what an answer means
+kept : (result : Result DateTime ParseError) (value : DateAndTime) (offset : ℤ) (instant : Instant) → instant.second ≡ utc_second value +ℤ offset
+    → IfOk result (λ moved. IsShownAt (Some offset) instant (parts moved)) → IfOk result (λ moved. utc_second (parts moved) ≡ utc_second value)
+kept (Ok moved) value offset instant sum shown = instant-kept value (parts moved) offset instant.second sum shown.second (ap (λ given. unwrap_or given (pos 0)) shown.attached)
+kept (Err fault) value offset instant sum shown = tt
+
+pub returns-clause-instant : goal.returns-clause-instant
+returns-clause-instant c =
+    let value = parts c.args.self.now in
+    let offset = c.args.tz_offset in
+    let second : SFits w64 c.shifted.result = search rules in
+    let given : SFits w32 offset = search rules in
+    let shown = simp to_z-of_z at c.of_instant.ensures.shown in
+    kept c.of_instant.result value offset (record { second = c.shifted.result; microsecond = value.time.microsecond }) (found c).1 shown

@@ -1,0 +1,53 @@
+-- Times and date-times at other offsets: the same clock with another offset, or the same instant as another clock shows it.
+use Rattle.std.specs.Prelude.{Bool, true, List, [], ◌∷◌, nat_lt, ◌&&◌, Option, Some, ℤ, pos, ◌+ℤ◌, ◌-ℤ◌, int_le, int_lt, unsigned_abs, Result, Ok}
+use Rattle.std.specs.Option.{is_some, unwrap_or, option_map_or}
+use Rattle.speedate_base.specs.declared.faults.ParseError.{ParseError}
+use Rattle.speedate_base.specs.declared.faults.ParseError.TheVariants as fault
+use Rattle.speedate_base.specs.Offset.{seconds_per_day}
+use Rattle.speedate_base.specs.Requirement.{Requirement, ◌else_fault◌, meets}
+use Rattle.speedate_civil.specs.DateAndTime.{DateAndTime, utc_second}
+use Rattle.speedate_civil.specs.DateTimeTimestamp.{instant_date_time}
+use Rattle.speedate_civil.specs.TimeOfDay.{TimeOfDay, second_of_day, time_at}
+
+-- an offset is less than 24 hours (RFC 3339 5.6, time-hour and time-minute of time-numoffset)
+abbrev pub is_offset : ℤ → Bool
+is_offset offset = nat_lt (unsigned_abs offset) seconds_per_day
+
+-- what an offset has to meet that is asked for, or none
+abbrev pub offset_table : Option ℤ → List Requirement
+offset_table offset = (option_map_or is_offset offset true else_fault fault.OutOfRangeTz) ∷ []
+
+-- a time with that offset, or with none: what the clock shows stays
+abbrev pub time_with_offset : Option ℤ → TimeOfDay → Result TimeOfDay ParseError
+time_with_offset offset time = meets (offset_table offset) (Ok (record time { offset = offset }))
+
+-- the same of a date-time
+abbrev pub date_time_with_offset : Option ℤ → DateAndTime → Result DateAndTime ParseError
+date_time_with_offset offset value = meets (offset_table offset) (Ok (record value { time = record value.time { offset = offset } }))
+
+-- what an offset has to meet at which an instant is to be shown, and the offset at which a clock shows it now
+abbrev pub move_table : ℤ → Option ℤ → List Requirement
+move_table offset old =
+    (is_offset offset else_fault fault.OutOfRangeTz)
+    ∷ (is_some old else_fault fault.TzRequired)
+    ∷ []
+
+-- the seconds from midnight in UTC to a time; a time at an offset can lie on the day before, or after
+abbrev pub utc_second_of_day : TimeOfDay → ℤ
+utc_second_of_day time = pos (second_of_day time) -ℤ unwrap_or time.offset (pos 0)
+
+-- a time lies on the day that its clock shows
+abbrev pub second_table : ℤ → List Requirement
+second_table second = (int_le (pos 0) second && int_lt second (pos seconds_per_day) else_fault fault.TimeTooLarge) ∷ []
+
+-- the time at the same instant, as a clock at another offset shows it: it has no date that could change
+abbrev pub time_in_timezone : ℤ → TimeOfDay → Result TimeOfDay ParseError
+time_in_timezone offset time =
+    let second = utc_second_of_day time +ℤ offset in
+    meets (move_table offset time.offset) (meets (second_table second) (Ok (time_at (unsigned_abs second) time.microsecond (Some offset))))
+
+-- the date-time at the same instant, as a clock at another offset shows it, if that is in the years 0000 to 9999
+abbrev pub date_time_in_timezone : ℤ → DateAndTime → Result DateAndTime ParseError
+date_time_in_timezone offset value =
+    meets (move_table offset value.time.offset)
+    (instant_date_time (Some offset) (record { second = utc_second value +ℤ offset; microsecond = value.time.microsecond }))

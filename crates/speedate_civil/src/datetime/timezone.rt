@@ -1,0 +1,63 @@
+//! Date-times at other offsets.
+
+ghost use Rattle.std.specs.Prelude.{◌≡◌, ◌<◌, ◌+ℤ◌, IfOk, Some, unsigned_abs};
+ghost use Rattle.speedate_base.specs.Requirement.{result_map};
+
+use super::DateTime;
+use crate::time::clock_shift;
+use speedate_base::faults::ParseError;
+use speedate_base::util::UnixTime;
+
+impl DateTime {
+    ghost use Rattle.speedate_civil.specs.DateAndTime.{utc_second};
+    ghost use Rattle.speedate_civil.specs.DateTime.{parts};
+    ghost use Rattle.speedate_civil.specs.OffsetMove.{date_time_with_offset, date_time_in_timezone};
+
+    /// The same date and time of day with another offset, in seconds, or with none:
+    /// 2020-01-01T12:00:00-01:00 for 2020-01-01T12:00:00Z and `Some(-3600)`. What the clock shows stays.
+    ///
+    /// `OutOfRangeTz` where the offset is of 24 hours or more.
+    #[inline]
+    pub fn with_timezone_offset(&self, tz_offset: Option<i32>) -> Result<Self, ParseError>
+        ensures answer { result_map parts result ≡ date_time_with_offset tz_offset (parts self.now) }
+    {
+        let time = self.time.with_timezone_offset(tz_offset)?;
+        Ok(DateTime {
+            date: self.date,
+            time,
+        })
+    }
+
+    /// The date-time at the same instant, as a clock at another offset, in seconds, shows it:
+    /// 2020-01-02T00:30:00+01:00 for 2020-01-01T23:30:00Z and 3,600.
+    ///
+    /// The faults, in the order in which they are looked for:
+    ///
+    /// - `OutOfRangeTz` where the offset is of 24 hours or more;
+    /// - `TzRequired` where the date-time has no offset;
+    /// - `DateTooSmall` where that clock shows a date before the year 0000, and `DateTooLarge` where it
+    ///   shows one after the year 9999.
+    #[inline]
+    pub fn in_timezone(&self, tz_offset: i32) -> Result<Self, ParseError>
+        ensures answer { result_map parts result ≡ date_time_in_timezone tz_offset (parts self.now) }
+        ensures offset { IfOk result (λ value. value.time.tz_offset ≡ Some tz_offset) }
+        ensures instant { IfOk result (λ value. utc_second (parts value) ≡ utc_second (parts self.now)) }
+        ensures microsecond { IfOk result (λ value. value.time.microsecond ≡ self.now.time.microsecond) }
+    {
+        let shift = clock_shift(self.time.tz_offset, tz_offset)?;
+        let time = UnixTime {
+            second: shifted(self.timestamp(), shift),
+            microsecond: self.time.microsecond,
+        };
+        Self::of_instant(time, Some(tz_offset))
+    }
+}
+
+/// A second of the years 0000 to 9999, and so many seconds later: 90,000 for 86,400 and 3,600.
+#[inline]
+pub(super) fn shifted(second: i64, shift: i32) -> i64
+    requires { unsigned_abs second < 300000000000 }
+    ensures { result ≡ second +ℤ shift }
+{
+    second + i64::from(shift)
+}
