@@ -38,11 +38,14 @@ fn times_with_another_offset(rt: HostRuntime) {
         ("12:00:00", Some(i32::MAX), "out_of_range_tz"),
     ];
     for (text, offset, want) in cases {
-        let time = Time::parse_str(text).unwrap();
+        let time = Time::parse_str(text).ok().expect(&rt, "it is read");
         expect_time(&rt, time.with_timezone_offset(offset), want);
     }
-    let noon = Time::parse_str("12:00:00Z").unwrap();
-    let west = noon.with_timezone_offset(Some(-86_399)).unwrap();
+    let noon = Time::parse_str("12:00:00Z").ok().expect(&rt, "it is read");
+    let west = noon
+        .with_timezone_offset(Some(-86_399))
+        .ok()
+        .expect(&rt, "it is read");
     assert_eq!(rt; west.tz_offset, Some(-86_399));
 }
 
@@ -67,7 +70,7 @@ fn date_times_with_another_offset(rt: HostRuntime) {
         ("2020-02-29T12:00:00", Some(i32::MAX), "out_of_range_tz"),
     ];
     for (text, offset, want) in cases {
-        let value = DateTime::parse_str(text).unwrap();
+        let value = DateTime::parse_str(text).ok().expect(&rt, "it is read");
         expect_date_time(&rt, value.with_timezone_offset(offset), want);
     }
 }
@@ -104,7 +107,7 @@ fn times_in_another_timezone(rt: HostRuntime) {
         ("12:00:00", i32::MIN, "out_of_range_tz"),
     ];
     for (text, offset, want) in cases {
-        let time = Time::parse_str(text).unwrap();
+        let time = Time::parse_str(text).ok().expect(&rt, "it is read");
         expect_time(&rt, time.in_timezone(offset), want);
     }
 }
@@ -161,7 +164,7 @@ fn date_times_in_another_timezone(rt: HostRuntime) {
         ("9999-12-31T23:30:00", 3600, "tz_required"),
     ];
     for (text, offset, want) in cases {
-        let value = DateTime::parse_str(text).unwrap();
+        let value = DateTime::parse_str(text).ok().expect(&rt, "it is read");
         expect_date_time(&rt, value.in_timezone(offset), want);
     }
 }
@@ -228,8 +231,12 @@ fn clocks_that_tell_nothing(rt: HostRuntime) {
 
 #[test]
 fn today_is_the_day_at_the_offset(rt: HostRuntime) {
-    let today = Date::today(|| Some(moment(1_654_646_399, 0)), 3600).unwrap();
+    let today = Date::today(|| Some(moment(1_654_646_399, 0)), 3600)
+        .ok()
+        .expect(&rt, "it is read");
     assert_eq!(rt; today.to_text().as_str(), "2022-06-08");
-    let today = Date::today(|| Some(moment(1_654_646_399, 0)), 0).unwrap();
+    let today = Date::today(|| Some(moment(1_654_646_399, 0)), 0)
+        .ok()
+        .expect(&rt, "it is read");
     assert_eq!(rt; today.to_text().as_str(), "2022-06-07");
 }
