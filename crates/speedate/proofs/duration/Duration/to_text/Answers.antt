@@ -65,7 +65,7 @@ returns-clause-canonical c config answer is =
     let bytes = c.ascii_text.ensures.bytes ∙ c.deref.ensures.0 ∙ joined _ _ _ _ _ _ _ _ _ _ c.new-bytes.ensures c.push.ensures.bytes c.start_text.ensures
     c.push_counted.ensures.text c.push_counted-2.ensures.text c.push_rest.ensures.text in
     text-canonical duration_text (parts duration) _ answer bytes
-    (duration_answer-only behavior _ answer (Ok (parts duration)) is (returns-clause-reads_back c config))
+    (duration_answer-only behavior c.ascii_text.result.bytes answer (Ok (parts duration)) is (returns-clause-reads_back c config))
 
 pub returns-clause-distinct : goal.returns-clause-distinct
 returns-clause-distinct c other =
