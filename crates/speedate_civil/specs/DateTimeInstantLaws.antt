@@ -1,5 +1,5 @@
 -- The date-time of a timestamp lies as many microseconds after 1970-01-01T00:00:00 as the timestamp means.
-use Rattle.std.specs.Prelude.{◌≡◌, ℕ, suc, ◌/◌, ◌≤◌, Bool, true, false, if◌then◌else◌, nat_le, int_le, List, [], ◌∷◌, length, Option, ℤ, pos, negsuc, ◌+ℤ◌, ◌-ℤ◌, ◌*ℤ◌, unsigned_abs, Result, Ok, Err, refl}
+use Rattle.std.specs.Prelude.{◌≡◌, ℕ, suc, ◌/◌, ◌≤◌, Bool, true, false, nat_le, int_le, length, Option, ℤ, pos, negsuc, ◌+ℤ◌, ◌-ℤ◌, ◌*ℤ◌, unsigned_abs, Result, Ok, Err, refl}
 use Rattle.std.specs.Int.{int_div_euclid, int_rem_euclid}
 use Rattle.std.proofs.Common.{arith, ◌∙◌, ap, sym, subst}
 use Rattle.std.proofs.lemmas.Bool.Decides.{nat_tests}
@@ -12,7 +12,7 @@ use Rattle.speedate_base.specs.Nearest.{IsNearest}
 use Rattle.speedate_base.specs.NearestLaws.{nearest-is, scale-some}
 use Rattle.speedate_base.specs.Numbers.{DecimalParts}
 use Rattle.speedate_base.specs.Offset.{seconds_per_day}
-use Rattle.speedate_base.specs.Requirement.{Requirement, AllHold, meets, result_map, result_and_then}
+use Rattle.speedate_base.specs.Requirement.{result_map, result_and_then}
 use Rattle.speedate_base.specs.RequirementLaws.{meets-value}
 use Rattle.speedate_base.specs.Timestamp.{Instant, instant_at, instant_answer, per_second, unit_row, unit_table, inferred_seconds_max, first_second, range_table, range_answer}
 use Rattle.speedate_civil.specs.DateAndTime.{DateAndTime, local_second, local_microsecond}
