@@ -20,6 +20,7 @@ use speedate_base::config::{MicrosecondsPrecisionOverflowBehavior, TimeConfig};
 use speedate_base::faults::ParseError;
 use speedate_base::numbers::{byte_at, digit_run, sign, with_sign};
 use speedate_base::util::SECONDS_PER_DAY;
+use std::str::FromStr;
 
 /// A length of time: days of 86,400 seconds, seconds of a day, and microseconds of a second, with a
 /// sign. A length of nothing may have either sign.
@@ -233,6 +234,24 @@ impl Duration {
         ensures seconds { result ≡ length_seconds (parts self.now) }
     {
         u64::from(self.day) * u64::from(SECONDS_PER_DAY) + u64::from(self.second)
+    }
+}
+
+impl FromStr for Duration {
+    type Err = ParseError;
+
+    ghost use Rattle.speedate_base.specs.declared.config.MicrosecondsPrecisionOverflowBehavior.TheVariants as behavior;
+    ghost use Rattle.speedate.specs.Duration.{parts};
+
+    ghost from_str_gives = { λ text result. IsDurationAnswer behavior.Error text (result_map parts result) };
+
+    /// Reads a duration from a text, as [`Duration::parse_str`] does: `"PT90M".parse()` gives an hour
+    /// and a half.
+    #[inline]
+    fn from_str(text: &str) -> Result<Self, ParseError>
+        ensures answer { IsDurationAnswer behavior.Error text.now (result_map parts result) }
+    {
+        Self::parse_str(text)
     }
 }
 

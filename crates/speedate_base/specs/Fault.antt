@@ -1,7 +1,9 @@
--- The name by which each fault is printed.
+-- The names by which faults are printed.
 use Rattle.std.specs.Prelude.{ℕ, List, codes}
 use Rattle.speedate_base.specs.declared.faults.ParseError.{ParseError}
 use Rattle.speedate_base.specs.declared.faults.ParseError.TheVariants as fault
+use Rattle.speedate_base.specs.declared.faults.config_error.ConfigError.{ConfigError}
+use Rattle.speedate_base.specs.declared.faults.config_error.ConfigError.TheVariants as config_error
 
 -- the snake-case name of a fault
 abbrev pub fault_name : ParseError → List ℕ
@@ -45,3 +47,9 @@ fault_name fault.DurationDaysTooLarge = codes "duration_days_too_large"
 fault_name fault.DateTooSmall = codes "date_too_small"
 fault_name fault.DateTooLarge = codes "date_too_large"
 fault_name fault.TimeTooLarge = codes "time_too_large"
+
+-- the snake-case name of a fault of a choice
+abbrev pub config_error_name : ConfigError → List ℕ
+config_error_name config_error.UnknownMicrosecondsPrecisionOverflowBehaviorString =
+    codes "unknown_microseconds_precision_overflow_behavior_string"
+config_error_name config_error.UnknownTimestampUnitString = codes "unknown_timestamp_unit_string"

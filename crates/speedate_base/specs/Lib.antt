@@ -1,6 +1,7 @@
 pub mod Ascii
 pub mod Requirement
 pub mod Fault
+pub mod FaultDocumentation
 pub mod Digits
 pub mod DigitRuns
 pub mod Numbers
@@ -15,6 +16,7 @@ pub mod DecimalUnit
 pub mod DateConfig
 pub mod TimeConfig
 pub mod DateTimeConfig
+pub mod Choice
 pub mod RequirementLaws
 pub mod TextLaws
 pub mod FaultLaws

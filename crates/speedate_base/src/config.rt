@@ -7,6 +7,7 @@ ghost use Rattle.speedate_base.specs.Offset.{IsOffset};
 ghost use Rattle.speedate_base.specs.Requirement.{◌implies◌};
 ghost use Rattle.speedate_base.specs.Refusal.{refuses_digits};
 
+mod choice;
 mod date_time;
 
 pub use date_time::{DateTimeConfig, DateTimeConfigBuilder};

@@ -2,6 +2,9 @@
 
 ghost use Rattle.std.specs.Prelude.{◌≡◌};
 
+mod config_error;
+
+pub use config_error::ConfigError;
 use std::fmt;
 
 /// Why a text or a number was refused. Every refusal has exactly one of these.
@@ -92,8 +95,10 @@ pub enum ParseError {
 }
 
 impl ParseError {
-    ghost use Rattle.std.specs.Prelude.{◌≤◌, length};
+    ghost use Rattle.std.specs.Prelude.{◌≤◌, length, Some};
+    ghost use Rattle.std.specs.Option.{option_map};
     ghost use Rattle.speedate_base.specs.Fault.{fault_name};
+    ghost use Rattle.speedate_base.specs.FaultDocumentation.{fault_documentation};
 
     /// The snake-case name, of at most 29 bytes, as `too_short` for `ParseError::TooShort`.
     #[inline]
@@ -142,6 +147,71 @@ impl ParseError {
             ParseError::DateTooSmall => "date_too_small",
             ParseError::DateTooLarge => "date_too_large",
             ParseError::TimeTooLarge => "time_too_large",
+        }
+    }
+
+    /// The documentation text, which every fault has: `input is too short` for
+    /// `ParseError::TooShort`.
+    #[inline]
+    pub fn get_documentation(&self) -> Option<&'static str>
+        ensures text { option_map (λ text. text.now) result ≡ Some (fault_documentation self.now) }
+    {
+        Some(self.documentation())
+    }
+
+    /// The text of [`ParseError::get_documentation`].
+    fn documentation(&self) -> &'static str
+        ensures { result.now ≡ fault_documentation self.now }
+    {
+        match self {
+            ParseError::TooShort => "input is too short",
+            ParseError::ExtraCharacters => "unexpected extra characters at the end of the input",
+            ParseError::InvalidCharDateTimeSep => {
+                "invalid datetime separator, expected `T`, `t`, `_` or space"
+            }
+            ParseError::InvalidCharDateSep => "invalid date separator, expected `-`",
+            ParseError::DateNotExact => "Timestamp is not an exact date",
+            ParseError::InvalidCharYear => "invalid character in year",
+            ParseError::InvalidCharMonth => "invalid character in month",
+            ParseError::InvalidCharDay => "invalid character in day",
+            ParseError::InvalidCharTimeSep => "invalid time separator, expected `:`",
+            ParseError::InvalidCharHour => "invalid character in hour",
+            ParseError::InvalidCharMinute => "invalid character in minute",
+            ParseError::InvalidCharSecond => "invalid character in second",
+            ParseError::InvalidCharSecondFraction => "invalid character in second fraction",
+            ParseError::InvalidCharTzSign => "invalid timezone sign",
+            ParseError::InvalidCharTzHour => "invalid timezone hour",
+            ParseError::InvalidCharTzMinute => "invalid timezone minute",
+            ParseError::OutOfRangeTzMinute => {
+                "timezone minute value is outside expected range of 0-59"
+            }
+            ParseError::OutOfRangeTz => "timezone offset must be less than 24 hours",
+            ParseError::TzRequired => "timezone is required to adjust to a new timezone",
+            ParseError::SystemTimeError => "Error getting system time",
+            ParseError::OutOfRangeMonth => "month value is outside expected range of 1-12",
+            ParseError::OutOfRangeDay => "day value is outside expected range",
+            ParseError::OutOfRangeHour => "hour value is outside expected range of 0-23",
+            ParseError::OutOfRangeMinute => "minute value is outside expected range of 0-59",
+            ParseError::OutOfRangeSecond => "second value is outside expected range of 0-59",
+            ParseError::SecondFractionTooLong => "second fraction value is more than 6 digits long",
+            ParseError::SecondFractionMissing => "second fraction digits missing after `.`",
+            ParseError::MillisecondFractionTooLong => {
+                "millisecond fraction value is more than 3 digits long"
+            }
+            ParseError::DurationInvalidNumber => "invalid digit in duration",
+            ParseError::DurationTRepeated => "`t` character repeated in duration",
+            ParseError::DurationInvalidFraction => "quantity fraction invalid in duration",
+            ParseError::DurationInvalidTimeUnit => "quantity invalid in time part of duration",
+            ParseError::DurationInvalidDateUnit => "quantity invalid in date part of duration",
+            ParseError::DurationInvalidDays => {
+                "\"day\" identifier in duration not correctly formatted"
+            }
+            ParseError::DurationValueTooLarge => "a numeric value in the duration is too large",
+            ParseError::DurationHourValueTooLarge => "durations may not exceed 999,999,999 hours",
+            ParseError::DurationDaysTooLarge => "durations may not exceed 999,999,999 days",
+            ParseError::DateTooSmall => "dates before 0000 are not supported as unix timestamps",
+            ParseError::DateTooLarge => "dates after 9999 are not supported as unix timestamps",
+            ParseError::TimeTooLarge => "numeric times may not exceed 86,399 seconds",
         }
     }
 }

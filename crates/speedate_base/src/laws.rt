@@ -2,14 +2,15 @@
 //! and its contract is the law.
 
 ghost use Rattle.std.specs.Prelude.{◌≡◌, ◌↔◌, IsTrue, Ok};
-ghost use Rattle.speedate_base.specs.Fault.{fault_name};
+ghost use Rattle.speedate_base.specs.Fault.{fault_name, config_error_name};
 ghost use Rattle.speedate_base.specs.declared.faults.ParseError.{ParseError};
+ghost use Rattle.speedate_base.specs.declared.faults.config_error.ConfigError.{ConfigError};
 
 use crate::config::{
     DateConfig, DateConfigBuilder, DateTimeConfig, DateTimeConfigBuilder,
     MicrosecondsPrecisionOverflowBehavior, TimeConfig, TimeConfigBuilder, TimestampUnit,
 };
-use crate::faults::ParseError;
+use crate::faults::{ConfigError, ParseError};
 use crate::numbers::{Decimal, DigitRun, IntFloat};
 use crate::util::{DecimalUnit, UnixTime};
 use std::alloc::AllocError;
@@ -24,6 +25,20 @@ pub fn same_fault(first: &ParseError, second: &ParseError) -> bool
 /// The name of a fault, which no other fault has.
 pub fn name_of_fault(fault: &ParseError) -> &'static str
     ensures distinct { (other : ParseError) → result.now ≡ fault_name other → fault.now ≡ other }
+{
+    fault.name()
+}
+
+/// Whether two faults of a choice are one: false for that of a unit and that of a behavior.
+pub fn same_config_error(first: &ConfigError, second: &ConfigError) -> bool
+    ensures same { IsTrue result ↔ (first.now ≡ second.now) }
+{
+    first == second
+}
+
+/// The name of a fault of a choice, which no other one has.
+pub fn name_of_config_error(fault: &ConfigError) -> &'static str
+    ensures distinct { (other : ConfigError) → result.now ≡ config_error_name other → fault.now ≡ other }
 {
     fault.name()
 }
@@ -82,6 +97,13 @@ pub fn same_digit_run(first: &DigitRun, second: &DigitRun) -> bool
 
 /// A second fault that is the same: `TooShort` for `TooShort`.
 pub fn clone_fault(fault: &ParseError) -> Result<ParseError, AllocError>
+    ensures clone { result ≡ Ok fault.now }
+{
+    fault.clone()
+}
+
+/// A second fault of a choice that is the same.
+pub fn clone_config_error(fault: &ConfigError) -> Result<ConfigError, AllocError>
     ensures clone { result ≡ Ok fault.now }
 {
     fault.clone()

@@ -1,6 +1,6 @@
 //! Dates of the Gregorian calendar, from 0000-01-01 to 9999-12-31.
 
-ghost use Rattle.std.specs.Prelude.{◌≡◌, ◌<◌, ◌≤◌, Ok, OnOk, Some, length, if◌then◌else◌};
+ghost use Rattle.std.specs.Prelude.{◌≡◌, ◌<◌, ◌≤◌, ◌↔◌, Ok, OnOk, Some, length, if◌then◌else◌};
 ghost use Rattle.std.specs.Int.{is_in_range, IsInRange};
 ghost use Rattle.speedate_civil.specs.Calendar.{month_length, is_leap_year};
 
@@ -137,14 +137,18 @@ impl Date {
     }
 
     /// The canonical text, `YYYY-MM-DD`: `2020-02-29` for 29 February 2020. It reads back as the
-    /// date.
+    /// date, which no other date's text does.
     #[inline]
     pub fn to_text(&self) -> ArrayString<TEXT_LENGTH>
         ensures text { result.bytes ≡ date_text (parts self.now) }
         ensures reads_back { date_answer result.bytes ≡ Ok (parts self.now) }
         ensures reads_back_with_config { (config : DateConfig)
             → date_or_timestamp config.timestamp_unit result.bytes ≡ Ok (parts self.now) }
-        ensures distinct { (other : Date) → result.bytes ≡ date_text (parts other) → parts self.now ≡ parts other }
+        ensures canonical { result_map date_text (date_answer result.bytes) ≡ Ok result.bytes }
+        ensures canonical_with_config { (config : DateConfig)
+            → result_map date_text (date_or_timestamp config.timestamp_unit result.bytes) ≡ Ok result.bytes }
+        ensures distinct { (other : Date)
+            → (result.bytes ≡ date_text (parts other)) ↔ (parts self.now ≡ parts other) }
     {
         ascii_text(&self.text_bytes())
     }

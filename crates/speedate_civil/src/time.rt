@@ -16,6 +16,7 @@ pub use pure::PureTime;
 use speedate_base::config::{MicrosecondsPrecisionOverflowBehavior, TimeConfig};
 use speedate_base::faults::ParseError;
 use speedate_base::util::SECONDS_PER_DAY;
+use std::str::FromStr;
 
 /// A time of day, with an offset from UTC or without one.
 ///
@@ -197,5 +198,24 @@ impl Time {
         ensures milliseconds { result ≡ millisecond_of_day (parts self.now) }
     {
         1000 * self.total_seconds() + self.microsecond / 1000
+    }
+}
+
+impl FromStr for Time {
+    type Err = ParseError;
+
+    ghost use Rattle.speedate_base.specs.declared.config.MicrosecondsPrecisionOverflowBehavior.TheVariants as behavior;
+    ghost use Rattle.speedate_base.specs.Requirement.{result_map};
+    ghost use Rattle.speedate_civil.specs.Time.{parts};
+    ghost use Rattle.speedate_civil.specs.TimeText.{time_answer};
+
+    ghost from_str_gives = { λ text result. result_map parts result ≡ time_answer behavior.Error text };
+
+    /// Reads a time from a text, as [`Time::parse_str`] does: `"12:13Z".parse()` gives 12:13:00 in UTC.
+    #[inline]
+    fn from_str(text: &str) -> Result<Self, ParseError>
+        ensures answer { result_map parts result ≡ time_answer behavior.Error text.now }
+    {
+        Self::parse_str(text)
     }
 }

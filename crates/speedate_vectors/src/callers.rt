@@ -2,12 +2,14 @@
 //! shows them word for word.
 
 ghost use Rattle.std.specs.Prelude.{◌≡◌, ◌↔◌, ◌-◌, ◌%◌, ◌≤◌, ◌*ℤ◌, IfSome, IsSome, IsSomeAnd, Ok, Some, pos, slice_get, unsigned_abs};
+ghost use Rattle.std.specs.Result.{result_map_both};
+ghost use Rattle.speedate.specs.Choice.{unit_answer};
 ghost use Rattle.speedate.specs.Requirement.{result_map};
 ghost use Rattle.speedate.specs.DateText.{date_answer};
 ghost use Rattle.speedate.specs.Offset.{IsWholeMinutes};
 ghost use Rattle.speedate.specs.Time.{parts};
 
-use speedate::{Date, ParseError, Time, TimeConfig};
+use speedate::{ConfigError, Date, DateConfig, ParseError, Time, TimeConfig};
 
 /// The last two digits of the year of a date: 20 for `"2020-02-29"`.
 pub fn short_year(text: &str) -> Result<u16, ParseError>
@@ -62,4 +64,13 @@ pub fn stored_and_read(time: &Time, config: &TimeConfig) -> Result<Time, ParseEr
 {
     let stored = time.to_text();
     Time::parse_bytes_with_config(stored.as_str().as_bytes(), config)
+}
+
+/// The configuration by which dates are read, with the unit of timestamps that an option names: that
+/// of seconds for `"s"`.
+pub fn date_config(unit: &str) -> Result<DateConfig, ConfigError>
+    ensures unit { result_map_both (λ config. config.timestamp_unit) (λ fault. fault) result ≡ unit_answer unit.now }
+{
+    let unit = unit.parse()?;
+    Ok(DateConfig::builder().timestamp_unit(unit).build())
 }

@@ -1,7 +1,7 @@
-//! Configurations and their builders.
+//! Configurations, their builders, and the names of units and behaviors.
 
 use speedate::{
-    DateConfig, DateConfigBuilder, DateTimeConfig, DateTimeConfigBuilder,
+    ConfigError, DateConfig, DateConfigBuilder, DateTimeConfig, DateTimeConfigBuilder,
     MicrosecondsPrecisionOverflowBehavior, TimeConfig, TimeConfigBuilder, TimestampUnit,
 };
 
@@ -82,4 +82,69 @@ fn a_builder_of_date_times_gives_what_was_set_last(rt: HostRuntime) {
         time_config: east,
     };
     assert!(rt; offset != plain);
+}
+
+#[test]
+fn units_by_their_names(rt: HostRuntime) {
+    let cases = [
+        ("s", Ok(TimestampUnit::Second)),
+        ("S", Ok(TimestampUnit::Second)),
+        ("ms", Ok(TimestampUnit::Millisecond)),
+        ("mS", Ok(TimestampUnit::Millisecond)),
+        ("MS", Ok(TimestampUnit::Millisecond)),
+        ("infer", Ok(TimestampUnit::Infer)),
+        ("INFER", Ok(TimestampUnit::Infer)),
+        ("inFer", Ok(TimestampUnit::Infer)),
+        ("", Err(ConfigError::UnknownTimestampUnitString)),
+        (" s", Err(ConfigError::UnknownTimestampUnitString)),
+        ("s ", Err(ConfigError::UnknownTimestampUnitString)),
+        ("m", Err(ConfigError::UnknownTimestampUnitString)),
+        ("us", Err(ConfigError::UnknownTimestampUnitString)),
+        ("sec", Err(ConfigError::UnknownTimestampUnitString)),
+        ("infe", Err(ConfigError::UnknownTimestampUnitString)),
+        ("infers", Err(ConfigError::UnknownTimestampUnitString)),
+        ("error", Err(ConfigError::UnknownTimestampUnitString)),
+        ("\u{17f}", Err(ConfigError::UnknownTimestampUnitString)),
+        ("m\u{17f}", Err(ConfigError::UnknownTimestampUnitString)),
+        ("\u{131}nfer", Err(ConfigError::UnknownTimestampUnitString)),
+        ("@s", Err(ConfigError::UnknownTimestampUnitString)),
+    ];
+    for (text, want) in cases {
+        assert_eq!(rt; text.parse::<TimestampUnit>(), want, "{text}");
+    }
+}
+
+#[test]
+fn behaviors_by_their_names(rt: HostRuntime) {
+    let unknown = ConfigError::UnknownMicrosecondsPrecisionOverflowBehaviorString;
+    let cases = [
+        (
+            "truncate",
+            Ok(MicrosecondsPrecisionOverflowBehavior::Truncate),
+        ),
+        (
+            "Truncate",
+            Ok(MicrosecondsPrecisionOverflowBehavior::Truncate),
+        ),
+        (
+            "TRUNCATE",
+            Ok(MicrosecondsPrecisionOverflowBehavior::Truncate),
+        ),
+        ("error", Ok(MicrosecondsPrecisionOverflowBehavior::Error)),
+        ("eRRor", Ok(MicrosecondsPrecisionOverflowBehavior::Error)),
+        ("", Err(unknown)),
+        ("err", Err(unknown)),
+        ("errors", Err(unknown)),
+        (" error", Err(unknown)),
+        ("error\n", Err(unknown)),
+        ("trunc", Err(unknown)),
+        ("infer", Err(unknown)),
+    ];
+    for (text, want) in cases {
+        assert_eq!(rt;
+            text.parse::<MicrosecondsPrecisionOverflowBehavior>(),
+            want,
+            "{text}"
+        );
+    }
 }

@@ -1,6 +1,6 @@
 //! Dates from texts, and back.
 
-use crate::shown::expect_shown;
+use crate::shown::{expect_parsed, expect_shown};
 use arrayvec::ArrayString;
 use speedate::{Date, ParseError};
 use std::process::Abort;
@@ -114,4 +114,20 @@ fn equal_by_all_fields(rt: HostRuntime) {
     for (text, same) in cases {
         assert_eq!(rt; Date::parse_str_rfc3339(text) == Ok(date), same, "{text}");
     }
+}
+
+#[test]
+fn parses_dates(rt: HostRuntime) -> Result<(), Fail> {
+    expect_parsed::<_, Date>(
+        &rt,
+        &[
+            ("2020-02-29", "2020-02-29"),
+            ("1654560000", "2022-06-07"),
+            ("86401", "date_not_exact"),
+            ("2021-02-29", "out_of_range_day"),
+            (" 2020-02-29", "invalid_char_year"),
+            ("2020-02-29\n", "extra_characters"),
+            ("", "too_short"),
+        ],
+    )
 }

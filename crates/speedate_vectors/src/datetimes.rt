@@ -1,6 +1,6 @@
 //! Date-times from texts and from timestamps, and back.
 
-use crate::shown::expect_shown;
+use crate::shown::{expect_parsed, expect_shown};
 use arrayvec::{ArrayString, ArrayVec};
 use speedate::{
     Date, DateTime, DateTimeConfig, MicrosecondsPrecisionOverflowBehavior, ParseError, Time,
@@ -437,4 +437,20 @@ fn timestamps_of_date_times(rt: HostRuntime) -> Result<(), Fail> {
         assert_eq!(rt; value.timestamp_tz_ms(), tz_millisecond, "{text}");
     }
     Ok(())
+}
+
+#[test]
+fn parses_date_times(rt: HostRuntime) -> Result<(), Fail> {
+    expect_parsed::<_, DateTime>(
+        &rt,
+        &[
+            ("2020-02-29t12:13:14z", "2020-02-29T12:13:14Z"),
+            ("1654560000", "2022-06-07T00:00:00"),
+            ("1654560000.5", "2022-06-07T00:00:00.500000"),
+            ("1654560000.1234567", "second_fraction_too_long"),
+            ("2020-02-29", "invalid_char_date_time_sep"),
+            ("2020-02-29T12:13:14 ", "invalid_char_tz_sign"),
+            ("", "too_short"),
+        ],
+    )
 }

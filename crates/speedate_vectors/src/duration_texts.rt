@@ -6,8 +6,10 @@ ghost use Rattle.speedate.specs.Offset.{IsOffset};
 mod fractions;
 mod iso;
 
+use crate::shown::expect_parsed;
 use speedate::{Duration, MicrosecondsPrecisionOverflowBehavior, TimeConfig};
 use std::process::Abort;
+use std::test::Fail;
 
 /// The configuration by which digits past the microsecond are dropped.
 fn truncating() -> TimeConfig {
@@ -294,4 +296,20 @@ fn digits_past_the_microsecond(rt: HostRuntime) {
             "second_fraction_too_long",
         );
     }
+}
+
+#[test]
+fn parses_durations(rt: HostRuntime) -> Result<(), Fail> {
+    expect_parsed::<_, Duration>(
+        &rt,
+        &[
+            ("PT90M", "PT1H30M"),
+            ("-1 day, 10:20", "-P1DT10H20M"),
+            ("24:01:03", "P1DT1M3S"),
+            ("00:00:00.1234567", "second_fraction_too_long"),
+            ("PT1S ", "duration_invalid_number"),
+            (" PT1S", "invalid_char_hour"),
+            ("", "too_short"),
+        ],
+    )
 }

@@ -1,7 +1,9 @@
-//! What Display writes, and what it answers where the writer takes nothing.
+//! What Display writes, and what it answers where the writer takes nothing; what `parse` reads.
 
+use speedate::ParseError;
 use std::fmt::{self, Display, Write};
 use std::process::Abort;
+use std::str::FromStr;
 use std::test::Fail;
 
 /// A value is to be written as the text, whatever width, fill or form is asked for.
@@ -17,6 +19,21 @@ pub fn expect_shown<R: AllocGlobal + Abort, T: Display>(
     let alternate = format!(in rt.alloc(); "{value:#}")?;
     assert_eq!(rt; alternate.as_str(), want);
     assert!(rt; write!(Full, "{value}").is_err(), "{want}");
+    Ok(())
+}
+
+/// Each text is to be parsed as the value that is written as the text beside it, or to be refused by
+/// the fault of that name.
+pub fn expect_parsed<R: AllocGlobal + Abort, T: FromStr<Err = ParseError> + Display + Copy>(
+    rt: &R,
+    cases: &[(&str, &str)],
+) -> Result<(), Fail> {
+    for (text, want) in cases {
+        match text.parse::<T>() {
+            Ok(value) => expect_shown(rt, &value, want)?,
+            Err(fault) => assert_eq!(rt; fault.name(), *want, "{text}"),
+        }
+    }
     Ok(())
 }
 

@@ -3,7 +3,7 @@
 ghost use Rattle.std.specs.Option.{ForSome};
 ghost use Rattle.speedate.specs.Offset.{IsOffset};
 
-use crate::shown::expect_shown;
+use crate::shown::{expect_parsed, expect_shown};
 use arrayvec::ArrayString;
 use speedate::{MicrosecondsPrecisionOverflowBehavior, ParseError, Time, TimeConfig};
 use speedate_civil::time::PureTime;
@@ -405,4 +405,20 @@ fn the_parts_of_a_time(rt: HostRuntime) {
     assert_eq!(rt; Time::parse_str("12:13:14.123456"), Ok(want));
     assert_eq!(rt; want.total_seconds(), 43_994);
     assert_eq!(rt; want.total_ms(), 43_994_123);
+}
+
+#[test]
+fn parses_times(rt: HostRuntime) -> Result<(), Fail> {
+    expect_parsed::<_, Time>(
+        &rt,
+        &[
+            ("12:13:14.5+0130", "12:13:14.500000+01:30"),
+            ("12:13", "12:13:00"),
+            ("12:13:14.1234567", "second_fraction_too_long"),
+            ("24:00", "out_of_range_hour"),
+            ("43994", "invalid_char_time_sep"),
+            (" 12:13", "invalid_char_hour"),
+            ("", "too_short"),
+        ],
+    )
 }

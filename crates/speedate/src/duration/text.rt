@@ -1,6 +1,6 @@
 //! The text of a duration.
 
-ghost use Rattle.std.specs.Prelude.{◌≡◌, ◌≢◌, ◌+◌, ◌++◌, ◌<◌, ◌≤◌, length, take, drop, Some, Ok};
+ghost use Rattle.std.specs.Prelude.{◌≡◌, ◌≢◌, ◌+◌, ◌++◌, ◌<◌, ◌≤◌, ◌↔◌, length, take, drop, Some, Result, Ok};
 ghost use Rattle.std.specs.Fmt.{decimal};
 ghost use Rattle.arrayvec.specs.ArrayVec.{array_vec_len};
 ghost use Rattle.speedate_base.specs.Digits.{six_digit_text};
@@ -125,6 +125,9 @@ fn start_text(positive: bool) -> &'static [u8]
 
 impl Duration {
     ghost use Rattle.speedate_base.specs.declared.config.TimeConfig.{TimeConfig};
+    ghost use Rattle.speedate_base.specs.declared.faults.ParseError.{ParseError};
+    ghost use Rattle.speedate_base.specs.Requirement.{result_map};
+    ghost use Rattle.speedate.specs.DurationNumbers.{DurationNumbers};
     ghost use Rattle.speedate.specs.declared.duration.Duration.{Duration};
     ghost use Rattle.speedate.specs.Duration.{parts};
     ghost use Rattle.speedate.specs.DurationForm.{IsDurationAnswer};
@@ -137,7 +140,11 @@ impl Duration {
     pub fn to_text(&self) -> ArrayString<TEXT_MAX>
         ensures text { result.bytes ≡ duration_text (parts self.now) }
         ensures reads_back { (config : TimeConfig) → IsDurationAnswer config.microseconds_precision_overflow_behavior result.bytes (Ok (parts self.now)) }
-        ensures distinct { (other : Duration) → result.bytes ≡ duration_text (parts other) → parts self.now ≡ parts other }
+        ensures canonical { (config : TimeConfig) (answer : Result DurationNumbers ParseError)
+            → IsDurationAnswer config.microseconds_precision_overflow_behavior result.bytes answer
+            → result_map duration_text answer ≡ Ok result.bytes }
+        ensures distinct { (other : Duration)
+            → (result.bytes ≡ duration_text (parts other)) ↔ (parts self.now ≡ parts other) }
     {
         let mut bytes: ArrayVec<u8, TEXT_MAX> = ArrayVec::new();
         push(start_text(self.positive), &mut bytes);

@@ -16,6 +16,7 @@ use speedate_base::config::DateConfig;
 use speedate_base::faults::ParseError;
 use speedate_base::numbers::int_parse_bytes;
 use speedate_base::util::{FIRST_SECOND, SECONDS_PER_DAY, UnixTime, timestamp_to_seconds_micros};
+use std::str::FromStr;
 
 impl Date {
     /// Reads a date from a text, or from a timestamp that stands there instead: 2020-02-29 for
@@ -128,6 +129,21 @@ impl Date {
     {
         let (number, second) = day_and_second(second);
         (Self::numbered(number), second)
+    }
+}
+
+impl FromStr for Date {
+    type Err = ParseError;
+
+    ghost from_str_gives = { λ text result. result_map parts result ≡ date_or_timestamp unit.Infer text };
+
+    /// Reads a date from a text, as [`Date::parse_str`] does: `"2020-02-29".parse()` gives 29 February
+    /// 2020.
+    #[inline]
+    fn from_str(text: &str) -> Result<Self, ParseError>
+        ensures answer { result_map parts result ≡ date_or_timestamp unit.Infer text.now }
+    {
+        Self::parse_str(text)
     }
 }
 

@@ -11,9 +11,10 @@ use std::fmt;
 const TEXT_MAX: usize = 32;
 
 impl DateTime {
-    ghost use Rattle.std.specs.Prelude.{◌≡◌, ◌≤◌, ◌+◌, ◌++◌, Ok};
+    ghost use Rattle.std.specs.Prelude.{◌≡◌, ◌≤◌, ◌+◌, ◌++◌, ◌↔◌, Ok};
     ghost use Rattle.arrayvec.specs.ArrayVec.{array_vec_len};
     ghost use Rattle.speedate_base.specs.Offset.{IsWholeMinutes};
+    ghost use Rattle.speedate_base.specs.Requirement.{result_map};
     ghost use Rattle.speedate_base.specs.declared.config.TimeConfig.{TimeConfig};
     ghost use Rattle.speedate_base.specs.declared.config.date_time.DateTimeConfig.{DateTimeConfig};
     ghost use Rattle.speedate_civil.specs.declared.datetime.DateTime.{DateTime};
@@ -35,8 +36,15 @@ impl DateTime {
             → date_time_or_timestamp config.timestamp_unit
             config.time_config.microseconds_precision_overflow_behavior
             config.time_config.unix_timestamp_offset result.bytes ≡ Ok (parts self.now) }
+        ensures canonical { IsWholeMinutes self.now.time.tz_offset → (config : TimeConfig)
+            → result_map date_time_text (date_time_answer config.microseconds_precision_overflow_behavior result.bytes)
+            ≡ Ok result.bytes }
+        ensures canonical_with_config { IsWholeMinutes self.now.time.tz_offset → (config : DateTimeConfig)
+            → result_map date_time_text (date_time_or_timestamp config.timestamp_unit
+            config.time_config.microseconds_precision_overflow_behavior
+            config.time_config.unix_timestamp_offset result.bytes) ≡ Ok result.bytes }
         ensures distinct { IsWholeMinutes self.now.time.tz_offset → (other : DateTime) → IsWholeMinutes other.time.tz_offset
-            → result.bytes ≡ date_time_text (parts other) → parts self.now ≡ parts other }
+            → (result.bytes ≡ date_time_text (parts other)) ↔ (parts self.now ≡ parts other) }
     {
         let mut bytes: ArrayVec<u8, TEXT_MAX> = ArrayVec::new();
         self.push_onto(&mut bytes);

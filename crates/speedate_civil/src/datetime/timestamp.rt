@@ -21,6 +21,7 @@ use speedate_base::config::DateTimeConfig;
 use speedate_base::faults::ParseError;
 use speedate_base::numbers::{IntFloat, float_parse_bytes};
 use speedate_base::util::{UnixTime, timestamp_to_seconds_micros};
+use std::str::FromStr;
 
 impl DateTime {
     /// Reads a date-time from a text, or from a timestamp that stands there instead: 12:13:14 on
@@ -216,6 +217,22 @@ impl DateTime {
         ensures millisecond { result ≡ utc_millisecond (parts self.now) }
     {
         1000 * self.timestamp_tz() + i64::from(self.time.microsecond / 1000)
+    }
+}
+
+impl FromStr for DateTime {
+    type Err = ParseError;
+
+    ghost from_str_gives = { λ text result. result_map parts result
+        ≡ date_time_or_timestamp unit.Infer behavior.Error None text };
+
+    /// Reads a date-time from a text, as [`DateTime::parse_str`] does: `"1654560000".parse()` gives
+    /// midnight on 7 June 2022.
+    #[inline]
+    fn from_str(text: &str) -> Result<Self, ParseError>
+        ensures answer { result_map parts result ≡ date_time_or_timestamp unit.Infer behavior.Error None text.now }
+    {
+        Self::parse_str(text)
     }
 }
 

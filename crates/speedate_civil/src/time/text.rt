@@ -14,9 +14,10 @@ use std::fmt;
 const TEXT_MAX: usize = 21;
 
 impl Time {
-    ghost use Rattle.std.specs.Prelude.{◌+◌, ◌++◌, Ok};
+    ghost use Rattle.std.specs.Prelude.{◌+◌, ◌++◌, ◌↔◌, Ok};
     ghost use Rattle.arrayvec.specs.ArrayVec.{array_vec_len};
     ghost use Rattle.speedate_base.specs.Offset.{IsWholeMinutes};
+    ghost use Rattle.speedate_base.specs.Requirement.{result_map};
     ghost use Rattle.speedate_base.specs.declared.config.TimeConfig.{TimeConfig};
     ghost use Rattle.speedate_civil.specs.declared.time.Time.{Time};
     ghost use Rattle.speedate_civil.specs.Time.{parts};
@@ -32,8 +33,11 @@ impl Time {
         ensures text { result.bytes ≡ time_text (parts self.now) }
         ensures reads_back { IsWholeMinutes self.now.tz_offset → (config : TimeConfig)
             → time_answer config.microseconds_precision_overflow_behavior result.bytes ≡ Ok (parts self.now) }
+        ensures canonical { IsWholeMinutes self.now.tz_offset → (config : TimeConfig)
+            → result_map time_text (time_answer config.microseconds_precision_overflow_behavior result.bytes)
+            ≡ Ok result.bytes }
         ensures distinct { IsWholeMinutes self.now.tz_offset → (other : Time) → IsWholeMinutes other.tz_offset
-            → result.bytes ≡ time_text (parts other) → parts self.now ≡ parts other }
+            → (result.bytes ≡ time_text (parts other)) ↔ (parts self.now ≡ parts other) }
     {
         let mut bytes: ArrayVec<u8, TEXT_MAX> = ArrayVec::new();
         self.push_onto(&mut bytes);

@@ -1,6 +1,6 @@
-use Rattle.std.proofs.Common.{◌≡◌, ◌∙◌, ap, sym, ℕ, ◌+◌, ◌^◌, ◌-◌, ◌<◌, ◌≤◌, length, take, arith}
+use Rattle.std.proofs.Common.{◌∙◌, ap, sym, ℕ, take, arith}
 use Rattle.std.specs.Char.{is_ascii_digit}
-use Rattle.std.specs.Prelude.{min, slice_index}
+use Rattle.std.specs.Prelude.{slice_index}
 use Rattle.speedate_base.specs.DigitRuns.{digits_value}
 use Rattle.speedate_base.specs.DigitRunLaws.{digit-within, digit_value-le, digits_value-front-fits, digits_value-front-more, all_digits-more, run_length-ended}
 use Rattle.speedate_base.proofs.numbers.digits.run_in_front.Goals as goal

@@ -7,6 +7,7 @@ use Rattle.speedate_base.specs.Numbers.{whole_number}
 use Rattle.speedate_civil.specs.DateText.{date_answer, date_text}
 use Rattle.speedate_civil.specs.DateTimestamp.{date_timestamp_answer, date_or_timestamp}
 use Rattle.speedate_civil.specs.NumberText.{or_number}
+use Rattle.speedate_base.specs.TextLaws.{text-canonical}
 use Rattle.speedate_civil.specs.DateLaws.{date_text-reads, date_text-distinct, date_text-IsAscii}
 use Rattle.speedate_civil.proofs.DateFacts.{is_date}
 use Rattle.speedate_civil.proofs.date.Date.to_text.Goals as goal
@@ -29,7 +30,16 @@ returns-clause-reads_back_with_config c config =
     ap (λ (text : List ℕ). date_or_timestamp config.timestamp_unit text) bytes
     ∙ ap (or_number (option_map (date_timestamp_answer config.timestamp_unit true) (whole_number (date_text (parts date))))) (date_text-reads (parts date) (is_date date))
 
+pub returns-clause-canonical : goal.returns-clause-canonical
+returns-clause-canonical c =
+    text-canonical date_text _ _ _ (c.ascii_text.ensures.bytes ∙ c.text_bytes.ensures.bytes) (returns-clause-reads_back c)
+
+pub returns-clause-canonical_with_config : goal.returns-clause-canonical_with_config
+returns-clause-canonical_with_config c config =
+    text-canonical date_text _ _ _ (c.ascii_text.ensures.bytes ∙ c.text_bytes.ensures.bytes) (returns-clause-reads_back_with_config c config)
+
 pub returns-clause-distinct : goal.returns-clause-distinct
-returns-clause-distinct c other same =
+returns-clause-distinct c other =
     let date = c.args.self.now in
-    date_text-distinct (parts date) (parts other) (is_date date) (is_date other) (sym (c.ascii_text.ensures.bytes ∙ c.text_bytes.ensures.bytes) ∙ same)
+    let bytes = c.ascii_text.ensures.bytes ∙ c.text_bytes.ensures.bytes in
+    (λ same. date_text-distinct (parts date) (parts other) (is_date date) (is_date other) (sym bytes ∙ same), λ one. bytes ∙ ap date_text one)

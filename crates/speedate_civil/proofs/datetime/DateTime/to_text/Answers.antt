@@ -1,6 +1,7 @@
 use Rattle.std.proofs.Common.{◌≡◌, ◌∙◌, sym, ap, subst, ℕ, List, [], ◌++◌, lit<}
 use Rattle.std.specs.Str.{IsAscii}
 use Rattle.speedate_base.specs.Numbers.{number_answer}
+use Rattle.speedate_base.specs.TextLaws.{text-canonical}
 use Rattle.speedate_civil.specs.DateTime.{parts}
 use Rattle.speedate_civil.specs.DateTimeText.{date_time_answer, date_time_text}
 use Rattle.speedate_civil.specs.DateTimeTimestamp.{date_time_number_answer, date_time_or_timestamp}
@@ -37,8 +38,20 @@ returns-clause-reads_back_with_config c whole config =
     ∙ ap (or_number (date_time_number_answer unit behavior offset (number_answer (date_time_text (parts value)))))
     (date_time_text-reads behavior (parts value) (is_date_and_time value) whole)
 
-pub returns-clause-distinct : goal.returns-clause-distinct
-returns-clause-distinct c whole other other_whole same =
-    let value = c.args.self.now in
+pub returns-clause-canonical : goal.returns-clause-canonical
+returns-clause-canonical c whole config =
     let bytes = c.ascii_text.ensures.bytes ∙ c.deref.ensures.0 ∙ alone _ _ _ c.new-bytes.ensures c.push_onto.ensures.text in
-    date_time_text-distinct (parts value) (parts other) (is_date_and_time value) (is_date_and_time other) whole other_whole (sym bytes ∙ same)
+    text-canonical date_time_text _ _ _ bytes (returns-clause-reads_back c whole config)
+
+pub returns-clause-canonical_with_config : goal.returns-clause-canonical_with_config
+returns-clause-canonical_with_config c whole config =
+    let bytes = c.ascii_text.ensures.bytes ∙ c.deref.ensures.0 ∙ alone _ _ _ c.new-bytes.ensures c.push_onto.ensures.text in
+    text-canonical date_time_text _ _ _ bytes (returns-clause-reads_back_with_config c whole config)
+
+pub returns-clause-distinct : goal.returns-clause-distinct
+returns-clause-distinct c whole other other_whole =
+    let value = c.args.self.now in
+    let bytes = c.ascii_text.ensures.bytes ∙ c.deref.ensures.0 ∙ alone _ _ _ c.new-bytes.ensures c.push_onto.ensures.text in (
+      λ same. date_time_text-distinct (parts value) (parts other) (is_date_and_time value) (is_date_and_time other) whole other_whole (sym bytes ∙ same),
+      λ one. bytes ∙ ap date_time_text one,
+    )

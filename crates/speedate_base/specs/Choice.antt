@@ -1,0 +1,41 @@
+-- The texts by which a unit of timestamps and a behavior are chosen: names, in letters of any case.
+use Rattle.std.specs.Prelude.{ℕ, List, [], ◌∷◌, codes, if◌then◌else◌, Result, Ok, Err}
+use Rattle.std.specs.Str.{str_eq_ignore_ascii_case}
+use Rattle.speedate_base.specs.declared.config.MicrosecondsPrecisionOverflowBehavior.{MicrosecondsPrecisionOverflowBehavior}
+use Rattle.speedate_base.specs.declared.config.MicrosecondsPrecisionOverflowBehavior.TheVariants as behavior
+use Rattle.speedate_base.specs.declared.config.TimestampUnit.{TimestampUnit}
+use Rattle.speedate_base.specs.declared.config.TimestampUnit.TheVariants as unit
+use Rattle.speedate_base.specs.declared.faults.config_error.ConfigError.{ConfigError}
+use Rattle.speedate_base.specs.declared.faults.config_error.ConfigError.TheVariants as fault
+
+-- a value, and its name in small letters
+pub record Choice (A : Type 0) : Type 0 where
+  pub name : List ℕ
+  pub value : A
+
+infix 20 ◌chooses◌
+-- a row of a table
+abbrev pub ◌chooses◌ : {A : Type 0} → List ℕ → A → Choice A
+name chooses value = record { name = name; value = value }
+
+-- the value of the row whose name a text is, but for the case of ASCII letters, and a fault where there is none
+abbrev pub choice_answer : {A : Type 0} → List (Choice A) → ConfigError → List ℕ → Result A ConfigError
+choice_answer [] unknown text = Err unknown
+choice_answer (row ∷ rows) unknown text =
+    if str_eq_ignore_ascii_case row.name text then Ok row.value else choice_answer rows unknown text
+
+-- the units by their names
+abbrev pub unit_choices : List (Choice TimestampUnit)
+unit_choices = (codes "s" chooses unit.Second) ∷ (codes "ms" chooses unit.Millisecond) ∷ (codes "infer" chooses unit.Infer) ∷ []
+
+-- the unit that a text names, or the fault
+abbrev pub unit_answer : List ℕ → Result TimestampUnit ConfigError
+unit_answer text = choice_answer unit_choices fault.UnknownTimestampUnitString text
+
+-- the behaviors by their names
+abbrev pub behavior_choices : List (Choice MicrosecondsPrecisionOverflowBehavior)
+behavior_choices = (codes "truncate" chooses behavior.Truncate) ∷ (codes "error" chooses behavior.Error) ∷ []
+
+-- the behavior that a text names, or the fault
+abbrev pub behavior_answer : List ℕ → Result MicrosecondsPrecisionOverflowBehavior ConfigError
+behavior_answer text = choice_answer behavior_choices fault.UnknownMicrosecondsPrecisionOverflowBehaviorString text
