@@ -14,6 +14,7 @@ pub mod DateAndTime
 pub mod DateTimeText
 pub mod DateTime
 pub mod DateTimeTimestamp
+pub mod InstantOrder
 pub mod PureTime
 pub mod StandardExamples
 pub mod CalendarExamples
@@ -28,3 +29,4 @@ pub mod TimeLaws
 pub mod DateTimeLaws
 pub mod DateTimeTimestampLaws
 pub mod DateTimeInstantLaws
+pub mod InstantOrderLaws

@@ -7,6 +7,7 @@ ghost use Rattle.speedate_base.specs.declared.config.MicrosecondsPrecisionOverfl
 ghost use Rattle.speedate_civil.specs.DateTimeText.{is_separator, date_time_answer};
 
 mod decimal;
+mod order;
 mod text;
 mod timestamp;
 
