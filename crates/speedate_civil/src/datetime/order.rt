@@ -43,9 +43,10 @@ impl DateTime {
     fn cmp_shown(&self, other: &DateTime) -> Ordering
         ensures order { result ≡ on shown_date_time instant_order (parts self.now) (parts other.now) }
     {
-        self.date
-            .cmp(&other.date)
-            .then(self.time.cmp_shown(&other.time))
+        match self.date.cmp(&other.date) {
+            Ordering::Equal => self.time.cmp_shown(&other.time),
+            order => order,
+        }
     }
 
     /// Which of two date-times is the earlier one, in UTC; an absent offset is 0. Where the offsets
