@@ -116,7 +116,7 @@ last-order Less = refl
 last-order Equal = refl
 last-order Greater = refl
 
--- and an order of orders joined
+-- three orders are joined from either end
 pub then-then : (one two three : Ordering) → ordering_then (ordering_then one two) three ≡ ordering_then one (ordering_then two three)
 then-then Less two three = refl
 then-then Equal two three = refl

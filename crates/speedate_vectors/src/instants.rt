@@ -40,7 +40,11 @@ fn expect_date_times<R: Abort>(rt: &R, ranks: &[(u32, &str)]) {
 fn expect_texts<R: Abort>(rt: &R, ranks: &[(u32, &str)]) {
     for (one, first) in ranks {
         for (two, second) in ranks {
-            assert_eq!(rt; first.as_bytes().cmp(second.as_bytes()), one.cmp(two), "{first} {second}");
+            assert_eq!(rt;
+                first.as_bytes().cmp(second.as_bytes()),
+                one.cmp(two),
+                "{first} {second}"
+            );
         }
     }
 }
@@ -149,17 +153,11 @@ fn an_offset_counts_where_both_have_one(rt: HostRuntime) {
     expect_times(&rt, &[(0, "12:00:00-23:59"), (1, "12:00:00.000001")]);
     expect_date_times(
         &rt,
-        &[
-            (0, "2022-01-01T23:00:00"),
-            (1, "2022-01-02T01:00:00+03:00"),
-        ],
+        &[(0, "2022-01-01T23:00:00"), (1, "2022-01-02T01:00:00+03:00")],
     );
     expect_date_times(
         &rt,
-        &[
-            (0, "2022-01-01T23:00:00"),
-            (0, "2022-01-01T23:00:00-12:00"),
-        ],
+        &[(0, "2022-01-01T23:00:00"), (0, "2022-01-01T23:00:00-12:00")],
     );
 }
 
