@@ -1,5 +1,5 @@
 -- Laws of the order of dates: it is a total order, that of the day numbers, and that of the texts.
-use Rattle.std.specs.Prelude.{◌≡◌, ℕ, ◌+◌, ◌-◌, ◌/◌, ◌%◌, ◌<◌, refl}
+use Rattle.std.specs.Prelude.{◌≡◌, ℕ, ◌+◌, ◌-◌, ◌/◌, ◌%◌, ◌<◌, List, [], ◌++◌, refl}
 use Rattle.std.specs.Cmp.{IsTotalOrder, ranks, nat_cmp_is, nat_cmp_total, on_total, then_total}
 use Rattle.std.specs.Cmp.Lexicographic.{slice_cmp}
 use Rattle.std.specs.Ordering.{nat_cmp, ordering_then, MatchOrdering}
@@ -99,30 +99,44 @@ pub day_number-distinct : (first second : Ymd) → IsDay first → IsDay second 
 day_number-distinct first second one two = same-ranked first second (date_order first second) (date_order-ranked first second one two)
 
 -- the tens and then the units of two numbers are ordered as the numbers
-digits-order : (first second : ℕ) (next : Ordering)
+pub digits-order : (first second : ℕ) (next : Ordering)
     → ordering_then (nat_cmp (digit (first / 10)) (digit (second / 10))) (ordering_then (nat_cmp (digit (first % 10)) (digit (second % 10))) next)
     ≡ ordering_then (nat_cmp first second) next
 digits-order first second next = grind (arith, nat_tests)
 
 -- and so are the hundreds and what is left
-hundreds-order : (first second : ℕ) (next : Ordering)
+pub hundreds-order : (first second : ℕ) (next : Ordering)
     → ordering_then (nat_cmp (first / 100) (second / 100)) (ordering_then (nat_cmp (first % 100) (second % 100)) next)
     ≡ ordering_then (nat_cmp first second) next
 hundreds-order first second next = grind (arith, nat_tests)
 
 -- a last order
-last-order : (order : Ordering) → ordering_then order Equal ≡ order
+pub last-order : (order : Ordering) → ordering_then order Equal ≡ order
 last-order Less = refl
 last-order Equal = refl
 last-order Greater = refl
 
--- two texts of dates are ordered as the dates
-pub date_text-order : (first second : Ymd) → slice_cmp nat_cmp (date_text first) (date_text second) ≡ date_order first second
-date_text-order first second =
+-- three orders are joined from either end
+pub then-then : (one two three : Ordering) → ordering_then (ordering_then one two) three ≡ ordering_then one (ordering_then two three)
+then-then Less two three = refl
+then-then Equal two three = refl
+then-then Greater two three = refl
+
+-- two texts that begin with dates are ordered as the dates, and then as what follows
+pub date_text-front-order : (first second : Ymd) (one two : List ℕ)
+    → slice_cmp nat_cmp (date_text first ++ one) (date_text second ++ two) ≡ ordering_then (date_order first second) (slice_cmp nat_cmp one two)
+date_text-front-order first second one two =
+    let rest : Ordering = slice_cmp nat_cmp one two in
     let days : Ordering = nat_cmp first.day second.day in
-    let months : Ordering = ordering_then (nat_cmp first.month second.month) days in
+    let months : Ordering = nat_cmp first.month second.month in
+    let years : Ordering = nat_cmp first.year second.year in
     digits-order (first.year / 100) (second.year / 100) _
     ∙ ap (ordering_then (nat_cmp (first.year / 100) (second.year / 100))) (digits-order (first.year % 100) (second.year % 100) _)
     ∙ hundreds-order first.year second.year _
-    ∙ ap (ordering_then (nat_cmp first.year second.year))
-    (digits-order first.month second.month _ ∙ ap (ordering_then (nat_cmp first.month second.month)) (digits-order first.day second.day Equal ∙ last-order days))
+    ∙ ap (ordering_then years)
+    (digits-order first.month second.month _ ∙ ap (ordering_then months) (digits-order first.day second.day rest) ∙ sym (then-then months days rest))
+    ∙ sym (then-then years (ordering_then months days) rest)
+
+-- two texts of dates are ordered as the dates
+pub date_text-order : (first second : Ymd) → slice_cmp nat_cmp (date_text first) (date_text second) ≡ date_order first second
+date_text-order first second = date_text-front-order first second [] [] ∙ last-order (date_order first second)

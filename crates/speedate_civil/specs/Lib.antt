@@ -16,6 +16,7 @@ pub mod DateTime
 pub mod DateTimeTimestamp
 pub mod OffsetMove
 pub mod Moment
+pub mod InstantOrder
 pub mod PureTime
 pub mod StandardExamples
 pub mod CalendarExamples
@@ -31,3 +32,4 @@ pub mod DateTimeLaws
 pub mod DateTimeTimestampLaws
 pub mod DateTimeInstantLaws
 pub mod OffsetMoveLaws
+pub mod InstantOrderLaws

@@ -1,13 +1,13 @@
 -- Times and date-times at other offsets: the same clock with another offset, or the same instant as another clock shows it.
-use Rattle.std.specs.Prelude.{Bool, true, List, [], ◌∷◌, nat_lt, ◌&&◌, Option, Some, ℤ, pos, ◌+ℤ◌, ◌-ℤ◌, int_le, int_lt, unsigned_abs, Result, Ok}
-use Rattle.std.specs.Option.{is_some, unwrap_or, option_map_or}
+use Rattle.std.specs.Prelude.{Bool, true, List, [], ◌∷◌, nat_lt, ◌&&◌, Option, Some, ℤ, pos, ◌+ℤ◌, int_le, int_lt, unsigned_abs, Result, Ok}
+use Rattle.std.specs.Option.{is_some, option_map_or}
 use Rattle.speedate_base.specs.declared.faults.ParseError.{ParseError}
 use Rattle.speedate_base.specs.declared.faults.ParseError.TheVariants as fault
 use Rattle.speedate_base.specs.Offset.{seconds_per_day}
 use Rattle.speedate_base.specs.Requirement.{Requirement, ◌else_fault◌, meets}
 use Rattle.speedate_civil.specs.DateAndTime.{DateAndTime, utc_second}
 use Rattle.speedate_civil.specs.DateTimeTimestamp.{instant_date_time}
-use Rattle.speedate_civil.specs.TimeOfDay.{TimeOfDay, second_of_day, time_at}
+use Rattle.speedate_civil.specs.TimeOfDay.{TimeOfDay, utc_second_of_day, time_at}
 
 -- an offset is less than 24 hours (RFC 3339 5.6, time-hour and time-minute of time-numoffset)
 abbrev pub is_offset : ℤ → Bool
@@ -31,10 +31,6 @@ move_table offset old =
     (is_offset offset else_fault fault.OutOfRangeTz)
     ∷ (is_some old else_fault fault.TzRequired)
     ∷ []
-
--- the seconds from midnight in UTC to a time; a time at an offset can lie on the day before, or after
-abbrev pub utc_second_of_day : TimeOfDay → ℤ
-utc_second_of_day time = pos (second_of_day time) -ℤ unwrap_or time.offset (pos 0)
 
 -- a time lies on the day that its clock shows
 abbrev pub second_table : ℤ → List Requirement

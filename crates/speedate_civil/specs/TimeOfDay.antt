@@ -1,6 +1,6 @@
 -- The time of day.
-use Rattle.std.specs.Prelude.{ℕ, ◌+◌, ◌*◌, ◌/◌, ◌%◌, ◌≤◌, Option, ℤ, Result, Ok, [], ◌∷◌, nat_lt}
-use Rattle.std.specs.Option.{ForSome}
+use Rattle.std.specs.Prelude.{ℕ, ◌+◌, ◌*◌, ◌/◌, ◌%◌, ◌≤◌, Option, ℤ, pos, ◌-ℤ◌, Result, Ok, [], ◌∷◌, nat_lt}
+use Rattle.std.specs.Option.{ForSome, unwrap_or}
 use Rattle.speedate_base.specs.declared.faults.ParseError.{ParseError}
 use Rattle.speedate_base.specs.declared.faults.ParseError.TheVariants as fault
 use Rattle.speedate_base.specs.Offset.{IsOffset, seconds_per_day}
@@ -25,6 +25,11 @@ pub record IsTime (time : TimeOfDay) : Type 0 where
 -- the seconds since midnight
 abbrev pub second_of_day : TimeOfDay → ℕ
 second_of_day time = 3600 * time.hour + 60 * time.minute + time.second
+
+-- the seconds since midnight in UTC: the offset is subtracted, and an absent one is 0 (RFC 3339 4.1); a time at an offset can
+-- lie on the day before, or on the day after
+abbrev pub utc_second_of_day : TimeOfDay → ℤ
+utc_second_of_day time = pos (second_of_day time) -ℤ unwrap_or time.offset (pos 0)
 
 -- the milliseconds since midnight, rounded down
 abbrev pub millisecond_of_day : TimeOfDay → ℕ

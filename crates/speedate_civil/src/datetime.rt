@@ -8,6 +8,7 @@ ghost use Rattle.speedate_civil.specs.DateTimeText.{is_separator, date_time_answ
 
 mod decimal;
 mod now;
+mod order;
 mod text;
 mod timestamp;
 mod timezone;

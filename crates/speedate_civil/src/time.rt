@@ -6,6 +6,7 @@ ghost use Rattle.speedate_base.specs.Offset.{IsOffset};
 
 mod fraction;
 mod offset;
+mod order;
 mod pure;
 mod text;
 mod timezone;

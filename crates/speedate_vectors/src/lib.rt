@@ -20,6 +20,8 @@ mod durations;
 #[cfg(test)]
 mod faults;
 #[cfg(test)]
+mod instants;
+#[cfg(test)]
 mod numbers;
 #[cfg(test)]
 mod offsets;

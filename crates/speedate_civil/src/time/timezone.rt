@@ -10,8 +10,9 @@ use speedate_base::faults::ParseError;
 use speedate_base::util::SECONDS_PER_DAY;
 
 impl Time {
-    ghost use Rattle.speedate_civil.specs.OffsetMove.{time_with_offset, time_in_timezone, utc_second_of_day};
+    ghost use Rattle.speedate_civil.specs.OffsetMove.{time_with_offset, time_in_timezone};
     ghost use Rattle.speedate_civil.specs.Time.{parts};
+    ghost use Rattle.speedate_civil.specs.TimeOfDay.{utc_second_of_day};
 
     /// The same time of day with another offset, in seconds, or with none: 12:00:00-01:00 for
     /// 12:00:00Z and `Some(-3600)`. What the clock shows stays.

@@ -1,0 +1,69 @@
+//! The order of times by the instant at which they lie.
+
+use super::Time;
+use std::cmp::Ordering;
+
+impl Time {
+    ghost use Rattle.std.specs.Prelude.{◌≡◌, None};
+    ghost use Rattle.std.specs.Cmp.Lexicographic.{slice_cmp};
+    ghost use Rattle.std.specs.Ordering.{nat_cmp, on, ordering_reverse};
+    ghost use Rattle.speedate_civil.specs.declared.time.Time.{Time};
+    ghost use Rattle.speedate_civil.specs.InstantOrder.{instant_order, shown_time, utc_time, time_instant_order, AreAlike, IsNotAfter};
+    ghost use Rattle.speedate_civil.specs.Time.{parts};
+    ghost use Rattle.speedate_civil.specs.TimeOfDay.{utc_second_of_day};
+    ghost use Rattle.speedate_civil.specs.TimeText.{time_text};
+
+    /// Which of two times is the earlier one: in UTC where both have an offset, so 12:00:00+01:00
+    /// is before 11:30:00Z, and where one has none as clocks show them, so 11:30:00 is before
+    /// 12:00:00+01:00.
+    ///
+    /// Each time is taken to be one of the same day at its offset. Times without offsets compare as
+    /// their texts do as bytes. Of three times that all have an offset, or of which none has one,
+    /// the first is not after the third where it is not after the second, and that not after the
+    /// third; where only some have one that need not hold. Times that are shown at other offsets
+    /// can be equal here, while `==` tells them apart.
+    #[inline]
+    pub fn cmp_instant(&self, other: &Time) -> Ordering
+        ensures order { result ≡ time_instant_order (parts self.now) (parts other.now) }
+        ensures text_order { self.now.tz_offset ≡ None → other.now.tz_offset ≡ None
+            → result ≡ slice_cmp nat_cmp (time_text (parts self.now)) (time_text (parts other.now)) }
+        ensures turned { time_instant_order (parts other.now) (parts self.now) ≡ ordering_reverse result }
+        ensures transitive { (third : Time) → AreAlike self.now.tz_offset other.now.tz_offset → AreAlike other.now.tz_offset third.tz_offset
+            → IsNotAfter result → IsNotAfter (time_instant_order (parts other.now) (parts third))
+            → IsNotAfter (time_instant_order (parts self.now) (parts third)) }
+    {
+        if self.tz_offset.is_some() && other.tz_offset.is_some() {
+            self.cmp_utc(other)
+        } else {
+            self.cmp_shown(other)
+        }
+    }
+
+    /// Which of two times is the earlier one, as clocks show them.
+    #[inline]
+    pub(crate) fn cmp_shown(&self, other: &Time) -> Ordering
+        ensures order { result ≡ on shown_time instant_order (parts self.now) (parts other.now) }
+    {
+        self.total_seconds()
+            .cmp(&other.total_seconds())
+            .then(self.microsecond.cmp(&other.microsecond))
+    }
+
+    /// Which of two times is the earlier one, in UTC; an absent offset is 0.
+    #[inline]
+    fn cmp_utc(&self, other: &Time) -> Ordering
+        ensures order { result ≡ on utc_time instant_order (parts self.now) (parts other.now) }
+    {
+        self.utc_second()
+            .cmp(&other.utc_second())
+            .then(self.microsecond.cmp(&other.microsecond))
+    }
+
+    /// The seconds since midnight in UTC; an absent offset is 0.
+    #[inline]
+    fn utc_second(&self) -> i64
+        ensures second { result ≡ utc_second_of_day (parts self.now) }
+    {
+        i64::from(self.total_seconds()) - i64::from(self.tz_offset.unwrap_or(0))
+    }
+}
