@@ -1,11 +1,14 @@
 -- Examples of RFC 3339, and the ends of ranges: each holds by computation alone, so they pin the definitions without any
 -- code.
 use Rattle.std.specs.Prelude.{◌≡◌, true, false, codes, Some, None, pos, Ok, Err, refl}
+use Rattle.std.specs.declared.cmp.Ordering.TheVariants.{Equal}
 use Rattle.speedate_base.specs.declared.config.MicrosecondsPrecisionOverflowBehavior.TheVariants as behavior
 use Rattle.speedate_base.specs.declared.faults.ParseError.TheVariants as fault
 use Rattle.speedate_base.specs.Numbers.{with_sign}
 use Rattle.speedate_civil.specs.Calendar.{is_leap_year, month_length}
 use Rattle.speedate_civil.specs.DateText.{date_answer, date_text}
+use Rattle.speedate_civil.specs.DayNumber.{days_before_year, days_of_months}
+use Rattle.speedate_civil.specs.InstantOrder.{date_time_instant_order}
 use Rattle.speedate_civil.specs.TimeText.{time_answer, time_text}
 
 -- RFC 3339 5.8, "20 minutes and 50.52 seconds after the 23rd hour of April 12th, 1985 in UTC"
@@ -24,6 +27,20 @@ west_of_utc = refl
 -- the leap second of 1990, which is refused here
 leap_second : time_answer behavior.Error (codes "23:59:60Z") ≡ Err fault.OutOfRangeSecond
 leap_second = refl
+
+-- "this is equivalent to 1996-12-20T00:39:57Z in UTC"
+equivalent : date_time_instant_order
+    (record {
+      date = record { year = 1996; month = 12; day = 19 };
+      time = record { hour = 16; minute = 39; second = 57; microsecond = 0; offset = Some (with_sign true 28800) };
+    })
+    (record {
+      date = record { year = 1996; month = 12; day = 20 };
+      time = record { hour = 0; minute = 39; second = 57; microsecond = 0; offset = Some (pos 0) };
+    })
+    ≡ Equal
+unfolding days_before_year days_of_months
+equivalent = refl
 
 -- the time of the Netherlands in 1937
 netherlands : time_answer behavior.Error (codes "12:00:27.87+00:20")
