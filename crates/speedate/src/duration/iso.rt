@@ -14,6 +14,10 @@ use speedate_base::faults::ParseError;
 use speedate_base::numbers::{byte_at, digit_run, run_end};
 use speedate_base::util::{SECONDS_PER_DAY, filled, twice_microseconds};
 
+/// How many digits a number has at most that is read straight on. So many of the largest unit, in days
+/// or in seconds, are counted in 32 bits.
+const SHORT_LENGTH: usize = 6;
+
 /// How many digits of a fraction of a second are whole microseconds.
 const MICROSECOND_LENGTH: usize = 6;
 
@@ -340,11 +344,8 @@ impl Sums {
     }
 }
 
-/// How many digits a number has at most that is read straight on. So many of the largest unit, in days
-/// or in seconds, are counted in 32 bits.
-const SHORT_LENGTH: usize = 6;
-
-/// The number at a place, where its digits are few, and where they end.
+/// The number at a place, where it has digits and few of them, and where these end: 120 and place 4 for
+/// `b"x120."` at place 1.
 #[inline(always)]
 fn short_number(text: &[u8], place: usize) -> Option<(u32, usize)>
     requires place { place ≤ length text.now }
