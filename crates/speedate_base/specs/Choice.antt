@@ -26,7 +26,12 @@ choice_answer (row ∷ rows) unknown text =
 
 -- the units by their names
 abbrev pub unit_choices : List (Choice TimestampUnit)
-unit_choices = (codes "s" chooses unit.Second) ∷ (codes "ms" chooses unit.Millisecond) ∷ (codes "infer" chooses unit.Infer) ∷ []
+unit_choices =
+    (codes "s" chooses unit.Second)
+    ∷ (codes "ms" chooses unit.Millisecond)
+    ∷ (codes "us" chooses unit.Microsecond)
+    ∷ (codes "infer" chooses unit.Infer)
+    ∷ []
 
 -- the unit that a text names, or the fault
 abbrev pub unit_answer : List ℕ → Result TimestampUnit ConfigError

@@ -24,3 +24,4 @@ pub mod DigitLaws
 pub mod DigitRunLaws
 pub mod NumberLaws
 pub mod NearestLaws
+pub mod TimestampLaws

@@ -1,5 +1,5 @@
--- Timestamps in seconds or in milliseconds since 1970-01-01T00:00:00 (Unix time), and the instants that they mean.
-use Rattle.std.specs.Prelude.{ℕ, ◌*◌, ◌/◌, ◌^◌, Bool, true, IsTrue, nat_le, nat_lt, if◌then◌else◌, List, [], ◌∷◌, ℤ, pos, neg_ℤ, int_le, unsigned_abs, Result, Ok}
+-- Timestamps in seconds, milliseconds or microseconds since 1970-01-01T00:00:00 (Unix time), and the instants that they mean.
+use Rattle.std.specs.Prelude.{◌≡◌, ℕ, ◌*◌, ◌/◌, ◌^◌, Bool, true, IsTrue, refl, nat_le, nat_lt, if◌then◌else◌, List, [], ◌∷◌, ℤ, pos, neg_ℤ, int_le, unsigned_abs, Result, Ok}
 use Rattle.std.specs.Int.{int_div_euclid, int_rem_euclid}
 use Rattle.speedate_base.specs.declared.config.TimestampUnit.{TimestampUnit}
 use Rattle.speedate_base.specs.declared.config.TimestampUnit.TheVariants as unit
@@ -12,17 +12,22 @@ pub record Instant : Type 0 where
   pub second : ℤ
   pub microsecond : ℕ
 
--- a unit of timestamps: how many of it make a second, how many digits behind a point are whole microseconds, and the fault of a text with more
+-- a unit of timestamps: how many of it make a second, how many digits behind a point are whole microseconds, and the fault of a
+-- text with more; a second has a million microseconds, so the one number says the other
 pub record UnitRow : Type 0 where
   pub per_second : ℕ
   pub digits : ℕ
   pub too_long : ParseError
+  pub whole : per_second * 10 ^ digits ≡ 1000000
 
 abbrev pub second_row : UnitRow
-second_row = record { per_second = 1; digits = 6; too_long = fault.SecondFractionTooLong }
+second_row = record { per_second = 1; digits = 6; too_long = fault.SecondFractionTooLong; whole = refl }
 
 abbrev pub millisecond_row : UnitRow
-millisecond_row = record { per_second = 1000; digits = 3; too_long = fault.MillisecondFractionTooLong }
+millisecond_row = record { per_second = 1000; digits = 3; too_long = fault.MillisecondFractionTooLong; whole = refl }
+
+abbrev pub microsecond_row : UnitRow
+microsecond_row = record { per_second = 1000000; digits = 0; too_long = fault.MicrosecondFractionTooLong; whole = refl }
 
 -- the largest size of a timestamp that is seconds where its unit is inferred
 abbrev pub inferred_seconds_max : ℕ
@@ -32,6 +37,7 @@ inferred_seconds_max = 20000000000
 abbrev pub unit_row : TimestampUnit → Bool → UnitRow
 unit_row unit.Second few = second_row
 unit_row unit.Millisecond few = millisecond_row
+unit_row unit.Microsecond few = microsecond_row
 unit_row unit.Infer few = if few then second_row else millisecond_row
 
 -- how many of its unit make a second

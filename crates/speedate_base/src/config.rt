@@ -20,13 +20,15 @@ pub enum TimestampUnit {
     Second,
     /// Milliseconds since 1970-01-01T00:00:00.
     Millisecond,
+    /// Microseconds since 1970-01-01T00:00:00.
+    Microsecond,
     /// Seconds where the size of the timestamp is at most 20,000,000,000, otherwise milliseconds.
     #[default]
     Infer,
 }
 
 /// What is done with digits past the microsecond: of a second past the sixth, of a millisecond past
-/// the third.
+/// the third, of a microsecond each behind the point.
 #[derive(Clone, Copy, Debug, PartialEq, Eq, Default)]
 pub enum MicrosecondsPrecisionOverflowBehavior {
     /// They are dropped, and a timestamp is rounded to the nearest microsecond.

@@ -92,6 +92,8 @@ pub enum ParseError {
     DateTooLarge,
     /// A time of day, or a sum on the way to it, is too large.
     TimeTooLarge,
+    /// A timestamp in microseconds has a digit behind its point, and the configuration refuses it.
+    MicrosecondFractionTooLong,
 }
 
 impl ParseError {
@@ -147,6 +149,7 @@ impl ParseError {
             ParseError::DateTooSmall => "date_too_small",
             ParseError::DateTooLarge => "date_too_large",
             ParseError::TimeTooLarge => "time_too_large",
+            ParseError::MicrosecondFractionTooLong => "microsecond_fraction_too_long",
         }
     }
 
@@ -212,6 +215,9 @@ impl ParseError {
             ParseError::DateTooSmall => "dates before 0000 are not supported as unix timestamps",
             ParseError::DateTooLarge => "dates after 9999 are not supported as unix timestamps",
             ParseError::TimeTooLarge => "numeric times may not exceed 86,399 seconds",
+            ParseError::MicrosecondFractionTooLong => {
+                "microsecond timestamps may not have fraction digits"
+            }
         }
     }
 }

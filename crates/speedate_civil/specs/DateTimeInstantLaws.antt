@@ -5,7 +5,6 @@ use Rattle.std.proofs.Common.{arith, ◌∙◌, ap, sym, subst}
 use Rattle.std.proofs.lemmas.Bool.Decides.{nat_tests}
 use Rattle.std.proofs.lemmas.Int.{ints}
 use Rattle.speedate_base.specs.declared.config.TimestampUnit.{TimestampUnit}
-use Rattle.speedate_base.specs.declared.config.TimestampUnit.TheVariants as unit
 use Rattle.speedate_base.specs.declared.faults.ParseError.{ParseError}
 use Rattle.speedate_base.specs.DecimalTimestamp.{decimal_row, decimal_scale, decimal_size, decimal_microsecond, decimal_instant}
 use Rattle.speedate_base.specs.Nearest.{IsNearest}
@@ -15,16 +14,13 @@ use Rattle.speedate_base.specs.Offset.{seconds_per_day}
 use Rattle.speedate_base.specs.Requirement.{result_map, result_and_then}
 use Rattle.speedate_base.specs.RequirementLaws.{meets-value}
 use Rattle.speedate_base.specs.Timestamp.{Instant, instant_at, instant_answer, per_second, unit_row, unit_table, inferred_seconds_max, first_second, range_table, range_answer}
+use Rattle.speedate_base.specs.TimestampLaws.{instant_microsecond, instant_at-microsecond}
 use Rattle.speedate_civil.specs.DateAndTime.{DateAndTime, local_second, local_microsecond}
 use Rattle.speedate_civil.specs.DateTimestamp.{day_at, second_at}
 use Rattle.speedate_civil.specs.DayNumber.{epoch_day}
 use Rattle.speedate_civil.specs.DateTimeTimestamp.{IsShownAt, later_instant, later_answer, sum_table, date_time_at, instant_date_time, date_time_timestamp_answer, date_time_decimal_answer, meant_microsecond}
 use Rattle.speedate_civil.specs.DayNumberLaws.{day_number-date_after}
 use Rattle.speedate_civil.specs.TimeOfDay.{second_of_day, time_at}
-
--- an instant in microseconds
-abbrev instant_microsecond : Instant → ℤ
-instant_microsecond instant = pos 1000000 *ℤ instant.second +ℤ pos instant.microsecond
 
 -- an answer of two steps is that of the second, to what the first answered
 two-steps : {A B : Type 0} (next : A → Result B ParseError) (front : Result A ParseError) (value : B)
@@ -37,25 +33,10 @@ mapped-value : {A B : Type 0} (view : A → B) (front : Result A ParseError) (va
 mapped-value view (Ok first) value same = (first, refl, cc)
 mapped-value view (Err fault) value same = absurd (cc)
 
--- a timestamp's instant, in microseconds
-one-each : (timestamp : ℤ) → instant_microsecond (instant_at 1 timestamp) ≡ pos 1000000 *ℤ timestamp
-one-each (pos n) = omega (arith, ints)
-one-each (negsuc n) = omega (arith, ints)
-
-thousand-each : (timestamp : ℤ) → instant_microsecond (instant_at 1000 timestamp) ≡ pos 1000 *ℤ timestamp
-thousand-each (pos n) = omega (arith, ints)
-thousand-each (negsuc n) = omega (arith, ints)
-
+-- the instant of microseconds
 million-each : (timestamp : ℤ) → instant_microsecond (instant_at 1000000 timestamp) ≡ timestamp
 million-each (pos n) = omega (arith, ints)
 million-each (negsuc n) = omega (arith, ints)
-
-by-row : (unit : TimestampUnit) (few : Bool) (timestamp : ℤ)
-    → instant_microsecond (instant_at (unit_row unit few).per_second timestamp) ≡ pos (1000000 / (unit_row unit few).per_second) *ℤ timestamp
-by-row unit.Second few timestamp = one-each timestamp
-by-row unit.Millisecond few timestamp = thousand-each timestamp
-by-row unit.Infer true timestamp = one-each timestamp
-by-row unit.Infer false timestamp = thousand-each timestamp
 
 later-is : (microseconds : ℕ) (instant : Instant) → instant_microsecond (later_instant microseconds instant) ≡ instant_microsecond instant +ℤ pos microseconds
 later-is microseconds instant = omega (arith, ints)
@@ -107,7 +88,7 @@ date_time_timestamp-instant unit offset microseconds timestamp value same =
     instant_date_time-is offset third.0 value third.2
     ∙ ap instant_microsecond (sym sum.1) ∙ later-is microseconds second.0
     ∙ ap (λ (n : ℤ). n +ℤ pos microseconds)
-    (ap instant_microsecond (sym at.1) ∙ by-row unit (nat_le (unsigned_abs timestamp) inferred_seconds_max) timestamp)
+    (ap instant_microsecond (sym at.1) ∙ instant_at-microsecond (unit_row unit (nat_le (unsigned_abs timestamp) inferred_seconds_max)) timestamp)
 
 -- that of a decimal timestamp lies at the microsecond that is nearest to it
 pub date_time_decimal-nearest : (unit : TimestampUnit) (offset : Option ℤ) (decimal : DecimalParts) (value : DateAndTime)

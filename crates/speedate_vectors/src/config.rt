@@ -48,6 +48,12 @@ fn a_builder_of_dates_gives_the_unit_that_was_set_last(rt: HostRuntime) {
         .build();
     assert!(rt; set.timestamp_unit == TimestampUnit::Millisecond);
     assert!(rt; set != plain);
+    let small = DateConfig::builder()
+        .timestamp_unit(TimestampUnit::Millisecond)
+        .timestamp_unit(TimestampUnit::Microsecond)
+        .build();
+    assert!(rt; small.timestamp_unit == TimestampUnit::Microsecond);
+    assert!(rt; small != set);
 }
 
 #[test]
@@ -72,6 +78,13 @@ fn a_builder_of_date_times_gives_what_was_set_last(rt: HostRuntime) {
     assert!(rt; set.timestamp_unit == TimestampUnit::Millisecond);
     assert!(rt; set.time_config == east);
     assert!(rt; set != plain);
+    let small = DateTimeConfig::builder()
+        .timestamp_unit(TimestampUnit::Microsecond)
+        .time_config(east)
+        .build();
+    assert!(rt; small.timestamp_unit == TimestampUnit::Microsecond);
+    assert!(rt; small.time_config == east);
+    assert!(rt; small != set);
     let unit = DateTimeConfig {
         timestamp_unit: TimestampUnit::Second,
         time_config: TimeConfig::default(),
@@ -92,6 +105,9 @@ fn units_by_their_names(rt: HostRuntime) {
         ("ms", Ok(TimestampUnit::Millisecond)),
         ("mS", Ok(TimestampUnit::Millisecond)),
         ("MS", Ok(TimestampUnit::Millisecond)),
+        ("us", Ok(TimestampUnit::Microsecond)),
+        ("US", Ok(TimestampUnit::Microsecond)),
+        ("uS", Ok(TimestampUnit::Microsecond)),
         ("infer", Ok(TimestampUnit::Infer)),
         ("INFER", Ok(TimestampUnit::Infer)),
         ("inFer", Ok(TimestampUnit::Infer)),
@@ -99,7 +115,11 @@ fn units_by_their_names(rt: HostRuntime) {
         (" s", Err(ConfigError::UnknownTimestampUnitString)),
         ("s ", Err(ConfigError::UnknownTimestampUnitString)),
         ("m", Err(ConfigError::UnknownTimestampUnitString)),
-        ("us", Err(ConfigError::UnknownTimestampUnitString)),
+        ("u", Err(ConfigError::UnknownTimestampUnitString)),
+        ("us ", Err(ConfigError::UnknownTimestampUnitString)),
+        ("usec", Err(ConfigError::UnknownTimestampUnitString)),
+        ("ns", Err(ConfigError::UnknownTimestampUnitString)),
+        ("\u{b5}s", Err(ConfigError::UnknownTimestampUnitString)),
         ("sec", Err(ConfigError::UnknownTimestampUnitString)),
         ("infe", Err(ConfigError::UnknownTimestampUnitString)),
         ("infers", Err(ConfigError::UnknownTimestampUnitString)),

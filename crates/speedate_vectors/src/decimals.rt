@@ -2,6 +2,7 @@
 
 ghost use Rattle.speedate.specs.Offset.{IsOffset};
 
+mod microseconds;
 mod rounding;
 
 use crate::texts::repeated;
@@ -17,6 +18,8 @@ const INFER: TimestampUnit = TimestampUnit::Infer;
 const SECOND: TimestampUnit = TimestampUnit::Second;
 
 const MILLISECOND: TimestampUnit = TimestampUnit::Millisecond;
+
+const MICROSECOND: TimestampUnit = TimestampUnit::Microsecond;
 
 const ERROR: MicrosecondsPrecisionOverflowBehavior = MicrosecondsPrecisionOverflowBehavior::Error;
 

@@ -203,6 +203,11 @@ fn each_fault_has_its_name_and_its_text(rt: HostRuntime) -> Result<(), Fail> {
             "time_too_large",
             "numeric times may not exceed 86,399 seconds",
         ),
+        (
+            ParseError::MicrosecondFractionTooLong,
+            "microsecond_fraction_too_long",
+            "microsecond timestamps may not have fraction digits",
+        ),
     ];
     for (fault, name, documentation) in faults {
         assert_eq!(rt; fault.name(), name);

@@ -93,6 +93,56 @@ fn dates_of_timestamps(rt: HostRuntime) {
             i64::MAX,
             "date_too_large",
         ),
+        (TimestampUnit::Microsecond, false, 0, "1970-01-01"),
+        (TimestampUnit::Microsecond, false, -1, "1969-12-31"),
+        (
+            TimestampUnit::Microsecond,
+            false,
+            86_399_999_999,
+            "1970-01-01",
+        ),
+        (
+            TimestampUnit::Microsecond,
+            false,
+            86_400_000_000,
+            "1970-01-02",
+        ),
+        (
+            TimestampUnit::Microsecond,
+            false,
+            253_402_300_799_999_999,
+            "9999-12-31",
+        ),
+        (
+            TimestampUnit::Microsecond,
+            false,
+            253_402_300_800_000_000,
+            "date_too_large",
+        ),
+        (
+            TimestampUnit::Microsecond,
+            false,
+            -62_167_219_200_000_000,
+            "0000-01-01",
+        ),
+        (
+            TimestampUnit::Microsecond,
+            false,
+            -62_167_219_200_000_001,
+            "date_too_small",
+        ),
+        (
+            TimestampUnit::Microsecond,
+            false,
+            i64::MIN,
+            "date_too_small",
+        ),
+        (
+            TimestampUnit::Microsecond,
+            false,
+            i64::MAX,
+            "date_too_large",
+        ),
         // exact
         (TimestampUnit::Infer, true, 1_654_560_000, "2022-06-07"),
         (TimestampUnit::Infer, true, 1_654_560_000_000, "2022-06-07"),
@@ -131,6 +181,67 @@ fn dates_of_timestamps(rt: HostRuntime) {
         ),
         (TimestampUnit::Millisecond, true, 999, "date_not_exact"),
         (TimestampUnit::Millisecond, true, 1000, "date_not_exact"),
+        (
+            TimestampUnit::Microsecond,
+            true,
+            1_654_560_000_000_000,
+            "2022-06-07",
+        ),
+        (
+            TimestampUnit::Microsecond,
+            true,
+            1_654_560_000_000_001,
+            "date_not_exact",
+        ),
+        (
+            TimestampUnit::Microsecond,
+            true,
+            1_654_559_999_999_999,
+            "date_not_exact",
+        ),
+        (
+            TimestampUnit::Microsecond,
+            true,
+            -86_400_000_000,
+            "1969-12-31",
+        ),
+        (TimestampUnit::Microsecond, true, 1, "date_not_exact"),
+        (
+            TimestampUnit::Microsecond,
+            true,
+            1_000_000,
+            "date_not_exact",
+        ),
+        (
+            TimestampUnit::Microsecond,
+            true,
+            253_402_214_400_000_000,
+            "9999-12-31",
+        ),
+        (
+            TimestampUnit::Microsecond,
+            true,
+            253_402_300_799_999_999,
+            "date_not_exact",
+        ),
+        (
+            TimestampUnit::Microsecond,
+            true,
+            253_402_300_800_000_000,
+            "date_too_large",
+        ),
+        (
+            TimestampUnit::Microsecond,
+            true,
+            -62_167_219_200_000_000,
+            "0000-01-01",
+        ),
+        (
+            TimestampUnit::Microsecond,
+            true,
+            -62_167_219_200_000_001,
+            "date_too_small",
+        ),
     ];
     for (unit, exact, timestamp, want) in cases {
         let config = in_unit(unit);
@@ -188,6 +299,23 @@ fn dates_of_texts_in_a_unit(rt: HostRuntime) {
         (TimestampUnit::Millisecond, "1640995200", "date_not_exact"),
         (TimestampUnit::Millisecond, "1640995200000", "2022-01-01"),
         (TimestampUnit::Millisecond, "2022-01-01", "2022-01-01"),
+        (
+            TimestampUnit::Microsecond,
+            "1640995200000",
+            "date_not_exact",
+        ),
+        (TimestampUnit::Microsecond, "1654560000000000", "2022-06-07"),
+        (
+            TimestampUnit::Microsecond,
+            "1654560000000001",
+            "date_not_exact",
+        ),
+        (
+            TimestampUnit::Microsecond,
+            "1654560000000000.",
+            "invalid_char_date_sep",
+        ),
+        (TimestampUnit::Microsecond, "2022-01-01", "2022-01-01"),
     ];
     for (unit, text, want) in cases {
         let config = in_unit(unit);
@@ -212,6 +340,12 @@ fn a_midnight_leads_back_to_its_date(rt: HostRuntime) {
             let milliseconds = in_unit(TimestampUnit::Millisecond);
             assert_eq!(rt;
                 Date::from_timestamp(date.timestamp_ms(), exact, &milliseconds),
+                Ok(date)
+            );
+            let microseconds = in_unit(TimestampUnit::Microsecond);
+            let timestamp = date.timestamp_ms().saturating_mul(1000);
+            assert_eq!(rt;
+                Date::from_timestamp(timestamp, exact, &microseconds),
                 Ok(date)
             );
         }

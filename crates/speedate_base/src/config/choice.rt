@@ -14,7 +14,7 @@ impl FromStr for TimestampUnit {
     ghost from_str_gives = { λ text result. result ≡ unit_answer text };
 
     /// The unit that a text names, in letters of any case: `TimestampUnit::Millisecond` for `"ms"`,
-    /// and the others for `"s"` and `"infer"`. `UnknownTimestampUnitString` for another text.
+    /// and the others for `"s"`, `"us"` and `"infer"`. `UnknownTimestampUnitString` for another text.
     #[inline]
     fn from_str(text: &str) -> Result<Self, ConfigError>
         ensures answer { result ≡ unit_answer text.now }
@@ -23,6 +23,8 @@ impl FromStr for TimestampUnit {
             Ok(TimestampUnit::Second)
         } else if names(text, "ms") {
             Ok(TimestampUnit::Millisecond)
+        } else if names(text, "us") {
+            Ok(TimestampUnit::Microsecond)
         } else if names(text, "infer") {
             Ok(TimestampUnit::Infer)
         } else {

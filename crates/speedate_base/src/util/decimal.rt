@@ -37,6 +37,7 @@ pub fn decimal_unit(decimal: Decimal<'_>, unit: TimestampUnit) -> DecimalUnit
     match unit {
         TimestampUnit::Second => DecimalUnit::Second,
         TimestampUnit::Millisecond => DecimalUnit::Millisecond,
+        TimestampUnit::Microsecond => DecimalUnit::Microsecond,
         TimestampUnit::Infer => {
             if is_inferred_seconds(decimal) {
                 DecimalUnit::Second

@@ -11,6 +11,8 @@ pub enum DecimalUnit {
     Second,
     /// Milliseconds since 1970-01-01T00:00:00.
     Millisecond,
+    /// Microseconds since 1970-01-01T00:00:00.
+    Microsecond,
 }
 
 impl DecimalUnit {
@@ -25,6 +27,7 @@ impl DecimalUnit {
         match self {
             DecimalUnit::Second => 1_000_000,
             DecimalUnit::Millisecond => 1_000,
+            DecimalUnit::Microsecond => 1,
         }
     }
 
@@ -36,6 +39,7 @@ impl DecimalUnit {
         match self {
             DecimalUnit::Second => 6,
             DecimalUnit::Millisecond => 3,
+            DecimalUnit::Microsecond => 0,
         }
     }
 
@@ -47,6 +51,7 @@ impl DecimalUnit {
         match self {
             DecimalUnit::Second => ParseError::SecondFractionTooLong,
             DecimalUnit::Millisecond => ParseError::MillisecondFractionTooLong,
+            DecimalUnit::Microsecond => ParseError::MicrosecondFractionTooLong,
         }
     }
 }

@@ -55,8 +55,9 @@ impl DateTime {
     /// Reads a date-time from a text, as [`DateTime::parse_str`] does, with digits past the
     /// microsecond, the unit of timestamps and their offset as the configuration has them:
     /// 1970-01-01T00:00:01+01:00 for `"1"` and the offset 3,600. Digits of a timestamp that are not
-    /// refused are not dropped either: it is rounded to the nearest microsecond. The offset is not for
-    /// texts of a date-time.
+    /// refused are not dropped either: it is rounded to the nearest microsecond. Where they are
+    /// refused, a timestamp in microseconds with a digit behind its point is
+    /// `MicrosecondFractionTooLong`. The offset is not for texts of a date-time.
     #[inline(always)]
     pub fn parse_str_with_config(text: &str, config: &DateTimeConfig) -> Result<Self, ParseError>
         ensures answer { result_map parts result

@@ -1,6 +1,6 @@
 //! Fractions of timestamps, compared with a loop over their digits.
 
-use super::{MILLISECOND, SECOND, TRUNCATE, config};
+use super::{MICROSECOND, MILLISECOND, SECOND, TRUNCATE, config};
 use crate::texts::repeated;
 use speedate::DateTime;
 use std::process::Abort;
@@ -30,7 +30,11 @@ fn by_digits(digits: &[u8], places: usize, negative: bool) -> i64 {
 
 /// Reads a whole number and these digits behind its point, and compares with the loop over digits.
 fn expect_by_digits<R: AllocGlobal + Abort>(rt: &R, digits: &[u8]) -> Result<(), Fail> {
-    for (unit, places, whole) in [(SECOND, 6, 3_000_000), (MILLISECOND, 3, 3_000)] {
+    for (unit, places, whole) in [
+        (SECOND, 6, 3_000_000),
+        (MILLISECOND, 3, 3_000),
+        (MICROSECOND, 0, 3),
+    ] {
         for (negative, front) in [(false, "3."), (true, "-3.")] {
             let text = repeated(rt.alloc(), front, b'0', 0, digits)?;
             let config = config(unit, TRUNCATE);
@@ -88,7 +92,7 @@ fn fractions_are_those_of_a_loop_over_digits(rt: HostRuntime) -> Result<(), Fail
 
 #[test]
 fn ties_and_their_neighbours(rt: HostRuntime) -> Result<(), Fail> {
-    for places in [3, 6] {
+    for places in [0, 3, 6] {
         for length in 1..25 {
             // a half, and a unit of the last digit more or less
             for (half, rest, last) in [(b'5', b'0', b'0'), (b'5', b'0', b'1'), (b'4', b'9', b'9')] {

@@ -1,25 +1,20 @@
-use Rattle.std.proofs.Common.{◌≡◌, ◌∙◌, ap, sym, subst, ℕ, ◌+◌, ◌-◌, ◌*◌, ◌/◌, ◌^◌, ◌<◌, ◌≤◌, List, Err, true, min, lit<, arith, rules}
+use Rattle.std.proofs.Common.{◌≡◌, ◌∙◌, ap, sym, subst, ℕ, ◌+◌, ◌-◌, ◌*◌, ◌/◌, ◌^◌, ◌<◌, ◌≤◌, List, Err, true, min, arith, rules}
 use Rattle.std.proofs.lemmas.Int.{to_z-of_z}
 use mir.Syntax.{w64}
 use mir.Val.{SFits}
 use Rattle.std.specs.Char.{is_ascii_digit}
 use Rattle.std.specs.List.{list_all}
 use Rattle.std.proofs.Math.Nat.{mul-le-mul_right, le-mul_of_pos_right}
-use Rattle.speedate_base.specs.declared.util.unit.DecimalUnit.{DecimalUnit}
-use Rattle.speedate_base.specs.declared.util.unit.DecimalUnit.TheVariants as unit
 use Rattle.speedate_base.specs.DecimalTimestamp.{decimal_microsecond}
 use Rattle.speedate_base.specs.DecimalUnit.{row}
 use Rattle.speedate_base.specs.DigitRuns.{digits_value}
 use Rattle.speedate_base.specs.IntFloat.{parts as decimal_parts}
+use Rattle.speedate_base.specs.NearestLaws.{scale-some}
 use Rattle.speedate_base.specs.Numbers.{with_sign}
 use Rattle.speedate_base.specs.Timestamp.{instant_at, range_answer}
+use Rattle.speedate_base.specs.TimestampLaws.{unit-digits}
 use Rattle.speedate_base.proofs.DecimalLaws.{decimal-far, decimal_microsecond-sum}
 use Rattle.speedate_base.proofs.util.decimal.decimal_to_seconds_micros.Goals as goal
-
--- a unit has microseconds
-worth-some : (given : DecimalUnit) → 0 < 1000000 / (row given).per_second
-worth-some unit.Second = lit< tt
-worth-some unit.Millisecond = lit< tt
 
 -- what is far in numbers of 64 bits is far
 far : (whole : List ℕ) (worth value size : ℕ) → list_all is_ascii_digit whole ≡ true → value ≡ min (digits_value whole) (2 ^ 64 - 1)
@@ -52,8 +47,9 @@ returns-clause-answer c =
     let given = c.args.unit in
     let worth = 1000000 / (row given).per_second in
     let same_worth = c.microseconds-worth.ensures.worth in
+    let some = subst (λ (n : ℕ). 0 < n) (sym (unit-digits (row given))) (scale-some (row given).digits) in
     let product = c.saturating_mul-whole.ensures ∙ ap (λ (n : ℕ). min (c.digits_number.result * n) (2 ^ 64 - 1)) same_worth in
-    let size = near decimal.whole.now worth c.digits_number.result c.saturating_mul-whole.result decimal.whole_digits (worth-some given)
+    let size = near decimal.whole.now worth c.digits_number.result c.saturating_mul-whole.result decimal.whole_digits some
     c.digits_number.ensures.value product c.if-whole-gt-FAR_MICROSECONDS.false in
     let part = c.fraction_microseconds.result in
     let sum = decimal_microsecond-sum (row given) (decimal_parts decimal) part c.fraction_microseconds.ensures.nearest in

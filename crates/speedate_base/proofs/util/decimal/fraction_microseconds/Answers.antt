@@ -1,18 +1,12 @@
-use Rattle.std.proofs.Common.{◌≡◌, ◌∙◌, ap, sym, refl, ℕ, ◌+◌, ◌-◌, ◌*◌, ◌/◌, ◌^◌, ◌≤◌, Bool, length, arith}
+use Rattle.std.proofs.Common.{◌≡◌, ◌∙◌, ap, sym, ℕ, ◌+◌, ◌-◌, ◌*◌, ◌^◌, ◌≤◌, Bool, length, arith}
 use Rattle.std.proofs.lemmas.Nat.{pow-add}
-use Rattle.speedate_base.specs.declared.util.unit.DecimalUnit.{DecimalUnit}
-use Rattle.speedate_base.specs.declared.util.unit.DecimalUnit.TheVariants as unit
 use Rattle.speedate_base.specs.DecimalUnit.{row}
 use Rattle.speedate_base.specs.DigitRuns.{digits_value}
 use Rattle.speedate_base.specs.Nearest.{nearest}
 use Rattle.speedate_base.specs.NearestLaws.{nearest-exact, scale-some}
 use Rattle.speedate_base.specs.Numbers.{with_sign}
+use Rattle.speedate_base.specs.TimestampLaws.{unit-digits}
 use Rattle.speedate_base.proofs.util.decimal.fraction_microseconds.Goals as goal
-
--- a unit has as many microseconds as its digits behind the point tell apart
-unit-scale : (given : DecimalUnit) → 1000000 / (row given).per_second ≡ 10 ^ (row given).digits
-unit-scale unit.Second = refl
-unit-scale unit.Millisecond = refl
 
 -- a fraction of no more digits, with zeros behind them
 exact : (negative : Bool) (worth digits count value filled : ℕ) → count ≤ digits → worth ≡ 10 ^ digits → filled ≡ value * 10 ^ (digits - count)
@@ -30,4 +24,4 @@ returns-then-digits-clause-nearest c =
     let places : c.digits-then-digits.result ≡ (row given).digits = c.digits-then-digits.ensures.digits in
     let few : length digits ≤ (row given).digits = omega (arith, c.if-digits.true, c.digits.ensures.digits) in
     let filled = c.filled.ensures.value ∙ ap (λ (n : ℕ). digits_value digits * 10 ^ (n - length digits)) places in
-    exact c.args.negative _ (row given).digits (length digits) (digits_value digits) c.filled.result few (unit-scale given) filled
+    exact c.args.negative _ (row given).digits (length digits) (digits_value digits) c.filled.result few (unit-digits (row given)) filled
