@@ -49,6 +49,7 @@ faults =
     ∷ fault.DateTooSmall
     ∷ fault.DateTooLarge
     ∷ fault.TimeTooLarge
+    ∷ fault.DurationUnitOrder
     ∷ []
 
 -- the first fault of a name
@@ -97,6 +98,7 @@ named fault.DurationDaysTooLarge = refl
 named fault.DateTooSmall = refl
 named fault.DateTooLarge = refl
 named fault.TimeTooLarge = refl
+named fault.DurationUnitOrder = refl
 
 -- two faults with one name are one fault
 pub fault_name-distinct : (first second : ParseError) → fault_name first ≡ fault_name second → first ≡ second
