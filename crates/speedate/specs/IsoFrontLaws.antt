@@ -1,20 +1,22 @@
 -- What stands at the front of a text as an item, and how the answer to a text goes on behind it.
-use Rattle.std.specs.Prelude.{◌≡◌, ℕ, suc, ◌+◌, ◌<◌, Bool, true, false, List, [], ◌∷◌, ◌++◌, length, take, drop, slice_index, if◌then◌else◌, ◌==◌, Result, Ok, Err, refl}
+use Rattle.std.specs.Prelude.{◌≡◌, ℕ, suc, ◌+◌, ◌<◌, Bool, true, false, List, [], ◌∷◌, ◌++◌, length, take, drop, slice_index, if◌then◌else◌, ◌≤◌, ◌==◌, not, Option, Some, Result, Ok, Err, refl}
 use Rattle.std.specs.Char.{is_ascii_digit}
 use Rattle.std.specs.List.{list_all}
 use Rattle.std.specs.Option.{is_some}
 use Rattle.std.proofs.Common.{arith, ap, sym, ◌∙◌, get_or, inl, inr, subst, lt_irrefl}
 use Rattle.std.proofs.lemmas.Bool.{cases_lt, eqb-true, false≢true}
-use Rattle.std.proofs.lemmas.List.{drop-take, drop-drop, drop_more, take-append-drop, get_or_past, append_assoc}
+use Rattle.std.proofs.lemmas.Bool.Decides.{nat_tests}
+use Rattle.std.proofs.lemmas.List.Sums.{prefix_len-le-length}
+use Rattle.std.proofs.lemmas.List.{drop-take, drop-drop, drop_more, take-append-drop, get_or_past, get_or-drop, length-take-le, append_assoc}
 use Rattle.speedate_base.specs.declared.faults.ParseError.{ParseError}
 use Rattle.speedate_base.specs.Ascii.{capital_t}
-use Rattle.speedate_base.specs.DigitRuns.{run_length}
+use Rattle.speedate_base.specs.DigitRuns.{run_length, run_value}
 use Rattle.speedate_base.specs.NumberLaws.{run-digits}
 use Rattle.speedate_base.specs.Requirement.{meets, AllHold}
 use Rattle.speedate_base.specs.RequirementLaws.{meets-next}
 use Rattle.speedate.specs.DurationNumbers.{DurationNumbers}
 use Rattle.speedate.specs.IsoFormLaws.{answer-with}
-use Rattle.speedate.specs.IsoForm.{Item, Amount, Mark, Sums, IsItem, quantity_at, quantity_length, item_at, item_length, item_text, item_table, with_item, Ends, IsAnswerFrom, sums_numbers, units, unit_in, is_point, fraction_length, IsFraction}
+use Rattle.speedate.specs.IsoForm.{DurationUnit, Quantity, Item, Amount, Mark, Sums, IsItem, quantity_at, quantity_length, item_at, item_length, item_text, item_table, with_amount, with_quantity, with_item, are_counted, Ends, IsAnswerFrom, sums_numbers, units, unit_in, is_point, fraction_length, IsFraction}
 
 -- behind the sign of a fraction stand digits
 digits-behind : (text : List ℕ) (point : Bool) → list_all is_ascii_digit (drop 1 (take (if point then 1 + run_length text 1 else 0) text)) ≡ true
@@ -90,12 +92,56 @@ pub answer-behind : (positive : Bool) (sums : Sums) (text : List ℕ) (answer : 
     → IsAnswerFrom positive (with_item (item_at text) sums) (drop (item_length text) text) answer → IsAnswerFrom positive sums text answer
 answer-behind positive sums text answer = front-item positive sums text answer (slice_index text 0 == capital_t) refl
 
+-- the same of a number at a place and a letter behind it that has a unit
+pub answer-behind-plain : (positive : Bool) (sums next : Sums) (body : List ℕ) (place end number letter : ℕ) (unit : DurationUnit)
+    (answer : Result DurationNumbers ParseError)
+    → sums.fraction ≡ false → number ≡ run_value body place → end ≡ place + run_length body place → letter ≡ slice_index body end
+    → Some unit ≡ unit_in (units sums.mark) letter → next ≡ with_amount unit number [] sums
+    → place < end → number ≤ 4294967295 → are_counted (with_amount unit number [] sums) ≡ true
+    → IsAnswerFrom positive next (drop (end + 1) body) answer → IsAnswerFrom positive sums (drop place body) answer
+answer-behind-plain positive sums next body place end number letter unit answer none spelled ended read is added some small counted behind =
+    let text : List ℕ = drop place body in
+    let count = run_length body place in
+    let quantity : Quantity = record { number = take count text; fraction = []; letter = slice_index (drop count text) 0 } in
+    let there : place + (count + 0) ≡ end = omega (arith, ended) in
+    let first = get_or-drop count text 0 0 ∙ get_or-drop place body (count + 0) 0 ∙ ap (λ (n : ℕ). slice_index body n) there in
+    let has : unit_in (units sums.mark) quantity.letter ≡ Some unit = ap (unit_in (units sums.mark)) (first ∙ sym read) ∙ sym is in
+    let same : with_item (Amount quantity) sums ≡ next = ap (λ (unit : Option DurationUnit). with_quantity unit quantity sums) has
+    ∙ ap (λ (n : ℕ). with_amount unit n [] sums) (sym spelled) ∙ sym added in
+    let within = letter-within sums.mark (drop count text) 0 (ap is_some has) in
+    let whole = parted text count 0 within in
+    let long : length (take count text) ≡ count = length-take-le count text (prefix_len-le-length is_ascii_digit text) in
+    let all : AllHold (item_table sums (Amount quantity)) = (grind (arith, nat_tests, some, ended, long), (grind (arith, nat_tests, small, spelled), (ap not none, (ap is_some has, (ap are_counted (same ∙ added) ∙ counted, tt))))) in
+    let last : place + (count + 0 + 1) ≡ end + 1 = omega (arith, ended) in
+    let rest = ap (λ (n : ℕ). drop n body) (sym last) ∙ sym (drop-drop (count + 0 + 1) place body) in
+    after-item positive sums (Amount quantity) text (drop (count + 0 + 1) text) answer whole (run-digits text, tt) all
+    (subst (λ (sums : Sums). IsAnswerFrom positive sums (drop (count + 0 + 1) text) answer) (sym same)
+    (subst (λ (rest : List ℕ). IsAnswerFrom positive next rest answer) rest behind))
+
+-- a text that begins with a `T` is not empty
+first-within : (text : List ℕ) → slice_index text 0 ≡ capital_t → 0 < length text
+first-within [] is = absurd (cc)
+first-within (byte ∷ text) is = omega arith
+
+-- and of a `T` at a place
+pub answer-behind-mark : (positive : Bool) (sums next : Sums) (body : List ℕ) (place : ℕ) (answer : Result DurationNumbers ParseError)
+    → sums.mark ≡ false → slice_index body place ≡ capital_t → next ≡ with_item Mark sums
+    → IsAnswerFrom positive next (drop (place + 1) body) answer → IsAnswerFrom positive sums (drop place body) answer
+answer-behind-mark positive sums next body place answer none is added behind =
+    let text : List ℕ = drop place body in
+    let first : slice_index text 0 ≡ capital_t = get_or-drop place body 0 0 ∙ ap (λ (n : ℕ). slice_index body n) (omega arith) ∙ is in
+    let rest = sym (drop-drop 1 place body) in
+    let some : 0 < length text = first-within text first in
+    after-item positive sums Mark text (drop 1 text) answer (whole-mark text some first) tt (ap not none, tt)
+    (subst (λ (sums : Sums). IsAnswerFrom positive sums (drop 1 text) answer) added
+    (subst (λ (rest : List ℕ). IsAnswerFrom positive next rest answer) rest behind))
+
 ends-refused : (positive : Bool) (sums : Sums) (text : List ℕ) (fault : ParseError) → 0 < length text
     → meets (item_table sums (item_at text)) (Ok (sums_numbers positive sums)) ≡ Err fault → Ends positive sums text (Err fault)
 ends-refused positive sums [] fault some refused = absurd (lt_irrefl 0 some)
 ends-refused positive sums (byte ∷ rest) fault some refused = (fault, refused, refl)
 
--- where it does not, the answer is its fault
+-- where that item does not meet the table, the answer is its fault
 pub answer-refused : {A : Type 0} (positive : Bool) (sums : Sums) (text : List ℕ) (fault : ParseError) (value : A) → 0 < length text
     → Err fault ≡ meets (item_table sums (item_at text)) (Ok value) → IsAnswerFrom positive sums text (Err fault)
 answer-refused positive sums text fault value some refused =

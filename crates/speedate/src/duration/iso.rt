@@ -1,18 +1,21 @@
 //! The form of a duration that ISO 8601 has.
 
-ghost use Rattle.std.specs.Prelude.{◌≡◌, ◌+◌, ◌*◌, ◌<◌, ◌≤◌, length, take, drop, slice_index, IsTrue, Bool, false, Ok, Err, IfOk, if◌then◌else◌};
+ghost use Rattle.std.specs.Prelude.{◌≡◌, ◌+◌, ◌*◌, ◌<◌, ◌≤◌, length, take, drop, slice_index, IsTrue, Bool, true, false, Ok, Err, IfOk, IfSome, [], if◌then◌else◌};
 ghost use Rattle.std.specs.Char.{is_ascii_digit};
 ghost use Rattle.std.specs.List.{list_all};
-ghost use Rattle.speedate_base.specs.DigitRuns.{run_length, digits_value};
+ghost use Rattle.speedate_base.specs.DigitRuns.{run_length, run_value, digits_value};
 ghost use Rattle.std.specs.Option.{option_map};
 ghost use Rattle.speedate_base.specs.declared.faults.ParseError.TheVariants as fault;
 ghost use Rattle.speedate_base.specs.Requirement.{meets, result_map};
-ghost use Rattle.speedate.specs.IsoForm.{Amount, units, unit_in, is_point, fraction_length, fraction_seconds, fraction_microseconds, quantity_at, quantity_length, item_at, item_length, are_counted, with_amount, with_item, item_table, sums_numbers, unit_fault, IsIsoAnswer};
+ghost use Rattle.speedate.specs.IsoForm.{Amount, Mark, units, unit_in, is_point, fraction_length, unit_seconds, fraction_seconds, fraction_microseconds, quantity_at, quantity_length, item_at, item_length, are_counted, with_amount, with_item, item_table, sums_numbers, unit_fault, no_sums, IsAnswerFrom, IsIsoAnswer};
 
 use super::Duration;
 use speedate_base::faults::ParseError;
-use speedate_base::numbers::{DigitRun, byte_at, digit_run, run_end};
-use speedate_base::util::{SECONDS_PER_DAY, twice_microseconds};
+use speedate_base::numbers::{byte_at, digit_run, run_end};
+use speedate_base::util::{SECONDS_PER_DAY, filled, twice_microseconds};
+
+/// How many digits of a fraction of a second are whole microseconds.
+const MICROSECOND_LENGTH: usize = 6;
 
 /// A unit of time: its letter, and what one of it is, whole days or seconds.
 #[derive(Clone, Copy)]
@@ -52,6 +55,7 @@ impl DurationUnit {
 
     /// The whole seconds of a fraction of this unit, and the microseconds that are nearest to what is
     /// left: a million of them where that is all but a second.
+    #[inline(always)]
     fn fraction(&self, digits: &[u8]) -> (u32, u32)
         requires { IsTrue (list_all is_ascii_digit digits.now) }
         ensures second { result.0 ≡ fraction_seconds (unit_parts self.now) digits.now }
@@ -59,10 +63,49 @@ impl DurationUnit {
         ensures second_small { result.0 ≤ 31536000 }
         ensures microsecond_small { result.1 ≤ 1000000 }
     {
-        let seconds = u64::from(SECONDS_PER_DAY * self.day + self.second);
-        let twice = twice_microseconds(digits, 1_000_000 * seconds, false);
+        if digits.len() <= MICROSECOND_LENGTH {
+            self.exact_fraction(digits)
+        } else {
+            self.long_fraction(digits)
+        }
+    }
+
+    /// The same of digits that are whole microseconds of a second.
+    #[inline(always)]
+    fn exact_fraction(&self, digits: &[u8]) -> (u32, u32)
+        requires short { length digits.now ≤ 6 }
+        requires digits { IsTrue (list_all is_ascii_digit digits.now) }
+        ensures second { result.0 ≡ fraction_seconds (unit_parts self.now) digits.now }
+        ensures microsecond { result.1 ≡ fraction_microseconds (unit_parts self.now) digits.now }
+        ensures second_small { result.0 ≤ 31536000 }
+        ensures microsecond_small { result.1 ≤ 1000000 }
+    {
+        let microseconds = self.seconds() * filled(digits, MICROSECOND_LENGTH);
+        let whole = microseconds / 1_000_000;
+        (whole as u32, (microseconds - 1_000_000 * whole) as u32)
+    }
+
+    /// The same of any number of digits.
+    #[inline(never)]
+    fn long_fraction(&self, digits: &[u8]) -> (u32, u32)
+        requires { IsTrue (list_all is_ascii_digit digits.now) }
+        ensures second { result.0 ≡ fraction_seconds (unit_parts self.now) digits.now }
+        ensures microsecond { result.1 ≡ fraction_microseconds (unit_parts self.now) digits.now }
+        ensures second_small { result.0 ≤ 31536000 }
+        ensures microsecond_small { result.1 ≤ 1000000 }
+    {
+        let twice = twice_microseconds(digits, 1_000_000 * self.seconds(), false);
         let whole = twice / 2_000_000;
         (whole as u32, ((twice + 1) / 2 - 1_000_000 * whole) as u32)
+    }
+
+    /// The seconds of one of this unit.
+    #[inline(always)]
+    fn seconds(&self) -> u64
+        ensures second { result ≡ unit_seconds (unit_parts self.now) }
+        ensures small { result ≤ 31536000 }
+    {
+        u64::from(SECONDS_PER_DAY * self.day + self.second)
     }
 }
 
@@ -85,14 +128,28 @@ pub(super) struct Sums {
 }
 
 impl Sums {
-    ghost use Rattle.speedate.specs.IsoSums.{unit_parts, sums_parts};
+    ghost use Rattle.speedate.specs.IsoSums.{unit_parts, sums_parts, GoesOn};
 
     /// Reads all items of a duration, and adds them up.
+    ///
+    /// Most texts are plain quantities, a `T`, and plain quantities again. These are read straight on;
+    /// what is left where they end is read item by item, with all that may be wrong in it.
     #[inline(always)]
     pub(super) fn read(body: &[u8]) -> Result<Self, ParseError>
         ensures answer { (positive : Bool) → IsIsoAnswer positive body.now (result_map (λ sums. sums_numbers positive (sums_parts sums)) result) }
     {
-        let mut sums = Sums {
+        let (sums, end) = Self::of_plain(body);
+        sums.with_rest(body, end)
+    }
+
+    /// The sums of the plain quantities at the front of a text, of those behind a `T` that follows
+    /// them, and where these end.
+    #[inline(always)]
+    fn of_plain(body: &[u8]) -> (Self, usize)
+        ensures goes_on { GoesOn no_sums body.now (sums_parts result.0) (drop result.1 body.now) }
+        ensures within { result.1 ≤ length body.now }
+    {
+        let none = Sums {
             mark: false,
             fraction: false,
             some: false,
@@ -100,14 +157,107 @@ impl Sums {
             second: 0,
             microsecond: 0,
         };
-        let mut place = 0;
+        let (days, end) = none.with_plain(body, 0);
+        if byte_at(body, end) != b'T' {
+            return (days, end);
+        }
+        days.behind_mark().with_plain(body, end + 1)
+    }
+
+    /// The sums behind the `T`.
+    #[inline(always)]
+    fn behind_mark(self) -> Self
+        ensures sums { sums_parts result ≡ with_item Mark (sums_parts self) }
+    {
+        Sums {
+            mark: true,
+            fraction: self.fraction,
+            some: self.some,
+            day: self.day,
+            second: self.second,
+            microsecond: self.microsecond,
+        }
+    }
+
+    /// The sums with the plain quantities from a place on, as many as there are, and where they end.
+    #[inline(always)]
+    fn with_plain(self, body: &[u8], start: usize) -> (Self, usize)
+        requires none { self.fraction ≡ false }
+        requires start { start ≤ length body.now }
+        ensures goes_on { GoesOn (sums_parts self) (drop start body.now) (sums_parts result.0) (drop result.1 body.now) }
+        ensures mark { result.0.mark ≡ self.mark }
+        ensures none { result.0.fraction ≡ false }
+        ensures within { result.1 ≤ length body.now }
+    {
+        let mut sums = self;
+        let mut place = start;
+        while let Some((next, end)) = sums.with_next(body, place) {
+            sums = next;
+            place = end;
+        }
+        (sums, place)
+    }
+
+    /// The sums with the plain quantity at a place, and where it ends: a number of few digits, and
+    /// the letter of its unit. `None` where no such stands there, or where the sums grow too large.
+    #[inline(always)]
+    fn with_next(self, body: &[u8], place: usize) -> Option<(Self, usize)>
+        requires none { self.fraction ≡ false }
+        requires place { place ≤ length body.now }
+        ensures goes_on { IfSome result (λ next. GoesOn (sums_parts self) (drop place body.now) (sums_parts next.0) (drop next.1 body.now)) }
+        ensures mark { IfSome result (λ next. next.0.mark ≡ self.mark) }
+        ensures none { IfSome result (λ next. next.0.fraction ≡ false) }
+        ensures some { IfSome result (λ next. place < next.1) }
+        ensures within { IfSome result (λ next. next.1 ≤ length body.now) }
+    {
+        let (number, end) = short_number(body, place)?;
+        let unit = DurationUnit::of_letter(byte_at(body, end), self.mark)?;
+        let sums = self.with_whole(number, &unit)?;
+        Some((sums, end + 1))
+    }
+
+    /// The sums with so many of a unit, or `None` where they are not counted in 32 bits.
+    #[inline(always)]
+    fn with_whole(self, number: u32, unit: &DurationUnit) -> Option<Self>
+        requires none { self.fraction ≡ false }
+        requires short { number < 1000000 }
+        ensures sums { IfSome result (λ sums. sums_parts sums ≡ with_amount (unit_parts unit.now) number [] (sums_parts self)) }
+        ensures counted { IfSome result (λ _. IsTrue (are_counted (with_amount (unit_parts unit.now) number [] (sums_parts self)))) }
+    {
+        Some(Sums {
+            mark: self.mark,
+            fraction: false,
+            some: true,
+            day: self.day.checked_add(number * unit.day)?,
+            second: self.second.checked_add(number * unit.second)?,
+            microsecond: self.microsecond,
+        })
+    }
+
+    /// Reads the items from a place on one by one, and adds them.
+    #[inline(always)]
+    fn with_rest(self, body: &[u8], start: usize) -> Result<Self, ParseError>
+        requires start { start ≤ length body.now }
+        ensures answer { (positive : Bool) → IsAnswerFrom positive (sums_parts self) (drop start body.now) (result_map (λ sums. sums_numbers positive (sums_parts sums)) result) }
+    {
+        let mut sums = self;
+        let mut place = start;
         while place < body.len() {
             place += sums.take_item(&body[place..])?;
         }
-        if !sums.some {
-            return Err(ParseError::TooShort);
+        sums.ended()
+    }
+
+    /// The sums of all items, where a quantity is among them.
+    #[inline(always)]
+    fn ended(self) -> Result<Self, ParseError>
+        ensures answer { result ≡ (if self.some then Ok self else Err fault.TooShort) }
+    {
+        if self.some {
+            Ok(self)
+        } else {
+            Err(ParseError::TooShort)
         }
-        Ok(sums)
     }
 
     /// Reads the item that begins a text, and adds it. Answers how many bytes it has.
@@ -147,29 +297,6 @@ impl Sums {
         if self.fraction {
             return Err(ParseError::DurationInvalidFraction);
         }
-        let rest = &text[number.length..];
-        if begins_fraction(rest) {
-            return self.take_fraction(text, number);
-        }
-        let letter = byte_at(rest, 0);
-        let unit = DurationUnit::of_letter(letter, self.mark).ok_or(unit_fault(self.mark))?;
-        self.add(number.value as u32, &unit, &[])?;
-        Ok(number.length + 1)
-    }
-
-    /// Reads the quantity that begins a text, where its number was read and may have a fraction.
-    #[inline(never)]
-    fn take_fraction(&mut self, text: &[u8], number: DigitRun) -> Result<usize, ParseError>
-        requires len { number.length ≡ run_length text.now 0 }
-        requires some { 0 < number.length }
-        requires value { number.value ≡ digits_value (take (run_length text.now 0) text.now) }
-        requires small { number.value ≤ 4294967295 }
-        requires none { self.old.fraction ≡ false }
-        ensures answer { result ≡ meets (item_table (sums_parts self.old) (Amount (quantity_at text.now))) (Ok (quantity_length text.now)) }
-        ensures sums { IfOk result (λ _. sums_parts self.new ≡ with_item (Amount (quantity_at text.now)) (sums_parts self.old)) }
-        ensures some { IfOk result (λ size. 0 < size) }
-        ensures within { IfOk result (λ size. size ≤ length text.now) }
-    {
         let rest = &text[number.length..];
         let size = fraction_length(rest);
         let letter = byte_at(rest, size);
@@ -211,6 +338,34 @@ impl Sums {
         };
         Ok(())
     }
+}
+
+/// How many digits a number has at most that is read straight on. So many of the largest unit, in days
+/// or in seconds, are counted in 32 bits.
+const SHORT_LENGTH: usize = 6;
+
+/// The number at a place, where its digits are few, and where they end.
+#[inline(always)]
+fn short_number(text: &[u8], place: usize) -> Option<(u32, usize)>
+    requires place { place ≤ length text.now }
+    ensures value { IfSome result (λ number. number.0 ≡ run_value text.now place) }
+    ensures end { IfSome result (λ number. number.1 ≡ place + run_length text.now place) }
+    ensures small { IfSome result (λ number. number.0 < 1000000) }
+    ensures some { IfSome result (λ number. place < number.1) }
+{
+    let mut value = 0;
+    let mut end = place;
+    while byte_at(text, end).is_ascii_digit() {
+        if end - place == SHORT_LENGTH {
+            return None;
+        }
+        value = 10 * value + u32::from(byte_at(text, end) - b'0');
+        end += 1;
+    }
+    if end == place {
+        return None;
+    }
+    Some((value, end))
 }
 
 /// How many bytes the fraction has that stands at the front of a text: its sign and digits.

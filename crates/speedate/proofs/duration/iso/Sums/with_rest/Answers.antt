@@ -8,7 +8,7 @@ use Rattle.speedate.specs.IsoFrontLaws.{answer-behind, answer-refused}
 use Rattle.speedate.specs.DurationNumbers.{DurationNumbers}
 use Rattle.speedate.specs.IsoForm.{Sums, item_at, item_length, item_table, with_item, IsAnswerFrom}
 use Rattle.speedate.specs.IsoSums.{sums_parts}
-use Rattle.speedate.proofs.duration.iso.Sums.read.Goals as goal
+use Rattle.speedate.proofs.duration.iso.Sums.with_rest.Goals as goal
 
 -- what a call answers to the item at the front of a slice
 abbrev front : Sums → List ℕ → Result ℕ ParseError

@@ -2,9 +2,9 @@ use Rattle.std.proofs.Common.{◌∙◌, ap, ℕ, ◌-◌, length, take, drop}
 use Rattle.std.specs.Char.{is_ascii_digit}
 use Rattle.std.specs.List.{list_all}
 use Rattle.speedate.specs.IsoFrontLaws.{fraction-digits}
-use Rattle.speedate.proofs.duration.iso.Sums.take_fraction.Goals as goal
+use Rattle.speedate.proofs.duration.iso.Sums.take_quantity.Goals as goal
 
 pub add-requires-clause-digits : goal.add-requires-clause-digits
 add-requires-clause-digits c =
-    let rest = take (length c.args.text.now - c.args.number.length) (drop c.args.number.length c.args.text.now) in
+    let rest = take (length c.args.text.now - c.digit_run-number.result.length) (drop c.digit_run-number.result.length c.args.text.now) in
     ap (λ (n : ℕ). list_all is_ascii_digit (drop 1 (take n rest))) c.fraction_length-size.ensures.len ∙ fraction-digits rest

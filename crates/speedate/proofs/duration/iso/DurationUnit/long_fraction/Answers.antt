@@ -3,7 +3,7 @@ use Rattle.std.specs.Prelude.{unsigned_abs, false}
 use Rattle.std.proofs.Math.Nat.{div-div-eq-div-mul, mul-div_left, mul_comm}
 use Rattle.speedate_base.specs.DigitRuns.{digits_value}
 use Rattle.speedate_base.specs.NearestLaws.{nearest-halved, scale-some}
-use Rattle.speedate.proofs.duration.iso.DurationUnit.fraction.Goals as goal
+use Rattle.speedate.proofs.duration.iso.DurationUnit.long_fraction.Goals as goal
 
 -- the whole seconds of twice the microseconds of a fraction
 whole-seconds : (value second scale : ℕ) → 2 * (value * (1000000 * second)) / scale / 2000000 ≡ value * second / scale
@@ -23,7 +23,7 @@ returns-clause-second c =
     let digits = c.args.digits.now in
     let unit = c.args.self.now in
     let scale = 10 ^ length digits in
-    ap (λ (n : ℕ). n / 2000000) (c.twice_microseconds-twice.ensures.twice ∙ unit-seconds (digits_value digits) unit.day unit.second _ scale c.from-seconds.ensures)
+    ap (λ (n : ℕ). n / 2000000) (c.twice_microseconds-twice.ensures.twice ∙ unit-seconds (digits_value digits) unit.day unit.second _ scale c.seconds.ensures.second)
     ∙ whole-seconds (digits_value digits) (86400 * unit.day + unit.second) scale
 
 pub returns-clause-microsecond : goal.returns-clause-microsecond
@@ -32,6 +32,6 @@ returns-clause-microsecond c =
     let unit = c.args.self.now in
     let scale = 10 ^ length digits in
     let size = digits_value digits * (1000000 * (86400 * unit.day + unit.second)) in
-    let twice = c.twice_microseconds-twice.ensures.twice ∙ unit-seconds (digits_value digits) unit.day unit.second _ scale c.from-seconds.ensures in
+    let twice = c.twice_microseconds-twice.ensures.twice ∙ unit-seconds (digits_value digits) unit.day unit.second _ scale c.seconds.ensures.second in
     let near = ap unsigned_abs (nearest-halved false size scale (scale-some (length digits))) in
     ap₂ (λ (n m : ℕ). (n + 1) / 2 - 1000000 * m) twice (returns-clause-second c) ∙ sym (ap (λ (n : ℕ). n - 1000000 * (digits_value digits * (86400 * unit.day + unit.second) / scale)) near)

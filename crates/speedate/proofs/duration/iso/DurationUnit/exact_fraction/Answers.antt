@@ -1,0 +1,49 @@
+use Rattle.std.proofs.Common.{◌≡◌, ◌∙◌, sym, ap, ap₂, arith, pow-add, ℕ, ◌+◌, ◌-◌, ◌*◌, ◌/◌, ◌^◌, ◌≤◌, length}
+use Rattle.std.specs.Prelude.{unsigned_abs, pos, false}
+use Rattle.std.proofs.Math.Nat.{div-div-eq-div-mul, mul-div_left}
+use Rattle.speedate_base.specs.DigitRuns.{digits_value}
+use Rattle.speedate_base.specs.Nearest.{nearest}
+use Rattle.speedate_base.specs.NearestLaws.{nearest-exact, scale-some}
+use Rattle.speedate.specs.IsoForm.{unit_seconds}
+use Rattle.speedate.specs.IsoSums.{unit_parts}
+use Rattle.speedate.proofs.duration.iso.DurationUnit.exact_fraction.Goals as goal
+
+-- a million, by the digits that there are and those that are missing
+million : (count : ℕ) → count ≤ 6 → 10 ^ (6 - count) * 10 ^ count ≡ 1000000
+million count few =
+    let all : 6 - count + count ≡ 6 = omega (arith, few) in
+    sym (pow-add 10 (6 - count) count) ∙ ap (λ (n : ℕ). 10 ^ n) all
+
+-- the whole seconds of the microseconds of a fraction
+whole-seconds : (value second count : ℕ) → count ≤ 6 → second * (value * 10 ^ (6 - count)) / 1000000 ≡ value * second / 10 ^ count
+whole-seconds value second count few =
+    let rest = 10 ^ (6 - count) in
+    let size = value * second in
+    let spread : second * (value * rest) ≡ size * rest = grind arith in
+    ap₂ (λ (n m : ℕ). n / m) spread (sym (million count few)) ∙ sym (div-div-eq-div-mul (size * rest) rest (10 ^ count))
+    ∙ ap (λ (n : ℕ). n / 10 ^ count) (mul-div_left size (scale-some (6 - count)))
+
+-- its microseconds are whole
+whole-microseconds : (value second count : ℕ) → count ≤ 6
+    → unsigned_abs (nearest (pos (value * (1000000 * second))) (10 ^ count)) ≡ second * (value * 10 ^ (6 - count))
+whole-microseconds value second count few =
+    let rest = 10 ^ (6 - count) in
+    let scale = 10 ^ count in
+    let parted = ap (λ (n : ℕ). value * (n * second)) (sym (million count few)) in
+    let spread : value * (rest * scale * second) ≡ second * (value * rest) * scale = grind arith in
+    ap (λ (n : ℕ). unsigned_abs (nearest (pos n) scale)) (parted ∙ spread)
+    ∙ ap unsigned_abs (nearest-exact false (second * (value * rest)) scale (scale-some count))
+
+pub returns-clause-second : goal.returns-clause-second
+returns-clause-second c =
+    let digits = c.args.digits.now in
+    let second = unit_seconds (unit_parts c.args.self.now) in
+    ap₂ (λ (n m : ℕ). n * m / 1000000) c.seconds.ensures.second c.filled.ensures.value
+    ∙ whole-seconds (digits_value digits) second (length digits) c.requires.short
+
+pub returns-clause-microsecond : goal.returns-clause-microsecond
+returns-clause-microsecond c =
+    let digits = c.args.digits.now in
+    let second = unit_seconds (unit_parts c.args.self.now) in
+    let size = ap₂ (λ (n m : ℕ). n * m) c.seconds.ensures.second c.filled.ensures.value in
+    ap₂ (λ (n m : ℕ). n - 1000000 * m) (size ∙ sym (whole-microseconds (digits_value digits) second (length digits) c.requires.short)) (returns-clause-second c)
