@@ -1,5 +1,6 @@
 -- The answer to a text of a duration as a function: the items of an ISO 8601 duration are read from the left.
 use Rattle.std.specs.Prelude.{ℕ, zero, suc, Bool, not, List, [], ◌∷◌, length, drop, slice_index, ◌==◌, if◌then◌else◌, Result, Ok, Err}
+use Rattle.speedate_base.specs.declared.config.IsoOrder.{IsoOrder}
 use Rattle.speedate_base.specs.declared.config.MicrosecondsPrecisionOverflowBehavior.{MicrosecondsPrecisionOverflowBehavior}
 use Rattle.speedate_base.specs.declared.faults.ParseError.{ParseError}
 use Rattle.speedate_base.specs.declared.faults.ParseError.TheVariants as fault
@@ -19,12 +20,12 @@ iso_answer (suc most) positive sums (byte ∷ rest) =
     meets (item_table sums (item_at text)) (iso_answer most positive (with_item (item_at text) sums) (drop (item_length text) text))
 
 -- the answer to a text without a sign
-unfoldable pub unsigned_answer : MicrosecondsPrecisionOverflowBehavior → Bool → List ℕ → Result DurationNumbers ParseError
-unsigned_answer behavior positive text =
-    if slice_index text 0 == capital_p then iso_answer (length text) positive no_sums (drop 1 text)
+unfoldable pub unsigned_answer : IsoOrder → MicrosecondsPrecisionOverflowBehavior → Bool → List ℕ → Result DurationNumbers ParseError
+unsigned_answer order behavior positive text =
+    if slice_index text 0 == capital_p then iso_answer (length text) positive (no_sums order) (drop 1 text)
     else form_answer behavior positive text
 
 -- the answer to a text: the duration that it is, or its fault
-abbrev pub duration_answer : MicrosecondsPrecisionOverflowBehavior → List ℕ → Result DurationNumbers ParseError
-duration_answer behavior text =
-    result_and_then normal_form (unsigned_answer behavior (not (has_minus text)) (drop (sign_length text) text))
+abbrev pub duration_answer : IsoOrder → MicrosecondsPrecisionOverflowBehavior → List ℕ → Result DurationNumbers ParseError
+duration_answer order behavior text =
+    result_and_then normal_form (unsigned_answer order behavior (not (has_minus text)) (drop (sign_length text) text))

@@ -2,6 +2,7 @@
 use Rattle.std.specs.Prelude.{◌≡◌, ℕ, zero, suc, ◌<◌, ◌≤◌, Bool, true, false, not, MatchBool, List, [], ◌∷◌, length, drop, slice_index, ◌==◌, if◌then◌else◌, Result, Ok, Err, refl}
 use Rattle.std.proofs.Common.{arith, sym, subst, lt_irrefl}
 use Rattle.std.proofs.lemmas.List.{length-drop}
+use Rattle.speedate_base.specs.declared.config.IsoOrder.{IsoOrder}
 use Rattle.speedate_base.specs.declared.config.MicrosecondsPrecisionOverflowBehavior.{MicrosecondsPrecisionOverflowBehavior}
 use Rattle.speedate_base.specs.declared.faults.ParseError.{ParseError}
 use Rattle.speedate_base.specs.Ascii.{capital_p, capital_t}
@@ -43,15 +44,16 @@ iso_answer-from (suc most) positive sums (byte ∷ rest) few =
     step positive sums text (meets (item_table sums (item_at text)) (Ok 0)) (iso_answer most positive (with_item (item_at text) sums) (drop (item_length text) text))
     (omega arith) refl (iso_answer-from most positive (with_item (item_at text) sums) (drop (item_length text) text) left)
 
-form-is : (behavior : MicrosecondsPrecisionOverflowBehavior) (positive : Bool) (text : List ℕ) (iso : Bool)
-    → MatchBool iso (IsIsoAnswer positive (drop 1 text) (if iso then iso_answer (length text) positive no_sums (drop 1 text) else form_answer behavior positive text))
-    ((if iso then iso_answer (length text) positive no_sums (drop 1 text) else form_answer behavior positive text) ≡ form_answer behavior positive text)
-form-is behavior positive text true = iso_answer-from (length text) positive no_sums (drop 1 text) (omega (arith, length-drop 1 text))
-form-is behavior positive text false = refl
+form-is : (order : IsoOrder) (behavior : MicrosecondsPrecisionOverflowBehavior) (positive : Bool) (text : List ℕ) (iso : Bool)
+    → MatchBool iso (IsIsoAnswer order positive (drop 1 text) (if iso then iso_answer (length text) positive (no_sums order) (drop 1 text) else form_answer behavior positive text))
+    ((if iso then iso_answer (length text) positive (no_sums order) (drop 1 text) else form_answer behavior positive text) ≡ form_answer behavior positive text)
+form-is order behavior positive text true = iso_answer-from (length text) positive (no_sums order) (drop 1 text) (omega (arith, length-drop 1 text))
+form-is order behavior positive text false = refl
 
 -- the answer to a text is the one that the relation allows
-pub duration_answer-is : (behavior : MicrosecondsPrecisionOverflowBehavior) (text : List ℕ) → IsDurationAnswer behavior text (duration_answer behavior text)
+pub duration_answer-is : (order : IsoOrder) (behavior : MicrosecondsPrecisionOverflowBehavior) (text : List ℕ)
+    → IsDurationAnswer order behavior text (duration_answer order behavior text)
 unfolding unsigned_answer
-duration_answer-is behavior text =
+duration_answer-is order behavior text =
     let rest = drop (sign_length text) text in
-    (unsigned_answer behavior (not (has_minus text)) rest, form-is behavior (not (has_minus text)) rest (slice_index rest 0 == capital_p), refl)
+    (unsigned_answer order behavior (not (has_minus text)) rest, form-is order behavior (not (has_minus text)) rest (slice_index rest 0 == capital_p), refl)

@@ -1,6 +1,7 @@
 -- Examples of durations and the ends of ranges, each true by computation alone.
 use Rattle.std.specs.Prelude.{◌≡◌, true, false, pos, neg_ℤ, codes, Ok, Err, refl}
 use Rattle.std.specs.declared.cmp.Ordering.TheVariants as ordering
+use Rattle.speedate_base.specs.declared.config.IsoOrder.TheVariants as order
 use Rattle.speedate_base.specs.declared.config.MicrosecondsPrecisionOverflowBehavior.TheVariants as behavior
 use Rattle.speedate_base.specs.declared.faults.ParseError.TheVariants as fault
 use Rattle.speedate.specs.ClockForm.{clock_form}
@@ -42,17 +43,30 @@ cut : signed_milliseconds (record { positive = false; day = 0; second = 1; micro
 cut = refl
 
 -- ISO 8601: quantities in any order, a tie away from nothing, and the first item that is refused
-iso : duration_answer behavior.Error (codes "-P3DT6S5M") ≡ Ok (record { positive = false; day = 3; second = 306; microsecond = 0 })
+iso : duration_answer order.Lax behavior.Error (codes "-P3DT6S5M") ≡ Ok (record { positive = false; day = 3; second = 306; microsecond = 0 })
 unfolding iso_answer unsigned_answer
 iso = refl
 
-iso-tie : duration_answer behavior.Error (codes "-PT0.0000005S") ≡ Ok (record { positive = false; day = 0; second = 0; microsecond = 1 })
+iso-tie : duration_answer order.Lax behavior.Error (codes "-PT0.0000005S") ≡ Ok (record { positive = false; day = 0; second = 0; microsecond = 1 })
 unfolding iso_answer unsigned_answer
 iso-tie = refl
 
-iso-refused : duration_answer behavior.Error (codes "P1.D1D") ≡ Err fault.DurationInvalidFraction
+iso-refused : duration_answer order.Lax behavior.Error (codes "P1.D1D") ≡ Err fault.DurationInvalidFraction
 unfolding iso_answer unsigned_answer
 iso-refused = refl
+
+-- the same text in the order of the standard, and a unit twice; behind the `T` the order begins anew
+iso-in_order : duration_answer order.Strict behavior.Error (codes "P1MT1M") ≡ Ok (record { positive = true; day = 30; second = 60; microsecond = 0 })
+unfolding iso_answer unsigned_answer
+iso-in_order = refl
+
+iso-out_of_order : duration_answer order.Strict behavior.Error (codes "-P3DT6S5M") ≡ Err fault.DurationUnitOrder
+unfolding iso_answer unsigned_answer
+iso-out_of_order = refl
+
+iso-repeated : duration_answer order.Strict behavior.Error (codes "P1Y2Y") ≡ Err fault.DurationUnitOrder
+unfolding iso_answer unsigned_answer
+iso-repeated = refl
 
 -- a clock, and days with a clock behind them
 clock : form_answer behavior.Error true (codes "24:01:03.5") ≡ Ok (record { positive = true; day = 1; second = 63; microsecond = 500000 })

@@ -1,6 +1,7 @@
 -- The forms of a duration, and which of them a text has. These rules are the library's own.
 use Rattle.std.specs.Prelude.{◌≡◌, MatchBool, ℕ, Bool, not, ◌||◌, List, length, drop, slice_index, nat_lt, ◌==◌, if◌then◌else◌, Result, Err}
 use Rattle.std.specs.List.{list_any}
+use Rattle.speedate_base.specs.declared.config.IsoOrder.{IsoOrder}
 use Rattle.speedate_base.specs.declared.config.MicrosecondsPrecisionOverflowBehavior.{MicrosecondsPrecisionOverflowBehavior}
 use Rattle.speedate_base.specs.declared.faults.ParseError.{ParseError}
 use Rattle.speedate_base.specs.declared.faults.ParseError.TheVariants as fault
@@ -27,16 +28,16 @@ form_answer behavior positive text =
     else (if has_days text then day_form behavior positive text else clock_form behavior positive text)
 
 -- the answer to a text without a sign: as ISO 8601 has durations where it begins with `P`
-abbrev pub IsFormAnswer : MicrosecondsPrecisionOverflowBehavior → Bool → List ℕ → Result DurationNumbers ParseError → Type 0
-IsFormAnswer behavior positive text answer =
-    MatchBool (slice_index text 0 == capital_p) (IsIsoAnswer positive (drop 1 text) answer) (answer ≡ form_answer behavior positive text)
+abbrev pub IsFormAnswer : IsoOrder → MicrosecondsPrecisionOverflowBehavior → Bool → List ℕ → Result DurationNumbers ParseError → Type 0
+IsFormAnswer order behavior positive text answer =
+    MatchBool (slice_index text 0 == capital_p) (IsIsoAnswer order positive (drop 1 text) answer) (answer ≡ form_answer behavior positive text)
 
 -- its answer in normal form, whose faults come last
-abbrev pub IsNormalAnswer : MicrosecondsPrecisionOverflowBehavior → Bool → List ℕ → Result DurationNumbers ParseError → Type 0
-IsNormalAnswer behavior positive text answer =
-    (form : Result DurationNumbers ParseError) × IsFormAnswer behavior positive text form × (answer ≡ result_and_then normal_form form)
+abbrev pub IsNormalAnswer : IsoOrder → MicrosecondsPrecisionOverflowBehavior → Bool → List ℕ → Result DurationNumbers ParseError → Type 0
+IsNormalAnswer order behavior positive text answer =
+    (form : Result DurationNumbers ParseError) × IsFormAnswer order behavior positive text form × (answer ≡ result_and_then normal_form form)
 
 -- the answer to a text: the duration that it is, or its fault
-abbrev pub IsDurationAnswer : MicrosecondsPrecisionOverflowBehavior → List ℕ → Result DurationNumbers ParseError → Type 0
-IsDurationAnswer behavior text answer =
-    IsNormalAnswer behavior (not (has_minus text)) (drop (sign_length text) text) answer
+abbrev pub IsDurationAnswer : IsoOrder → MicrosecondsPrecisionOverflowBehavior → List ℕ → Result DurationNumbers ParseError → Type 0
+IsDurationAnswer order behavior text answer =
+    IsNormalAnswer order behavior (not (has_minus text)) (drop (sign_length text) text) answer

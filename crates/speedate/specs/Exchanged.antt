@@ -2,6 +2,7 @@
 use Rattle.std.specs.Prelude.{◌≡◌, ℕ, Bool, true, false, List, ◌∷◌, ◌++◌, length, nat_lt}
 use Rattle.std.specs.List.{flat_map}
 use Rattle.std.specs.Option.{is_some}
+use Rattle.speedate_base.specs.declared.config.IsoOrder.TheVariants as order
 use Rattle.speedate_base.specs.Ascii.{capital_p}
 use Rattle.speedate_base.specs.Numbers.{IsSign}
 use Rattle.speedate.specs.IsoForm.{units, unit_in, Quantity, Item, Amount, item_text, IsItem, Sums, no_sums, with_items, AreGood}
@@ -10,7 +11,7 @@ use Rattle.speedate.specs.IsoForm.{units, unit_in, Quantity, Item, Amount, item_
 abbrev pub has_fraction : Quantity → Bool
 has_fraction quantity = nat_lt 0 (length quantity.fraction)
 
--- a quantity without a fraction that can be refused for its size alone
+-- a quantity without a fraction that can be refused for its size alone, where quantities may come in any order
 abbrev pub IsPlain : Sums → Quantity → Type 0
 IsPlain sums quantity =
     IsItem (Amount quantity) × (nat_lt 0 (length quantity.number) ≡ true) × (has_fraction quantity ≡ false) × (sums.fraction ≡ false)
@@ -30,8 +31,8 @@ pub record AreExchanged (one two : List ℕ) : Type 0 where
   pub second : Quantity
   pub rest : List ℕ
   pub is_sign : IsSign negative sign
-  pub are_good : AreGood no_sums items
-  pub is_plain_first : IsPlain (with_items items no_sums) first
-  pub is_plain_second : IsPlain (with_items items no_sums) second
+  pub are_good : AreGood (no_sums order.Lax) items
+  pub is_plain_first : IsPlain (with_items items (no_sums order.Lax)) first
+  pub is_plain_second : IsPlain (with_items items (no_sums order.Lax)) second
   pub is_one : one ≡ pair_text sign items first second rest
   pub is_two : two ≡ pair_text sign items second first rest

@@ -1,11 +1,14 @@
 -- ISO 8601 durations behind their `P`: years, months, weeks and days, and behind a `T` hours, minutes and seconds.
--- Departs from it: quantities may come in any order on their side and more than once, and weeks beside others; the last
+-- Departs from it: quantities may come in any order on their side and more than once, unless a configuration asks for the
+-- order of the standard, and weeks beside others; the last
 -- one may have a fraction whatever its unit; a `T` may come last; a year has 365 days and a month 30; a sign may come
 -- before the `P`.
 use Rattle.std.specs.Prelude.{◌≡◌, ℕ, ◌+◌, ◌-◌, ◌*◌, ◌/◌, ◌%◌, ◌^◌, Bool, true, false, not, IsTrue, ◌&&◌, ◌||◌, List, [], ◌∷◌, ◌++◌, length, take, drop, slice_index, nat_le, nat_lt, ◌==◌, if◌then◌else◌, Option, Some, None, pos, unsigned_abs, Result, Ok, Err}
 use Rattle.std.specs.Char.{is_ascii_digit}
 use Rattle.std.specs.List.{list_all, flat_map}
 use Rattle.std.specs.Option.{is_some}
+use Rattle.speedate_base.specs.declared.config.IsoOrder.{IsoOrder}
+use Rattle.speedate_base.specs.declared.config.IsoOrder.TheVariants as order
 use Rattle.speedate_base.specs.declared.faults.ParseError.{ParseError}
 use Rattle.speedate_base.specs.declared.faults.ParseError.TheVariants as fault
 use Rattle.speedate_base.specs.Ascii.{comma, full_stop, capital_d, capital_h, capital_m, capital_s, capital_t, capital_w, capital_y}
@@ -88,8 +91,11 @@ quantity_length text = run_length text 0 + fraction_length (drop (run_length tex
 abbrev pub item_length : List ℕ → ℕ
 item_length text = if slice_index text 0 == capital_t then 1 else quantity_length text
 
--- what the items so far add up to: whether there was a `T`, a fraction, a quantity; days, seconds and microseconds
+-- what the items so far add up to: whether there was a `T`, a fraction, a quantity; days, seconds and microseconds. And the
+-- order in which quantities have to come, with the seconds than which the next one's unit has to have fewer
 pub record Sums : Type 0 where
+  pub order : IsoOrder
+  pub limit : ℕ
   pub mark : Bool
   pub fraction : Bool
   pub some : Bool
@@ -97,9 +103,13 @@ pub record Sums : Type 0 where
   pub second : ℕ
   pub microsecond : ℕ
 
+-- more seconds than a unit has
+abbrev pub no_limit : ℕ
+no_limit = 31536001
+
 -- of no items
-abbrev pub no_sums : Sums
-no_sums = record { mark = false; fraction = false; some = false; day = 0; second = 0; microsecond = 0 }
+abbrev pub no_sums : IsoOrder → Sums
+no_sums order = record { order = order; limit = no_limit; mark = false; fraction = false; some = false; day = 0; second = 0; microsecond = 0 }
 
 -- the seconds of one of a unit
 abbrev pub unit_seconds : DurationUnit → ℕ
@@ -115,11 +125,18 @@ fraction_microseconds unit digits =
     unsigned_abs (nearest (pos (digits_value digits * (1000000 * unit_seconds unit))) (10 ^ length digits))
     - 1000000 * fraction_seconds unit digits
 
+-- in the strict order the next unit on a side is smaller than the last one, in the lax one it may be any
+abbrev pub next_limit : IsoOrder → DurationUnit → ℕ
+next_limit order.Lax unit = no_limit
+next_limit order.Strict unit = unit_seconds unit
+
 -- the sums with so many of a unit, and with a fraction of it
 abbrev pub with_amount : DurationUnit → ℕ → List ℕ → Sums → Sums
 with_amount unit number fraction sums =
     let digits = drop 1 fraction in
     record {
+      order = sums.order;
+      limit = next_limit sums.order unit;
       mark = sums.mark;
       fraction = sums.fraction || nat_lt 0 (length fraction);
       some = true;
@@ -138,7 +155,7 @@ with_quantity None quantity sums = sums
 with_quantity (Some unit) quantity sums = with_amount unit (digits_value quantity.number) quantity.fraction sums
 
 abbrev pub with_item : Item → Sums → Sums
-with_item Mark sums = record sums { mark = true }
+with_item Mark sums = record sums { mark = true; limit = no_limit }
 with_item (Amount quantity) sums = with_quantity (unit_in (units sums.mark) quantity.letter) quantity sums
 
 -- the fault of a letter that is no unit of its side
@@ -146,8 +163,13 @@ abbrev pub unit_fault : Bool → ParseError
 unit_fault false = fault.DurationInvalidDateUnit
 unit_fault true = fault.DurationInvalidTimeUnit
 
+-- a unit has fewer seconds than a limit
+abbrev pub is_smaller : ℕ → Option DurationUnit → Bool
+is_smaller limit None = true
+is_smaller limit (Some unit) = nat_lt (unit_seconds unit) limit
+
 -- what an item has to meet behind others: at most one `T`; a number; at most one fraction, and nothing behind it; a unit
--- of its side; and sums that are counted in 32 bits
+-- of its side; its place in the order; and sums that are counted in 32 bits
 abbrev pub item_table : Sums → Item → List Requirement
 item_table sums Mark = (not sums.mark else_fault fault.DurationTRepeated) ∷ []
 item_table sums (Amount quantity) =
@@ -155,6 +177,7 @@ item_table sums (Amount quantity) =
     ∷ (nat_le (digits_value quantity.number) 4294967295 else_fault fault.DurationValueTooLarge)
     ∷ (not sums.fraction else_fault fault.DurationInvalidFraction)
     ∷ (is_some (unit_in (units sums.mark) quantity.letter) else_fault unit_fault sums.mark)
+    ∷ (is_smaller sums.limit (unit_in (units sums.mark) quantity.letter) else_fault fault.DurationUnitOrder)
     ∷ (are_counted (with_item (Amount quantity) sums) else_fault fault.DurationValueTooLarge)
     ∷ []
 
@@ -184,5 +207,5 @@ IsAnswerFrom positive sums text answer =
     (items : List Item) × (rest : List ℕ) × (text ≡ flat_map item_text items ++ rest) × AreGood sums items × Ends positive (with_items items sums) rest answer
 
 -- the answer to what follows a `P`
-abbrev pub IsIsoAnswer : Bool → List ℕ → Result DurationNumbers ParseError → Type 0
-IsIsoAnswer positive text answer = IsAnswerFrom positive no_sums text answer
+abbrev pub IsIsoAnswer : IsoOrder → Bool → List ℕ → Result DurationNumbers ParseError → Type 0
+IsIsoAnswer order positive text answer = IsAnswerFrom positive (no_sums order) text answer

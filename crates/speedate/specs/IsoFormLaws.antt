@@ -10,6 +10,8 @@ use Rattle.std.proofs.Math.Seq.{take-append_seam, drop-append_seam, get_or-appen
 use Rattle.std.proofs.lemmas.Bool.{and_from, and_parts, or_from, false≢true}
 use Rattle.std.proofs.lemmas.Bool.Decides.{nat_tests}
 use Rattle.std.proofs.lemmas.List.{append_cancel_left}
+use Rattle.speedate_base.specs.declared.config.IsoOrder.{IsoOrder}
+use Rattle.speedate_base.specs.declared.config.IsoOrder.TheVariants as order
 use Rattle.speedate_base.specs.declared.config.MicrosecondsPrecisionOverflowBehavior.{MicrosecondsPrecisionOverflowBehavior}
 use Rattle.speedate_base.specs.declared.faults.ParseError.{ParseError}
 use Rattle.speedate_base.specs.declared.faults.ParseError.TheVariants as fault
@@ -20,7 +22,7 @@ use Rattle.speedate_base.specs.Numbers.{has_minus, sign_length}
 use Rattle.speedate_base.specs.Requirement.{meets, AllHold, result_and_then}
 use Rattle.speedate_base.specs.RequirementLaws.{meets-all}
 use Rattle.speedate.specs.DurationNumbers.{DurationNumbers, normal_form}
-use Rattle.speedate.specs.IsoForm.{DurationUnit, units, unit_in, Quantity, Item, Mark, Amount, item_text, is_point, IsFraction, IsItem, fraction_length, quantity_at, item_at, Sums, with_quantity, with_item, with_items, item_table, AreGood, sums_numbers, Ends, IsAnswerFrom, IsIsoAnswer, no_sums}
+use Rattle.speedate.specs.IsoForm.{DurationUnit, units, unit_in, Quantity, Item, Mark, Amount, item_text, is_point, IsFraction, IsItem, fraction_length, quantity_at, item_at, Sums, no_limit, unit_seconds, next_limit, is_smaller, with_quantity, with_item, with_items, item_table, AreGood, sums_numbers, Ends, IsAnswerFrom, IsIsoAnswer, no_sums}
 use Rattle.speedate.specs.DurationForm.{form_answer, IsDurationAnswer}
 use Rattle.speedate.specs.Exchanged.{has_fraction, IsPlain}
 
@@ -149,18 +151,19 @@ pub answer-only : (positive : Bool) (sums : Sums) (text : List ℕ) (first secon
 answer-only positive sums text first second one two = only positive sums one.0 one.1 text first second one.2 one.3 one.4 two
 
 -- and so has one behind a `P`, and one in the other forms
-form-only : (begins positive : Bool) (text : List ℕ) (form first second : Answer) → MatchBool begins (IsIsoAnswer positive text first) (first ≡ form)
-    → MatchBool begins (IsIsoAnswer positive text second) (second ≡ form) → first ≡ second
-form-only true positive text form first second one two = answer-only positive no_sums text first second one two
-form-only false positive text form first second one two = one ∙ sym two
+form-only : (order : IsoOrder) (begins positive : Bool) (text : List ℕ) (form first second : Answer)
+    → MatchBool begins (IsIsoAnswer order positive text first) (first ≡ form) → MatchBool begins (IsIsoAnswer order positive text second) (second ≡ form)
+    → first ≡ second
+form-only order true positive text form first second one two = answer-only positive (no_sums order) text first second one two
+form-only order false positive text form first second one two = one ∙ sym two
 
 -- also behind a sign, and in its normal form
-pub duration_answer-only : (behavior : MicrosecondsPrecisionOverflowBehavior) (text : List ℕ) (first second : Answer)
-    → IsDurationAnswer behavior text first → IsDurationAnswer behavior text second → first ≡ second
-duration_answer-only behavior text first second one two =
+pub duration_answer-only : (order : IsoOrder) (behavior : MicrosecondsPrecisionOverflowBehavior) (text : List ℕ) (first second : Answer)
+    → IsDurationAnswer order behavior text first → IsDurationAnswer order behavior text second → first ≡ second
+duration_answer-only order behavior text first second one two =
     let positive = not (has_minus text) in
     let body = drop (sign_length text) text in
-    let same = form-only (slice_index body 0 == capital_p) positive (drop 1 body) (form_answer behavior positive body) one.0 two.0 one.1 two.1 in
+    let same = form-only order (slice_index body 0 == capital_p) positive (drop 1 body) (form_answer behavior positive body) one.0 two.0 one.1 two.1 in
     one.2 ∙ ap (result_and_then normal_form) same ∙ sym two.2
 
 -- a good item in front of a text leaves the text's answer
@@ -169,6 +172,41 @@ pub answer-with : (positive : Bool) (sums : Sums) (item : Item) (text : List ℕ
 answer-with positive sums item text answer is all from =
     let joined = ap (λ (text : List ℕ). item_text item ++ text) from.2 ∙ sym (append_assoc (item_text item) (flat_map item_text from.0) from.1) in
     (item ∷ from.0, from.1, joined, (is, all, from.3), from.4)
+
+-- sums behind which any unit may come
+abbrev pub IsFree : Sums → Type 0
+IsFree sums = (sums.order ≡ order.Lax) × (sums.limit ≡ no_limit)
+
+-- in the lax order those behind an item are such sums again
+amount-free : (unit : Option DurationUnit) (quantity : Quantity) (sums : Sums) → IsFree sums → IsFree (with_quantity unit quantity sums)
+amount-free None quantity sums free = free
+amount-free (Some unit) quantity sums free = (free.0, ap (λ (order : IsoOrder). next_limit order unit) free.0)
+
+item-free : (item : Item) (sums : Sums) → IsFree sums → IsFree (with_item item sums)
+item-free Mark sums free = (free.0, refl)
+item-free (Amount quantity) sums free = amount-free (unit_in (units sums.mark) quantity.letter) quantity sums free
+
+-- one of two units is smaller than a limit where both are
+smaller-found : (test : Bool) (limit : ℕ) (one : DurationUnit) (other : Option DurationUnit) → nat_lt (unit_seconds one) limit ≡ true
+    → is_smaller limit other ≡ true → is_smaller limit (if test then Some one else other) ≡ true
+smaller-found true limit one other here behind = here
+smaller-found false limit one other here behind = behind
+
+-- where all units of a list are smaller than a limit, the unit of a letter is
+unit-smaller : (limit : ℕ) (units : List DurationUnit) (letter : ℕ) → list_all (λ unit. nat_lt (unit_seconds unit) limit) units ≡ true
+    → is_smaller limit (unit_in units letter) ≡ true
+unit-smaller limit [] letter all = refl
+unit-smaller limit (unit ∷ units) letter all =
+    let tests = and_parts (nat_lt (unit_seconds unit) limit) _ all in
+    smaller-found (letter == unit.letter) limit unit (unit_in units letter) tests.0 (unit-smaller limit units letter tests.1)
+
+units-smaller : (mark : Bool) → list_all (λ unit. nat_lt (unit_seconds unit) no_limit) (units mark) ≡ true
+units-smaller true = refl
+units-smaller false = refl
+
+-- so behind sums of the lax order each has its place
+free-smaller : (sums : Sums) (letter : ℕ) → IsFree sums → is_smaller sums.limit (unit_in (units sums.mark) letter) ≡ true
+free-smaller sums letter free = rw free.1 (unit-smaller no_limit (units sums.mark) letter (units-smaller sums.mark))
 
 -- whether its number and the sums with it are counted in 32 bits
 abbrev fits : Sums → Quantity → Bool
@@ -183,16 +221,16 @@ two-rows true sums fault next = refl
 two-rows false sums fault next = refl
 
 -- the table of such a quantity is that test
-plain-table : {A : Type 0} (sums : Sums) (quantity : Quantity) (next : Result A ParseError) → IsPlain sums quantity
+plain-table : {A : Type 0} (sums : Sums) (quantity : Quantity) (next : Result A ParseError) → IsFree sums → IsPlain sums quantity
     → meets (item_table sums (Amount quantity)) next ≡ (if fits sums quantity then next else Err fault.DurationValueTooLarge)
-plain-table sums quantity next plain =
-    rw (plain.1, plain.3, plain.4) (two-rows (nat_le (digits_value quantity.number) 4294967295) _ fault.DurationValueTooLarge next)
+plain-table sums quantity next free plain =
+    rw (plain.1, plain.3, plain.4, free-smaller sums quantity.letter free) (two-rows (nat_le (digits_value quantity.number) 4294967295) _ fault.DurationValueTooLarge next)
 
 -- one that fits meets each row
-plain-good : (sums : Sums) (quantity : Quantity) → IsPlain sums quantity → fits sums quantity ≡ true → AllHold (item_table sums (Amount quantity))
-plain-good sums quantity plain fit =
+plain-good : (sums : Sums) (quantity : Quantity) → IsFree sums → IsPlain sums quantity → fits sums quantity ≡ true → AllHold (item_table sums (Amount quantity))
+plain-good sums quantity free plain fit =
     let tests = and_parts (nat_le (digits_value quantity.number) 4294967295) _ fit in
-    (plain.1, (tests.0, (ap not plain.3, (plain.4, (tests.1, tt)))))
+    (plain.1, (tests.0, (ap not plain.3, (plain.4, (free-smaller sums quantity.letter free, (tests.1, tt))))))
 
 -- that fault ends a text
 ends-large : (positive : Bool) (sums : Sums) (text : List ℕ)
@@ -202,12 +240,12 @@ ends-large positive sums [] same = absurd (cc)
 ends-large positive sums (byte ∷ rest) same = (fault.DurationValueTooLarge, same, refl)
 
 -- so one that does not fit has it as the answer, whatever follows
-answer-large : (positive : Bool) (sums : Sums) (quantity : Quantity) (text : List ℕ) → IsPlain sums quantity → fits sums quantity ≡ false
+answer-large : (positive : Bool) (sums : Sums) (quantity : Quantity) (text : List ℕ) → IsFree sums → IsPlain sums quantity → fits sums quantity ≡ false
     → IsAnswerFrom positive sums (item_text (Amount quantity) ++ text) (Err fault.DurationValueTooLarge)
-answer-large positive sums quantity text plain large =
+answer-large positive sums quantity text free plain large =
     let there = item_at-amount sums.mark quantity text plain.0 plain.1 plain.4 in
     let numbers : Answer = Ok (sums_numbers positive sums) in
-    let refused = ap (λ (item : Item). meets (item_table sums item) numbers) there ∙ plain-table sums quantity numbers plain
+    let refused = ap (λ (item : Item). meets (item_table sums item) numbers) there ∙ plain-table sums quantity numbers free plain
     ∙ ap (λ (test : Bool). if test then numbers else Err fault.DurationValueTooLarge) large in
     ([], item_text (Amount quantity) ++ text, refl, tt, ends-large positive sums (item_text (Amount quantity) ++ text) refused)
 
@@ -236,16 +274,26 @@ add-swap : (a b c d e : ℕ) → a + b + c + d + e ≡ a + d + e + b + c
 add-swap a b c d e = omega arith
 
 -- whatever their units are
-amounts-swap : (one two : Option DurationUnit) (first second : Quantity) (sums : Sums)
+amounts-swap : (one two : Option DurationUnit) (first second : Quantity) (sums : Sums) → IsFree sums
     → with_quantity two second (with_quantity one first sums) ≡ with_quantity one first (with_quantity two second sums)
-amounts-swap None two first second sums = refl
-amounts-swap (Some one) None first second sums = refl
-amounts-swap (Some one) (Some two) first second sums =
+amounts-swap None two first second sums free = refl
+amounts-swap (Some one) None first second sums free = refl
+amounts-swap (Some one) (Some two) first second sums free =
+    let limits = ap (λ (order : IsoOrder). next_limit order two) free.0 ∙ sym (ap (λ (order : IsoOrder). next_limit order one) free.0) in
     let fractions = or-swap sums.fraction (has_fraction first) (has_fraction second) in
     let days = add-swap sums.day _ _ _ _ in
     let seconds = add-swap sums.second _ _ _ _ in
     let microseconds = add_right_comm sums.microsecond _ _ in
-    λ i. record { mark = sums.mark; fraction = fractions i; some = true; day = days i; second = seconds i; microsecond = microseconds i }
+    λ i. record {
+      order = sums.order;
+      limit = limits i;
+      mark = sums.mark;
+      fraction = fractions i;
+      some = true;
+      day = days i;
+      second = seconds i;
+      microsecond = microseconds i;
+    }
 
 -- the unit of the second does not depend on the first
 with_amount-next : (first second : Quantity) (sums : Sums) → with_item (Amount second) (with_item (Amount first) sums)
@@ -255,10 +303,10 @@ with_amount-next first second sums =
     ap (λ (mark : Bool). with_quantity (unit_in (units mark) second.letter) second next) (amount-mark (unit_in (units sums.mark) first.letter) first sums)
 
 -- so the sums of two quantities do not depend on their order
-pub amounts-exchanged : (first second : Quantity) (sums : Sums)
+pub amounts-exchanged : (first second : Quantity) (sums : Sums) → IsFree sums
     → with_item (Amount second) (with_item (Amount first) sums) ≡ with_item (Amount first) (with_item (Amount second) sums)
-amounts-exchanged first second sums =
-    with_amount-next first second sums ∙ amounts-swap (unit_in (units sums.mark) first.letter) (unit_in (units sums.mark) second.letter) first second sums
+amounts-exchanged first second sums free =
+    with_amount-next first second sums ∙ amounts-swap (unit_in (units sums.mark) first.letter) (unit_in (units sums.mark) second.letter) first second sums free
     ∙ sym (with_amount-next second first sums)
 
 -- a quantity behind another one can still be refused for its size alone
@@ -269,92 +317,93 @@ plain-next sums first second one two =
     (two.0, two.1, two.2, amount-fraction unit first sums one.2 one.3, has)
 
 -- nor does it depend on it whether both fit
-fits-exchanged : (sums : Sums) (first second : Quantity) → (fits sums first && fits (with_item (Amount first) sums) second) ≡ true
+fits-exchanged : (sums : Sums) (first second : Quantity) → IsFree sums → (fits sums first && fits (with_item (Amount first) sums) second) ≡ true
     → (fits sums second && fits (with_item (Amount second) sums) first) ≡ true
-fits-exchanged sums first second both =
+fits-exchanged sums first second free both =
     let front = with_item (Amount second) sums in
     let tests = and_parts (fits sums first) _ both in
     let one = and_parts (nat_le (digits_value first.number) 4294967295) _ tests.0 in
     let two = and_parts (nat_le (digits_value second.number) 4294967295) _ tests.1 in
     let total = and_parts (nat_le (with_item (Amount second) (with_item (Amount first) sums)).day 4294967295) _ two.1 in
-    let day = ap (λ (sums : Sums). nat_le sums.day 4294967295) (sym (amounts-exchanged first second sums)) ∙ total.0 in
-    let second_sum = ap (λ (sums : Sums). nat_le sums.second 4294967295) (sym (amounts-exchanged first second sums)) ∙ total.1 in
+    let day = ap (λ (sums : Sums). nat_le sums.day 4294967295) (sym (amounts-exchanged first second sums free)) ∙ total.0 in
+    let second_sum = ap (λ (sums : Sums). nat_le sums.second 4294967295) (sym (amounts-exchanged first second sums free)) ∙ total.1 in
     let grows = amount-grows (unit_in (units front.mark) first.letter) first front in
     let few_days : nat_le front.day 4294967295 ≡ true = grind (arith, nat_tests, grows.0, day) in
     let few_seconds : nat_le front.second 4294967295 ≡ true = grind (arith, nat_tests, grows.1, second_sum) in
     and_from _ _ (and_from _ _ two.0 (and_from _ _ few_days few_seconds)) (and_from _ _ one.0 (and_from _ _ day second_sum))
 
 -- where both fit, the answer is the answer to what follows them
-pair-with : (positive : Bool) (sums : Sums) (first second : Quantity) (rest : List ℕ) (answer : Answer)
+pair-with : (positive : Bool) (sums : Sums) (first second : Quantity) (rest : List ℕ) (answer : Answer) → IsFree sums
     → (fits sums first && fits (with_item (Amount first) sums) second) ≡ true → IsPlain sums first → IsPlain sums second
     → IsAnswerFrom positive (with_item (Amount second) (with_item (Amount first) sums)) rest answer
     → IsAnswerFrom positive sums (item_text (Amount first) ++ (item_text (Amount second) ++ rest)) answer
-pair-with positive sums first second rest answer both one two from =
+pair-with positive sums first second rest answer free both one two from =
     let next = with_item (Amount first) sums in
     let tests = and_parts (fits sums first) _ both in
-    let good = plain-good next second (plain-next sums first second one two) tests.1 in
-    answer-with positive sums (Amount first) (item_text (Amount second) ++ rest) answer one.0 (plain-good sums first one tests.0)
+    let good = plain-good next second (item-free (Amount first) sums free) (plain-next sums first second one two) tests.1 in
+    answer-with positive sums (Amount first) (item_text (Amount second) ++ rest) answer one.0 (plain-good sums first free one tests.0)
     (answer-with positive next (Amount second) rest answer two.0 good from)
 
-pair-without : (positive : Bool) (sums : Sums) (first second : Quantity) (rest : List ℕ) (answer : Answer)
+pair-without : (positive : Bool) (sums : Sums) (first second : Quantity) (rest : List ℕ) (answer : Answer) → IsFree sums
     → (fits sums first && fits (with_item (Amount first) sums) second) ≡ true → IsPlain sums first → IsPlain sums second
     → IsAnswerFrom positive sums (item_text (Amount first) ++ (item_text (Amount second) ++ rest)) answer
     → IsAnswerFrom positive (with_item (Amount second) (with_item (Amount first) sums)) rest answer
-pair-without positive sums first second rest answer both one two from =
+pair-without positive sums first second rest answer free both one two from =
     let next = with_item (Amount first) sums in
     let tests = and_parts (fits sums first) _ both in
-    let good = plain-good next second (plain-next sums first second one two) tests.1 in
+    let good = plain-good next second (item-free (Amount first) sums free) (plain-next sums first second one two) tests.1 in
     answer-without positive next (Amount second) rest answer two.0 good
-    (answer-without positive sums (Amount first) (item_text (Amount second) ++ rest) answer one.0 (plain-good sums first one tests.0) from)
+    (answer-without positive sums (Amount first) (item_text (Amount second) ++ rest) answer one.0 (plain-good sums first free one tests.0) from)
 
 -- where one does not, the answer is its fault
-pair-large : (positive : Bool) (sums : Sums) (first second : Quantity) (rest : List ℕ) (test : Bool) → fits sums first ≡ test
+pair-large : (positive : Bool) (sums : Sums) (first second : Quantity) (rest : List ℕ) (test : Bool) → IsFree sums → fits sums first ≡ test
     → (test && fits (with_item (Amount first) sums) second) ≡ false → IsPlain sums first → IsPlain sums second
     → IsAnswerFrom positive sums (item_text (Amount first) ++ (item_text (Amount second) ++ rest)) (Err fault.DurationValueTooLarge)
-pair-large positive sums first second rest false fit both one two = answer-large positive sums first (item_text (Amount second) ++ rest) one fit
-pair-large positive sums first second rest true fit both one two =
-    answer-with positive sums (Amount first) (item_text (Amount second) ++ rest) (Err fault.DurationValueTooLarge) one.0 (plain-good sums first one fit)
-    (answer-large positive (with_item (Amount first) sums) second rest (plain-next sums first second one two) both)
+pair-large positive sums first second rest false free fit both one two = answer-large positive sums first (item_text (Amount second) ++ rest) free one fit
+pair-large positive sums first second rest true free fit both one two =
+    answer-with positive sums (Amount first) (item_text (Amount second) ++ rest) (Err fault.DurationValueTooLarge) one.0 (plain-good sums first free one fit)
+    (answer-large positive (with_item (Amount first) sums) second rest (item-free (Amount first) sums free) (plain-next sums first second one two) both)
 
 -- either way the order does not count
-exchanged : (positive : Bool) (sums : Sums) (first second : Quantity) (rest : List ℕ) (answer : Answer) (there back : Bool)
+exchanged : (positive : Bool) (sums : Sums) (first second : Quantity) (rest : List ℕ) (answer : Answer) (there back : Bool) → IsFree sums
     → (fits sums first && fits (with_item (Amount first) sums) second) ≡ there → (fits sums second && fits (with_item (Amount second) sums) first) ≡ back
     → IsPlain sums first → IsPlain sums second
     → IsAnswerFrom positive sums (item_text (Amount first) ++ (item_text (Amount second) ++ rest)) answer
     → IsAnswerFrom positive sums (item_text (Amount second) ++ (item_text (Amount first) ++ rest)) answer
-exchanged positive sums first second rest answer true back both turned one two from =
-    let behind = pair-without positive sums first second rest answer both one two from in
-    let moved = subst (λ (sums : Sums). IsAnswerFrom positive sums rest answer) (amounts-exchanged first second sums) behind in
-    pair-with positive sums second first rest answer (fits-exchanged sums first second both) two one moved
-exchanged positive sums first second rest answer false true both turned one two from = absurd (false≢true (sym both ∙ fits-exchanged sums second first turned))
-exchanged positive sums first second rest answer false false both turned one two from =
-    let same = answer-only positive sums _ _ _ (pair-large positive sums first second rest (fits sums first) refl both one two) from in
+exchanged positive sums first second rest answer true back free both turned one two from =
+    let behind = pair-without positive sums first second rest answer free both one two from in
+    let moved = subst (λ (sums : Sums). IsAnswerFrom positive sums rest answer) (amounts-exchanged first second sums free) behind in
+    pair-with positive sums second first rest answer free (fits-exchanged sums first second free both) two one moved
+exchanged positive sums first second rest answer false true free both turned one two from =
+    absurd (false≢true (sym both ∙ fits-exchanged sums second first free turned))
+exchanged positive sums first second rest answer false false free both turned one two from =
+    let same = answer-only positive sums _ _ _ (pair-large positive sums first second rest (fits sums first) free refl both one two) from in
     subst (λ (answer : Answer). IsAnswerFrom positive sums (item_text (Amount second) ++ (item_text (Amount first) ++ rest)) answer) same
-    (pair-large positive sums second first rest (fits sums second) refl turned two one)
+    (pair-large positive sums second first rest (fits sums second) free refl turned two one)
 
--- two neighbouring quantities of one side, both without a fraction, can be exchanged, also where one of them is refused
-pub answer-exchanged : (positive : Bool) (sums : Sums) (first second : Quantity) (rest : List ℕ) (answer : Answer) → IsPlain sums first → IsPlain sums second
-    → IsAnswerFrom positive sums (item_text (Amount first) ++ item_text (Amount second) ++ rest) answer
+-- in the lax order two neighbouring quantities of one side, both without a fraction, can be exchanged, also where one of them is refused
+pub answer-exchanged : (positive : Bool) (sums : Sums) (first second : Quantity) (rest : List ℕ) (answer : Answer) → IsFree sums → IsPlain sums first
+    → IsPlain sums second → IsAnswerFrom positive sums (item_text (Amount first) ++ item_text (Amount second) ++ rest) answer
     → IsAnswerFrom positive sums (item_text (Amount second) ++ item_text (Amount first) ++ rest) answer
-answer-exchanged positive sums first second rest answer one two from =
+answer-exchanged positive sums first second rest answer free one two from =
     let text = append_assoc (item_text (Amount first)) (item_text (Amount second)) rest in
     let turned = append_assoc (item_text (Amount second)) (item_text (Amount first)) rest in
     let nested = subst (λ (text : List ℕ). IsAnswerFrom positive sums text answer) text from in
     subst (λ (text : List ℕ). IsAnswerFrom positive sums text answer) (sym turned)
-    (exchanged positive sums first second rest answer _ _ refl refl one two nested)
+    (exchanged positive sums first second rest answer _ _ free refl refl one two nested)
 
 -- wherever they stand behind good items
 pub answer-exchanged_behind : (positive : Bool) (sums : Sums) (items : List Item) (first second : Quantity) (rest : List ℕ) (answer : Answer)
-    → AreGood sums items → IsPlain (with_items items sums) first → IsPlain (with_items items sums) second
+    → IsFree sums → AreGood sums items → IsPlain (with_items items sums) first → IsPlain (with_items items sums) second
     → IsAnswerFrom positive sums (flat_map item_text items ++ (item_text (Amount first) ++ item_text (Amount second) ++ rest)) answer
     → IsAnswerFrom positive sums (flat_map item_text items ++ (item_text (Amount second) ++ item_text (Amount first) ++ rest)) answer
-answer-exchanged_behind positive sums [] first second rest answer good one two from = answer-exchanged positive sums first second rest answer one two from
-answer-exchanged_behind positive sums (item ∷ items) first second rest answer good one two from =
+answer-exchanged_behind positive sums [] first second rest answer free good one two from = answer-exchanged positive sums first second rest answer free one two from
+answer-exchanged_behind positive sums (item ∷ items) first second rest answer free good one two from =
     let text = item_text (Amount first) ++ item_text (Amount second) ++ rest in
     let turned = item_text (Amount second) ++ item_text (Amount first) ++ rest in
     let joined = append_assoc (item_text item) (flat_map item_text items) text in
     let behind = answer-without positive sums item (flat_map item_text items ++ text) answer good.0 good.1
     (subst (λ (text : List ℕ). IsAnswerFrom positive sums text answer) joined from) in
-    let next = answer-exchanged_behind positive (with_item item sums) items first second rest answer good.2 one two behind in
+    let next = answer-exchanged_behind positive (with_item item sums) items first second rest answer (item-free item sums free) good.2 one two behind in
     subst (λ (text : List ℕ). IsAnswerFrom positive sums text answer) (sym (append_assoc (item_text item) (flat_map item_text items) turned))
     (answer-with positive sums item (flat_map item_text items ++ turned) answer good.0 good.1 next)

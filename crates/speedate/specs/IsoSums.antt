@@ -13,6 +13,8 @@ unit_parts unit = record { letter = unit.letter; day = unit.day; second = unit.s
 -- sums by their numbers
 abbrev pub sums_parts : StructSums → Sums
 sums_parts sums = record {
+  order = sums.order;
+  limit = sums.limit;
   mark = sums.mark;
   fraction = sums.fraction;
   some = sums.some;

@@ -16,7 +16,7 @@ mod text;
 
 use days::is_day_letter;
 use iso::Sums;
-use speedate_base::config::{MicrosecondsPrecisionOverflowBehavior, TimeConfig};
+use speedate_base::config::{IsoOrder, MicrosecondsPrecisionOverflowBehavior, TimeConfig};
 use speedate_base::faults::ParseError;
 use speedate_base::numbers::{byte_at, digit_run, sign, with_sign};
 use speedate_base::util::SECONDS_PER_DAY;
@@ -42,6 +42,7 @@ pub struct Duration {
 }
 
 impl Duration {
+    ghost use Rattle.speedate_base.specs.declared.config.IsoOrder.TheVariants as order;
     ghost use Rattle.speedate_base.specs.declared.config.MicrosecondsPrecisionOverflowBehavior.TheVariants as behavior;
     ghost use Rattle.speedate.specs.Duration.{parts};
 
@@ -107,8 +108,8 @@ impl Duration {
     /// - `DurationValueTooLarge` and `DurationDaysTooLarge` as [`Duration::new`] has them, last.
     #[inline(always)]
     pub fn parse_str(text: &str) -> Result<Self, ParseError>
-        ensures answer { IsDurationAnswer behavior.Error text.now (result_map parts result) }
-        ensures only { (other : Result DurationNumbers ParseError) → IsDurationAnswer behavior.Error text.now other → other ≡ result_map parts result }
+        ensures answer { IsDurationAnswer order.Lax behavior.Error text.now (result_map parts result) }
+        ensures only { (other : Result DurationNumbers ParseError) → IsDurationAnswer order.Lax behavior.Error text.now other → other ≡ result_map parts result }
     {
         Self::parse_bytes(text.as_bytes())
     }
@@ -117,39 +118,53 @@ impl Duration {
     /// not positive from `b"-00:00:01"`. The bytes need not be text.
     #[inline(always)]
     pub fn parse_bytes(bytes: &[u8]) -> Result<Self, ParseError>
-        ensures answer { IsDurationAnswer behavior.Error bytes.now (result_map parts result) }
-        ensures only { (other : Result DurationNumbers ParseError) → IsDurationAnswer behavior.Error bytes.now other → other ≡ result_map parts result }
+        ensures answer { IsDurationAnswer order.Lax behavior.Error bytes.now (result_map parts result) }
+        ensures only { (other : Result DurationNumbers ParseError) → IsDurationAnswer order.Lax behavior.Error bytes.now other → other ≡ result_map parts result }
     {
-        Self::parse(bytes, MicrosecondsPrecisionOverflowBehavior::Error)
+        Self::parse(
+            bytes,
+            IsoOrder::Lax,
+            MicrosecondsPrecisionOverflowBehavior::Error,
+        )
     }
 
     /// Reads a duration from the bytes of a text, as [`Duration::parse_str`] does, but for the
-    /// digits of a second past the sixth: with the behavior `Truncate` they are dropped, so that
-    /// `b"00:00:01.1234567"` is a second and 123,456 microseconds. The offset of the configuration
-    /// does not matter.
+    /// digits of a second past the sixth and for the order of quantities. With the behavior
+    /// `Truncate` those digits are dropped, so that `b"00:00:01.1234567"` is a second and 123,456
+    /// microseconds. With the order `Strict` there is one fault more, `DurationUnitOrder` behind a
+    /// `P`: a quantity whose unit does not come later than that of the quantity before it on its side
+    /// of the `T`, in the order `Y`, `M`, `W`, `D` and behind the `T` `H`, `M`, `S`, as in `b"P1D1Y"`.
+    /// It is looked for behind the fault of a letter that is no unit and in front of sums that are
+    /// too large. The offset of the configuration does not matter.
     ///
-    /// Two neighbouring quantities of an ISO 8601 duration on one side of its `T`, both without a
-    /// fraction sign, can be exchanged: `b"P1DT2H3M"` and `b"P1DT3M2H"` have one answer.
+    /// With the order `Lax` two neighbouring quantities of an ISO 8601 duration on one side of its
+    /// `T`, both without a fraction sign, can be exchanged: `b"P1DT2H3M"` and `b"P1DT3M2H"` have one
+    /// answer.
     #[inline(always)]
     pub fn parse_bytes_with_config(bytes: &[u8], config: &TimeConfig) -> Result<Self, ParseError>
-        ensures answer { IsDurationAnswer config.now.microseconds_precision_overflow_behavior bytes.now (result_map parts result) }
-        ensures only { (other : Result DurationNumbers ParseError) → IsDurationAnswer config.now.microseconds_precision_overflow_behavior bytes.now other → other ≡ result_map parts result }
-        ensures exchanged { (other : List ℕ) → AreExchanged bytes.now other → IsDurationAnswer config.now.microseconds_precision_overflow_behavior other (result_map parts result) }
+        ensures answer { IsDurationAnswer config.now.iso_order config.now.microseconds_precision_overflow_behavior bytes.now (result_map parts result) }
+        ensures only { (other : Result DurationNumbers ParseError) → IsDurationAnswer config.now.iso_order config.now.microseconds_precision_overflow_behavior bytes.now other → other ≡ result_map parts result }
+        ensures exchanged { (other : List ℕ) → config.now.iso_order ≡ order.Lax → AreExchanged bytes.now other → IsDurationAnswer config.now.iso_order config.now.microseconds_precision_overflow_behavior other (result_map parts result) }
     {
-        Self::parse(bytes, config.microseconds_precision_overflow_behavior)
+        Self::parse(
+            bytes,
+            config.iso_order,
+            config.microseconds_precision_overflow_behavior,
+        )
     }
 
     /// Reads a duration, with or without a sign.
     #[inline(always)]
     fn parse(
         bytes: &[u8],
+        order: IsoOrder,
         behavior: MicrosecondsPrecisionOverflowBehavior,
     ) -> Result<Self, ParseError>
-        ensures answer { IsDurationAnswer behavior bytes.now (result_map parts result) }
-        ensures only { (other : Result DurationNumbers ParseError) → IsDurationAnswer behavior bytes.now other → other ≡ result_map parts result }
+        ensures answer { IsDurationAnswer order behavior bytes.now (result_map parts result) }
+        ensures only { (other : Result DurationNumbers ParseError) → IsDurationAnswer order behavior bytes.now other → other ≡ result_map parts result }
     {
         let (negative, length) = sign(bytes);
-        Self::unsigned(&bytes[length..], !negative, behavior)
+        Self::unsigned(&bytes[length..], !negative, order, behavior)
     }
 
     /// Reads a duration whose sign was read, in the form that its text has.
@@ -157,22 +172,23 @@ impl Duration {
     fn unsigned(
         bytes: &[u8],
         positive: bool,
+        order: IsoOrder,
         behavior: MicrosecondsPrecisionOverflowBehavior,
     ) -> Result<Self, ParseError>
-        ensures answer { IsNormalAnswer behavior positive bytes.now (result_map parts result) }
+        ensures answer { IsNormalAnswer order behavior positive bytes.now (result_map parts result) }
     {
         if byte_at(bytes, 0) == b'P' {
-            return Self::from_iso(&bytes[1..], positive);
+            return Self::from_iso(&bytes[1..], positive, order);
         }
         Self::days_or_clock(bytes, positive, behavior)
     }
 
     /// Reads what follows the `P` of a duration.
     #[inline(always)]
-    fn from_iso(body: &[u8], positive: bool) -> Result<Self, ParseError>
-        ensures answer { (form : Result DurationNumbers ParseError) × IsIsoAnswer positive body.now form × (result_map parts result ≡ result_and_then normal_form form) }
+    fn from_iso(body: &[u8], positive: bool, order: IsoOrder) -> Result<Self, ParseError>
+        ensures answer { (form : Result DurationNumbers ParseError) × IsIsoAnswer order positive body.now form × (result_map parts result ≡ result_and_then normal_form form) }
     {
-        let sums = Sums::read(body)?;
+        let sums = Sums::read(body, order)?;
         Self::new(positive, sums.day, sums.second, sums.microsecond)
     }
 
@@ -240,16 +256,17 @@ impl Duration {
 impl FromStr for Duration {
     type Err = ParseError;
 
+    ghost use Rattle.speedate_base.specs.declared.config.IsoOrder.TheVariants as order;
     ghost use Rattle.speedate_base.specs.declared.config.MicrosecondsPrecisionOverflowBehavior.TheVariants as behavior;
     ghost use Rattle.speedate.specs.Duration.{parts};
 
-    ghost from_str_gives = { λ text result. IsDurationAnswer behavior.Error text (result_map parts result) };
+    ghost from_str_gives = { λ text result. IsDurationAnswer order.Lax behavior.Error text (result_map parts result) };
 
     /// Reads a duration from a text, as [`Duration::parse_str`] does: `"PT90M".parse()` gives an hour
     /// and a half.
     #[inline]
     fn from_str(text: &str) -> Result<Self, ParseError>
-        ensures answer { IsDurationAnswer behavior.Error text.now (result_map parts result) }
+        ensures answer { IsDurationAnswer order.Lax behavior.Error text.now (result_map parts result) }
     {
         Self::parse_str(text)
     }

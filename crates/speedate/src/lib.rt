@@ -7,7 +7,7 @@ pub mod laws;
 
 pub use duration::Duration;
 pub use speedate_base::config::{
-    DateConfig, DateConfigBuilder, DateTimeConfig, DateTimeConfigBuilder,
+    DateConfig, DateConfigBuilder, DateTimeConfig, DateTimeConfigBuilder, IsoOrder,
     MicrosecondsPrecisionOverflowBehavior, TimeConfig, TimeConfigBuilder, TimestampUnit,
 };
 pub use speedate_base::faults::{ConfigError, ParseError};

@@ -47,6 +47,7 @@ fault_name fault.DurationDaysTooLarge = codes "duration_days_too_large"
 fault_name fault.DateTooSmall = codes "date_too_small"
 fault_name fault.DateTooLarge = codes "date_too_large"
 fault_name fault.TimeTooLarge = codes "time_too_large"
+fault_name fault.DurationUnitOrder = codes "duration_unit_order"
 fault_name fault.MicrosecondFractionTooLong = codes "microsecond_fraction_too_long"
 
 -- the snake-case name of a fault of a choice

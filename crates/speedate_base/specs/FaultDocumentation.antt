@@ -45,4 +45,5 @@ fault_documentation fault.DurationDaysTooLarge = codes "durations may not exceed
 fault_documentation fault.DateTooSmall = codes "dates before 0000 are not supported as unix timestamps"
 fault_documentation fault.DateTooLarge = codes "dates after 9999 are not supported as unix timestamps"
 fault_documentation fault.TimeTooLarge = codes "numeric times may not exceed 86,399 seconds"
+fault_documentation fault.DurationUnitOrder = codes "quantities out of order or repeated in duration"
 fault_documentation fault.MicrosecondFractionTooLong = codes "microsecond timestamps may not have fraction digits"

@@ -49,6 +49,7 @@ faults =
     ∷ fault.DateTooSmall
     ∷ fault.DateTooLarge
     ∷ fault.TimeTooLarge
+    ∷ fault.DurationUnitOrder
     ∷ fault.MicrosecondFractionTooLong
     ∷ []
 
@@ -98,6 +99,7 @@ named fault.DurationDaysTooLarge = refl
 named fault.DateTooSmall = refl
 named fault.DateTooLarge = refl
 named fault.TimeTooLarge = refl
+named fault.DurationUnitOrder = refl
 named fault.MicrosecondFractionTooLong = refl
 
 -- two faults with one name are one fault

@@ -38,6 +38,17 @@ pub enum MicrosecondsPrecisionOverflowBehavior {
     Error,
 }
 
+/// Whether the quantities of an ISO 8601 duration have to come in order.
+#[derive(Clone, Copy, Debug, PartialEq, Eq, Default)]
+pub enum IsoOrder {
+    /// They may come in any order on their side of the `T`, and more than once.
+    #[default]
+    Lax,
+    /// Each comes at most once, years before months, weeks and days, and behind the `T` hours before
+    /// minutes and seconds.
+    Strict,
+}
+
 /// Whether so many digits are taken where `most` of them reach the microsecond: not 7 of 6 by `Error`.
 #[inline]
 pub fn takes_digits(
@@ -146,8 +157,9 @@ impl Default for DateConfigBuilder {
     }
 }
 
-/// What is done with digits of a second past the sixth, and which offset the time of a timestamp
-/// gets. The default refuses such digits and attaches no offset;
+/// What is done with digits of a second past the sixth, which offset the time of a timestamp gets, and
+/// whether the quantities of a duration have to come in order. The default refuses such digits, attaches
+/// no offset and takes any order;
 /// `TimeConfig::builder().unix_timestamp_offset(Some(3600)).build()` attaches one hour.
 #[derive(Clone, Copy, Debug, PartialEq, Eq)]
 pub struct TimeConfig {
@@ -155,6 +167,8 @@ pub struct TimeConfig {
     pub microseconds_precision_overflow_behavior: MicrosecondsPrecisionOverflowBehavior,
     /// The offset, in seconds, that a timestamp's value gets: none, or one of less than 24 hours.
     pub unix_timestamp_offset: Option<i32>,
+    /// Whether the quantities of an ISO 8601 duration have to come in order.
+    pub iso_order: IsoOrder,
     pub ghost offset_in_range: { ForSome unix_timestamp_offset IsOffset },
 }
 
@@ -174,11 +188,12 @@ impl Default for TimeConfig {
 
     ghost is_default = { IsDefault };
 
-    /// Further digits are refused, and timestamps get no offset.
+    /// Further digits are refused, timestamps get no offset, and quantities may come in any order.
     fn default() -> Self {
         TimeConfig {
             microseconds_precision_overflow_behavior: MicrosecondsPrecisionOverflowBehavior::default(),
             unix_timestamp_offset: None,
+            iso_order: IsoOrder::default(),
         }
     }
 }
@@ -220,11 +235,13 @@ impl TimeConfigBuilder {
     ) -> Self
         ensures behavior { result.microseconds_precision_overflow_behavior ≡ behavior }
         ensures offset { result.unix_timestamp_offset ≡ self.unix_timestamp_offset }
+        ensures order { result.iso_order ≡ self.iso_order }
     {
         TimeConfigBuilder {
             config: TimeConfig {
                 microseconds_precision_overflow_behavior: behavior,
                 unix_timestamp_offset: self.config.unix_timestamp_offset,
+                iso_order: self.config.iso_order,
             },
         }
     }
@@ -236,6 +253,7 @@ impl TimeConfigBuilder {
         ensures offset { result.unix_timestamp_offset ≡ offset }
         ensures behavior { result.microseconds_precision_overflow_behavior
             ≡ self.microseconds_precision_overflow_behavior }
+        ensures order { result.iso_order ≡ self.iso_order }
     {
         TimeConfigBuilder {
             config: TimeConfig {
@@ -243,6 +261,25 @@ impl TimeConfigBuilder {
                     .config
                     .microseconds_precision_overflow_behavior,
                 unix_timestamp_offset: offset,
+                iso_order: self.config.iso_order,
+            },
+        }
+    }
+
+    /// Sets whether the quantities of an ISO 8601 duration have to come in order.
+    pub fn iso_order(self, order: IsoOrder) -> Self
+        ensures order { result.iso_order ≡ order }
+        ensures behavior { result.microseconds_precision_overflow_behavior
+            ≡ self.microseconds_precision_overflow_behavior }
+        ensures offset { result.unix_timestamp_offset ≡ self.unix_timestamp_offset }
+    {
+        TimeConfigBuilder {
+            config: TimeConfig {
+                microseconds_precision_overflow_behavior: self
+                    .config
+                    .microseconds_precision_overflow_behavior,
+                unix_timestamp_offset: self.config.unix_timestamp_offset,
+                iso_order: order,
             },
         }
     }

@@ -92,6 +92,8 @@ pub enum ParseError {
     DateTooLarge,
     /// A time of day, or a sum on the way to it, is too large.
     TimeTooLarge,
+    /// A quantity of a duration is out of order, or repeated, and the configuration refuses that.
+    DurationUnitOrder,
     /// A timestamp in microseconds has a digit behind its point, and the configuration refuses it.
     MicrosecondFractionTooLong,
 }
@@ -149,6 +151,7 @@ impl ParseError {
             ParseError::DateTooSmall => "date_too_small",
             ParseError::DateTooLarge => "date_too_large",
             ParseError::TimeTooLarge => "time_too_large",
+            ParseError::DurationUnitOrder => "duration_unit_order",
             ParseError::MicrosecondFractionTooLong => "microsecond_fraction_too_long",
         }
     }
@@ -215,6 +218,7 @@ impl ParseError {
             ParseError::DateTooSmall => "dates before 0000 are not supported as unix timestamps",
             ParseError::DateTooLarge => "dates after 9999 are not supported as unix timestamps",
             ParseError::TimeTooLarge => "numeric times may not exceed 86,399 seconds",
+            ParseError::DurationUnitOrder => "quantities out of order or repeated in duration",
             ParseError::MicrosecondFractionTooLong => {
                 "microsecond timestamps may not have fraction digits"
             }

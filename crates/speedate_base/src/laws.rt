@@ -7,7 +7,7 @@ ghost use Rattle.speedate_base.specs.declared.faults.ParseError.{ParseError};
 ghost use Rattle.speedate_base.specs.declared.faults.config_error.ConfigError.{ConfigError};
 
 use crate::config::{
-    DateConfig, DateConfigBuilder, DateTimeConfig, DateTimeConfigBuilder,
+    DateConfig, DateConfigBuilder, DateTimeConfig, DateTimeConfigBuilder, IsoOrder,
     MicrosecondsPrecisionOverflowBehavior, TimeConfig, TimeConfigBuilder, TimestampUnit,
 };
 use crate::faults::{ConfigError, ParseError};
@@ -48,6 +48,13 @@ pub fn same_behavior(
     first: &MicrosecondsPrecisionOverflowBehavior,
     second: &MicrosecondsPrecisionOverflowBehavior,
 ) -> bool
+    ensures same { IsTrue result ↔ (first.now ≡ second.now) }
+{
+    first == second
+}
+
+/// Whether two orders of quantities are one: false for `Lax` and `Strict`.
+pub fn same_iso_order(first: &IsoOrder, second: &IsoOrder) -> bool
     ensures same { IsTrue result ↔ (first.now ≡ second.now) }
 {
     first == second
@@ -116,6 +123,13 @@ pub fn clone_behavior(
     ensures clone { result ≡ Ok behavior.now }
 {
     behavior.clone()
+}
+
+/// A second order of quantities that is the same: `Strict` for `Strict`.
+pub fn clone_iso_order(order: &IsoOrder) -> Result<IsoOrder, AllocError>
+    ensures clone { result ≡ Ok order.now }
+{
+    order.clone()
 }
 
 /// A second unit that is the same: `Infer` for `Infer`.
@@ -220,4 +234,11 @@ pub fn default_timestamp_unit() -> TimestampUnit
     ensures default { result ≡ TimestampUnit.Infer }
 {
     TimestampUnit::default()
+}
+
+/// The default order of quantities: any.
+pub fn default_iso_order() -> IsoOrder
+    ensures default { result ≡ IsoOrder.Lax }
+{
+    IsoOrder::default()
 }

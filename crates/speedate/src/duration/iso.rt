@@ -1,15 +1,16 @@
 //! The form of a duration that ISO 8601 has.
 
-ghost use Rattle.std.specs.Prelude.{◌≡◌, ◌+◌, ◌*◌, ◌<◌, ◌≤◌, length, take, drop, slice_index, IsTrue, Bool, true, false, Ok, Err, IfOk, IfSome, [], if◌then◌else◌};
+ghost use Rattle.std.specs.Prelude.{◌≡◌, ◌+◌, ◌*◌, ◌<◌, ◌≤◌, length, take, drop, slice_index, nat_lt, IsTrue, Bool, true, false, Ok, Err, IfOk, IfSome, [], if◌then◌else◌};
 ghost use Rattle.std.specs.Char.{is_ascii_digit};
 ghost use Rattle.std.specs.List.{list_all};
 ghost use Rattle.speedate_base.specs.DigitRuns.{run_length, run_value, digits_value};
 ghost use Rattle.std.specs.Option.{option_map};
 ghost use Rattle.speedate_base.specs.declared.faults.ParseError.TheVariants as fault;
 ghost use Rattle.speedate_base.specs.Requirement.{meets, result_map};
-ghost use Rattle.speedate.specs.IsoForm.{Amount, Mark, units, unit_in, is_point, fraction_length, unit_seconds, fraction_seconds, fraction_microseconds, quantity_at, quantity_length, item_at, item_length, are_counted, with_amount, with_item, item_table, sums_numbers, unit_fault, no_sums, IsAnswerFrom, IsIsoAnswer};
+ghost use Rattle.speedate.specs.IsoForm.{Amount, Mark, units, unit_in, is_point, fraction_length, unit_seconds, next_limit, fraction_seconds, fraction_microseconds, quantity_at, quantity_length, item_at, item_length, are_counted, with_amount, with_item, item_table, sums_numbers, unit_fault, no_sums, IsAnswerFrom, IsIsoAnswer};
 
 use super::Duration;
+use speedate_base::config::IsoOrder;
 use speedate_base::faults::ParseError;
 use speedate_base::numbers::{byte_at, digit_run, run_end};
 use speedate_base::util::{SECONDS_PER_DAY, filled, twice_microseconds};
@@ -20,6 +21,9 @@ const SHORT_LENGTH: usize = 6;
 
 /// How many digits of a fraction of a second are whole microseconds.
 const MICROSECOND_LENGTH: usize = 6;
+
+/// More seconds than a unit has.
+const NO_LIMIT: u32 = 31_536_001;
 
 /// A unit of time: its letter, and what one of it is, whole days or seconds.
 #[derive(Clone, Copy)]
@@ -103,6 +107,17 @@ impl DurationUnit {
         (whole as u32, ((twice + 1) / 2 - 1_000_000 * whole) as u32)
     }
 
+    /// The seconds than which the unit behind this one has to have fewer.
+    #[inline(always)]
+    fn next_limit(&self, order: IsoOrder) -> u32
+        ensures limit { result ≡ next_limit order (unit_parts self.now) }
+    {
+        match order {
+            IsoOrder::Lax => NO_LIMIT,
+            IsoOrder::Strict => self.seconds() as u32,
+        }
+    }
+
     /// The seconds of one of this unit.
     #[inline(always)]
     fn seconds(&self) -> u64
@@ -116,6 +131,10 @@ impl DurationUnit {
 /// What the items of a duration add up to.
 #[derive(Clone, Copy)]
 pub(super) struct Sums {
+    /// The order in which quantities have to come.
+    order: IsoOrder,
+    /// The seconds than which the next unit has to have fewer.
+    limit: u32,
     /// Whether there was a `T`.
     mark: bool,
     /// Whether a quantity had a fraction.
@@ -139,21 +158,23 @@ impl Sums {
     /// Most texts are plain quantities, a `T`, and plain quantities again. These are read straight on;
     /// what is left where they end is read item by item, with all that may be wrong in it.
     #[inline(always)]
-    pub(super) fn read(body: &[u8]) -> Result<Self, ParseError>
-        ensures answer { (positive : Bool) → IsIsoAnswer positive body.now (result_map (λ sums. sums_numbers positive (sums_parts sums)) result) }
+    pub(super) fn read(body: &[u8], order: IsoOrder) -> Result<Self, ParseError>
+        ensures answer { (positive : Bool) → IsIsoAnswer order positive body.now (result_map (λ sums. sums_numbers positive (sums_parts sums)) result) }
     {
-        let (sums, end) = Self::of_plain(body);
+        let (sums, end) = Self::of_plain(body, order);
         sums.with_rest(body, end)
     }
 
     /// The sums of the plain quantities at the front of a text, of those behind a `T` that follows
     /// them, and where these end.
     #[inline(always)]
-    fn of_plain(body: &[u8]) -> (Self, usize)
-        ensures goes_on { GoesOn no_sums body.now (sums_parts result.0) (drop result.1 body.now) }
+    fn of_plain(body: &[u8], order: IsoOrder) -> (Self, usize)
+        ensures goes_on { GoesOn (no_sums order) body.now (sums_parts result.0) (drop result.1 body.now) }
         ensures within { result.1 ≤ length body.now }
     {
         let none = Sums {
+            order,
+            limit: NO_LIMIT,
             mark: false,
             fraction: false,
             some: false,
@@ -173,14 +194,10 @@ impl Sums {
     fn behind_mark(self) -> Self
         ensures sums { sums_parts result ≡ with_item Mark (sums_parts self) }
     {
-        Sums {
-            mark: true,
-            fraction: self.fraction,
-            some: self.some,
-            day: self.day,
-            second: self.second,
-            microsecond: self.microsecond,
-        }
+        let mut sums = self;
+        sums.mark = true;
+        sums.limit = NO_LIMIT;
+        sums
     }
 
     /// The sums with the plain quantities from a place on, as many as there are, and where they end.
@@ -203,7 +220,8 @@ impl Sums {
     }
 
     /// The sums with the plain quantity at a place, and where it ends: a number of few digits, and
-    /// the letter of its unit. `None` where no such stands there, or where the sums grow too large.
+    /// the letter of its unit. `None` where no such stands there, where the unit is out of order, or
+    /// where the sums grow too large.
     #[inline(always)]
     fn with_next(self, body: &[u8], place: usize) -> Option<(Self, usize)>
         requires none { self.fraction ≡ false }
@@ -216,8 +234,19 @@ impl Sums {
     {
         let (number, end) = short_number(body, place)?;
         let unit = DurationUnit::of_letter(byte_at(body, end), self.mark)?;
+        if !self.takes(&unit) {
+            return None;
+        }
         let sums = self.with_whole(number, &unit)?;
         Some((sums, end + 1))
+    }
+
+    /// Whether a unit has its place in the order.
+    #[inline(always)]
+    fn takes(&self, unit: &DurationUnit) -> bool
+        ensures taken { result ≡ nat_lt (unit_seconds (unit_parts unit.now)) self.now.limit }
+    {
+        unit.seconds() < u64::from(self.limit)
     }
 
     /// The sums with so many of a unit, or `None` where they are not counted in 32 bits.
@@ -229,6 +258,8 @@ impl Sums {
         ensures counted { IfSome result (λ _. IsTrue (are_counted (with_amount (unit_parts unit.now) number [] (sums_parts self)))) }
     {
         Some(Sums {
+            order: self.order,
+            limit: unit.next_limit(self.order),
             mark: self.mark,
             fraction: false,
             some: true,
@@ -277,7 +308,7 @@ impl Sums {
             if self.mark {
                 return Err(ParseError::DurationTRepeated);
             }
-            self.mark = true;
+            *self = self.behind_mark();
             return Ok(1);
         }
         self.take_quantity(text)
@@ -305,6 +336,9 @@ impl Sums {
         let size = fraction_length(rest);
         let letter = byte_at(rest, size);
         let unit = DurationUnit::of_letter(letter, self.mark).ok_or(unit_fault(self.mark))?;
+        if !self.takes(&unit) {
+            return Err(ParseError::DurationUnitOrder);
+        }
         self.add(number.value as u32, &unit, &rest[..size])?;
         Ok(number.length + size + 1)
     }
@@ -333,6 +367,8 @@ impl Sums {
             return Err(ParseError::DurationValueTooLarge);
         }
         *self = Sums {
+            order: self.order,
+            limit: unit.next_limit(self.order),
             mark: self.mark,
             fraction: !fraction.is_empty(),
             some: true,

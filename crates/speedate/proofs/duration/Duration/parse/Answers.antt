@@ -1,6 +1,7 @@
 use Rattle.std.proofs.Common.{◌≡◌, ◌∙◌, ap, subst, Bool, ℕ, List, Result, drop}
 use Rattle.std.specs.Prelude.{not}
 use Rattle.std.proofs.lemmas.List.{take_rest}
+use Rattle.speedate_base.specs.declared.config.IsoOrder.{IsoOrder}
 use Rattle.speedate_base.specs.declared.config.MicrosecondsPrecisionOverflowBehavior.{MicrosecondsPrecisionOverflowBehavior}
 use Rattle.speedate_base.specs.declared.faults.ParseError.{ParseError}
 use Rattle.speedate_base.specs.Numbers.{has_minus, sign_length}
@@ -10,14 +11,15 @@ use Rattle.speedate.specs.IsoFormLaws.{duration_answer-only}
 use Rattle.speedate.proofs.duration.Duration.parse.Goals as goal
 
 -- the answer behind a sign is that to the text
-signed : (behavior : MicrosecondsPrecisionOverflowBehavior) (text rest : List ℕ) (negative : Bool) (answer : Result DurationNumbers ParseError)
-    → negative ≡ has_minus text → rest ≡ drop (sign_length text) text → IsNormalAnswer behavior (not negative) rest answer → IsDurationAnswer behavior text answer
-signed behavior text rest negative answer sign behind is =
-    subst (λ (minus : Bool). IsNormalAnswer behavior (not minus) (drop (sign_length text) text) answer) sign
-    (subst (λ (behind : List ℕ). IsNormalAnswer behavior (not negative) behind answer) behind is)
+signed : (order : IsoOrder) (behavior : MicrosecondsPrecisionOverflowBehavior) (text rest : List ℕ) (negative : Bool) (answer : Result DurationNumbers ParseError)
+    → negative ≡ has_minus text → rest ≡ drop (sign_length text) text → IsNormalAnswer order behavior (not negative) rest answer
+    → IsDurationAnswer order behavior text answer
+signed order behavior text rest negative answer sign behind is =
+    subst (λ (minus : Bool). IsNormalAnswer order behavior (not minus) (drop (sign_length text) text) answer) sign
+    (subst (λ (behind : List ℕ). IsNormalAnswer order behavior (not negative) behind answer) behind is)
 
 pub returns-clause-only : goal.returns-clause-only
 returns-clause-only c other is =
     let text = c.args.bytes.now in
     let rest = take_rest text _ ∙ ap (λ (n : ℕ). drop n text) c.sign-negative.ensures.len in
-    duration_answer-only c.args.behavior text other _ is (signed c.args.behavior text _ _ _ c.sign-negative.ensures.negative rest c.unsigned.ensures.answer)
+    duration_answer-only c.args.order c.args.behavior text other _ is (signed c.args.order c.args.behavior text _ _ _ c.sign-negative.ensures.negative rest c.unsigned.ensures.answer)

@@ -1,4 +1,4 @@
-use Rattle.std.proofs.Common.{arith}
+use Rattle.std.proofs.Common.{arith, sym, ◌∙◌}
 use Rattle.speedate.specs.IsoFrontLaws.{answer-behind-plain}
 use Rattle.speedate.specs.IsoSums.{sums_parts, unit_parts}
 use Rattle.speedate.proofs.duration.iso.Sums.with_next.Goals as goal
@@ -9,4 +9,4 @@ returns-clause-goes_on c = λ positive answer behind.
     answer-behind-plain positive (sums_parts c.args.self) (sums_parts c.in_ok-sums.sums) c.args.body.now c.args.place c.in_ok-number.end
     c.in_ok-number.number _ (unit_parts c.in_ok-unit.unit) answer
     c.requires.none number.value number.end c.byte_at.ensures.byte c.in_ok-unit.ensures.unit c.in_ok-sums.ensures.sums
-    number.some (omega (arith, number.small)) c.in_ok-sums.ensures.counted behind
+    number.some (omega (arith, number.small)) (sym c.takes.ensures.taken ∙ c.if-not-takes.false) c.in_ok-sums.ensures.counted behind

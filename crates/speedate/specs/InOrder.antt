@@ -1,0 +1,30 @@
+-- Quantities of an ISO 8601 duration that come in the order of the standard: years, months, weeks and days, and behind the `T`
+-- hours, minutes and seconds, each at most once (ISO 8601 5.5.2.2, of which weeks beside others are not a form).
+use Rattle.std.specs.Prelude.{◌≡◌, ℕ, Bool, true, false, ◌&&◌, List, [], ◌∷◌, ◌++◌, Option, Some, None}
+use Rattle.std.specs.List.{flat_map}
+use Rattle.speedate_base.specs.declared.config.IsoOrder.TheVariants as order
+use Rattle.speedate_base.specs.Ascii.{capital_p}
+use Rattle.speedate_base.specs.Numbers.{IsSign}
+use Rattle.speedate.specs.IsoForm.{DurationUnit, units, unit_in, unit_seconds, is_smaller, no_limit, Quantity, Item, Mark, Amount, item_text, no_sums, with_items, AreGood}
+
+-- the seconds of a unit, which are the next one's limit
+abbrev pub seconds_of : Option DurationUnit → ℕ
+seconds_of None = no_limit
+seconds_of (Some unit) = unit_seconds unit
+
+-- each unit is smaller than the one before it, and a `T` begins anew
+abbrev pub are_in_order : Bool → ℕ → List Item → Bool
+are_in_order mark limit [] = true
+are_in_order mark limit (Mark ∷ items) = are_in_order true no_limit items
+are_in_order mark limit (Amount quantity ∷ items) =
+    let unit = unit_in (units mark) quantity.letter in
+    is_smaller limit unit && are_in_order mark (seconds_of unit) items
+
+-- a text is a duration of good items, a quantity among them
+pub record IsMadeOf (text : List ℕ) (items : List Item) : Type 0 where
+  pub negative : Bool
+  pub sign : List ℕ
+  pub is_sign : IsSign negative sign
+  pub are_good : AreGood (no_sums order.Lax) items
+  pub some : (with_items items (no_sums order.Lax)).some ≡ true
+  pub is_text : text ≡ sign ++ capital_p ∷ flat_map item_text items
