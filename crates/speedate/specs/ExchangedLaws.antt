@@ -38,7 +38,7 @@ without-sign order behavior negative sign body answer is there =
     subst (λ (minus : Bool). IsNormalAnswer order behavior (not minus) (capital_p ∷ body) answer) (sign-minus negative sign body is)
     (subst (λ (behind : List ℕ). IsNormalAnswer order behavior (not (has_minus text)) behind answer) (sign-behind negative sign body is) there)
 
-with-sign : (order : IsoOrder) (behavior : MicrosecondsPrecisionOverflowBehavior) (negative : Bool) (sign body : List ℕ) (answer : Answer) → IsSign negative sign
+pub with-sign : (order : IsoOrder) (behavior : MicrosecondsPrecisionOverflowBehavior) (negative : Bool) (sign body : List ℕ) (answer : Answer) → IsSign negative sign
     → IsNormalAnswer order behavior (not negative) (capital_p ∷ body) answer → IsDurationAnswer order behavior (sign ++ capital_p ∷ body) answer
 with-sign order behavior negative sign body answer is there =
     let text = sign ++ capital_p ∷ body in

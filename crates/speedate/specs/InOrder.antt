@@ -1,10 +1,13 @@
 -- Quantities of an ISO 8601 duration that come in the order of the standard: years, months, weeks and days, and behind the `T`
 -- hours, minutes and seconds, each at most once (ISO 8601 5.5.2.2, of which weeks beside others are not a form).
-use Rattle.std.specs.Prelude.{◌≡◌, ℕ, Bool, true, false, ◌&&◌, List, [], ◌∷◌, ◌++◌, Option, Some, None}
+use Rattle.std.specs.Prelude.{◌≡◌, ◌⊎◌, ℕ, Bool, true, false, ◌&&◌, List, [], ◌∷◌, ◌++◌, drop, slice_index, ◌==◌, Option, Some, None, Result, Err}
 use Rattle.std.specs.List.{flat_map}
 use Rattle.speedate_base.specs.declared.config.IsoOrder.TheVariants as order
+use Rattle.speedate_base.specs.declared.faults.ParseError.{ParseError}
+use Rattle.speedate_base.specs.declared.faults.ParseError.TheVariants as fault
 use Rattle.speedate_base.specs.Ascii.{capital_p}
-use Rattle.speedate_base.specs.Numbers.{IsSign}
+use Rattle.speedate_base.specs.Numbers.{sign_length, IsSign}
+use Rattle.speedate.specs.DurationNumbers.{DurationNumbers}
 use Rattle.speedate.specs.IsoForm.{DurationUnit, units, unit_in, unit_seconds, is_smaller, no_limit, Quantity, Item, Mark, Amount, item_text, no_sums, with_items, AreGood}
 
 -- the seconds of a unit, which are the next one's limit
@@ -28,3 +31,11 @@ pub record IsMadeOf (text : List ℕ) (items : List Item) : Type 0 where
   pub are_good : AreGood (no_sums order.Lax) items
   pub some : (with_items items (no_sums order.Lax)).some ≡ true
   pub is_text : text ≡ sign ++ capital_p ∷ flat_map item_text items
+
+-- an answer is the lax one, or it is that of a quantity out of order
+abbrev pub IsLaxOrRefused : Result DurationNumbers ParseError → Result DurationNumbers ParseError → Type 0
+IsLaxOrRefused lax answer = (answer ≡ lax) ⊎ (answer ≡ Err fault.DurationUnitOrder)
+
+-- a text is an ISO 8601 duration, and neither days nor a clock: behind its sign it begins with `P`
+abbrev pub is_iso : List ℕ → Bool
+is_iso text = slice_index (drop (sign_length text) text) 0 == capital_p

@@ -1,11 +1,12 @@
 //! Durations: days, seconds and microseconds, with a sign.
 
-ghost use Rattle.std.specs.Prelude.{◌≡◌, ℕ, ◌<◌, ◌≤◌, IfOk, List, Result};
+ghost use Rattle.std.specs.Prelude.{◌≡◌, ℕ, ◌<◌, ◌≤◌, IfOk, List, Bool, false, if◌then◌else◌, Result, Err};
 ghost use Rattle.speedate_base.specs.declared.faults.ParseError.{ParseError};
 ghost use Rattle.speedate_base.specs.Requirement.{result_map, result_and_then};
 ghost use Rattle.speedate.specs.DurationForm.{has_day_letter, has_days, form_answer, IsNormalAnswer, IsDurationAnswer};
 ghost use Rattle.speedate.specs.Exchanged.{AreExchanged};
-ghost use Rattle.speedate.specs.IsoForm.{IsIsoAnswer};
+ghost use Rattle.speedate.specs.InOrder.{IsLaxOrRefused, IsMadeOf, are_in_order, is_iso};
+ghost use Rattle.speedate.specs.IsoForm.{Item, IsIsoAnswer, no_limit};
 ghost use Rattle.speedate.specs.DurationNumbers.{DurationNumbers, length_seconds, length_microseconds, normal_form, signed_seconds, signed_microsecond, signed_milliseconds};
 
 mod clock;
@@ -44,6 +45,7 @@ pub struct Duration {
 impl Duration {
     ghost use Rattle.speedate_base.specs.declared.config.IsoOrder.TheVariants as order;
     ghost use Rattle.speedate_base.specs.declared.config.MicrosecondsPrecisionOverflowBehavior.TheVariants as behavior;
+    ghost use Rattle.speedate_base.specs.declared.faults.ParseError.TheVariants as fault;
     ghost use Rattle.speedate.specs.Duration.{parts};
 
     /// The duration of so many days, seconds and microseconds, of any size, brought into their
@@ -144,6 +146,11 @@ impl Duration {
     pub fn parse_bytes_with_config(bytes: &[u8], config: &TimeConfig) -> Result<Self, ParseError>
         ensures answer { IsDurationAnswer config.now.iso_order config.now.microseconds_precision_overflow_behavior bytes.now (result_map parts result) }
         ensures only { (other : Result DurationNumbers ParseError) → IsDurationAnswer config.now.iso_order config.now.microseconds_precision_overflow_behavior bytes.now other → other ≡ result_map parts result }
+        ensures lax { (lax : Result DurationNumbers ParseError) → IsDurationAnswer order.Lax config.now.microseconds_precision_overflow_behavior bytes.now lax → IsLaxOrRefused lax (result_map parts result) }
+        ensures in_order { (items : List Item) (lax : Result DurationNumbers ParseError) → config.now.iso_order ≡ order.Strict → IsMadeOf bytes.now items
+            → IsDurationAnswer order.Lax config.now.microseconds_precision_overflow_behavior bytes.now lax
+            → result_map parts result ≡ (if are_in_order false no_limit items then lax else Err fault.DurationUnitOrder) }
+        ensures other_forms { is_iso bytes.now ≡ false → IsDurationAnswer order.Lax config.now.microseconds_precision_overflow_behavior bytes.now (result_map parts result) }
         ensures exchanged { (other : List ℕ) → config.now.iso_order ≡ order.Lax → AreExchanged bytes.now other → IsDurationAnswer config.now.iso_order config.now.microseconds_precision_overflow_behavior other (result_map parts result) }
     {
         Self::parse(

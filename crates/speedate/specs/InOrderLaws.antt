@@ -1,0 +1,237 @@
+-- Where the order of the standard is asked for, a duration is what the lax order makes of it, or is refused for its order.
+use Rattle.std.specs.Prelude.{◌≡◌, ◌⊎◌, MatchBool, ℕ, zero, suc, ◌<◌, Bool, true, false, not, ◌&&◌, ◌||◌, List, [], ◌∷◌, ◌++◌, length, drop, slice_index, nat_lt, ◌==◌, if◌then◌else◌, Option, Some, None, Result, Ok, Err, refl}
+use Rattle.std.specs.List.{flat_map}
+use Rattle.std.specs.Option.{is_some}
+use Rattle.std.proofs.Common.{arith, ap, sym, ◌∙◌, subst, inl, inr}
+use Rattle.std.proofs.lemmas.Bool.{false≢true}
+use Rattle.std.proofs.lemmas.Bool.Decides.{nat_tests}
+use Rattle.std.proofs.lemmas.List.{append-nil, length-append}
+use Rattle.speedate_base.specs.declared.config.IsoOrder.{IsoOrder}
+use Rattle.speedate_base.specs.declared.config.IsoOrder.TheVariants as order
+use Rattle.speedate_base.specs.declared.config.MicrosecondsPrecisionOverflowBehavior.{MicrosecondsPrecisionOverflowBehavior}
+use Rattle.speedate_base.specs.declared.faults.ParseError.{ParseError}
+use Rattle.speedate_base.specs.declared.faults.ParseError.TheVariants as fault
+use Rattle.speedate_base.specs.Ascii.{capital_p}
+use Rattle.speedate_base.specs.Numbers.{has_minus, sign_length}
+use Rattle.speedate_base.specs.Requirement.{meets, AllHold, result_and_then}
+use Rattle.speedate.specs.DurationNumbers.{DurationNumbers, normal_form}
+use Rattle.speedate.specs.DurationForm.{form_answer, IsDurationAnswer}
+use Rattle.speedate.specs.DurationAnswer.{iso_answer, unsigned_answer, duration_answer}
+use Rattle.speedate.specs.DurationAnswerLaws.{duration_answer-is}
+use Rattle.speedate.specs.ExchangedLaws.{with-sign}
+use Rattle.speedate.specs.InOrder.{IsLaxOrRefused, seconds_of, are_in_order, IsMadeOf, is_iso}
+use Rattle.speedate.specs.IsoForm.{DurationUnit, units, unit_in, Quantity, Item, Mark, Amount, item_text, IsItem, item_at, item_length, item_table, is_smaller, are_counted, unit_fault, Sums, no_limit, no_sums, with_quantity, with_item, with_items, AreGood, sums_numbers, IsAnswerFrom}
+use Rattle.speedate.specs.IsoFormLaws.{item_at-text, answer-with, duration_answer-only}
+use Rattle.speedate.specs.IsoFrontLaws.{answer-refused}
+
+abbrev Answer : Type 0
+Answer = Result DurationNumbers ParseError
+
+-- sums where any unit may come next, and where one has to be smaller than a limit
+abbrev as_lax : Sums → Sums
+as_lax sums = record sums { order = order.Lax; limit = no_limit }
+
+abbrev as_strict : ℕ → Sums → Sums
+as_strict limit sums = record sums { order = order.Strict; limit = limit }
+
+-- every unit is smaller than no limit
+never-refused : (mark : Bool) (letter : ℕ) → is_smaller no_limit (unit_in (units mark) letter) ≡ true
+never-refused true letter = grind (arith, nat_tests)
+never-refused false letter = grind (arith, nat_tests)
+
+-- an item adds the same to both
+quantity-lax : (unit : Option DurationUnit) (quantity : Quantity) (sums : Sums)
+    → as_lax (with_quantity unit quantity sums) ≡ with_quantity unit quantity (as_lax sums)
+quantity-lax None quantity sums = refl
+quantity-lax (Some unit) quantity sums = refl
+
+item-lax : (item : Item) (sums : Sums) → as_lax (with_item item sums) ≡ with_item item (as_lax sums)
+item-lax Mark sums = refl
+item-lax (Amount quantity) sums = quantity-lax (unit_in (units sums.mark) quantity.letter) quantity sums
+
+-- a row that both tables have, and the row of the order, which the lax one passes
+row-both : (test : Bool) (fault : ParseError) (lax answer : Answer) → IsLaxOrRefused lax answer
+    → IsLaxOrRefused (if test then lax else Err fault) (if test then answer else Err fault)
+row-both true fault lax answer both = both
+row-both false fault lax answer both = inl refl
+
+row-order : (test : Bool) (lax answer : Answer) → IsLaxOrRefused lax answer → IsLaxOrRefused lax (if test then answer else Err fault.DurationUnitOrder)
+row-order true lax answer both = both
+row-order false lax answer both = inr refl
+
+-- so the table of an item lets both through, refuses both alike, or refuses for the order
+table-both : (sums : Sums) (item : Item) (lax answer : Answer) → IsLaxOrRefused lax answer
+    → IsLaxOrRefused (meets (item_table (as_lax sums) item) lax) (meets (item_table sums item) answer)
+table-both sums Mark lax answer both = row-both (not sums.mark) _ lax answer both
+table-both sums (Amount quantity) lax answer both =
+    let unit = unit_in (units sums.mark) quantity.letter in
+    let counted = ap are_counted (item-lax (Amount quantity) sums) in
+    rw (never-refused sums.mark quantity.letter, sym counted)
+    (row-both (nat_lt 0 (length quantity.number)) _ _ _
+    (row-both _ _ _ _
+    (row-both (not sums.fraction) _ _ _
+    (row-both (is_some unit) _ _ _
+    (row-order (is_smaller sums.limit unit) _ _
+    (row-both (are_counted (with_item (Amount quantity) sums)) _ lax answer both))))))
+
+-- behind any items
+iso-both : (most : ℕ) (positive : Bool) (sums : Sums) (text : List ℕ)
+    → IsLaxOrRefused (iso_answer most positive (as_lax sums) text) (iso_answer most positive sums text)
+unfolding iso_answer
+iso-both most positive sums [] = inl refl
+iso-both zero positive sums (byte ∷ rest) = inl refl
+iso-both (suc most) positive sums (byte ∷ rest) =
+    let text = byte ∷ rest in
+    let item = item_at text in
+    let behind = drop (item_length text) text in
+    table-both sums item _ _
+    (subst (λ (next : Sums). IsLaxOrRefused (iso_answer most positive next behind) (iso_answer most positive (with_item item sums) behind))
+    (item-lax item sums) (iso-both most positive (with_item item sums) behind))
+
+unsigned-both : (asked : IsoOrder) (behavior : MicrosecondsPrecisionOverflowBehavior) (positive : Bool) (text : List ℕ) (iso : Bool)
+    → IsLaxOrRefused (if iso then iso_answer (length text) positive (no_sums order.Lax) (drop 1 text) else form_answer behavior positive text)
+    (if iso then iso_answer (length text) positive (no_sums asked) (drop 1 text) else form_answer behavior positive text)
+unsigned-both asked behavior positive text true = iso-both (length text) positive (no_sums asked) (drop 1 text)
+unsigned-both asked behavior positive text false = inl refl
+
+-- and in normal form, whose faults are of sums that both have
+normal-both : (lax answer : Answer) → IsLaxOrRefused lax answer → IsLaxOrRefused (result_and_then normal_form lax) (result_and_then normal_form answer)
+normal-both lax answer (inl same) = inl (ap (result_and_then normal_form) same)
+normal-both lax answer (inr refused) = inr (ap (result_and_then normal_form) refused)
+
+duration-both : (asked : IsoOrder) (behavior : MicrosecondsPrecisionOverflowBehavior) (text : List ℕ)
+    → IsLaxOrRefused (duration_answer order.Lax behavior text) (duration_answer asked behavior text)
+unfolding unsigned_answer
+duration-both asked behavior text =
+    let rest = drop (sign_length text) text in
+    normal-both _ _ (unsigned-both asked behavior (not (has_minus text)) rest (slice_index rest 0 == capital_p))
+
+-- whatever order is asked for, the answer to a text is the lax one, or the text is refused for its order
+pub answer-lax_or_refused : (asked : IsoOrder) (behavior : MicrosecondsPrecisionOverflowBehavior) (text : List ℕ) (lax answer : Answer)
+    → IsDurationAnswer order.Lax behavior text lax → IsDurationAnswer asked behavior text answer → IsLaxOrRefused lax answer
+answer-lax_or_refused asked behavior text lax answer one two =
+    let lax_is = duration_answer-only order.Lax behavior text _ lax (duration_answer-is order.Lax behavior text) one in
+    let answer_is = duration_answer-only asked behavior text _ answer (duration_answer-is asked behavior text) two in
+    subst (λ (lax : Answer). IsLaxOrRefused lax answer) lax_is
+    (subst (λ (answer : Answer). IsLaxOrRefused (duration_answer order.Lax behavior text) answer) answer_is (duration-both asked behavior text))
+
+-- a quantity with a unit adds to the sums with a limit what it adds to the others, and its unit is the next limit
+quantity-strict : (unit : Option DurationUnit) (quantity : Quantity) (limit : ℕ) (sums : Sums) → is_some unit ≡ true
+    → as_strict (seconds_of unit) (with_quantity unit quantity sums) ≡ with_quantity unit quantity (as_strict limit sums)
+quantity-strict None quantity limit sums has = absurd (false≢true has)
+quantity-strict (Some unit) quantity limit sums has = refl
+
+quantity-mark : (unit : Option DurationUnit) (quantity : Quantity) (sums : Sums) → (with_quantity unit quantity sums).mark ≡ sums.mark
+quantity-mark None quantity sums = refl
+quantity-mark (Some unit) quantity sums = refl
+
+-- what good items add up to
+abbrev made : Bool → Sums → Answer
+made positive sums = if sums.some then Ok (sums_numbers positive sums) else Err fault.TooShort
+
+abbrev strict_made : Bool → Bool → Sums → Answer
+strict_made in_order positive sums = if in_order then made positive sums else Err fault.DurationUnitOrder
+
+-- an item out of order refuses the text
+out_of_order : (positive : Bool) (limit : ℕ) (sums : Sums) (quantity : Quantity) (rest : List ℕ) → IsItem (Amount quantity)
+    → AllHold (item_table sums (Amount quantity)) → is_smaller limit (unit_in (units sums.mark) quantity.letter) ≡ false
+    → IsAnswerFrom positive (as_strict limit sums) (item_text (Amount quantity) ++ rest) (Err fault.DurationUnitOrder)
+out_of_order positive limit sums quantity rest is all late =
+    let text = item_text (Amount quantity) ++ rest in
+    let there = item_at-text sums (Amount quantity) rest is all in
+    let read : Result ℕ ParseError = Ok 0 in
+    let refused : Err fault.DurationUnitOrder ≡ meets (item_table (as_strict limit sums) (Amount quantity)) read =
+    rw (all.0, all.1.0, all.1.1.0, all.1.1.1.0, late) refl in
+    let digits = quantity.number ++ quantity.fraction in
+    let some : 0 < length text = rw (length-append (item_text (Amount quantity)) rest, length-append digits (quantity.letter ∷ [])) (omega arith) in
+    answer-refused positive (as_strict limit sums) text fault.DurationUnitOrder 0 some
+    (subst (λ (item : Item). Err fault.DurationUnitOrder ≡ meets (item_table (as_strict limit sums) item) read) (sym there) refused)
+
+-- one in order goes on
+amount-strict : (positive : Bool) (limit : ℕ) (sums : Sums) (quantity : Quantity) (rest : List ℕ) (in_order smaller : Bool) (after : Sums)
+    → IsItem (Amount quantity) → AllHold (item_table sums (Amount quantity))
+    → is_smaller limit (unit_in (units sums.mark) quantity.letter) ≡ smaller
+    → IsAnswerFrom positive (as_strict (seconds_of (unit_in (units sums.mark) quantity.letter)) (with_item (Amount quantity) sums)) rest
+    (strict_made in_order positive after)
+    → IsAnswerFrom positive (as_strict limit sums) (item_text (Amount quantity) ++ rest) (strict_made (smaller && in_order) positive after)
+amount-strict positive limit sums quantity rest in_order false after is all late behind = out_of_order positive limit sums quantity rest is all late
+amount-strict positive limit sums quantity rest in_order true after is all smaller behind =
+    let unit = unit_in (units sums.mark) quantity.letter in
+    let same = quantity-strict unit quantity limit sums all.1.1.1.0 in
+    let counted = sym (ap are_counted same) ∙ all.1.1.1.1.1.0 in
+    let hold : AllHold (item_table (as_strict limit sums) (Amount quantity)) =
+    (all.0, (all.1.0, (all.1.1.0, (all.1.1.1.0, (smaller, (counted, tt)))))) in
+    answer-with positive (as_strict limit sums) (Amount quantity) rest (strict_made in_order positive after) is hold
+    (subst (λ (next : Sums). IsAnswerFrom positive next rest (strict_made in_order positive after)) same behind)
+
+-- so good items are refused exactly if they are not in order
+items-strict : (positive : Bool) (limit : ℕ) (sums : Sums) (items : List Item) → AreGood sums items
+    → IsAnswerFrom positive (as_strict limit sums) (flat_map item_text items)
+    (strict_made (are_in_order sums.mark limit items) positive (with_items items sums))
+items-strict positive limit sums [] good = ([], [], refl, tt, refl)
+items-strict positive limit sums (Mark ∷ items) good =
+    answer-with positive (as_strict limit sums) Mark (flat_map item_text items) _ tt good.1
+    (items-strict positive no_limit (with_item Mark sums) items good.2)
+items-strict positive limit sums (Amount quantity ∷ items) good =
+    let unit = unit_in (units sums.mark) quantity.letter in
+    let next = with_item (Amount quantity) sums in
+    let behind = items-strict positive (seconds_of unit) next items good.2 in
+    amount-strict positive limit sums quantity (flat_map item_text items) (are_in_order sums.mark (seconds_of unit) items) _
+    (with_items items next) good.0 good.1 refl
+    (subst (λ (mark : Bool). IsAnswerFrom positive (as_strict (seconds_of unit) next) (flat_map item_text items)
+    (strict_made (are_in_order mark (seconds_of unit) items) positive (with_items items next)))
+    (quantity-mark unit quantity sums) behind)
+
+-- a text of good items has this answer in each order
+abbrev made_answer : (negative in_order : Bool) → Sums → Answer
+made_answer negative in_order sums =
+    result_and_then normal_form (if in_order then Ok (sums_numbers (not negative) sums) else Err fault.DurationUnitOrder)
+
+made-strict : (behavior : MicrosecondsPrecisionOverflowBehavior) (text : List ℕ) (items : List Item) (is : IsMadeOf text items)
+    → IsDurationAnswer order.Strict behavior text (made_answer is.negative (are_in_order false no_limit items) (with_items items (no_sums order.Lax)))
+made-strict behavior text items is =
+    let sums = with_items items (no_sums order.Lax) in
+    let in_order = are_in_order false no_limit items in
+    let from = items-strict (not is.negative) no_limit (no_sums order.Lax) items is.are_good in
+    let form = subst (λ (some : Bool). IsAnswerFrom (not is.negative) (no_sums order.Strict) (flat_map item_text items)
+    (if in_order then (if some then Ok (sums_numbers (not is.negative) sums) else Err fault.TooShort) else Err fault.DurationUnitOrder)) is.some from in
+    subst (λ (text : List ℕ). IsDurationAnswer order.Strict behavior text (made_answer is.negative in_order sums)) (sym is.is_text)
+    (with-sign order.Strict behavior is.negative is.sign (flat_map item_text items) _ is.is_sign (_, form, refl))
+
+made-lax : (behavior : MicrosecondsPrecisionOverflowBehavior) (text : List ℕ) (items : List Item) (is : IsMadeOf text items)
+    → IsDurationAnswer order.Lax behavior text (made_answer is.negative true (with_items items (no_sums order.Lax)))
+made-lax behavior text items is =
+    let sums = with_items items (no_sums order.Lax) in
+    let numbers : Answer = Ok (sums_numbers (not is.negative) sums) in
+    let form : IsAnswerFrom (not is.negative) (no_sums order.Lax) (flat_map item_text items) numbers =
+    (items, [], sym (append-nil (flat_map item_text items)), is.are_good, rw is.some refl) in
+    subst (λ (text : List ℕ). IsDurationAnswer order.Lax behavior text (made_answer is.negative true sums)) (sym is.is_text)
+    (with-sign order.Lax behavior is.negative is.sign (flat_map item_text items) _ is.is_sign (numbers, form, refl))
+
+chosen : (negative in_order : Bool) (sums : Sums)
+    → made_answer negative in_order sums ≡ (if in_order then made_answer negative true sums else Err fault.DurationUnitOrder)
+chosen negative true sums = refl
+chosen negative false sums = refl
+
+-- so a text of good items is refused for its order exactly if they are not in order, and otherwise has the lax answer
+pub answer-in_order : (asked : IsoOrder) (behavior : MicrosecondsPrecisionOverflowBehavior) (text : List ℕ) (items : List Item) (lax answer : Answer)
+    → asked ≡ order.Strict → IsMadeOf text items → IsDurationAnswer order.Lax behavior text lax → IsDurationAnswer asked behavior text answer
+    → answer ≡ (if are_in_order false no_limit items then lax else Err fault.DurationUnitOrder)
+answer-in_order asked behavior text items lax answer strict is one two =
+    let in_order = are_in_order false no_limit items in
+    let there = subst (λ (asked : IsoOrder). IsDurationAnswer asked behavior text answer) strict two in
+    let lax_is = duration_answer-only order.Lax behavior text _ lax (made-lax behavior text items is) one in
+    duration_answer-only order.Strict behavior text answer _ there (made-strict behavior text items is)
+    ∙ chosen is.negative in_order (with_items items (no_sums order.Lax))
+    ∙ ap (λ (lax : Answer). if in_order then lax else Err fault.DurationUnitOrder) lax_is
+
+-- a clock and days are not asked for an order
+other-form : (A B C : Type 0) (iso : Bool) → iso ≡ false → MatchBool iso A C → MatchBool iso B C
+other-form A B C true other there = absurd (false≢true (sym other))
+other-form A B C false other there = there
+
+pub answer-no_iso : (asked : IsoOrder) (behavior : MicrosecondsPrecisionOverflowBehavior) (text : List ℕ) (answer : Answer) → is_iso text ≡ false
+    → IsDurationAnswer asked behavior text answer → IsDurationAnswer order.Lax behavior text answer
+answer-no_iso asked behavior text answer other there =
+    let form = form_answer behavior (not (has_minus text)) (drop (sign_length text) text) in
+    (there.0, other-form _ _ (there.0 ≡ form) (is_iso text) other there.1, there.2)
