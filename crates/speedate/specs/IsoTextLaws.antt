@@ -12,6 +12,8 @@ use Rattle.std.proofs.lemmas.Grind.{flat_map-append}
 use Rattle.std.proofs.lemmas.List.{append-nil}
 use Rattle.std.proofs.lemmas.Str.Parse.{IsDigitsTest, IsNumeralModel, numerals_by_weight}
 use Rattle.std.proofs.Math.Nat.{pow-succ', div-eq_of_lt}
+use Rattle.speedate_base.specs.declared.config.IsoOrder.{IsoOrder}
+use Rattle.speedate_base.specs.declared.config.IsoOrder.TheVariants as order
 use Rattle.speedate_base.specs.declared.config.MicrosecondsPrecisionOverflowBehavior.{MicrosecondsPrecisionOverflowBehavior}
 use Rattle.speedate_base.specs.declared.config.MicrosecondsPrecisionOverflowBehavior.TheVariants as behavior
 use Rattle.speedate_base.specs.declared.faults.ParseError.{ParseError}
@@ -29,7 +31,7 @@ use Rattle.speedate.specs.DurationLaws.{normal_form-same}
 use Rattle.speedate.specs.DurationNumbers.{DurationNumbers, IsDuration}
 use Rattle.speedate.specs.DurationText.{counted_text, kept_digit, without_last_zeros, short_fraction_text, hours_text, days_text, start_text, rest_text, is_whole_days, duration_text}
 use Rattle.speedate.specs.IsoFormLaws.{duration_answer-only}
-use Rattle.speedate.specs.IsoForm.{DurationUnit, unit, units, unit_in, Quantity, Item, Mark, Amount, item_text, IsFraction, Sums, no_sums, unit_seconds, fraction_seconds, fraction_microseconds, with_quantity, with_item, with_items, AreGood, Ends, sums_numbers, IsIsoAnswer}
+use Rattle.speedate.specs.IsoForm.{DurationUnit, unit, units, unit_in, Quantity, Item, Mark, Amount, item_text, IsFraction, Sums, no_limit, no_sums, next_limit, is_smaller, unit_seconds, fraction_seconds, fraction_microseconds, with_quantity, with_item, with_items, AreGood, Ends, sums_numbers, IsIsoAnswer}
 
 -- a number without leading zeros is digits that spell it
 abbrev AreDigits : List ℕ → Type 0
@@ -128,12 +130,15 @@ leads-append before between after text more first second = (
 )
 
 -- sums with no fraction so far
-abbrev whole_sums : Bool → Bool → ℕ → ℕ → Sums
-whole_sums mark some day second = record { mark = mark; fraction = false; some = some; day = day; second = second; microsecond = 0 }
+abbrev whole_sums : IsoOrder → ℕ → Bool → Bool → ℕ → ℕ → Sums
+whole_sums order limit mark some day second =
+    record { order = order; limit = limit; mark = mark; fraction = false; some = some; day = day; second = second; microsecond = 0 }
 
 -- sums whose last item is printed seconds
-abbrev clock_sums : Bool → ℕ → ℕ → ℕ → Sums
-clock_sums some day second microsecond = record {
+abbrev clock_sums : IsoOrder → ℕ → Bool → ℕ → ℕ → ℕ → Sums
+clock_sums order limit some day second microsecond = record {
+  order = order;
+  limit = limit;
   mark = true;
   fraction = nat_lt 0 (length (short_fraction_text microsecond));
   some = some;
@@ -142,9 +147,21 @@ clock_sums some day second microsecond = record {
   microsecond = microsecond;
 }
 
--- so many of a unit of one side bring days and seconds to others, all of which fit
-record Adds (unit : DurationUnit) (mark : Bool) (number day second days seconds : ℕ) : Type 0 where
+-- what the next unit has to be smaller than behind so many of a unit, of which nothing is printed for none
+abbrev counted_limit : IsoOrder → DurationUnit → Bool → ℕ → ℕ
+counted_limit order unit none limit = if none then limit else next_limit order unit
+
+-- a smaller unit can follow, whatever the order
+still-smaller : (order : IsoOrder) (unit : DurationUnit) (none : Bool) (limit small : ℕ) → small < no_limit → small < unit_seconds unit → small < limit
+    → small < counted_limit order unit none limit
+still-smaller order unit true limit small never less under = under
+still-smaller order.Lax unit false limit small never less under = never
+still-smaller order.Strict unit false limit small never less under = less
+
+-- so many of a unit of one side, which may come next, bring days and seconds to others, all of which fit
+record Adds (unit : DurationUnit) (limit : ℕ) (mark : Bool) (number day second days seconds : ℕ) : Type 0 where
   found : unit_in (units mark) unit.letter ≡ Some unit
+  smaller : unit_seconds unit < limit
   day_sum : day + number * unit.day ≡ days
   second_sum : second + number * unit.second ≡ seconds
   few : number ≤ 4294967295
@@ -160,12 +177,21 @@ no-fraction : (unit : DurationUnit) → IsMicroseconds unit [] 0
 no-fraction unit = (tt, no-seconds unit, no-microseconds unit)
 
 -- a number, its fraction and its unit lead to the sums with so many of the unit
-amount-leads : (unit : DurationUnit) (mark some : Bool) (number day second days seconds microsecond : ℕ) (fraction : List ℕ)
-    → Adds unit mark number day second days seconds → IsMicroseconds unit fraction microsecond
-    → Leads (whole_sums mark some day second) (decimal number ++ fraction ++ unit.letter ∷ [])
-    (record { mark = mark; fraction = nat_lt 0 (length fraction); some = true; day = days; second = seconds; microsecond = microsecond })
-amount-leads unit mark some number day second days seconds microsecond fraction adds means =
-    let sums = whole_sums mark some day second in
+amount-leads : (order : IsoOrder) (limit : ℕ) (unit : DurationUnit) (mark some : Bool) (number day second days seconds microsecond : ℕ) (fraction : List ℕ)
+    → Adds unit limit mark number day second days seconds → IsMicroseconds unit fraction microsecond
+    → Leads (whole_sums order limit mark some day second) (decimal number ++ fraction ++ unit.letter ∷ [])
+    (record {
+      order = order;
+      limit = next_limit order unit;
+      mark = mark;
+      fraction = nat_lt 0 (length fraction);
+      some = true;
+      day = days;
+      second = seconds;
+      microsecond = microsecond;
+    })
+amount-leads order limit unit mark some number day second days seconds microsecond fraction adds means =
+    let sums = whole_sums order limit mark some day second in
     let quantity : Quantity = record { number = decimal number; fraction = fraction; letter = unit.letter } in
     let small : number < 2 ^ 64 = omega (arith, adds.few) in
     let spelled = digits_value-decimal digits_model number small in
@@ -176,56 +202,82 @@ amount-leads unit mark some number day second days seconds microsecond fraction 
     rw (spelled, means.1, adds.second_sum) (omega arith) in
     let microsecond_is : 0 + fraction_microseconds unit (drop 1 fraction) ≡ microsecond = omega (arith, means.2) in
     let sum = ap (λ one. with_quantity one quantity sums) adds.found
-    ∙ (λ i. record { mark = mark; fraction = nat_lt 0 (length fraction); some = true; day = day_is i; second = second_is i; microsecond = microsecond_is i }) in
+    ∙ (λ i. record {
+      order = order;
+      limit = next_limit order unit;
+      mark = mark;
+      fraction = nat_lt 0 (length fraction);
+      some = true;
+      day = day_is i;
+      second = second_is i;
+      microsecond = microsecond_is i;
+    }) in
     let sum_fits = ap (λ (sums : Sums). nat_le sums.day 4294967295 && nat_le sums.second 4294967295) sum
     ∙ and_from _ _ (le-leb days 4294967295 adds.few_days) (le-leb seconds 4294967295 adds.few_seconds) in
+    let smaller = ap (is_smaller limit) adds.found ∙ lt-ltb (unit_seconds unit) limit adds.smaller in
     let some_digits = lt-ltb 0 (length (decimal number)) (decimal_nonempty number small) in (
       Amount quantity ∷ [],
       append-nil (item_text (Amount quantity)),
       (
         (digits_decimal digits_model number small, means.0),
-        (some_digits, (le-leb _ 4294967295 fits, (refl, (ap is_some adds.found, (sum_fits, tt))))),
+        (some_digits, (le-leb _ 4294967295 fits, (refl, (ap is_some adds.found, (smaller, (sum_fits, tt)))))),
         tt,
       ),
       sum,
     )
 
 -- so do a number and its unit
-whole-leads : (unit : DurationUnit) (mark some : Bool) (number day second days seconds : ℕ) → Adds unit mark number day second days seconds
-    → Leads (whole_sums mark some day second) (decimal number ++ unit.letter ∷ []) (whole_sums mark true days seconds)
-whole-leads unit mark some number day second days seconds adds =
-    subst (λ (digits : List ℕ). Leads (whole_sums mark some day second) (digits ++ unit.letter ∷ []) (whole_sums mark true days seconds))
-    (append-nil (decimal number))
-    (amount-leads unit mark some number day second days seconds 0 [] adds (no-fraction unit))
+whole-leads : (order : IsoOrder) (limit : ℕ) (unit : DurationUnit) (mark some : Bool) (number day second days seconds : ℕ)
+    → Adds unit limit mark number day second days seconds
+    → Leads (whole_sums order limit mark some day second) (decimal number ++ unit.letter ∷ [])
+    (whole_sums order (next_limit order unit) mark true days seconds)
+whole-leads order limit unit mark some number day second days seconds adds =
+    let after = whole_sums order (next_limit order unit) mark true days seconds in
+    subst (λ (digits : List ℕ). Leads (whole_sums order limit mark some day second) (digits ++ unit.letter ∷ []) after) (append-nil (decimal number))
+    (amount-leads order limit unit mark some number day second days seconds 0 [] adds (no-fraction unit))
 
 -- and where there is nothing for none
-counted-of : (unit : DurationUnit) (mark some none : Bool) (number day second days seconds : ℕ)
-    → (number == 0) ≡ none → Adds unit mark number day second days seconds
-    → Leads (whole_sums mark some day second) (if none then [] else decimal number ++ unit.letter ∷ [])
-    (whole_sums mark (if none then some else true) days seconds)
-counted-of unit mark some true number day second days seconds none adds =
+counted-of : (order : IsoOrder) (limit : ℕ) (unit : DurationUnit) (mark some none : Bool) (number day second days seconds : ℕ)
+    → (number == 0) ≡ none → Adds unit limit mark number day second days seconds
+    → Leads (whole_sums order limit mark some day second) (if none then [] else decimal number ++ unit.letter ∷ [])
+    (whole_sums order (counted_limit order unit none limit) mark (if none then some else true) days seconds)
+counted-of order limit unit mark some true number day second days seconds none adds =
     let zero_is = eqb-true number 0 none in
     let day_is : day ≡ days = grind (arith, zero_is, adds.day_sum) in
     let second_is : second ≡ seconds = grind (arith, zero_is, adds.second_sum) in
-    ([], refl, tt, λ i. whole_sums mark some (day_is i) (second_is i))
-counted-of unit mark some false number day second days seconds other adds = whole-leads unit mark some number day second days seconds adds
+    ([], refl, tt, λ i. whole_sums order limit mark some (day_is i) (second_is i))
+counted-of order limit unit mark some false number day second days seconds other adds =
+    whole-leads order limit unit mark some number day second days seconds adds
 
-counted-leads : (unit : DurationUnit) (mark some : Bool) (number day second days seconds : ℕ) → Adds unit mark number day second days seconds
-    → Leads (whole_sums mark some day second) (counted_text number unit.letter) (whole_sums mark (if number == 0 then some else true) days seconds)
-counted-leads unit mark some number day second days seconds = counted-of unit mark some (number == 0) number day second days seconds refl
+counted-leads : (order : IsoOrder) (limit : ℕ) (unit : DurationUnit) (mark some : Bool) (number day second days seconds : ℕ)
+    → Adds unit limit mark number day second days seconds
+    → Leads (whole_sums order limit mark some day second) (counted_text number unit.letter)
+    (whole_sums order (counted_limit order unit (number == 0) limit) mark (if number == 0 then some else true) days seconds)
+counted-leads order limit unit mark some number day second days seconds =
+    counted-of order limit unit mark some (number == 0) number day second days seconds refl
 
 -- a `T` leads to the other side
-mark-leads : (some : Bool) (day second : ℕ) → Leads (whole_sums false some day second) (capital_t ∷ []) (whole_sums true some day second)
-mark-leads some day second = (Mark ∷ [], refl, (tt, (refl, tt), tt), refl)
+mark-leads : (order : IsoOrder) (limit : ℕ) (some : Bool) (day second : ℕ)
+    → Leads (whole_sums order limit false some day second) (capital_t ∷ []) (whole_sums order no_limit true some day second)
+mark-leads order limit some day second = (Mark ∷ [], refl, (tt, (refl, tt), tt), refl)
 
 -- no seconds at all
-zero-leads : (some : Bool) (day : ℕ) → day ≤ 4294967295 → Leads (whole_sums false some day 0) (codes "T0S") (whole_sums true true day 0)
-zero-leads some day few =
-    let adds : Adds (unit capital_s 0 1) true 0 day 0 day 0 =
-    record { found = refl; day_sum = omega arith; second_sum = refl; few = omega arith; few_days = few; few_seconds = omega arith } in
-    subst (λ (digits : List ℕ). Leads (whole_sums false some day 0) (capital_t ∷ digits ++ capital_s ∷ []) (whole_sums true true day 0))
-    (decimal_digit 0 (lit< tt))
-    (leads-append _ _ _ (capital_t ∷ []) _ (mark-leads some day 0) (whole-leads (unit capital_s 0 1) true some 0 day 0 day 0 adds))
+zero-leads : (order : IsoOrder) (limit : ℕ) (some : Bool) (day : ℕ) → day ≤ 4294967295
+    → Leads (whole_sums order limit false some day 0) (codes "T0S") (whole_sums order (next_limit order (unit capital_s 0 1)) true true day 0)
+zero-leads order limit some day few =
+    let after = whole_sums order (next_limit order (unit capital_s 0 1)) true true day 0 in
+    let adds : Adds (unit capital_s 0 1) no_limit true 0 day 0 day 0 = record {
+      found = refl;
+      smaller = lit< tt;
+      day_sum = omega arith;
+      second_sum = refl;
+      few = omega arith;
+      few_days = few;
+      few_seconds = omega arith;
+    } in
+    subst (λ (digits : List ℕ). Leads (whole_sums order limit false some day 0) (capital_t ∷ digits ++ capital_s ∷ []) after) (decimal_digit 0 (lit< tt))
+    (leads-append _ _ _ (capital_t ∷ []) _ (mark-leads order limit some day 0)
+    (whole-leads order no_limit (unit capital_s 0 1) true some 0 day 0 day 0 adds))
 
 -- the printed fraction of a second is its microseconds
 fraction-of : (microsecond : ℕ) (none : Bool) → (microsecond == 0) ≡ none → microsecond < 1000000
@@ -240,71 +292,131 @@ fraction-of microsecond false other small =
     ((refl, all), second-seconds digits all, second-microseconds digits microsecond all worth)
 
 -- seconds with their fraction lead to what they add up to
-seconds-of : (some none : Bool) (number microsecond day second seconds : ℕ) → ((number == 0) && (microsecond == 0)) ≡ none
-    → microsecond < 1000000 → Adds (unit capital_s 0 1) true number day second day seconds
-    → Leads (whole_sums true some day second) (if none then [] else decimal number ++ short_fraction_text microsecond ++ capital_s ∷ [])
-    (clock_sums (if none then some else true) day seconds microsecond)
-seconds-of some true number microsecond day second seconds none small adds =
+seconds-of : (order : IsoOrder) (limit : ℕ) (some none : Bool) (number microsecond day second seconds : ℕ) → ((number == 0) && (microsecond == 0)) ≡ none
+    → microsecond < 1000000 → Adds (unit capital_s 0 1) limit true number day second day seconds
+    → Leads (whole_sums order limit true some day second) (if none then [] else decimal number ++ short_fraction_text microsecond ++ capital_s ∷ [])
+    (clock_sums order (counted_limit order (unit capital_s 0 1) none limit) (if none then some else true) day seconds microsecond)
+seconds-of order limit some true number microsecond day second seconds none small adds =
     let tests = and_parts (number == 0) (microsecond == 0) none in
     let second_is : second ≡ seconds = omega (arith, eqb-true number 0 tests.0, adds.second_sum) in
     let microsecond_is = sym (eqb-true microsecond 0 tests.1) in
-    ([], refl, tt, λ i. clock_sums some day (second_is i) (microsecond_is i))
-seconds-of some false number microsecond day second seconds other small adds =
-    amount-leads (unit capital_s 0 1) true some number day second day seconds microsecond (short_fraction_text microsecond) adds
+    ([], refl, tt, λ i. clock_sums order limit some day (second_is i) (microsecond_is i))
+seconds-of order limit some false number microsecond day second seconds other small adds =
+    amount-leads order limit (unit capital_s 0 1) true some number day second day seconds microsecond (short_fraction_text microsecond) adds
     (fraction-of microsecond (microsecond == 0) refl small)
 
 -- there are years or days exactly if there are days
 days-some : (day : ℕ) → (if day % 365 == 0 then (if day / 365 == 0 then false else true) else true) ≡ not (day == 0)
 days-some day = grind (arith, nat_tests)
 
+-- what comes behind years, and behind years and days, has to be smaller than this
+abbrev years_limit : IsoOrder → ℕ → ℕ
+years_limit order day = counted_limit order (unit capital_y 365 0) (day / 365 == 0) no_limit
+
+abbrev days_limit : IsoOrder → ℕ → ℕ
+days_limit order day = counted_limit order (unit capital_d 1 0) (day % 365 == 0) (years_limit order day)
+
 -- years and days lead to the days
-days-leads : (day : ℕ) → day ≤ 999999999
-    → Leads no_sums (counted_text (day / 365) capital_y ++ counted_text (day % 365) capital_d) (whole_sums false (not (day == 0)) day 0)
-days-leads day few =
+days-leads : (order : IsoOrder) (day : ℕ) → day ≤ 999999999
+    → Leads (no_sums order) (counted_text (day / 365) capital_y ++ counted_text (day % 365) capital_d)
+    (whole_sums order (days_limit order day) false (not (day == 0)) day 0)
+days-leads order day few =
     let text = counted_text (day / 365) capital_y ++ counted_text (day % 365) capital_d in
     let years = day / 365 * 365 in
     let few_years : day / 365 ≤ 4294967295 = omega (arith, few) in
-    let years_add : Adds (unit capital_y 365 0) false (day / 365) 0 0 years 0 =
-    record { found = refl; day_sum = omega arith; second_sum = omega arith; few = few_years; few_days = omega (arith, few); few_seconds = omega arith } in
-    let days_add : Adds (unit capital_d 1 0) false (day % 365) years 0 day 0 =
-    record { found = refl; day_sum = omega arith; second_sum = omega arith; few = omega arith; few_days = omega (arith, few); few_seconds = omega arith } in
-    subst (λ (some : Bool). Leads no_sums text (whole_sums false some day 0)) (days-some day)
-    (leads-append no_sums _ _ _ _
-    (counted-leads (unit capital_y 365 0) false false (day / 365) 0 0 years 0 years_add)
-    (counted-leads (unit capital_d 1 0) false _ (day % 365) years 0 day 0 days_add))
+    let years_add : Adds (unit capital_y 365 0) no_limit false (day / 365) 0 0 years 0 = record {
+      found = refl;
+      smaller = lit< tt;
+      day_sum = omega arith;
+      second_sum = omega arith;
+      few = few_years;
+      few_days = omega (arith, few);
+      few_seconds = omega arith;
+    } in
+    let days_add : Adds (unit capital_d 1 0) (years_limit order day) false (day % 365) years 0 day 0 = record {
+      found = refl;
+      smaller = still-smaller order (unit capital_y 365 0) (day / 365 == 0) no_limit 86400 (lit< tt) (lit< tt) (lit< tt);
+      day_sum = omega arith;
+      second_sum = omega arith;
+      few = omega arith;
+      few_days = omega (arith, few);
+      few_seconds = omega arith;
+    } in
+    subst (λ (some : Bool). Leads (no_sums order) text (whole_sums order (days_limit order day) false some day 0)) (days-some day)
+    (leads-append (no_sums order) _ _ _ _
+    (counted-leads order no_limit (unit capital_y 365 0) false false (day / 365) 0 0 years 0 years_add)
+    (counted-leads order (years_limit order day) (unit capital_d 1 0) false _ (day % 365) years 0 day 0 days_add))
 
 -- there are hours, minutes or seconds where there is something behind the days
 hours-some : (second microsecond : ℕ) (some : Bool) → ((second == 0) && (microsecond == 0)) ≡ false
     → (if (second % 60 == 0) && (microsecond == 0) then (if second / 60 % 60 == 0 then (if second / 3600 == 0 then some else true) else true) else true) ≡ true
 hours-some second microsecond some other = grind (arith, nat_tests)
 
+-- what comes behind hours, behind minutes, and behind seconds has to be smaller than this
+abbrev hours_limit : IsoOrder → ℕ → ℕ
+hours_limit order second = counted_limit order (unit capital_h 0 3600) (second / 3600 == 0) no_limit
+
+abbrev minutes_limit : IsoOrder → ℕ → ℕ
+minutes_limit order second = counted_limit order (unit capital_m 0 60) (second / 60 % 60 == 0) (hours_limit order second)
+
+abbrev seconds_limit : IsoOrder → ℕ → ℕ → ℕ
+seconds_limit order second microsecond =
+    counted_limit order (unit capital_s 0 1) ((second % 60 == 0) && (microsecond == 0)) (minutes_limit order second)
+
 -- hours, minutes and seconds lead to the seconds and microseconds
-hours-leads : (numbers : DurationNumbers) (some : Bool) → IsDuration numbers → is_whole_days numbers ≡ false
-    → Leads (whole_sums true some numbers.day 0) (hours_text numbers) (clock_sums true numbers.day numbers.second numbers.microsecond)
-hours-leads numbers some valid other =
+hours-leads : (order : IsoOrder) (numbers : DurationNumbers) (some : Bool) → IsDuration numbers → is_whole_days numbers ≡ false
+    → Leads (whole_sums order no_limit true some numbers.day 0) (hours_text numbers)
+    (clock_sums order (seconds_limit order numbers.second numbers.microsecond) true numbers.day numbers.second numbers.microsecond)
+hours-leads order numbers some valid other =
     let day = numbers.day in
     let hours = numbers.second / 3600 * 3600 in
     let minutes = hours + numbers.second / 60 % 60 * 60 in
     let few : day ≤ 4294967295 = omega (arith, valid.day) in
     let few_hours : numbers.second / 3600 ≤ 4294967295 = omega (arith, valid.second) in
-    let hours_add : Adds (unit capital_h 0 3600) true (numbers.second / 3600) day 0 day hours =
-    record { found = refl; day_sum = omega arith; second_sum = omega arith; few = few_hours; few_days = few; few_seconds = omega (arith, valid.second) } in
-    let minutes_add : Adds (unit capital_m 0 60) true (numbers.second / 60 % 60) day hours day minutes =
-    record { found = refl; day_sum = omega arith; second_sum = omega arith; few = omega arith; few_days = few; few_seconds = omega (arith, valid.second) } in
-    let seconds_add : Adds (unit capital_s 0 1) true (numbers.second % 60) day minutes day numbers.second =
-    record { found = refl; day_sum = omega arith; second_sum = omega arith; few = omega arith; few_days = few; few_seconds = omega (arith, valid.second) } in
-    subst (λ (last : Bool). Leads (whole_sums true some day 0) (hours_text numbers) (clock_sums last day numbers.second numbers.microsecond))
+    let under_hours = hours_limit order numbers.second in
+    let under_minutes = minutes_limit order numbers.second in
+    let behind_hours = λ (small : ℕ). still-smaller order (unit capital_h 0 3600) (numbers.second / 3600 == 0) no_limit small in
+    let hours_add : Adds (unit capital_h 0 3600) no_limit true (numbers.second / 3600) day 0 day hours = record {
+      found = refl;
+      smaller = lit< tt;
+      day_sum = omega arith;
+      second_sum = omega arith;
+      few = few_hours;
+      few_days = few;
+      few_seconds = omega (arith, valid.second);
+    } in
+    let minutes_add : Adds (unit capital_m 0 60) under_hours true (numbers.second / 60 % 60) day hours day minutes = record {
+      found = refl;
+      smaller = behind_hours 60 (lit< tt) (lit< tt) (lit< tt);
+      day_sum = omega arith;
+      second_sum = omega arith;
+      few = omega arith;
+      few_days = few;
+      few_seconds = omega (arith, valid.second);
+    } in
+    let seconds_add : Adds (unit capital_s 0 1) under_minutes true (numbers.second % 60) day minutes day numbers.second = record {
+      found = refl;
+      smaller = still-smaller order (unit capital_m 0 60) (numbers.second / 60 % 60 == 0) under_hours 1 (lit< tt) (lit< tt)
+      (behind_hours 1 (lit< tt) (lit< tt) (lit< tt));
+      day_sum = omega arith;
+      second_sum = omega arith;
+      few = omega arith;
+      few_days = few;
+      few_seconds = omega (arith, valid.second);
+    } in
+    let after = λ (last : Bool). clock_sums order (seconds_limit order numbers.second numbers.microsecond) last day numbers.second numbers.microsecond in
+    subst (λ (last : Bool). Leads (whole_sums order no_limit true some day 0) (hours_text numbers) (after last))
     (hours-some numbers.second numbers.microsecond some other)
     (leads-append _ _ _ _ _
     (leads-append _ _ _ _ _
-    (counted-leads (unit capital_h 0 3600) true some (numbers.second / 3600) day 0 day hours hours_add)
-    (counted-leads (unit capital_m 0 60) true _ (numbers.second / 60 % 60) day hours day minutes minutes_add))
-    (seconds-of _ _ (numbers.second % 60) numbers.microsecond day minutes numbers.second refl valid.microsecond seconds_add))
+    (counted-leads order no_limit (unit capital_h 0 3600) true some (numbers.second / 3600) day 0 day hours hours_add)
+    (counted-leads order under_hours (unit capital_m 0 60) true _ (numbers.second / 60 % 60) day hours day minutes minutes_add))
+    (seconds-of order under_minutes _ _ (numbers.second % 60) numbers.microsecond day minutes numbers.second refl valid.microsecond seconds_add))
 
 -- a text that leads from no sums to those of a duration is answered by it
-leads-answer : (numbers : DurationNumbers) (text : List ℕ) (after : Sums) → Leads no_sums text after → after.some ≡ true
-    → sums_numbers numbers.positive after ≡ numbers → IsIsoAnswer numbers.positive text (Ok numbers)
-leads-answer numbers text after leads some same = (
+leads-answer : (order : IsoOrder) (numbers : DurationNumbers) (text : List ℕ) (after : Sums) → Leads (no_sums order) text after → after.some ≡ true
+    → sums_numbers numbers.positive after ≡ numbers → IsIsoAnswer order numbers.positive text (Ok numbers)
+leads-answer order numbers text after leads some same = (
   leads.0,
   [],
   sym (append-nil (flat_map item_text leads.0) ∙ leads.1),
@@ -313,51 +425,55 @@ leads-answer numbers text after leads some same = (
 )
 
 -- the sums of whole days
-whole-numbers : (numbers : DurationNumbers) → is_whole_days numbers ≡ true
-    → sums_numbers numbers.positive (whole_sums true true numbers.day 0) ≡ numbers
-whole-numbers numbers whole =
+whole-numbers : (order : IsoOrder) (numbers : DurationNumbers) → is_whole_days numbers ≡ true
+    → sums_numbers numbers.positive (whole_sums order no_limit true true numbers.day 0) ≡ numbers
+whole-numbers order numbers whole =
     let tests = and_parts (numbers.second == 0) (numbers.microsecond == 0) whole in
     let second_is = sym (eqb-true numbers.second 0 tests.0) in
     let microsecond_is = sym (eqb-true numbers.microsecond 0 tests.1) in
     λ i. record { positive = numbers.positive; day = numbers.day; second = second_is i; microsecond = microsecond_is i }
 
 -- what is printed behind the `P` is answered by the duration
-rest-answer : (numbers : DurationNumbers) (whole none : Bool) → IsDuration numbers → is_whole_days numbers ≡ whole → (numbers.day == 0) ≡ none
-    → IsIsoAnswer numbers.positive (days_text numbers ++ (if whole then (if none then codes "T0S" else []) else capital_t ∷ hours_text numbers)) (Ok numbers)
-rest-answer numbers true true valid whole none =
-    leads-answer numbers _ _
-    (leads-append no_sums _ _ _ _ (days-leads numbers.day valid.day) (zero-leads _ numbers.day (omega (arith, valid.day))))
-    refl (whole-numbers numbers whole)
-rest-answer numbers true false valid whole some =
-    leads-answer numbers _ _
-    (leads-append no_sums _ _ _ _ (days-leads numbers.day valid.day) ([], refl, tt, refl))
-    (ap not some) (whole-numbers numbers whole)
-rest-answer numbers false none valid other is =
-    leads-answer numbers _ _
-    (leads-append no_sums _ _ _ _ (days-leads numbers.day valid.day)
-    (leads-append _ _ _ (capital_t ∷ []) _ (mark-leads _ numbers.day 0) (hours-leads numbers _ valid other)))
+rest-answer : (order : IsoOrder) (numbers : DurationNumbers) (whole none : Bool) → IsDuration numbers → is_whole_days numbers ≡ whole
+    → (numbers.day == 0) ≡ none
+    → IsIsoAnswer order numbers.positive (days_text numbers ++ (if whole then (if none then codes "T0S" else []) else capital_t ∷ hours_text numbers)) (Ok numbers)
+rest-answer order numbers true true valid whole none =
+    leads-answer order numbers _ _
+    (leads-append (no_sums order) _ _ _ _ (days-leads order numbers.day valid.day)
+    (zero-leads order (days_limit order numbers.day) _ numbers.day (omega (arith, valid.day))))
+    refl (whole-numbers order numbers whole)
+rest-answer order numbers true false valid whole some =
+    leads-answer order numbers _ _
+    (leads-append (no_sums order) _ _ _ _ (days-leads order numbers.day valid.day) ([], refl, tt, refl))
+    (ap not some) (whole-numbers order numbers whole)
+rest-answer order numbers false none valid other is =
+    leads-answer order numbers _ _
+    (leads-append (no_sums order) _ _ _ _ (days-leads order numbers.day valid.day)
+    (leads-append _ _ _ (capital_t ∷ []) _ (mark-leads order (days_limit order numbers.day) _ numbers.day 0) (hours-leads order numbers _ valid other)))
     refl refl
 
 -- a `P` with a sign or without one stands for what is behind it
-start-answer : (behavior : MicrosecondsPrecisionOverflowBehavior) (positive : Bool) (text : List ℕ) (answer : Result DurationNumbers ParseError)
-    → IsIsoAnswer positive text answer
-    → let printed = start_text positive ++ text in IsFormAnswer behavior (not (has_minus printed)) (drop (sign_length printed) printed) answer
-start-answer behavior true text answer is = is
-start-answer behavior false text answer is = is
+start-answer : (order : IsoOrder) (behavior : MicrosecondsPrecisionOverflowBehavior) (positive : Bool) (text : List ℕ)
+    (answer : Result DurationNumbers ParseError) → IsIsoAnswer order positive text answer
+    → let printed = start_text positive ++ text in IsFormAnswer order behavior (not (has_minus printed)) (drop (sign_length printed) printed) answer
+start-answer order behavior true text answer is = is
+start-answer order behavior false text answer is = is
 
--- the printed text of a duration is answered by it
-pub duration_text-reads : (behavior : MicrosecondsPrecisionOverflowBehavior) (numbers : DurationNumbers) → IsDuration numbers
-    → IsDurationAnswer behavior (duration_text numbers) (Ok numbers)
-duration_text-reads behavior numbers valid =
-    let reads = rest-answer numbers (is_whole_days numbers) (numbers.day == 0) valid refl refl in
-    subst (λ (printed : List ℕ). IsDurationAnswer behavior printed (Ok numbers))
+-- the printed text of a duration is answered by it, also where the order of the standard is asked for
+pub duration_text-reads : (order : IsoOrder) (behavior : MicrosecondsPrecisionOverflowBehavior) (numbers : DurationNumbers) → IsDuration numbers
+    → IsDurationAnswer order behavior (duration_text numbers) (Ok numbers)
+duration_text-reads order behavior numbers valid =
+    let reads = rest-answer order numbers (is_whole_days numbers) (numbers.day == 0) valid refl refl in
+    let text = days_text numbers ++ rest_text numbers in
+    subst (λ (printed : List ℕ). IsDurationAnswer order behavior printed (Ok numbers))
     (sym (append_assoc (start_text numbers.positive) (days_text numbers) (rest_text numbers)))
-    (Ok numbers, start-answer behavior numbers.positive (days_text numbers ++ rest_text numbers) (Ok numbers) reads, sym (normal_form-same numbers valid))
+    (Ok numbers, start-answer order behavior numbers.positive text (Ok numbers) reads, sym (normal_form-same numbers valid))
 
 -- so two durations with one text are one duration
 pub duration_text-distinct : (first second : DurationNumbers) → IsDuration first → IsDuration second → duration_text first ≡ duration_text second → first ≡ second
 duration_text-distinct first second one two same =
-    let reads = duration_text-reads behavior.Error first one in
-    let other = subst (λ (text : List ℕ). IsDurationAnswer behavior.Error text (Ok second)) (sym same) (duration_text-reads behavior.Error second two) in
-    let joined = duration_answer-only behavior.Error (duration_text first) (Ok first) (Ok second) reads other in
+    let reads = duration_text-reads order.Lax behavior.Error first one in
+    let other = subst (λ (text : List ℕ). IsDurationAnswer order.Lax behavior.Error text (Ok second)) (sym same)
+    (duration_text-reads order.Lax behavior.Error second two) in
+    let joined = duration_answer-only order.Lax behavior.Error (duration_text first) (Ok first) (Ok second) reads other in
     cc

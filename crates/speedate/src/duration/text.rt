@@ -139,9 +139,9 @@ impl Duration {
     #[inline]
     pub fn to_text(&self) -> ArrayString<TEXT_MAX>
         ensures text { result.bytes ≡ duration_text (parts self.now) }
-        ensures reads_back { (config : TimeConfig) → IsDurationAnswer config.microseconds_precision_overflow_behavior result.bytes (Ok (parts self.now)) }
+        ensures reads_back { (config : TimeConfig) → IsDurationAnswer config.iso_order config.microseconds_precision_overflow_behavior result.bytes (Ok (parts self.now)) }
         ensures canonical { (config : TimeConfig) (answer : Result DurationNumbers ParseError)
-            → IsDurationAnswer config.microseconds_precision_overflow_behavior result.bytes answer
+            → IsDurationAnswer config.iso_order config.microseconds_precision_overflow_behavior result.bytes answer
             → result_map duration_text answer ≡ Ok result.bytes }
         ensures distinct { (other : Duration)
             → (result.bytes ≡ duration_text (parts other)) ↔ (parts self.now ≡ parts other) }

@@ -56,7 +56,8 @@ returns-clause-reads_back c config =
     let behavior = config.microseconds_precision_overflow_behavior in
     let bytes = c.ascii_text.ensures.bytes ∙ c.deref.ensures.0 ∙ joined _ _ _ _ _ _ _ _ _ _ c.new-bytes.ensures c.push.ensures.bytes c.start_text.ensures
     c.push_counted.ensures.text c.push_counted-2.ensures.text c.push_rest.ensures.text in
-    subst (λ (text : List ℕ). IsDurationAnswer behavior text (Ok (parts duration))) (sym bytes) (duration_text-reads behavior (parts duration) (is_duration duration))
+    subst (λ (text : List ℕ). IsDurationAnswer config.iso_order behavior text (Ok (parts duration))) (sym bytes)
+    (duration_text-reads config.iso_order behavior (parts duration) (is_duration duration))
 
 pub returns-clause-canonical : goal.returns-clause-canonical
 returns-clause-canonical c config answer is =
@@ -65,7 +66,7 @@ returns-clause-canonical c config answer is =
     let bytes = c.ascii_text.ensures.bytes ∙ c.deref.ensures.0 ∙ joined _ _ _ _ _ _ _ _ _ _ c.new-bytes.ensures c.push.ensures.bytes c.start_text.ensures
     c.push_counted.ensures.text c.push_counted-2.ensures.text c.push_rest.ensures.text in
     text-canonical duration_text (parts duration) _ answer bytes
-    (duration_answer-only behavior c.ascii_text.result.bytes answer (Ok (parts duration)) is (returns-clause-reads_back c config))
+    (duration_answer-only config.iso_order behavior c.ascii_text.result.bytes answer (Ok (parts duration)) is (returns-clause-reads_back c config))
 
 pub returns-clause-distinct : goal.returns-clause-distinct
 returns-clause-distinct c other =
