@@ -203,6 +203,11 @@ fn each_fault_has_its_name_and_its_text(rt: HostRuntime) -> Result<(), Fail> {
             "time_too_large",
             "numeric times may not exceed 86,399 seconds",
         ),
+        (
+            ParseError::DurationUnitOrder,
+            "duration_unit_order",
+            "quantities out of order or repeated in duration",
+        ),
     ];
     for (fault, name, documentation) in faults {
         assert_eq!(rt; fault.name(), name);
