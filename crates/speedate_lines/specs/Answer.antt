@@ -3,6 +3,7 @@ use Rattle.std.specs.Prelude.{ℕ, List, [], ◌∷◌, ◌++◌, length, take, 
 use Rattle.std.specs.List.{flat_map}
 use Rattle.speedate.specs.declared.ParseError.{ParseError}
 use Rattle.speedate.specs.Fault.{fault_name}
+use Rattle.speedate.specs.declared.IsoOrder.TheVariants as order
 use Rattle.speedate.specs.declared.MicrosecondsPrecisionOverflowBehavior.TheVariants as behavior
 use Rattle.speedate.specs.declared.TimestampUnit.TheVariants as unit
 use Rattle.speedate.specs.DateText.{date_text}
@@ -46,11 +47,17 @@ date_time_kind = record {
 }
 
 abbrev pub duration_kind : Kind
-duration_kind = record { word = codes "duration"; reply_to = λ text. reply duration_text (duration_answer behavior.Error text) }
+duration_kind = record { word = codes "duration"; reply_to = λ text. reply duration_text (duration_answer order.Lax behavior.Error text) }
+
+abbrev pub strict_duration_kind : Kind
+strict_duration_kind = record {
+  word = codes "duration-strict";
+  reply_to = λ text. reply duration_text (duration_answer order.Strict behavior.Error text);
+}
 
 -- all kinds
 abbrev pub kinds : List Kind
-kinds = date_kind ∷ time_kind ∷ date_time_kind ∷ duration_kind ∷ []
+kinds = date_kind ∷ time_kind ∷ date_time_kind ∷ duration_kind ∷ strict_duration_kind ∷ []
 
 -- what a line of a kind begins with: the kind's word and a space
 abbrev pub front : Kind → List ℕ

@@ -2,13 +2,15 @@
 
 ghost use Rattle.std.specs.Prelude.{◌≡◌, ◌+◌, ◌≤◌, length, [], ◌∷◌, ◌++◌};
 ghost use Rattle.arrayvec.specs.ArrayVec.{array_vec_len};
+ghost use Rattle.speedate.specs.declared.IsoOrder.TheVariants as order;
+ghost use Rattle.speedate.specs.declared.MicrosecondsPrecisionOverflowBehavior.TheVariants as behavior;
 ghost use Rattle.speedate.specs.Ascii.{line_feed};
 ghost use Rattle.speedate.specs.DateTime.{parts};
 ghost use Rattle.speedate.specs.DateTimeText.{date_time_text};
-ghost use Rattle.speedate_lines.specs.Answer.{line_answer, ok_answer, err_answer, date_kind, time_kind, date_time_kind, duration_kind};
+ghost use Rattle.speedate_lines.specs.Answer.{line_answer, ok_answer, err_answer, date_kind, time_kind, date_time_kind, duration_kind, strict_duration_kind};
 
 use arrayvec::ArrayVec;
-use speedate::{Date, DateTime, Duration, Time};
+use speedate::{Date, DateTime, Duration, IsoOrder, Time, TimeConfig};
 use speedate_civil::text::push;
 
 /// A longer line is answered without being looked at.
@@ -46,6 +48,8 @@ pub fn answer_line(line: &[u8], pending: &mut Pending)
         answer_date_time(text, pending)
     } else if let Some(text) = line.strip_prefix(b"duration ") {
         answer_duration(text, pending)
+    } else if let Some(text) = line.strip_prefix(b"duration-strict ") {
+        answer_strict_duration(text, pending)
     } else {
         refuse("unknown_kind", pending)
     }
@@ -101,6 +105,28 @@ fn answer_duration(text: &[u8], pending: &mut Pending)
         Ok(duration) => accept(&duration.to_text(), pending),
         Err(fault) => refuse(fault.name(), pending),
     }
+}
+
+/// Appends the answer to the text of a duration whose quantities have to come in order.
+#[inline]
+fn answer_strict_duration(text: &[u8], pending: &mut Pending)
+    requires { array_vec_len pending.old + ANSWER_MAX ≤ PENDING_MAX }
+    ensures answered { pending.new.items ≡ pending.old.items
+        ++ (strict_duration_kind.reply_to text.now ++ line_feed ∷ []) }
+{
+    match Duration::parse_bytes_with_config(text, &strict_config()) {
+        Ok(duration) => accept(&duration.to_text(), pending),
+        Err(fault) => refuse(fault.name(), pending),
+    }
+}
+
+/// The default configuration, but that quantities have to come in order.
+#[inline]
+fn strict_config() -> TimeConfig
+    ensures order { result.iso_order ≡ order.Strict }
+    ensures behavior { result.microseconds_precision_overflow_behavior ≡ behavior.Error }
+{
+    TimeConfig::builder().iso_order(IsoOrder::Strict).build()
 }
 
 /// Appends the answer to a text that was read as a date-time: the value's bytes go straight behind

@@ -1,6 +1,6 @@
 use Rattle.std.proofs.Common.{◌≡◌, ◌∙◌, ap, sym, ◌++◌, ◌∷◌, [], ℕ, List}
 use Rattle.speedate.specs.Ascii.{line_feed}
-use Rattle.speedate_lines.specs.Answer.{date_kind, time_kind, date_time_kind, duration_kind}
+use Rattle.speedate_lines.specs.Answer.{date_kind, time_kind, date_time_kind, duration_kind, strict_duration_kind}
 use Rattle.speedate_lines.proofs.AnswerLemmas.{line_answer-long, line_answer-short, answer_by_kind-first, answer_by_kind-others, answer_by_kind-none}
 use Rattle.speedate_lines.proofs.answer.answer_line.Goals as goal
 
@@ -50,13 +50,26 @@ returns-in-Some-strip_prefix-3 c =
     ∙ answer_by_kind-first duration_kind _ line _ duration.0 duration.1 in
     record { answered = appended _ _ _ _ c.answer_duration.ensures.answered same }
 
-pub returns-in_default-strip_prefix-3 : goal.returns-in_default-strip_prefix-3
-returns-in_default-strip_prefix-3 c =
+pub returns-in-Some-strip_prefix-4 : goal.returns-in-Some-strip_prefix-4
+returns-in-Some-strip_prefix-4 c =
+    let line = c.args.line.now in
+    let duration = c.in-Some-strip_prefix-4.ensures.cases in
+    let same = line_answer-short line c.if-line-gt-LINE_MAX.false
+    ∙ answer_by_kind-others date_kind _ line c.in_default.ensures.cases
+    ∙ answer_by_kind-others time_kind _ line c.in_default-strip_prefix.ensures.cases
+    ∙ answer_by_kind-others date_time_kind _ line c.in_default-strip_prefix-2.ensures.cases
+    ∙ answer_by_kind-others duration_kind _ line c.in_default-strip_prefix-3.ensures.cases
+    ∙ answer_by_kind-first strict_duration_kind _ line _ duration.0 duration.1 in
+    record { answered = appended _ _ _ _ c.answer_strict_duration.ensures.answered same }
+
+pub returns-in_default-strip_prefix-4 : goal.returns-in_default-strip_prefix-4
+returns-in_default-strip_prefix-4 c =
     let line = c.args.line.now in
     let same = line_answer-short line c.if-line-gt-LINE_MAX.false
     ∙ answer_by_kind-others date_kind _ line c.in_default.ensures.cases
     ∙ answer_by_kind-others time_kind _ line c.in_default-strip_prefix.ensures.cases
     ∙ answer_by_kind-others date_time_kind _ line c.in_default-strip_prefix-2.ensures.cases
     ∙ answer_by_kind-others duration_kind _ line c.in_default-strip_prefix-3.ensures.cases
+    ∙ answer_by_kind-others strict_duration_kind _ line c.in_default-strip_prefix-4.ensures.cases
     ∙ answer_by_kind-none line in
-    record { answered = appended _ _ _ _ c.refuse-in_default-strip_prefix-3.ensures.answered same }
+    record { answered = appended _ _ _ _ c.refuse-in_default-strip_prefix-4.ensures.answered same }
