@@ -1,6 +1,6 @@
 -- Quantities of an ISO 8601 duration that come in the order of the standard: years, months, weeks and days, and behind the `T`
 -- hours, minutes and seconds, each at most once (ISO 8601 5.5.2.2, of which weeks beside others are not a form).
-use Rattle.std.specs.Prelude.{◌≡◌, ◌⊎◌, ℕ, Bool, true, false, ◌&&◌, List, [], ◌∷◌, ◌++◌, drop, slice_index, ◌==◌, Option, Some, None, Result, Err}
+use Rattle.std.specs.Prelude.{◌≡◌, ◌⊎◌, ℕ, Bool, true, ◌&&◌, List, [], ◌∷◌, ◌++◌, drop, slice_index, ◌==◌, Option, Some, None, Result, Err}
 use Rattle.std.specs.List.{flat_map}
 use Rattle.speedate_base.specs.declared.config.IsoOrder.TheVariants as order
 use Rattle.speedate_base.specs.declared.faults.ParseError.{ParseError}
@@ -8,7 +8,7 @@ use Rattle.speedate_base.specs.declared.faults.ParseError.TheVariants as fault
 use Rattle.speedate_base.specs.Ascii.{capital_p}
 use Rattle.speedate_base.specs.Numbers.{sign_length, IsSign}
 use Rattle.speedate.specs.DurationNumbers.{DurationNumbers}
-use Rattle.speedate.specs.IsoForm.{DurationUnit, units, unit_in, unit_seconds, is_smaller, no_limit, Quantity, Item, Mark, Amount, item_text, no_sums, with_items, AreGood}
+use Rattle.speedate.specs.IsoForm.{DurationUnit, units, unit_in, unit_seconds, is_smaller, no_limit, Item, Mark, Amount, item_text, no_sums, with_items, AreGood}
 
 -- the seconds of a unit, which are the next one's limit
 abbrev pub seconds_of : Option DurationUnit → ℕ

@@ -1,5 +1,5 @@
 -- Where the order of the standard is asked for, a duration is what the lax order makes of it, or is refused for its order.
-use Rattle.std.specs.Prelude.{◌≡◌, ◌⊎◌, MatchBool, ℕ, zero, suc, ◌<◌, Bool, true, false, not, ◌&&◌, ◌||◌, List, [], ◌∷◌, ◌++◌, length, drop, slice_index, nat_lt, ◌==◌, if◌then◌else◌, Option, Some, None, Result, Ok, Err, refl}
+use Rattle.std.specs.Prelude.{◌≡◌, MatchBool, ℕ, zero, suc, ◌<◌, Bool, true, false, not, ◌&&◌, List, [], ◌∷◌, ◌++◌, length, drop, slice_index, nat_lt, ◌==◌, if◌then◌else◌, Option, Some, None, Result, Ok, Err, refl}
 use Rattle.std.specs.List.{flat_map}
 use Rattle.std.specs.Option.{is_some}
 use Rattle.std.proofs.Common.{arith, ap, sym, ◌∙◌, subst, inl, inr}
@@ -20,7 +20,7 @@ use Rattle.speedate.specs.DurationAnswer.{iso_answer, unsigned_answer, duration_
 use Rattle.speedate.specs.DurationAnswerLaws.{duration_answer-is}
 use Rattle.speedate.specs.ExchangedLaws.{with-sign}
 use Rattle.speedate.specs.InOrder.{IsLaxOrRefused, seconds_of, are_in_order, IsMadeOf, is_iso}
-use Rattle.speedate.specs.IsoForm.{DurationUnit, units, unit_in, Quantity, Item, Mark, Amount, item_text, IsItem, item_at, item_length, item_table, is_smaller, are_counted, unit_fault, Sums, no_limit, no_sums, with_quantity, with_item, with_items, AreGood, sums_numbers, IsAnswerFrom}
+use Rattle.speedate.specs.IsoForm.{DurationUnit, units, unit_in, Quantity, Item, Mark, Amount, item_text, IsItem, item_at, item_length, item_table, is_smaller, are_counted, Sums, no_limit, no_sums, with_quantity, with_item, with_items, AreGood, sums_numbers, IsAnswerFrom}
 use Rattle.speedate.specs.IsoFormLaws.{item_at-text, answer-with, duration_answer-only}
 use Rattle.speedate.specs.IsoFrontLaws.{answer-refused}
 

@@ -397,7 +397,7 @@ hours-leads order numbers some valid other =
     let seconds_add : Adds (unit capital_s 0 1) under_minutes true (numbers.second % 60) day minutes day numbers.second = record {
       found = refl;
       smaller = still-smaller order (unit capital_m 0 60) (numbers.second / 60 % 60 == 0) under_hours 1 (lit< tt) (lit< tt)
-      (behind_hours 1 (lit< tt) (lit< tt) (lit< tt));
+          (behind_hours 1 (lit< tt) (lit< tt) (lit< tt));
       day_sum = omega arith;
       second_sum = omega arith;
       few = omega arith;

@@ -1,7 +1,7 @@
 //! Configurations, their builders, and the names of units and behaviors.
 
 use speedate::{
-    ConfigError, DateConfig, DateConfigBuilder, DateTimeConfig, DateTimeConfigBuilder,
+    ConfigError, DateConfig, DateConfigBuilder, DateTimeConfig, DateTimeConfigBuilder, IsoOrder,
     MicrosecondsPrecisionOverflowBehavior, TimeConfig, TimeConfigBuilder, TimestampUnit,
 };
 
@@ -10,11 +10,13 @@ fn a_builder_gives_what_was_set_last(rt: HostRuntime) {
     let plain = TimeConfig {
         microseconds_precision_overflow_behavior: MicrosecondsPrecisionOverflowBehavior::Error,
         unix_timestamp_offset: None,
+        iso_order: IsoOrder::Lax,
     };
     assert!(rt;
         MicrosecondsPrecisionOverflowBehavior::default()
             == MicrosecondsPrecisionOverflowBehavior::Error
     );
+    assert!(rt; IsoOrder::default() == IsoOrder::Lax);
     assert!(rt; TimeConfig::default() == plain);
     assert!(rt; TimeConfig::builder().build() == plain);
     assert!(rt; TimeConfigBuilder::new().build() == plain);
@@ -29,7 +31,36 @@ fn a_builder_gives_what_was_set_last(rt: HostRuntime) {
             == MicrosecondsPrecisionOverflowBehavior::Truncate
     );
     assert_eq!(rt; set.unix_timestamp_offset, Some(3600));
+    assert!(rt; set.iso_order == IsoOrder::Lax);
     assert!(rt; set != plain);
+}
+
+#[test]
+fn a_builder_gives_the_order_that_was_set_last(rt: HostRuntime) {
+    let strict = TimeConfig::builder().iso_order(IsoOrder::Strict).build();
+    assert!(rt; strict.iso_order == IsoOrder::Strict);
+    assert!(rt; strict.unix_timestamp_offset.is_none());
+    assert!(rt;
+        strict.microseconds_precision_overflow_behavior
+            == MicrosecondsPrecisionOverflowBehavior::Error
+    );
+    assert!(rt; strict != TimeConfig::default());
+    let lax = TimeConfig::builder()
+        .iso_order(IsoOrder::Strict)
+        .iso_order(IsoOrder::Lax)
+        .build();
+    assert!(rt; lax == TimeConfig::default());
+    let set = TimeConfig::builder()
+        .iso_order(IsoOrder::Strict)
+        .unix_timestamp_offset(Some(-3600))
+        .microseconds_precision_overflow_behavior(MicrosecondsPrecisionOverflowBehavior::Truncate)
+        .build();
+    assert!(rt; set.iso_order == IsoOrder::Strict);
+    assert_eq!(rt; set.unix_timestamp_offset, Some(-3600));
+    assert!(rt;
+        set.microseconds_precision_overflow_behavior
+            == MicrosecondsPrecisionOverflowBehavior::Truncate
+    );
 }
 
 #[test]

@@ -7,8 +7,8 @@ mod rounding;
 
 use crate::texts::repeated;
 use speedate::{
-    DateTime, DateTimeConfig, IntFloat, MicrosecondsPrecisionOverflowBehavior, ParseError,
-    TimeConfig, TimestampUnit, float_parse_bytes,
+    DateTime, DateTimeConfig, IntFloat, IsoOrder, MicrosecondsPrecisionOverflowBehavior,
+    ParseError, TimeConfig, TimestampUnit, float_parse_bytes,
 };
 use std::process::Abort;
 use std::test::Fail;
@@ -32,6 +32,7 @@ fn config(unit: TimestampUnit, behavior: MicrosecondsPrecisionOverflowBehavior) 
         time_config: TimeConfig {
             microseconds_precision_overflow_behavior: behavior,
             unix_timestamp_offset: None,
+            iso_order: IsoOrder::Lax,
         },
     }
 }
@@ -258,6 +259,7 @@ fn expect_with_offset<R: Abort>(rt: &R, offset: i32, text: &str, want: &str)
     let time_config = TimeConfig {
         microseconds_precision_overflow_behavior: TRUNCATE,
         unix_timestamp_offset: Some(offset),
+        iso_order: IsoOrder::Lax,
     };
     let config = DateTimeConfig {
         timestamp_unit: SECOND,

@@ -14,6 +14,8 @@ mod datetimes;
 #[cfg(test)]
 mod decimals;
 #[cfg(test)]
+mod duration_order;
+#[cfg(test)]
 mod duration_texts;
 #[cfg(test)]
 mod durations;
