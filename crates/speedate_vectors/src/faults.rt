@@ -207,6 +207,8 @@ fn each_fault_has_its_name_and_its_text(rt: HostRuntime) -> Result<(), Fail> {
             ParseError::DurationUnitOrder,
             "duration_unit_order",
             "quantities out of order or repeated in duration",
+        ),
+        (
             ParseError::MicrosecondFractionTooLong,
             "microsecond_fraction_too_long",
             "microsecond timestamps may not have fraction digits",
