@@ -131,9 +131,9 @@ impl Duration {
     }
 
     /// Reads a duration from the bytes of a text, as [`Duration::parse_str`] does, but for the
-    /// digits of a second past the sixth and for the order of quantities. With the behavior
+    /// digits of a clock's second past the sixth and for the order of quantities. With the behavior
     /// `Truncate` those digits are dropped, so that `b"00:00:01.1234567"` is a second and 123,456
-    /// microseconds. With the order `Strict` there is one fault more, `DurationUnitOrder` behind a
+    /// microseconds; to an ISO 8601 duration it does not matter. With the order `Strict` there is one fault more, `DurationUnitOrder` behind a
     /// `P`: a quantity whose unit does not come later than that of the quantity before it on its side
     /// of the `T`, in the order `Y`, `M`, `W`, `D` and behind the `T` `H`, `M`, `S`, as in `b"P1D1Y"`.
     /// It is looked for behind the fault of a letter that is no unit and in front of sums that are

@@ -1,4 +1,4 @@
-//! Exact dates, times of day, date-times and numbers: read from bytes, all but the numbers printed in
+//! Exact dates, times of day, date-times, durations and numbers: read from bytes, all but the numbers printed in
 //! one canonical form.
 #![tactic(auto)]
 

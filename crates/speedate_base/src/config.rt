@@ -126,7 +126,7 @@ impl DateConfigBuilder {
         }
     }
 
-    /// Sets the unit of timestamps.
+    /// Sets the unit of timestamps, as `timestamp_unit(TimestampUnit::Second)`.
     pub fn timestamp_unit(self, unit: TimestampUnit) -> Self
         ensures unit { result.timestamp_unit ≡ unit }
     {
@@ -137,7 +137,8 @@ impl DateConfigBuilder {
         }
     }
 
-    /// The configuration of the value that was set last, or of the default.
+    /// The configuration of the value that was set last, or of the default: the unit is inferred for
+    /// `DateConfig::builder().build()`.
     pub fn build(self) -> DateConfig
         ensures built { result ≡ self }
     {
@@ -228,7 +229,7 @@ impl TimeConfigBuilder {
         }
     }
 
-    /// Sets what is done with digits of a second past the sixth.
+    /// Sets what is done with digits of a second past the sixth: they are dropped with `Truncate`.
     pub fn microseconds_precision_overflow_behavior(
         self,
         behavior: MicrosecondsPrecisionOverflowBehavior,
@@ -266,7 +267,8 @@ impl TimeConfigBuilder {
         }
     }
 
-    /// Sets whether the quantities of an ISO 8601 duration have to come in order.
+    /// Sets whether the quantities of an ISO 8601 duration have to come in order: `P1D1Y` is refused
+    /// with `Strict`.
     pub fn iso_order(self, order: IsoOrder) -> Self
         ensures order { result.iso_order ≡ order }
         ensures behavior { result.microseconds_precision_overflow_behavior
@@ -284,7 +286,8 @@ impl TimeConfigBuilder {
         }
     }
 
-    /// The configuration of the values that were set last, and of defaults for the others.
+    /// The configuration of the values that were set last, and of defaults for the others: no offset
+    /// for `TimeConfig::builder().build()`.
     pub fn build(self) -> TimeConfig
         ensures built { result ≡ self }
     {

@@ -66,7 +66,7 @@ pub enum ParseError {
     SecondFractionTooLong,
     /// No digit follows the point after a second.
     SecondFractionMissing,
-    /// A fraction of a millisecond has more than three digits.
+    /// A fraction of a millisecond has more than three digits, and the configuration refuses them.
     MillisecondFractionTooLong,
     /// A number of a duration does not begin with a digit.
     DurationInvalidNumber,
@@ -86,9 +86,9 @@ pub enum ParseError {
     DurationHourValueTooLarge,
     /// A duration has more than 999,999,999 days.
     DurationDaysTooLarge,
-    /// A timestamp lies before the year 0000.
+    /// A timestamp, or a date at another offset, lies before the year 0000.
     DateTooSmall,
-    /// A timestamp lies after the year 9999.
+    /// A timestamp, a moment, or a date at another offset, lies after the year 9999.
     DateTooLarge,
     /// A time of day, or a sum on the way to it, is too large.
     TimeTooLarge,

@@ -1,5 +1,5 @@
-//! What the readers and printers of the library stand on: the faults, configurations, and
-//! numbers.
+//! What the readers and printers of the library stand on: the faults, configurations,
+//! numbers, and the instants of timestamps.
 #![tactic(auto)]
 
 pub mod config;

@@ -25,7 +25,7 @@ pub fn int_parse_str(text: &str) -> Option<i64>
     int_parse_bytes(text.as_bytes())
 }
 
-/// The whole number that the bytes are, or `None`: see [`int_parse_str`].
+/// The whole number that the bytes are, or `None`, as [`int_parse_str`] has it: -12 for `b"-012"`.
 #[inline]
 pub fn int_parse_bytes(bytes: &[u8]) -> Option<i64>
     ensures answer { result ≡ whole_number bytes.now }
@@ -54,7 +54,7 @@ pub fn float_parse_str(text: &str) -> IntFloat<'_>
     float_parse_bytes(text.as_bytes())
 }
 
-/// The number that the bytes are: see [`float_parse_str`].
+/// The number that the bytes are, as [`float_parse_str`] has it: `IntFloat::Int(12)` for `b"12"`.
 #[inline]
 pub fn float_parse_bytes(bytes: &[u8]) -> IntFloat<'_>
     ensures answer { number_of result ≡ number_answer bytes.now }

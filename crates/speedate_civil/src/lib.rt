@@ -1,4 +1,4 @@
-//! Dates and times of day: their values, their texts, and the calendar that dates lie in.
+//! Dates, times of day and date-times: their values, their texts, and the calendar that dates lie in.
 #![tactic(auto)]
 
 pub mod date;

@@ -36,7 +36,7 @@ impl Ord for Duration {
 
     /// Which of two durations is the smaller one: one that is not positive before one that is, the
     /// shorter of two positive ones, and the longer of two others. Nothing that is not positive is
-    /// before nothing that is.
+    /// before nothing that is: -PT2S, -PT1S, -PT0S, PT0S and PT1S are in order.
     #[inline]
     fn cmp(&self, other: &Duration) -> Ordering
         ensures order { result ≡ duration_order (parts self.now) (parts other.now) }
@@ -55,7 +55,8 @@ impl PartialOrd for Duration {
 
     ghost laws = { po (on_total parts duration_order-total) (Prim.search (comparing, rules)) };
 
-    /// What [`Duration::cmp`] answers, since each two durations have an order.
+    /// What [`Duration::cmp`] answers, since each two durations have an order:
+    /// `Some(Ordering::Less)` for -PT0S and PT0S.
     #[inline]
     fn partial_cmp(&self, other: &Duration) -> Option<Ordering>
         ensures order { result ≡ Some (duration_order (parts self.now) (parts other.now)) }

@@ -70,7 +70,7 @@ impl DateTimeConfigBuilder {
         }
     }
 
-    /// Sets the unit of timestamps.
+    /// Sets the unit of timestamps, as `timestamp_unit(TimestampUnit::Millisecond)`.
     pub fn timestamp_unit(self, unit: TimestampUnit) -> Self
         ensures unit { result.timestamp_unit ≡ unit }
         ensures time { result.time_config ≡ self.time_config }
@@ -83,7 +83,8 @@ impl DateTimeConfigBuilder {
         }
     }
 
-    /// Sets how times are read, and which offset the date-time of a timestamp gets.
+    /// Sets how times are read, and which offset the date-time of a timestamp gets: none by
+    /// `time_config(TimeConfig::default())`.
     pub fn time_config(self, config: TimeConfig) -> Self
         ensures time { result.time_config ≡ config }
         ensures unit { result.timestamp_unit ≡ self.timestamp_unit }
@@ -96,7 +97,8 @@ impl DateTimeConfigBuilder {
         }
     }
 
-    /// The configuration of the values that were set last, and of defaults for the others.
+    /// The configuration of the values that were set last, and of defaults for the others: the unit is
+    /// inferred for `DateTimeConfig::builder().build()`.
     pub fn build(self) -> DateTimeConfig
         ensures built { result ≡ self }
     {

@@ -62,7 +62,7 @@ impl UnixTime {
     }
 
     /// The instant where it lies in the years 0000 to 9999: `DateTooSmall` before them,
-    /// `DateTooLarge` after them.
+    /// `DateTooLarge` after them, as for second 253,402,300,800.
     #[inline]
     pub fn in_years(self) -> Result<Self, ParseError>
         ensures answer { result_map parts result ≡ range_answer (parts self) }

@@ -51,7 +51,8 @@ impl Date {
         Self::parse_bytes_with_config(text.as_bytes(), config)
     }
 
-    /// Reads a date from the bytes of a text, as [`Date::parse_str_with_config`] does.
+    /// Reads a date from the bytes of a text, as [`Date::parse_str_with_config`] does: 1970-01-02 from
+    /// `b"86400000"` in milliseconds.
     #[inline]
     pub fn parse_bytes_with_config(bytes: &[u8], config: &DateConfig) -> Result<Self, ParseError>
         ensures answer { result_map parts result ≡ date_or_timestamp config.now.timestamp_unit bytes.now }

@@ -50,7 +50,8 @@ impl DateTime {
         Self::of_instant(time, Some(tz_offset))
     }
 
-    /// The date-time of what a clock tells, as [`DateTime::now_at`] gives it. The clock is called once.
+    /// The date-time of what a clock tells, as [`DateTime::now_at`] gives it:
+    /// 1970-01-01T00:00:00Z for a clock that tells second 0, and 0. The clock is called once.
     ///
     /// `SystemTimeError` where the clock has no moment to tell, since it stands before 1970; otherwise
     /// the faults of [`DateTime::now_at`].
@@ -70,7 +71,8 @@ impl Date {
     ghost use Rattle.speedate_civil.specs.Moment.{today_answer};
 
     /// The date of what a clock tells, as a clock at an offset, in seconds, shows it: that of
-    /// [`DateTime::now`], whose faults it has.
+    /// [`DateTime::now`], whose faults it has. It is 2022-06-08 for a clock that tells second
+    /// 1,654,646,399, and 3,600.
     #[inline]
     pub fn today<F: FnOnce() -> Option<Moment>>(
         clock: F,

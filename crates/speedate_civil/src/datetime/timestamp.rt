@@ -68,7 +68,8 @@ impl DateTime {
         Self::parse_bytes_with_config(text.as_bytes(), config)
     }
 
-    /// Reads a date-time from the bytes of a text, as [`DateTime::parse_str_with_config`] does.
+    /// Reads a date-time from the bytes of a text, as [`DateTime::parse_str_with_config`] does:
+    /// 1970-01-01T00:00:00.001000 from `b"1"` in milliseconds.
     #[inline(always)]
     pub fn parse_bytes_with_config(
         bytes: &[u8],
