@@ -137,7 +137,8 @@ impl Duration {
     /// `P`: a quantity whose unit does not come later than that of the quantity before it on its side
     /// of the `T`, in the order `Y`, `M`, `W`, `D` and behind the `T` `H`, `M`, `S`, as in `b"P1D1Y"`.
     /// It is looked for behind the fault of a letter that is no unit and in front of sums that are
-    /// too large. The offset of the configuration does not matter.
+    /// too large. What `Strict` accepts has the value that `Lax` gives it, and days and clocks are
+    /// read alike in both. The offset of the configuration does not matter.
     ///
     /// With the order `Lax` two neighbouring quantities of an ISO 8601 duration on one side of its
     /// `T`, both without a fraction sign, can be exchanged: `b"P1DT2H3M"` and `b"P1DT3M2H"` have one
