@@ -1,6 +1,6 @@
 //! Durations: days, seconds and microseconds, with a sign.
 
-ghost use Rattle.std.specs.Prelude.{◌≡◌, ℕ, ◌<◌, ◌≤◌, IfOk, List, Bool, false, if◌then◌else◌, Result, Err};
+ghost use Rattle.std.specs.Prelude.{◌≡◌, ℕ, ◌<◌, ◌≤◌, IfOk, List, Bool, false, if◌then◌else◌, true, Result, Ok, Err};
 ghost use Rattle.speedate_base.specs.declared.faults.ParseError.{ParseError};
 ghost use Rattle.speedate_base.specs.Requirement.{result_map, result_and_then};
 ghost use Rattle.speedate.specs.DurationForm.{has_day_letter, has_days, form_answer, IsNormalAnswer, IsDurationAnswer};
@@ -151,6 +151,8 @@ impl Duration {
         ensures in_order { (items : List Item) (lax : Result DurationNumbers ParseError) → config.now.iso_order ≡ order.Strict → IsMadeOf bytes.now items
             → IsDurationAnswer order.Lax config.now.microseconds_precision_overflow_behavior bytes.now lax
             → result_map parts result ≡ (if are_in_order false no_limit items then lax else Err fault.DurationUnitOrder) }
+        ensures made { (numbers : DurationNumbers) → is_iso bytes.now ≡ true → IsDurationAnswer order.Lax config.now.microseconds_precision_overflow_behavior bytes.now (Ok numbers)
+            → (items : List Item) × IsMadeOf bytes.now items }
         ensures other_forms { is_iso bytes.now ≡ false → IsDurationAnswer order.Lax config.now.microseconds_precision_overflow_behavior bytes.now (result_map parts result) }
         ensures exchanged { (other : List ℕ) → config.now.iso_order ≡ order.Lax → AreExchanged bytes.now other → IsDurationAnswer config.now.iso_order config.now.microseconds_precision_overflow_behavior other (result_map parts result) }
     {
