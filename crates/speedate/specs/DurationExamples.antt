@@ -1,15 +1,19 @@
 -- Examples of durations and the ends of ranges, each true by computation alone.
-use Rattle.std.specs.Prelude.{◌≡◌, true, false, pos, neg_ℤ, codes, Ok, Err, refl}
+use Rattle.std.specs.Prelude.{◌≡◌, ℕ, true, false, [], ◌∷◌, pos, neg_ℤ, codes, Ok, Err, refl}
+use Rattle.std.proofs.Common.{inl}
 use Rattle.std.specs.declared.cmp.Ordering.TheVariants as ordering
 use Rattle.speedate_base.specs.declared.config.IsoOrder.TheVariants as order
 use Rattle.speedate_base.specs.declared.config.MicrosecondsPrecisionOverflowBehavior.TheVariants as behavior
 use Rattle.speedate_base.specs.declared.faults.ParseError.TheVariants as fault
+use Rattle.speedate_base.specs.Ascii.{capital_m, capital_y}
 use Rattle.speedate.specs.ClockForm.{clock_form}
 use Rattle.speedate.specs.DayForm.{day_form}
 use Rattle.speedate.specs.DurationAnswer.{iso_answer, unsigned_answer, duration_answer}
 use Rattle.speedate.specs.DurationForm.{form_answer}
 use Rattle.speedate.specs.DurationNumbers.{normal_form, signed_milliseconds}
 use Rattle.speedate.specs.DurationOrder.{duration_order}
+use Rattle.speedate.specs.InOrder.{are_in_order, IsMadeOf}
+use Rattle.speedate.specs.IsoForm.{Item, Mark, Amount, no_limit}
 
 -- whole seconds are carried, and then whole days
 carried : normal_form (record { positive = false; day = 1; second = 86500; microsecond = 1000123 })
@@ -67,6 +71,30 @@ iso-out_of_order = refl
 iso-repeated : duration_answer order.Strict behavior.Error (codes "P1Y2Y") ≡ Err fault.DurationUnitOrder
 unfolding iso_answer unsigned_answer
 iso-repeated = refl
+
+-- the items of the first and of the last of these
+abbrev one_of : ℕ → Item
+one_of letter = Amount (record { number = codes "1"; fraction = []; letter = letter })
+
+items-made : IsMadeOf (codes "P1MT1M") (one_of capital_m ∷ Mark ∷ one_of capital_m ∷ [])
+items-made = record {
+  negative = false;
+  sign = [];
+  is_sign = inl refl;
+  are_good = (
+    (refl, tt),
+    (refl, (refl, (refl, (refl, (refl, (refl, tt)))))),
+    (tt, (refl, tt), ((refl, tt), (refl, (refl, (refl, (refl, (refl, (refl, tt)))))), tt)),
+  );
+  some = refl;
+  is_text = refl;
+}
+
+items-in_order : are_in_order false no_limit (one_of capital_m ∷ Mark ∷ one_of capital_m ∷ []) ≡ true
+items-in_order = refl
+
+items-repeated : are_in_order false no_limit (one_of capital_y ∷ one_of capital_y ∷ []) ≡ false
+items-repeated = refl
 
 -- a clock, and days with a clock behind them
 clock : form_answer behavior.Error true (codes "24:01:03.5") ≡ Ok (record { positive = true; day = 1; second = 63; microsecond = 500000 })

@@ -1,11 +1,11 @@
 -- Where the order of the standard is asked for, a duration is what the lax order makes of it, or is refused for its order.
-use Rattle.std.specs.Prelude.{◌≡◌, MatchBool, ℕ, zero, suc, ◌<◌, Bool, true, false, not, ◌&&◌, List, [], ◌∷◌, ◌++◌, length, drop, slice_index, nat_lt, ◌==◌, if◌then◌else◌, Option, Some, None, Result, Ok, Err, refl}
+use Rattle.std.specs.Prelude.{◌≡◌, MatchBool, ℕ, zero, suc, ◌<◌, Bool, true, false, not, ◌&&◌, List, [], ◌∷◌, ◌++◌, length, take, drop, slice_index, nat_lt, ◌==◌, if◌then◌else◌, Option, Some, None, Result, Ok, Err, refl}
 use Rattle.std.specs.List.{flat_map}
 use Rattle.std.specs.Option.{is_some}
 use Rattle.std.proofs.Common.{arith, ap, sym, ◌∙◌, subst, inl, inr}
-use Rattle.std.proofs.lemmas.Bool.{false≢true}
+use Rattle.std.proofs.lemmas.Bool.{eqb-true, false≢true}
 use Rattle.std.proofs.lemmas.Bool.Decides.{nat_tests}
-use Rattle.std.proofs.lemmas.List.{append-nil, length-append}
+use Rattle.std.proofs.lemmas.List.{append-nil, length-append, take-append-drop}
 use Rattle.speedate_base.specs.declared.config.IsoOrder.{IsoOrder}
 use Rattle.speedate_base.specs.declared.config.IsoOrder.TheVariants as order
 use Rattle.speedate_base.specs.declared.config.MicrosecondsPrecisionOverflowBehavior.{MicrosecondsPrecisionOverflowBehavior}
@@ -13,6 +13,7 @@ use Rattle.speedate_base.specs.declared.faults.ParseError.{ParseError}
 use Rattle.speedate_base.specs.declared.faults.ParseError.TheVariants as fault
 use Rattle.speedate_base.specs.Ascii.{capital_p}
 use Rattle.speedate_base.specs.Numbers.{has_minus, sign_length}
+use Rattle.speedate_base.specs.NumberLaws.{sign-of_text}
 use Rattle.speedate_base.specs.Requirement.{meets, AllHold, result_and_then}
 use Rattle.speedate.specs.DurationNumbers.{DurationNumbers, normal_form}
 use Rattle.speedate.specs.DurationForm.{form_answer, IsDurationAnswer}
@@ -20,7 +21,7 @@ use Rattle.speedate.specs.DurationAnswer.{iso_answer, unsigned_answer, duration_
 use Rattle.speedate.specs.DurationAnswerLaws.{duration_answer-is}
 use Rattle.speedate.specs.ExchangedLaws.{with-sign}
 use Rattle.speedate.specs.InOrder.{IsLaxOrRefused, seconds_of, are_in_order, IsMadeOf, is_iso}
-use Rattle.speedate.specs.IsoForm.{DurationUnit, units, unit_in, Quantity, Item, Mark, Amount, item_text, IsItem, item_at, item_length, item_table, is_smaller, are_counted, Sums, no_limit, no_sums, with_quantity, with_item, with_items, AreGood, sums_numbers, IsAnswerFrom}
+use Rattle.speedate.specs.IsoForm.{DurationUnit, units, unit_in, Quantity, Item, Mark, Amount, item_text, IsItem, item_at, item_length, item_table, is_smaller, are_counted, Sums, no_limit, no_sums, with_quantity, with_item, with_items, AreGood, sums_numbers, Ends, IsAnswerFrom, IsIsoAnswer}
 use Rattle.speedate.specs.IsoFormLaws.{item_at-text, answer-with, duration_answer-only}
 use Rattle.speedate.specs.IsoFrontLaws.{answer-refused}
 
@@ -235,3 +236,46 @@ pub answer-no_iso : (asked : IsoOrder) (behavior : MicrosecondsPrecisionOverflow
 answer-no_iso asked behavior text answer other there =
     let form = form_answer behavior (not (has_minus text)) (drop (sign_length text) text) in
     (there.0, other-form _ _ (there.0 ≡ form) (is_iso text) other there.1, there.2)
+
+-- an ISO 8601 duration begins with a `P` behind its sign
+first-byte : (text : List ℕ) → (slice_index text 0 == capital_p) ≡ true → text ≡ capital_p ∷ drop 1 text
+first-byte [] is = absurd (false≢true is)
+first-byte (byte ∷ text) is = ap (λ (byte : ℕ). byte ∷ text) (eqb-true byte capital_p is)
+
+iso-form : (A C : Type 0) (iso : Bool) → iso ≡ true → MatchBool iso A C → A
+iso-form A C true is there = there
+iso-form A C false is there = absurd (false≢true is)
+
+-- one that is read has nothing behind its good items, and a quantity among them
+some-read : (positive some : Bool) (sums : Sums) (numbers : DurationNumbers)
+    → Ok numbers ≡ result_and_then normal_form (if some then Ok (sums_numbers positive sums) else Err fault.TooShort) → some ≡ true
+some-read positive true sums numbers same = refl
+some-read positive false sums numbers same = absurd (cc)
+
+ends-read : (positive : Bool) (sums : Sums) (rest : List ℕ) (form : Answer) (numbers : DurationNumbers) → Ends positive sums rest form
+    → Ok numbers ≡ result_and_then normal_form form → (rest ≡ []) × (sums.some ≡ true)
+ends-read positive sums [] form numbers ends same = (refl, some-read positive sums.some sums numbers (same ∙ ap (result_and_then normal_form) ends))
+ends-read positive sums (byte ∷ rest) form numbers ends same =
+    let refused = same ∙ ap (result_and_then normal_form) ends.2 in
+    absurd (cc)
+
+-- so an ISO 8601 duration that the lax order reads is made of good items
+pub answer-made : (behavior : MicrosecondsPrecisionOverflowBehavior) (text : List ℕ) (numbers : DurationNumbers) → is_iso text ≡ true
+    → IsDurationAnswer order.Lax behavior text (Ok numbers) → (items : List Item) × IsMadeOf text items
+answer-made behavior text numbers iso there =
+    let length = sign_length text in
+    let rest = drop length text in
+    let form = form_answer behavior (not (has_minus text)) rest in
+    let from = iso-form (IsIsoAnswer order.Lax (not (has_minus text)) (drop 1 rest) there.0) (there.0 ≡ form) (is_iso text) iso there.1 in
+    let ended = ends-read (not (has_minus text)) (with_items from.0 (no_sums order.Lax)) from.1 there.0 numbers from.4 there.2 in
+    let body = from.2 ∙ ap (λ (end : List ℕ). flat_map item_text from.0 ++ end) ended.0 ∙ append-nil (flat_map item_text from.0) in
+    let made : IsMadeOf text from.0 = record {
+      negative = has_minus text;
+      sign = take length text;
+      is_sign = sign-of_text text;
+      are_good = from.3;
+      some = ended.1;
+      is_text = sym (take-append-drop length text)
+          ∙ ap (λ (behind : List ℕ). take length text ++ behind) (first-byte rest iso ∙ ap (λ (body : List ℕ). capital_p ∷ body) body);
+    } in
+    (from.0, made)

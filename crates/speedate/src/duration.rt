@@ -1,6 +1,6 @@
 //! Durations: days, seconds and microseconds, with a sign.
 
-ghost use Rattle.std.specs.Prelude.{◌≡◌, ℕ, ◌<◌, ◌≤◌, IfOk, List, Bool, false, if◌then◌else◌, Result, Err};
+ghost use Rattle.std.specs.Prelude.{◌≡◌, ℕ, ◌<◌, ◌≤◌, IfOk, List, Bool, false, if◌then◌else◌, true, Result, Ok, Err};
 ghost use Rattle.speedate_base.specs.declared.faults.ParseError.{ParseError};
 ghost use Rattle.speedate_base.specs.Requirement.{result_map, result_and_then};
 ghost use Rattle.speedate.specs.DurationForm.{has_day_letter, has_days, form_answer, IsNormalAnswer, IsDurationAnswer};
@@ -137,7 +137,8 @@ impl Duration {
     /// `P`: a quantity whose unit does not come later than that of the quantity before it on its side
     /// of the `T`, in the order `Y`, `M`, `W`, `D` and behind the `T` `H`, `M`, `S`, as in `b"P1D1Y"`.
     /// It is looked for behind the fault of a letter that is no unit and in front of sums that are
-    /// too large. The offset of the configuration does not matter.
+    /// too large. What `Strict` accepts has the value that `Lax` gives it, and days and clocks are
+    /// read alike in both. The offset of the configuration does not matter.
     ///
     /// With the order `Lax` two neighbouring quantities of an ISO 8601 duration on one side of its
     /// `T`, both without a fraction sign, can be exchanged: `b"P1DT2H3M"` and `b"P1DT3M2H"` have one
@@ -150,6 +151,8 @@ impl Duration {
         ensures in_order { (items : List Item) (lax : Result DurationNumbers ParseError) → config.now.iso_order ≡ order.Strict → IsMadeOf bytes.now items
             → IsDurationAnswer order.Lax config.now.microseconds_precision_overflow_behavior bytes.now lax
             → result_map parts result ≡ (if are_in_order false no_limit items then lax else Err fault.DurationUnitOrder) }
+        ensures made { (numbers : DurationNumbers) → is_iso bytes.now ≡ true → IsDurationAnswer order.Lax config.now.microseconds_precision_overflow_behavior bytes.now (Ok numbers)
+            → (items : List Item) × IsMadeOf bytes.now items }
         ensures other_forms { is_iso bytes.now ≡ false → IsDurationAnswer order.Lax config.now.microseconds_precision_overflow_behavior bytes.now (result_map parts result) }
         ensures exchanged { (other : List ℕ) → config.now.iso_order ≡ order.Lax → AreExchanged bytes.now other → IsDurationAnswer config.now.iso_order config.now.microseconds_precision_overflow_behavior other (result_map parts result) }
     {
