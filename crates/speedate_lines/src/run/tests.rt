@@ -109,7 +109,7 @@ fn answers_each_line(rt: HostRuntime) {
         (b"duration P1Y2Y", b"ok P3Y\n"),
         (b"duration-strict P1Y2Y", b"err duration_unit_order\n"),
         (b"duration-strict P1MT1M", b"ok P30DT1M\n"),
-        (b"duration-strict -1 day, 1:00", b"ok -P1DT1H\n"),
+        (b"duration-strict -1 day, 01:00", b"ok -P1DT1H\n"),
         (b"duration-strict", b"err unknown_kind\n"),
         (b"duration-lax P1Y", b"err unknown_kind\n"),
         (b"duration 1 day", b"ok P1D\n"),
