@@ -1,4 +1,5 @@
 mod BlockLaws
+pub mod PatternLaws
 mod WordLaws
 mod RoundingLaws
 mod DecimalLaws

@@ -4,6 +4,7 @@ pub mod Fault
 pub mod FaultDocumentation
 pub mod Digits
 pub mod DigitRuns
+pub mod Pattern
 pub mod Numbers
 pub mod IntFloat
 pub mod Offset

@@ -11,6 +11,7 @@ mod places;
 
 use digits::spelled_number;
 pub use digits::{DigitRun, digit_run, run_end};
+pub use lanes::{LANES, eight_bytes, fitting, pairs};
 pub use number::{Decimal, IntFloat};
 pub use places::{byte_at, four_digits, two_digits, two_digits_there};
 

@@ -8,11 +8,12 @@ mod day_number;
 mod order;
 pub(crate) mod timestamp;
 
-use crate::text::{ascii_text, two_digit_text};
+use crate::text::two_digit_text;
 use arrayvec::ArrayString;
 use speedate_base::faults::ParseError;
-use speedate_base::numbers::{four_digits, two_digits};
+use speedate_base::numbers::{LANES, eight_bytes, fitting, pairs, two_digits};
 use std::fmt;
+use std::simd::prelude::*;
 
 /// How many bytes the text of a date has.
 const TEXT_LENGTH: usize = 10;
@@ -68,6 +69,8 @@ fn is_day(year: u16, month: u8, day: u8) -> bool
 }
 
 impl Date {
+    ghost use Rattle.std.specs.Prelude.{◌+◌, ◌++◌};
+    ghost use Rattle.arrayvec.specs.ArrayString.{array_string_len};
     ghost use Rattle.speedate_civil.specs.declared.date.Date.{Date};
     ghost use Rattle.speedate_base.specs.declared.config.DateConfig.{DateConfig};
     ghost use Rattle.speedate_base.specs.Numbers.{NoNumber, number_answer};
@@ -118,15 +121,21 @@ impl Date {
         if bytes.len() < TEXT_LENGTH {
             return Err(ParseError::TooShort);
         }
-        let year = four_digits(bytes, 0).ok_or(ParseError::InvalidCharYear)?;
-        if bytes[4] != b'-' {
-            return Err(ParseError::InvalidCharDateSep);
+        let front = eight_bytes(bytes, 0);
+        let form = u8x8::from_array(*b"0000-00-");
+        let place = fitting(front, form);
+        if place < LANES {
+            return Err(match place {
+                0..=3 => ParseError::InvalidCharYear,
+                4 | 7 => ParseError::InvalidCharDateSep,
+                _ => ParseError::InvalidCharMonth,
+            });
         }
-        let month = two_digits(bytes, 5).ok_or(ParseError::InvalidCharMonth)?;
-        if bytes[7] != b'-' {
-            return Err(ParseError::InvalidCharDateSep);
-        }
-        let day = two_digits(bytes, 8).ok_or(ParseError::InvalidCharDay)?;
+        let [century, _, year, _, _, month, _, _] = pairs(front, form, LANES);
+        let year = 100 * u16::from(century) + u16::from(year);
+        let Some(day) = two_digits(bytes, 8) else {
+            return Err(ParseError::InvalidCharDay);
+        };
         if month < 1 || month > 12 {
             return Err(ParseError::OutOfRangeMonth);
         }
@@ -150,19 +159,24 @@ impl Date {
         ensures distinct { (other : Date)
             → (result.bytes ≡ date_text (parts other)) ↔ (parts self.now ≡ parts other) }
     {
-        ascii_text(&self.text_bytes())
+        let mut text = ArrayString::new();
+        self.push_onto(&mut text);
+        text
     }
 
-    /// The bytes of the canonical text.
-    #[inline]
-    pub(crate) fn text_bytes(&self) -> [u8; TEXT_LENGTH]
-        ensures bytes { result ≡ date_text (parts self.now) }
+    /// Appends the canonical text, as [`Date::to_text`] gives it, for which there must be room:
+    /// `ok 2020-02-29` where it is appended to `ok `.
+    #[inline(always)]
+    pub fn push_onto<const LENGTH: usize>(&self, text: &mut ArrayString<LENGTH>)
+        requires room { array_string_len text.old + TEXT_LENGTH ≤ LENGTH }
+        ensures text { text.new.bytes ≡ text.old.bytes ++ date_text (parts self.now) }
     {
-        let [y1, y2] = two_digit_text((self.year / 100) as u8);
-        let [y3, y4] = two_digit_text((self.year % 100) as u8);
-        let [m1, m2] = two_digit_text(self.month);
-        let [d1, d2] = two_digit_text(self.day);
-        [y1, y2, y3, y4, b'-', m1, m2, b'-', d1, d2]
+        text.push_str(two_digit_text((self.year / 100) as u8));
+        text.push_str(two_digit_text((self.year % 100) as u8));
+        text.push('-');
+        text.push_str(two_digit_text(self.month));
+        text.push('-');
+        text.push_str(two_digit_text(self.day));
     }
 }
 

@@ -1,52 +1,34 @@
 //! Pieces of printed texts, for the printers of this crate and of those above it.
 
-ghost use Rattle.std.specs.Prelude.{◌≡◌, ◌<◌, ◌≤◌, ◌+◌, ◌++◌, length};
-ghost use Rattle.std.specs.Str.{IsAscii};
-ghost use Rattle.arrayvec.specs.ArrayVec.{array_vec_len};
+ghost use Rattle.std.specs.Prelude.{◌≡◌, ◌<◌, ◌≤◌, ◌+◌, ◌++◌};
+ghost use Rattle.arrayvec.specs.ArrayString.{array_string_len};
 ghost use Rattle.speedate_base.specs.Digits.{two_digit_text, six_digit_text};
 
-use arrayvec::{ArrayString, ArrayVec};
-use std::str;
+use arrayvec::ArrayString;
 
-/// The text of these ASCII bytes: `2020` for `b"2020"`.
-#[inline]
-pub fn ascii_text<const LENGTH: usize>(bytes: &[u8]) -> ArrayString<LENGTH>
-    requires ascii { IsAscii bytes.now }
-    requires fits { length bytes.now ≤ LENGTH }
-    ensures bytes { result.bytes ≡ bytes.now }
-{
-    let mut text = ArrayString::new();
-    text.push_str(str::from_utf8(bytes).unwrap());
-    text
-}
+/// The numbers below 100, each in two digits.
+const TWO_DIGITS: &str =
+    "00010203040506070809101112131415161718192021222324252627282930313233343536373839404142434445464748495051525354555657585960616263646566676869707172737475767778798081828384858687888990919293949596979899";
 
-/// Appends bytes, for which there must be room: `b"ok 12"` where `b"12"` is appended to `b"ok "`.
-#[inline]
-pub fn push<const LENGTH: usize>(piece: &[u8], bytes: &mut ArrayVec<u8, LENGTH>)
-    requires room { array_vec_len bytes.old + length piece.now ≤ LENGTH }
-    ensures bytes { bytes.new.items ≡ bytes.old.items ++ piece.now }
-    ensures len { array_vec_len bytes.new ≡ array_vec_len bytes.old + length piece.now }
-{
-    bytes.try_extend_from_slice(piece).unwrap();
-}
-
-/// The two digits of a number below 100: `b"07"` for 7.
-#[inline]
-pub fn two_digit_text(number: u8) -> [u8; 2]
+/// The two digits of a number below 100: `07` for 7.
+#[inline(always)]
+pub fn two_digit_text(number: u8) -> &'static str
     requires small { number < 100 }
-    ensures digits { result ≡ two_digit_text number }
+    ensures digits { result.now ≡ two_digit_text number }
 {
-    [b'0' + number / 10, b'0' + number % 10]
+    let place = 2 * usize::from(number);
+    &TWO_DIGITS[place..place + 2]
 }
 
-/// The six digits of a number below 1,000,000: `b"000120"` for 120.
-#[inline]
-pub fn six_digit_text(number: u32) -> [u8; 6]
+/// Appends the six digits of a number below 1,000,000: `000120` for 120. There must be room for
+/// them.
+#[inline(always)]
+pub fn push_six_digits<const LENGTH: usize>(number: u32, text: &mut ArrayString<LENGTH>)
     requires small { number ≤ 999999 }
-    ensures digits { result ≡ six_digit_text number }
+    requires room { array_string_len text.old + 6 ≤ LENGTH }
+    ensures digits { text.new.bytes ≡ text.old.bytes ++ six_digit_text number }
 {
-    let [d1, d2] = two_digit_text((number / 10_000) as u8);
-    let [d3, d4] = two_digit_text((number / 100 % 100) as u8);
-    let [d5, d6] = two_digit_text((number % 100) as u8);
-    [d1, d2, d3, d4, d5, d6]
+    text.push_str(two_digit_text((number / 10_000) as u8));
+    text.push_str(two_digit_text((number / 100 % 100) as u8));
+    text.push_str(two_digit_text((number % 100) as u8));
 }

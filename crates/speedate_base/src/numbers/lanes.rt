@@ -1,22 +1,98 @@
-//! Digits, eight bytes at a time.
+//! Texts of a fixed form, eight bytes at a time.
 
-ghost use Rattle.std.specs.Prelude.{◌≡◌, IsTrue};
+ghost use Rattle.std.specs.Prelude.{◌≡◌, ℕ, ◌-◌, ◌<◌, ◌≤◌, IsTrue, length, drop, slice_index};
 ghost use Rattle.std.specs.Char.{is_ascii_digit};
 ghost use Rattle.std.specs.List.{list_all, prefix_len};
 ghost use Rattle.speedate_base.specs.DigitRuns.{digits_value};
+ghost use Rattle.speedate_base.specs.Pattern.{eight_at, fit_length, fit_digits, neighbours};
 
+use super::places::byte_at;
 use std::simd::prelude::*;
 
 /// How many bytes are looked at together.
-pub(crate) const LANES: usize = 8;
+pub const LANES: usize = 8;
+
+/// The eight bytes from `place` on, and 0 where the text has none: `b"7.5\0\0\0\0\0"` for
+/// `b"12:13:07.5"` at place 7.
+#[inline(always)]
+pub fn eight_bytes(bytes: &[u8], place: usize) -> u8x8
+    requires { place ≤ length bytes.now }
+    ensures bytes { result ≡ eight_at bytes.now place }
+{
+    let left = bytes.len() - place;
+    if left >= LANES {
+        return u8x8::from_slice(&bytes[place..]);
+    }
+    if bytes.len() >= LANES {
+        return last_bytes(&bytes[bytes.len() - LANES..], left);
+    }
+    short_bytes(&bytes[place..])
+}
+
+/// The last `left` of eight bytes, and 0 after them.
+#[inline(always)]
+fn last_bytes(bytes: &[u8], left: usize) -> u8x8
+    requires long { length bytes.now ≡ LANES }
+    requires few { left < LANES }
+    ensures bytes { result ≡ eight_at (drop (LANES - left) bytes.now) 0 }
+{
+    let word = u64::from_le_bytes(u8x8::from_slice(bytes).to_array());
+    // Two shifts, since one of 64 bits is none.
+    u8x8::from_array((word >> 8 >> (8 * (LANES - 1 - left))).to_le_bytes())
+}
+
+/// Less than eight bytes, and 0 after them.
+#[inline(always)]
+fn short_bytes(bytes: &[u8]) -> u8x8
+    ensures bytes { result ≡ eight_at bytes.now 0 }
+{
+    u8x8::from_array([
+        byte_at(bytes, 0),
+        byte_at(bytes, 1),
+        byte_at(bytes, 2),
+        byte_at(bytes, 3),
+        byte_at(bytes, 4),
+        byte_at(bytes, 5),
+        byte_at(bytes, 6),
+        byte_at(bytes, 7),
+    ])
+}
+
+/// How many of eight bytes, from the first on, are as a pattern has them. In a pattern `0` stands
+/// for a digit, and any other byte for itself: the first four of `b"2020/02/"` are as in
+/// `b"0000-00-"`.
+#[inline(always)]
+pub fn fitting(lanes: u8x8, pattern: u8x8) -> usize
+    ensures count { result ≡ fit_length pattern lanes }
+{
+    let digits = pattern.simd_eq(u8x8::splat(b'0'));
+    let largest = digits.select(u8x8::splat(9), u8x8::splat(0));
+    let others = (lanes - pattern).simd_gt(largest);
+    (others.to_bitmask().trailing_zeros() as usize).min(LANES)
+}
+
+/// The numbers that each two neighbours spell among the first `count` of eight bytes, which have to
+/// be as the pattern has them: 20, 2, 20, 0, 0, 2, 20 and 0 for all of `b"2020-02-"`. A byte that is
+/// no digit counts as 0, and so does each one past the first `count`.
+#[inline(always)]
+pub fn pairs(lanes: u8x8, pattern: u8x8, count: usize) -> [u8; 8]
+    requires some { 1 ≤ count }
+    requires fits { count ≤ fit_length pattern lanes }
+    ensures numbers { result ≡ neighbours (fit_digits count pattern lanes) }
+    ensures small { (k : ℕ) → slice_index result k ≤ 99 }
+{
+    let word = u64::from_le_bytes((lanes - pattern).to_array());
+    let digits = word & (u64::MAX >> (64 - 8 * count));
+    // No sum is larger than 99, so none reaches the next byte.
+    (10 * digits + (digits >> 8)).to_le_bytes()
+}
 
 /// How many digits stand at the front of eight bytes: 3 for `b"120.5678"`.
 #[inline(always)]
 pub(crate) fn digits_in_front(lanes: u8x8) -> usize
     ensures count { result ≡ prefix_len is_ascii_digit lanes }
 {
-    let others = (lanes - u8x8::splat(b'0')).simd_gt(u8x8::splat(9));
-    (others.to_bitmask().trailing_zeros() as usize).min(LANES)
+    fitting(lanes, u8x8::splat(b'0'))
 }
 
 /// The number that eight digits spell: 12,000,034 for `b"12000034"`.
@@ -25,9 +101,6 @@ pub(crate) fn eight_digits(lanes: u8x8) -> u64
     requires { IsTrue (list_all is_ascii_digit lanes) }
     ensures value { result ≡ digits_value lanes }
 {
-    let ones = u64::from_le_bytes((lanes - u8x8::splat(b'0')).to_array());
-    // Each step joins neighbours: digits, then pairs, then fours.
-    let pairs = (10 * ones + (ones >> 8)) & 0x00ff_00ff_00ff_00ff;
-    let fours = (100 * pairs + (pairs >> 16)) & 0x0000_ffff_0000_ffff;
-    (10_000 * fours + (fours >> 32)) & 0xffff_ffff
+    let [a, _, b, _, c, _, d, _] = pairs(lanes, u8x8::splat(b'0'), LANES);
+    1_000_000 * u64::from(a) + 10_000 * u64::from(b) + 100 * u64::from(c) + u64::from(d)
 }

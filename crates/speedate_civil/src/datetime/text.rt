@@ -3,8 +3,7 @@
 ghost use Rattle.std.specs.Prelude.{Some};
 
 use crate::datetime::DateTime;
-use crate::text::{ascii_text, push};
-use arrayvec::{ArrayString, ArrayVec};
+use arrayvec::ArrayString;
 use std::fmt;
 
 /// How many bytes the longest text of a date-time has.
@@ -12,7 +11,7 @@ const TEXT_MAX: usize = 32;
 
 impl DateTime {
     ghost use Rattle.std.specs.Prelude.{◌≡◌, ◌≤◌, ◌+◌, ◌++◌, ◌↔◌, Ok};
-    ghost use Rattle.arrayvec.specs.ArrayVec.{array_vec_len};
+    ghost use Rattle.arrayvec.specs.ArrayString.{array_string_len};
     ghost use Rattle.speedate_base.specs.Offset.{IsWholeMinutes};
     ghost use Rattle.speedate_base.specs.Requirement.{result_map};
     ghost use Rattle.speedate_base.specs.declared.config.TimeConfig.{TimeConfig};
@@ -46,21 +45,21 @@ impl DateTime {
         ensures distinct { IsWholeMinutes self.now.time.tz_offset → (other : DateTime) → IsWholeMinutes other.time.tz_offset
             → (result.bytes ≡ date_time_text (parts other)) ↔ (parts self.now ≡ parts other) }
     {
-        let mut bytes: ArrayVec<u8, TEXT_MAX> = ArrayVec::new();
-        self.push_onto(&mut bytes);
-        ascii_text(&bytes)
+        let mut text = ArrayString::new();
+        self.push_onto(&mut text);
+        text
     }
 
-    /// Appends the bytes of the canonical text, as [`DateTime::to_text`] gives it, for which there
-    /// must be room: `b"ok 2020-02-29T12:13:14"` where they are appended to `b"ok "`.
-    #[inline]
-    pub fn push_onto<const LENGTH: usize>(&self, bytes: &mut ArrayVec<u8, LENGTH>)
-        requires room { array_vec_len bytes.old + TEXT_MAX ≤ LENGTH }
-        ensures text { bytes.new.items ≡ bytes.old.items ++ date_time_text (parts self.now) }
+    /// Appends the canonical text, as [`DateTime::to_text`] gives it, for which there must be room for
+    /// 32 bytes: `ok 2020-02-29T12:13:14` where it is appended to `ok `.
+    #[inline(always)]
+    pub fn push_onto<const LENGTH: usize>(&self, text: &mut ArrayString<LENGTH>)
+        requires room { array_string_len text.old + TEXT_MAX ≤ LENGTH }
+        ensures text { text.new.bytes ≡ text.old.bytes ++ date_time_text (parts self.now) }
     {
-        push(&self.date.text_bytes(), bytes);
-        push(b"T", bytes);
-        self.time.push_onto(bytes);
+        self.date.push_onto(text);
+        text.push('T');
+        self.time.push_onto(text);
     }
 }
 

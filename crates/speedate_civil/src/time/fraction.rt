@@ -1,9 +1,12 @@
 //! The fraction of a second.
 
-ghost use Rattle.std.specs.Prelude.{◌≡◌, ◌+◌, ◌-◌, ◌^◌, ◌<◌, ◌≤◌, length};
+ghost use Rattle.std.specs.Prelude.{◌≡◌, ◌+◌, ◌<◌, ◌≤◌, length, replicate, take};
+ghost use Rattle.speedate_base.specs.Ascii.{digit_zero};
 ghost use Rattle.speedate_base.specs.DigitRuns.{run_length, run_digits, fraction_value};
+ghost use Rattle.speedate_base.specs.Pattern.{fit_length};
 
-use speedate_base::numbers::{byte_at, run_end};
+use speedate_base::numbers::{LANES, eight_bytes, fitting, pairs, run_end};
+use std::simd::prelude::*;
 
 /// A fraction of a second: how many digits it has, and the microsecond that they mean.
 #[derive(Clone, Copy)]
@@ -25,47 +28,37 @@ impl Fraction {
         ensures within { place + result.length ≤ length bytes.now }
         ensures small { result.microsecond < 1000000 }
     {
-        Self::at_front(&bytes[place..])
-    }
-
-    /// The fraction whose digits stand at the front.
-    #[inline(always)]
-    fn at_front(digits: &[u8]) -> Self
-        ensures length { result.length ≡ run_length digits.now 0 }
-        ensures microsecond { result.microsecond ≡ fraction_value 6 (run_digits digits.now 0) }
-        ensures within { result.length ≤ length digits.now }
-        ensures small { result.microsecond < 1000000 }
-    {
-        let mut number = 0;
-        for place in 0..6 {
-            let digit = byte_at(digits, place);
-            if !digit.is_ascii_digit() {
-                return Fraction {
-                    length: place,
-                    microsecond: number * last_place(place),
-                };
-            }
-            number = 10 * number + u32::from(digit - b'0');
+        let front = eight_bytes(bytes, place);
+        let count = fitting(front, u8x8::splat(b'0'));
+        if count == 0 {
+            return Fraction {
+                length: 0,
+                microsecond: 0,
+            };
+        }
+        let microsecond = six_places(front, count);
+        if count < LANES {
+            return Fraction {
+                length: count,
+                microsecond,
+            };
         }
         Fraction {
-            length: run_end(digits, 6),
-            microsecond: number,
+            length: run_end(bytes, place + LANES) - place,
+            microsecond,
         }
     }
 }
 
-/// How many microseconds one counts in the last place of so many digits: 100,000 for one digit.
-#[inline]
-fn last_place(count: usize) -> u32
-    requires { count < 6 }
-    ensures { result ≡ 10 ^ (6 - count) }
+/// The microsecond that the first `count` of eight bytes mean, which have to be digits: 120,000 for
+/// three of `b"120+01:0"`.
+#[inline(always)]
+fn six_places(front: u8x8, count: usize) -> u32
+    requires some { 1 ≤ count }
+    requires digits { count ≤ fit_length (replicate 8 digit_zero) front }
+    ensures microsecond { result ≡ fraction_value 6 (take count front) }
+    ensures small { result < 1000000 }
 {
-    match count {
-        0 => 1_000_000,
-        1 => 100_000,
-        2 => 10_000,
-        3 => 1_000,
-        4 => 100,
-        _ => 10,
-    }
+    let [a, _, b, _, c, _, _, _] = pairs(front, u8x8::splat(b'0'), count);
+    10_000 * u32::from(a) + 100 * u32::from(b) + u32::from(c)
 }

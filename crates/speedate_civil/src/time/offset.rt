@@ -3,7 +3,7 @@
 ghost use Rattle.std.specs.Prelude.{◌≡◌, ◌≤◌, ◌+◌, ◌<◌, ◌∷◌, ◌*◌, ◌++◌, ◌-ℤ◌, IfOk, Ok, IsTrue, length, if◌then◌else◌, pos, unsigned_abs};
 ghost use Rattle.std.specs.Int.{is_negative};
 ghost use Rattle.std.specs.Option.{ForSome, unwrap_or};
-ghost use Rattle.arrayvec.specs.ArrayVec.{array_vec_len};
+ghost use Rattle.arrayvec.specs.ArrayString.{array_string_len};
 ghost use Rattle.speedate_base.specs.Ascii.{plus_sign, hyphen};
 ghost use Rattle.speedate_base.specs.Numbers.{with_sign};
 ghost use Rattle.speedate_base.specs.Offset.{IsOffset, seconds_per_day};
@@ -11,8 +11,8 @@ ghost use Rattle.speedate_base.specs.Requirement.{meets};
 ghost use Rattle.speedate_civil.specs.OffsetMove.{is_offset, move_table};
 ghost use Rattle.speedate_civil.specs.OffsetText.{offset_answer, signed_answer, offset_minute_place, offset_size_text, offset_text};
 
-use crate::text::{push, two_digit_text};
-use arrayvec::ArrayVec;
+use crate::text::two_digit_text;
+use arrayvec::ArrayString;
 use speedate_base::faults::ParseError;
 use speedate_base::numbers::{byte_at, two_digits_there};
 use speedate_base::util::SECONDS_PER_DAY;
@@ -118,31 +118,30 @@ fn minute_place(numbers: &[u8]) -> usize
 }
 
 /// Appends the text of an offset, if there is one.
-#[inline]
-pub(crate) fn push_offset<const LENGTH: usize>(
-    offset: Option<i32>,
-    bytes: &mut ArrayVec<u8, LENGTH>,
-)
+#[inline(always)]
+pub(crate) fn push_offset<const LENGTH: usize>(offset: Option<i32>, text: &mut ArrayString<LENGTH>)
     requires range { ForSome offset IsOffset }
-    requires room { array_vec_len bytes.old + 6 ≤ LENGTH }
-    ensures text { bytes.new.items ≡ bytes.old.items ++ offset_text offset }
+    requires room { array_string_len text.old + 6 ≤ LENGTH }
+    ensures text { text.new.bytes ≡ text.old.bytes ++ offset_text offset }
 {
     match offset {
         None => {}
-        Some(0) => push(b"Z", bytes),
-        Some(seconds) => push(&signed_text(seconds), bytes),
+        Some(0) => text.push('Z'),
+        Some(seconds) => push_signed(seconds, text),
     }
 }
 
-/// The sign, hours and minutes of an offset.
-#[inline]
-fn signed_text(offset: i32) -> [u8; 6]
-    requires { IsOffset offset }
-    ensures { result ≡ (if is_negative offset then hyphen else plus_sign) ∷ offset_size_text (unsigned_abs offset) }
+/// Appends the sign, hours and minutes of an offset.
+#[inline(always)]
+fn push_signed<const LENGTH: usize>(offset: i32, text: &mut ArrayString<LENGTH>)
+    requires range { IsOffset offset }
+    requires room { array_string_len text.old + 6 ≤ LENGTH }
+    ensures text { text.new.bytes ≡ text.old.bytes
+        ++ (if is_negative offset then hyphen else plus_sign) ∷ offset_size_text (unsigned_abs offset) }
 {
     let size = offset.unsigned_abs();
-    let sign = if offset < 0 { b'-' } else { b'+' };
-    let [h1, h2] = two_digit_text((size / 3600) as u8);
-    let [m1, m2] = two_digit_text((size / 60 % 60) as u8);
-    [sign, h1, h2, b':', m1, m2]
+    text.push(if offset < 0 { '-' } else { '+' });
+    text.push_str(two_digit_text((size / 3600) as u8));
+    text.push(':');
+    text.push_str(two_digit_text((size / 60 % 60) as u8));
 }

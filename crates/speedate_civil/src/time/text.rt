@@ -1,13 +1,11 @@
 //! The text of a time of day.
 
-ghost use Rattle.std.specs.Prelude.{◌≡◌, ◌≤◌, ◌∷◌, Some};
-ghost use Rattle.speedate_base.specs.Ascii.{full_stop};
-ghost use Rattle.speedate_base.specs.Digits.{six_digit_text};
+ghost use Rattle.std.specs.Prelude.{◌≡◌, ◌≤◌, Some};
 
-use crate::text::{ascii_text, push, six_digit_text, two_digit_text};
+use crate::text::{push_six_digits, two_digit_text};
 use crate::time::Time;
 use crate::time::offset::push_offset;
-use arrayvec::{ArrayString, ArrayVec};
+use arrayvec::ArrayString;
 use std::fmt;
 
 /// How many bytes the longest text of a time has.
@@ -15,7 +13,7 @@ const TEXT_MAX: usize = 21;
 
 impl Time {
     ghost use Rattle.std.specs.Prelude.{◌+◌, ◌++◌, ◌↔◌, Ok};
-    ghost use Rattle.arrayvec.specs.ArrayVec.{array_vec_len};
+    ghost use Rattle.arrayvec.specs.ArrayString.{array_string_len};
     ghost use Rattle.speedate_base.specs.Offset.{IsWholeMinutes};
     ghost use Rattle.speedate_base.specs.Requirement.{result_map};
     ghost use Rattle.speedate_base.specs.declared.config.TimeConfig.{TimeConfig};
@@ -39,44 +37,39 @@ impl Time {
         ensures distinct { IsWholeMinutes self.now.tz_offset → (other : Time) → IsWholeMinutes other.tz_offset
             → (result.bytes ≡ time_text (parts other)) ↔ (parts self.now ≡ parts other) }
     {
-        let mut bytes: ArrayVec<u8, TEXT_MAX> = ArrayVec::new();
-        self.push_onto(&mut bytes);
-        ascii_text(&bytes)
+        let mut text = ArrayString::new();
+        self.push_onto(&mut text);
+        text
     }
 
-    /// Appends the bytes of the canonical text.
-    #[inline]
-    pub(crate) fn push_onto<const LENGTH: usize>(&self, bytes: &mut ArrayVec<u8, LENGTH>)
-        requires room { array_vec_len bytes.old + TEXT_MAX ≤ LENGTH }
-        ensures text { bytes.new.items ≡ bytes.old.items ++ time_text (parts self.now) }
+    /// Appends the canonical text, as [`Time::to_text`] gives it, for which there must be room for 21
+    /// bytes: `at 12:13:14Z` where it is appended to `at `.
+    #[inline(always)]
+    pub fn push_onto<const LENGTH: usize>(&self, text: &mut ArrayString<LENGTH>)
+        requires room { array_string_len text.old + TEXT_MAX ≤ LENGTH }
+        ensures text { text.new.bytes ≡ text.old.bytes ++ time_text (parts self.now) }
     {
-        push(&self.clock_text(), bytes);
+        self.push_clock(text);
         if self.microsecond != 0 {
-            push(&fraction_text(self.microsecond), bytes);
+            text.push('.');
+            push_six_digits(self.microsecond, text);
         }
-        push_offset(self.tz_offset, bytes);
+        push_offset(self.tz_offset, text);
     }
 
-    /// The hour, minute and second in the canonical text.
-    #[inline]
-    fn clock_text(&self) -> [u8; 8]
-        ensures { result ≡ clock_text (parts self.now) }
+    /// Appends the hour, minute and second of the canonical text.
+    #[inline(always)]
+    fn push_clock<const LENGTH: usize>(&self, text: &mut ArrayString<LENGTH>)
+        requires room { array_string_len text.old + 8 ≤ LENGTH }
+        ensures text { text.new.bytes ≡ text.old.bytes ++ clock_text (parts self.now) }
+        ensures len { array_string_len text.new ≡ array_string_len text.old + 8 }
     {
-        let [h1, h2] = two_digit_text(self.hour);
-        let [m1, m2] = two_digit_text(self.minute);
-        let [s1, s2] = two_digit_text(self.second);
-        [h1, h2, b':', m1, m2, b':', s1, s2]
+        text.push_str(two_digit_text(self.hour));
+        text.push(':');
+        text.push_str(two_digit_text(self.minute));
+        text.push(':');
+        text.push_str(two_digit_text(self.second));
     }
-}
-
-/// A point and the six digits of a microsecond.
-#[inline]
-fn fraction_text(microsecond: u32) -> [u8; 7]
-    requires { microsecond ≤ 999999 }
-    ensures { result ≡ full_stop ∷ six_digit_text microsecond }
-{
-    let [f1, f2, f3, f4, f5, f6] = six_digit_text(microsecond);
-    [b'.', f1, f2, f3, f4, f5, f6]
 }
 
 impl fmt::Display for Time {

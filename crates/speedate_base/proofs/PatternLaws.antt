@@ -1,0 +1,44 @@
+-- What is known of bytes that are as a pattern has them.
+use Rattle.std.specs.Prelude.{◌≡◌, ℕ, zero, suc, ◌+◌, ◌≤◌, Bool, true, false, if◌then◌else◌, List, [], ◌∷◌, length, refl}
+use Rattle.std.proofs.Common.{arith}
+use Rattle.std.proofs.lemmas.Bool.Decides.{nat_tests}
+use Rattle.speedate_base.specs.Pattern.{fits_byte, fit_length}
+
+-- a list of eight is made of eight
+pub by_eight : (P : List ℕ → Type 0) → ((a b c d e f g h : ℕ) → P (a ∷ b ∷ c ∷ d ∷ e ∷ f ∷ g ∷ h ∷ [])) → (bytes : List ℕ) → length bytes ≡ 8 → P bytes
+by_eight P each [] long = absurd (omega arith)
+by_eight P each (a ∷ []) long = absurd (omega arith)
+by_eight P each (a ∷ b ∷ []) long = absurd (omega arith)
+by_eight P each (a ∷ b ∷ c ∷ []) long = absurd (omega arith)
+by_eight P each (a ∷ b ∷ c ∷ d ∷ []) long = absurd (omega arith)
+by_eight P each (a ∷ b ∷ c ∷ d ∷ e ∷ []) long = absurd (omega arith)
+by_eight P each (a ∷ b ∷ c ∷ d ∷ e ∷ f ∷ []) long = absurd (omega arith)
+by_eight P each (a ∷ b ∷ c ∷ d ∷ e ∷ f ∷ g ∷ []) long = absurd (omega arith)
+by_eight P each (a ∷ b ∷ c ∷ d ∷ e ∷ f ∷ g ∷ h ∷ []) long = each a b c d e f g h
+by_eight P each (a ∷ b ∷ c ∷ d ∷ e ∷ f ∷ g ∷ h ∷ i ∷ more) long = absurd (omega arith)
+
+-- no more bytes fit than the pattern has
+pub fit_length-le : (forms lanes : List ℕ) → fit_length forms lanes ≤ length forms
+fit_length-le [] lanes = omega arith
+fit_length-le (form ∷ forms) [] = omega arith
+fit_length-le (form ∷ forms) (byte ∷ bytes) = grind (arith, nat_tests, fit_length-le forms bytes)
+
+-- so many bytes, from the first on, are as the pattern has them
+abbrev pub AllFit : ℕ → List ℕ → List ℕ → Type 0
+AllFit zero forms bytes = Unit {0}
+AllFit (suc count) [] bytes = ⊥
+AllFit (suc count) (form ∷ forms) [] = ⊥
+AllFit (suc count) (form ∷ forms) (byte ∷ bytes) = (fits_byte form byte ≡ true) × AllFit count forms bytes
+
+first-fits : (count rest : ℕ) (test : Bool) → suc count ≤ (if test then 1 + rest else 0) → (test ≡ true) × (count ≤ rest)
+first-fits count rest true enough = (refl, omega arith)
+first-fits count rest false enough = absurd (omega arith)
+
+-- where so many bytes fit, each of them does
+pub fit_length-all : (count : ℕ) (forms bytes : List ℕ) → count ≤ fit_length forms bytes → AllFit count forms bytes
+fit_length-all zero forms bytes enough = tt
+fit_length-all (suc count) [] bytes enough = absurd (omega arith)
+fit_length-all (suc count) (form ∷ forms) [] enough = absurd (omega arith)
+fit_length-all (suc count) (form ∷ forms) (byte ∷ bytes) enough =
+    let first = first-fits count (fit_length forms bytes) (fits_byte form byte) enough in
+    (first.0, fit_length-all count forms bytes first.1)
