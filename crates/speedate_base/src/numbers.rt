@@ -13,7 +13,7 @@ use digits::spelled_number;
 pub use digits::{DigitRun, digit_run, run_end};
 pub use lanes::{LANES, eight_bytes, fitting, pairs};
 pub use number::{Decimal, IntFloat};
-pub use places::{byte_at, four_digits, two_digits, two_digits_there};
+pub use places::{byte_at, two_digits, two_digits_there};
 
 /// The whole number that a text is, or `None`: -12 for `"-012"`.
 ///
@@ -47,7 +47,7 @@ pub fn int_parse_bytes(bytes: &[u8]) -> Option<i64>
 /// A decimal is one optional `+` or `-`, digits, one `.` and digits, with a digit on one side at
 /// least: the decimal of `"-1.50"` has the digits `1` and `50`. Its slices are the text's own. There
 /// is no exponent. A whole number that does not fit an `i64` is `Err`, as is every other text.
-#[inline]
+#[inline(always)]
 pub fn float_parse_str(text: &str) -> IntFloat<'_>
     ensures answer { number_of result ≡ number_answer text.now }
     ensures joined { JoinsToFloat result text.now }
@@ -56,7 +56,7 @@ pub fn float_parse_str(text: &str) -> IntFloat<'_>
 }
 
 /// The number that the bytes are, as [`float_parse_str`] has it: `IntFloat::Int(12)` for `b"12"`.
-#[inline]
+#[inline(always)]
 pub fn float_parse_bytes(bytes: &[u8]) -> IntFloat<'_>
     ensures answer { number_of result ≡ number_answer bytes.now }
     ensures joined { JoinsToFloat result bytes.now }
@@ -76,7 +76,7 @@ pub fn float_parse_bytes(bytes: &[u8]) -> IntFloat<'_>
 }
 
 /// The decimal whose digits begin at `start`, and whose point is at `point` if there is one.
-#[inline]
+#[inline(always)]
 fn decimal(bytes: &[u8], negative: bool, start: usize, point: usize) -> IntFloat<'_>
     requires negative { negative ≡ has_minus bytes.now }
     requires start { start ≡ sign_length bytes.now }

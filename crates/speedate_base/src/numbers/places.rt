@@ -2,7 +2,7 @@
 
 ghost use Rattle.std.specs.Prelude.{◌≡◌, ◌+◌, ◌≤◌, IfSome, Some, None, length, slice_index, if◌then◌else◌};
 ghost use Rattle.std.specs.Char.{is_ascii_digit};
-ghost use Rattle.speedate_base.specs.Digits.{digit_value, two_digits_at, two_digit_value, four_digits_at, four_digit_value};
+ghost use Rattle.speedate_base.specs.Digits.{digit_value, two_digits_at, two_digit_value};
 
 /// The number that the two digits from `place` on spell, or `None` where a byte of them is no
 /// digit: 7 for `b"07"` at place 0.
@@ -28,19 +28,6 @@ pub fn two_digits_there(bytes: &[u8], place: usize) -> Option<u8>
         return None;
     }
     two_digits(bytes, place)
-}
-
-/// The number that the four digits from `place` on spell, or `None` where a byte of them is no
-/// digit: 2024 for `b"2024"` at place 0.
-#[inline]
-pub fn four_digits(bytes: &[u8], place: usize) -> Option<u16>
-    requires { place + 4 ≤ length bytes.now }
-    ensures value { result ≡ (if four_digits_at bytes.now place
-        then Some (four_digit_value bytes.now place) else None) }
-{
-    let hundreds = two_digits(bytes, place)?;
-    let rest = two_digits(bytes, place + 2)?;
-    Some(100 * u16::from(hundreds) + u16::from(rest))
 }
 
 /// What a digit stands for, or `None` where the byte is no digit.

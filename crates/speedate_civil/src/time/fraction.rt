@@ -1,6 +1,6 @@
 //! The fraction of a second.
 
-ghost use Rattle.std.specs.Prelude.{◌≡◌, ◌+◌, ◌<◌, ◌≤◌, length, replicate, take};
+ghost use Rattle.std.specs.Prelude.{◌≡◌, ◌+◌, ◌<◌, ◌≤◌, length, drop, replicate, take};
 ghost use Rattle.speedate_base.specs.Ascii.{digit_zero};
 ghost use Rattle.speedate_base.specs.DigitRuns.{run_length, run_digits, fraction_value};
 ghost use Rattle.speedate_base.specs.Pattern.{fit_length};
@@ -18,6 +18,19 @@ pub(crate) struct Fraction {
 }
 
 impl Fraction {
+    /// The fraction that follows the point of a clock whose minute begins at `minute`: three digits
+    /// that mean 120,000 microseconds for `b"12:13:14.120Z"` at place 3.
+    #[inline(always)]
+    pub(crate) fn after_second(bytes: &[u8], minute: usize) -> Self
+        requires { minute + 6 ≤ length bytes.now }
+        ensures length { result.length ≡ run_length (drop minute bytes.now) 6 }
+        ensures microsecond { result.microsecond ≡ fraction_value 6 (run_digits (drop minute bytes.now) 6) }
+        ensures within { minute + 6 + result.length ≤ length bytes.now }
+        ensures small { result.microsecond < 1000000 }
+    {
+        Self::read(bytes, minute + 6)
+    }
+
     /// The fraction whose digits begin at `place`: three digits that mean 120,000 microseconds for
     /// `b".120Z"` at place 1. Digits past the sixth are counted only.
     #[inline(always)]

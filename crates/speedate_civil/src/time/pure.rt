@@ -1,13 +1,15 @@
 //! Times of day without their offsets, at the front of a text.
 
-ghost use Rattle.std.specs.Prelude.{◌≡◌, ◌+◌, ◌≤◌, IfOk, IsTrue, length, drop};
+ghost use Rattle.std.specs.Prelude.{◌≡◌, ◌+◌, ◌≤◌, IfOk, IsTrue, length, drop, codes};
 ghost use Rattle.speedate_base.specs.Digits.{two_digit_value};
-ghost use Rattle.speedate_civil.specs.ClockText.{has_point};
+ghost use Rattle.speedate_base.specs.Pattern.{fit_length};
+ghost use Rattle.speedate_civil.specs.ClockText.{has_point, second_there};
 
 use crate::time::fraction::Fraction;
 use speedate_base::config::{MicrosecondsPrecisionOverflowBehavior, takes_digits};
 use speedate_base::faults::ParseError;
-use speedate_base::numbers::{byte_at, two_digits, two_digits_there};
+use speedate_base::numbers::{LANES, byte_at, eight_bytes, fitting, pairs, two_digits_there};
+use std::simd::prelude::*;
 
 /// A time of day that was read at the front of a text, without what follows it there.
 #[derive(Clone, Copy, Debug, PartialEq, Eq)]
@@ -51,16 +53,21 @@ impl PureTime {
         if text.len() < 5 {
             return Err(ParseError::TooShort);
         }
-        let hour = two_digits(text, 0).ok_or(ParseError::InvalidCharHour)?;
-        if text[2] != b':' {
-            return Err(ParseError::InvalidCharTimeSep);
+        let front = eight_bytes(text, 0);
+        let form = u8x8::from_array(*b"00:00:00");
+        let fits = fitting(front, form);
+        if fits < 5 {
+            return Err(match fits {
+                0 | 1 => ParseError::InvalidCharHour,
+                2 => ParseError::InvalidCharTimeSep,
+                _ => ParseError::InvalidCharMinute,
+            });
         }
-        let rest = &text[3..];
-        let minute = two_digits(rest, 0).ok_or(ParseError::InvalidCharMinute)?;
+        let [hour, _, _, minute, _, _, _, _] = pairs(front, form, 5);
         if hour > 23 {
             return Err(ParseError::OutOfRangeHour);
         }
-        let time = Self::after_minute(minute, rest, behavior)?;
+        let time = Self::after_minute(minute, second_there(front, fits), text, 3, behavior)?;
         Ok(PureTime {
             hour,
             minute,
@@ -86,27 +93,37 @@ impl PureTime {
     {
         let rest = &bytes[place..];
         let minute = two_digits_there(rest, 0).ok_or(ParseError::InvalidCharMinute)?;
-        Self::after_minute(minute, rest, behavior)
+        let second = if byte_at(rest, 2) == b':' {
+            Some(two_digits_there(rest, 3))
+        } else {
+            None
+        };
+        Self::after_minute(minute, second, rest, 0, behavior)
     }
 
-    /// Tests the range of the minute with which `rest` begins, and reads the second and the
-    /// fraction that follow it.
+    /// Tests the range of the minute that stands at `place`, and of the second, and reads the fraction
+    /// that follows. The second is there where a `:` follows the minute, and a number where two digits
+    /// follow that.
     #[inline(always)]
     fn after_minute(
         minute: u8,
-        rest: &[u8],
+        second: Option<Option<u8>>,
+        bytes: &[u8],
+        place: usize,
         behavior: MicrosecondsPrecisionOverflowBehavior,
     ) -> Result<Self, ParseError>
-        requires minute { minute ≡ two_digit_value rest.now 0 }
-        requires within { 2 ≤ length rest.now }
-        ensures answer { result_map parts result ≡ clock_answer behavior rest.now }
+        requires place { place + 2 ≤ length bytes.now }
+        requires minute { minute ≡ two_digit_value (drop place bytes.now) 0 }
+        requires second { second ≡ second_there (drop place bytes.now) }
+        ensures answer { result_map parts result ≡ clock_answer behavior (drop place bytes.now) }
         ensures minute { IfOk result (λ time. time.minute ≡ minute) }
-        ensures within { IfOk result (λ time. time.size ≤ length rest.now) }
+        ensures within { IfOk result (λ time. place + time.size ≤ length bytes.now) }
     {
         if minute > 59 {
             return Err(ParseError::OutOfRangeMinute);
         }
-        if byte_at(rest, 2) != b':' {
+        let rest = &bytes[place..];
+        let Some(second) = second else {
             return Ok(PureTime {
                 hour: 0,
                 minute,
@@ -114,8 +131,10 @@ impl PureTime {
                 microsecond: 0,
                 size: 2,
             });
-        }
-        let second = two_digits_there(rest, 3).ok_or(ParseError::InvalidCharSecond)?;
+        };
+        let Some(second) = second else {
+            return Err(ParseError::InvalidCharSecond);
+        };
         if second > 59 {
             return Err(ParseError::OutOfRangeSecond);
         }
@@ -128,7 +147,7 @@ impl PureTime {
                 size: 5,
             });
         }
-        let fraction = Fraction::read(rest, 6);
+        let fraction = Fraction::after_second(bytes, place);
         if fraction.length == 0 {
             return Err(ParseError::SecondFractionMissing);
         }
@@ -142,6 +161,24 @@ impl PureTime {
             microsecond: fraction.microsecond,
             size: 6 + fraction.length,
         })
+    }
+}
+
+/// The second in the front of a text, as [`PureTime`] reads it, whose first `fits` bytes are as in
+/// `00:00:00`.
+#[inline(always)]
+fn second_there(front: u8x8, fits: usize) -> Option<Option<u8>>
+    requires fits { fits ≡ fit_length (codes "00:00:00") front }
+    requires minute { 5 ≤ fits }
+    ensures second { result ≡ second_there (drop 3 front) }
+{
+    match fits {
+        5 => None,
+        6 | 7 => Some(None),
+        _ => {
+            let [_, _, _, _, _, _, second, _] = pairs(front, u8x8::from_array(*b"00:00:00"), LANES);
+            Some(Some(second))
+        }
     }
 }
 

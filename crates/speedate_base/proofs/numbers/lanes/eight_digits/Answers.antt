@@ -1,10 +1,6 @@
-use Rattle.std.proofs.Common.{◌≡◌, ◌∙◌, ap, sym, ℕ, ◌+◌, ◌-◌, ◌*◌, ◌<◌, ◌≤◌, true, List, [], ◌∷◌, length, get_or, refl, arith, Fits, w64}
-use Rattle.std.specs.Char.{is_ascii_digit}
-use Rattle.std.specs.List.{list_all}
-use Rattle.std.proofs.lemmas.Bool.{and_parts}
-use Rattle.speedate_base.specs.Digits.{digit_value}
+use Rattle.std.proofs.Common.{◌≡◌, ◌∙◌, ap, ℕ, ◌+◌, ◌*◌, List, [], ◌∷◌, length, get_or, arith}
 use Rattle.speedate_base.specs.DigitRuns.{digits_value}
-use Rattle.speedate_base.specs.Pattern.{fit_length, fit_digits, neighbours}
+use Rattle.speedate_base.specs.Pattern.{fit_digits, neighbours}
 use Rattle.speedate_base.specs.DigitRunLaws.{digits_value-fits}
 use Rattle.speedate_base.proofs.PatternLaws.{by_eight}
 use Rattle.speedate_base.proofs.numbers.lanes.eight_digits.Goals as goal

@@ -1,14 +1,14 @@
-use Rattle.std.proofs.Common.{◌≡◌, ◌∙◌, ap, ap₂, sym, subst, ℕ, suc, ◌+◌, ◌-◌, ◌%◌, ◌^◌, ◌<◌, eqb, ltb, Bool, true, false, not, cond, min, List, [], ◌∷◌, map, length, replicate, refl, inl, inr, arith, Fits, w8}
+use Rattle.std.proofs.Common.{◌≡◌, ◌∙◌, ap, ap₂, sym, subst, ℕ, ◌+◌, ◌-◌, ◌%◌, ◌<◌, eqb, ltb, Bool, true, false, not, cond, min, List, [], ◌∷◌, map, length, replicate, refl, inl, inr, arith, Fits, w8}
 use Rattle.std.specs.Char.{is_ascii_digit}
 use Rattle.std.specs.List.{prefix_len}
-use Rattle.std.proofs.lemmas.Bool.{cases_lt, eqb-true, eq-eqb, ne_eqb}
+use Rattle.std.proofs.lemmas.Bool.{cases_lt, eqb-true}
 use Rattle.std.proofs.lemmas.Bool.Decides.{nat_tests}
 use Rattle.std.proofs.lemmas.List.{length-map}
 use Rattle.std.proofs.lemmas.List.Sums.{prefix_len-le-length}
 use Rattle.std.proofs.lemmas.Simd.{zip2_splat, tops_compared, length-zip2, mask_l-mod, leading_from_mask_l, trailing_mask_l}
 use lib.Lanes.{Each1, zip2, mask_l, sel_l, top}
 use lib.Count.{count_trailing_zeros}
-use Rattle.speedate_base.specs.Pattern.{fits_byte, fit_length}
+use Rattle.speedate_base.specs.Pattern.{fit_length}
 use Rattle.speedate_base.proofs.numbers.lanes.fitting.Goals as goal
 
 -- how far above the pattern's byte a lane may lie: a digit lies up to nine above `0`, any other byte is the pattern's own

@@ -7,7 +7,7 @@ use Rattle.speedate_base.specs.Digits.{four_digits_at, four_digit_value, two_dig
 use Rattle.speedate_base.specs.DigitRunLaws.{digit_value-le}
 use Rattle.speedate_base.specs.Pattern.{eight_at, fit_length, fit_digits, neighbours}
 use Rattle.speedate_base.specs.RequirementLaws.{meets-all}
-use Rattle.speedate_base.proofs.PatternLaws.{AllFit, fit_length-all}
+use Rattle.speedate_base.proofs.PatternLaws.{fit_length-all}
 use Rattle.speedate_civil.specs.Calendar.{Ymd, month_length}
 use Rattle.speedate_civil.specs.DateText.{date_table, date_numbers, date_front}
 use Rattle.speedate_civil.proofs.date.Date.parse_front.Goals as goal

@@ -1,13 +1,11 @@
-use Rattle.std.proofs.Common.{◌≡◌, ◌∙◌, ap, ap₂, sym, subst, refl, ℕ, zero, suc, ◌+◌, ◌<◌, ◌≤◌, Bool, true, false, List, [], ◌∷◌, length, get_or, take, drop, min, replicate, add-zero, arith}
+use Rattle.std.proofs.Common.{◌≡◌, ◌∙◌, ap, sym, refl, ℕ, zero, suc, ◌+◌, ◌≤◌, Bool, true, false, List, [], ◌∷◌, take, drop, min, replicate, add-zero, arith}
 use Rattle.std.specs.Prelude.{if◌then◌else◌}
 use Rattle.std.specs.Char.{is_ascii_digit}
 use Rattle.std.specs.List.{prefix_len}
 use Rattle.std.proofs.lemmas.List.{get_or-drop, take-take}
-use Rattle.std.proofs.lemmas.Bool.Decides.{nat_tests}
 use Rattle.speedate_base.specs.DigitRuns.{run_length, run_digits, fraction_value}
 use Rattle.speedate_base.specs.DigitRunLaws.{fraction_value-take}
 use Rattle.speedate_base.specs.Pattern.{eight_at, fit_length}
-use Rattle.speedate_base.proofs.PatternLaws.{by_eight, fit_length-le}
 use Rattle.speedate_civil.proofs.time.fraction.Fraction.read.Goals as goal
 
 -- the first bytes of a text, so many of them, and 0 where it has none
