@@ -133,12 +133,13 @@ impl Duration {
     /// Reads a duration from the bytes of a text, as [`Duration::parse_str`] does, but for the
     /// digits of a clock's second past the sixth and for the order of quantities. With the behavior
     /// `Truncate` those digits are dropped, so that `b"00:00:01.1234567"` is a second and 123,456
-    /// microseconds; to an ISO 8601 duration it does not matter. With the order `Strict` there is one fault more, `DurationUnitOrder` behind a
-    /// `P`: a quantity whose unit does not come later than that of the quantity before it on its side
-    /// of the `T`, in the order `Y`, `M`, `W`, `D` and behind the `T` `H`, `M`, `S`, as in `b"P1D1Y"`.
-    /// It is looked for behind the fault of a letter that is no unit and in front of sums that are
-    /// too large. What `Strict` accepts has the value that `Lax` gives it, and days and clocks are
-    /// read alike in both. The offset of the configuration does not matter.
+    /// microseconds; to an ISO 8601 duration it does not matter. With the order `Strict` there is one
+    /// fault more, `DurationUnitOrder` after a `P`: a quantity whose unit does not come later than
+    /// that of the quantity before it on its side of the `T`, in the order `Y`, `M`, `W`, `D` and
+    /// after the `T` `H`, `M`, `S`, as in `b"P1D1Y"`. It is looked for after the fault of a letter
+    /// that is no unit and before sums that are too large. What `Strict` accepts has the value that
+    /// `Lax` gives it, and days and clocks are read alike in both. The offset of the configuration
+    /// does not matter.
     ///
     /// With the order `Lax` two neighbouring quantities of an ISO 8601 duration on one side of its
     /// `T`, both without a fraction sign, can be exchanged: `b"P1DT2H3M"` and `b"P1DT3M2H"` have one

@@ -147,7 +147,7 @@ fn midnights(rt: HostRuntime) {
 
 /// The texts and their dates are to have this order.
 fn expect_order<R: Abort>(rt: &R, first: &str, second: &str, order: Ordering) {
-    assert_eq!(rt; first.cmp(second), order);
+    assert_eq!(rt; first.cmp(second), order, "{first}");
     let dates = (date_of(rt, first), date_of(rt, second));
     assert_eq!(rt; dates.0.cmp(&dates.1), order, "{first}");
     assert_eq!(rt; dates.0.partial_cmp(&dates.1), Some(order), "{first}");
@@ -164,17 +164,19 @@ fn sorts_as_texts(rt: HostRuntime) {
 
 #[test]
 fn each_day_of_the_calendar(rt: HostRuntime) -> Result<(), Fail> {
-    let mut date = date_of(&rt, "0000-01-01");
-    let mut civil = civil::Date::new(0, 1, 1)?;
-    for number in 1..3_652_425 {
-        date = date.next_day().expect(&rt, "a next day");
-        civil = civil.tomorrow()?;
-        assert_eq!(rt; Date::from_day_number(number), Some(date));
-        assert_eq!(rt; i32::from(date.year), i32::from(civil.year()), "{date}");
-        assert_eq!(rt; i32::from(date.month), i32::from(civil.month()), "{date}");
-        assert_eq!(rt; i32::from(date.day), i32::from(civil.day()), "{date}");
+    let mut next = Some(date_of(&rt, "0000-01-01"));
+    let mut civil = civil::Date::new(0, 1, 1);
+    for number in 0..3_652_425 {
+        let date = next.expect(&rt, "a date");
+        let day = civil?;
+        assert_eq!(rt; Date::from_day_number(number), Some(date), "{number}");
+        assert_eq!(rt; i32::from(date.year), i32::from(day.year()), "{date}");
+        assert_eq!(rt; i32::from(date.month), i32::from(day.month()), "{date}");
+        assert_eq!(rt; i32::from(date.day), i32::from(day.day()), "{date}");
+        next = date.next_day();
+        civil = day.tomorrow();
     }
-    assert_eq!(rt; date.next_day(), None);
-    assert!(rt; civil.tomorrow().is_err());
+    assert_eq!(rt; next, None);
+    assert!(rt; civil.is_err());
     Ok(())
 }

@@ -152,6 +152,7 @@ fn units_by_their_names(rt: HostRuntime) {
         ("ns", Err(ConfigError::UnknownTimestampUnitString)),
         ("\u{b5}s", Err(ConfigError::UnknownTimestampUnitString)),
         ("sec", Err(ConfigError::UnknownTimestampUnitString)),
+        ("x", Err(ConfigError::UnknownTimestampUnitString)),
         ("infe", Err(ConfigError::UnknownTimestampUnitString)),
         ("infers", Err(ConfigError::UnknownTimestampUnitString)),
         ("error", Err(ConfigError::UnknownTimestampUnitString)),

@@ -1,21 +1,13 @@
 //! Date-times from texts and from timestamps, and back.
 
-use crate::shown::{expect_parsed, expect_shown};
+use crate::shown::{expect_answer, expect_parsed, expect_shown};
 use arrayvec::{ArrayString, ArrayVec};
 use speedate::{
-    Date, DateTime, DateTimeConfig, MicrosecondsPrecisionOverflowBehavior, ParseError, Time,
-    TimeConfig, TimestampUnit,
+    Date, DateTime, DateTimeConfig, MicrosecondsPrecisionOverflowBehavior, Time, TimeConfig,
+    TimestampUnit,
 };
 use std::process::Abort;
 use std::test::Fail;
-
-/// The answer is to be the date-time that prints as the text, or the fault of that name.
-fn expect_answer<R: Abort>(rt: &R, answer: Result<DateTime, ParseError>, want: &str) {
-    match answer {
-        Ok(value) => assert_eq!(rt; value.to_text().as_str(), want),
-        Err(fault) => assert_eq!(rt; fault.name(), want),
-    }
-}
 
 /// Reads each text by the table alone and by the readers that take numbers too, with the same answer
 /// beside it.
@@ -30,12 +22,22 @@ fn expect_each<R: AllocGlobal + Abort>(rt: &R, cases: &[(&str, &str)]) -> Result
             Err(fault) => assert_eq!(rt; fault.name(), *want, "{text}"),
         }
         let bytes = text.as_bytes();
-        expect_answer(rt, DateTime::parse_bytes_rfc3339(bytes), want);
-        expect_answer(rt, DateTime::parse_str(text), want);
-        expect_answer(rt, DateTime::parse_bytes(bytes), want);
+        expect_answer(rt, DateTime::parse_bytes_rfc3339(bytes), text, want);
+        expect_answer(rt, DateTime::parse_str(text), text, want);
+        expect_answer(rt, DateTime::parse_bytes(bytes), text, want);
         let config = DateTimeConfig::default();
-        expect_answer(rt, DateTime::parse_str_with_config(text, &config), want);
-        expect_answer(rt, DateTime::parse_bytes_with_config(bytes, &config), want);
+        expect_answer(
+            rt,
+            DateTime::parse_str_with_config(text, &config),
+            text,
+            want,
+        );
+        expect_answer(
+            rt,
+            DateTime::parse_bytes_with_config(bytes, &config),
+            text,
+            want,
+        );
     }
     Ok(())
 }
@@ -124,9 +126,14 @@ fn refuses_by_the_first_fault(rt: HostRuntime) -> Result<(), Fail> {
 #[test]
 fn reads_bytes_that_are_no_text(rt: HostRuntime) {
     let cut = b"2020-01-01T12:13:14.123456\xe2\x88";
-    expect_answer(&rt, DateTime::parse_bytes(cut), "invalid_char_tz_sign");
+    expect_answer(&rt, DateTime::parse_bytes(cut), cut, "invalid_char_tz_sign");
     let bytes = b"\xff\xff\xff\xff\xff\xff\xff\xff\xff\xff";
-    expect_answer(&rt, DateTime::parse_bytes(bytes), "invalid_char_year");
+    expect_answer(
+        &rt,
+        DateTime::parse_bytes(bytes),
+        bytes,
+        "invalid_char_year",
+    );
 }
 
 fn truncating() -> TimeConfig {
@@ -142,10 +149,16 @@ fn digits_past_the_sixth_are_dropped_when_asked(rt: HostRuntime) {
     expect_answer(
         &rt,
         DateTime::parse_bytes_rfc3339_with_config(text, &truncating()),
+        text,
         want,
     );
     let config = DateTimeConfig::builder().time_config(truncating()).build();
-    expect_answer(&rt, DateTime::parse_bytes_with_config(text, &config), want);
+    expect_answer(
+        &rt,
+        DateTime::parse_bytes_with_config(text, &config),
+        text,
+        want,
+    );
 }
 
 /// The configuration of a unit and no offset.
@@ -185,6 +198,12 @@ fn date_times_of_timestamps(rt: HostRuntime) {
             20_000_000_000,
             0,
             "2603-10-11T11:33:20",
+        ),
+        (
+            TimestampUnit::Infer,
+            -20_000_000_000,
+            0,
+            "1336-03-23T12:26:40",
         ),
         (
             TimestampUnit::Infer,
@@ -266,13 +285,20 @@ fn date_times_of_timestamps(rt: HostRuntime) {
         ),
     ];
     for (unit, timestamp, microsecond, want) in cases {
+        let row = (timestamp, microsecond);
         expect_answer(
             &rt,
             DateTime::from_timestamp_with_config(timestamp, microsecond, &in_unit(unit)),
+            &row,
             want,
         );
         if unit == TimestampUnit::Infer {
-            expect_answer(&rt, DateTime::from_timestamp(timestamp, microsecond), want);
+            expect_answer(
+                &rt,
+                DateTime::from_timestamp(timestamp, microsecond),
+                &row,
+                want,
+            );
         }
     }
 }
@@ -360,10 +386,15 @@ fn timestamps_as_texts(rt: HostRuntime) {
         ("-123456789x", "invalid_char_year"),
     ];
     for (text, want) in cases {
-        expect_answer(&rt, DateTime::parse_str(text), want);
-        expect_answer(&rt, DateTime::parse_bytes(text.as_bytes()), want);
+        expect_answer(&rt, DateTime::parse_str(text), &text, want);
+        expect_answer(&rt, DateTime::parse_bytes(text.as_bytes()), &text, want);
         let inferred = DateTimeConfig::default();
-        expect_answer(&rt, DateTime::parse_str_with_config(text, &inferred), want);
+        expect_answer(
+            &rt,
+            DateTime::parse_str_with_config(text, &inferred),
+            &text,
+            want,
+        );
     }
     for (text, want) in [
         ("1654646404", "invalid_char_date_sep"),
@@ -371,7 +402,7 @@ fn timestamps_as_texts(rt: HostRuntime) {
         ("-1654646404", "invalid_char_year"),
         ("0", "too_short"),
     ] {
-        expect_answer(&rt, DateTime::parse_str_rfc3339(text), want);
+        expect_answer(&rt, DateTime::parse_str_rfc3339(text), &text, want);
     }
     let milliseconds = DateTimeConfig::builder()
         .timestamp_unit(TimestampUnit::Millisecond)
@@ -380,6 +411,7 @@ fn timestamps_as_texts(rt: HostRuntime) {
     expect_answer(
         &rt,
         DateTime::parse_str_with_config("1641039194000", &milliseconds),
+        &"1641039194000",
         "2022-01-01T12:13:14Z",
     );
     let east = DateTimeConfig::builder()
@@ -392,11 +424,13 @@ fn timestamps_as_texts(rt: HostRuntime) {
     expect_answer(
         &rt,
         DateTime::parse_str_with_config("1654646404", &east),
+        &"1654646404",
         "2022-06-08T00:00:04+01:00",
     );
     expect_answer(
         &rt,
         DateTime::parse_str_with_config("2022-01-01T12:13:14", &east),
+        &"2022-01-01T12:13:14",
         "2022-01-01T12:13:14",
     );
 }

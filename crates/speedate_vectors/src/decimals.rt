@@ -5,6 +5,7 @@ ghost use Rattle.speedate.specs.Offset.{IsOffset};
 mod microseconds;
 mod rounding;
 
+use crate::shown::expect_answer;
 use crate::texts::repeated;
 use speedate::{
     DateTime, DateTimeConfig, IntFloat, IsoOrder, MicrosecondsPrecisionOverflowBehavior,
@@ -37,14 +38,6 @@ fn config(unit: TimestampUnit, behavior: MicrosecondsPrecisionOverflowBehavior) 
     }
 }
 
-/// The answer is to be the date-time that prints as the text, or the fault of that name.
-fn expect_answer<R: Abort>(rt: &R, answer: Result<DateTime, ParseError>, text: &[u8], want: &str) {
-    match answer {
-        Ok(value) => assert_eq!(rt; value.to_text().as_str(), want, "{text:?}"),
-        Err(fault) => assert_eq!(rt; fault.name(), want, "{text:?}"),
-    }
-}
-
 /// What the decimal that the bytes are gives.
 fn from_decimal(bytes: &[u8], config: &DateTimeConfig) -> Result<DateTime, ParseError> {
     match float_parse_bytes(bytes) {
@@ -64,12 +57,12 @@ fn expect_texts<R: Abort>(
     for (text, want) in cases {
         let bytes = text.as_bytes();
         let by_str = DateTime::parse_str_with_config(text, &config);
-        expect_answer(rt, by_str, bytes, want);
+        expect_answer(rt, by_str, text, want);
         let by_bytes = DateTime::parse_bytes_with_config(bytes, &config);
-        expect_answer(rt, by_bytes, bytes, want);
+        expect_answer(rt, by_bytes, text, want);
         if config == DateTimeConfig::default() {
-            expect_answer(rt, DateTime::parse_str(text), bytes, want);
-            expect_answer(rt, DateTime::parse_bytes(bytes), bytes, want);
+            expect_answer(rt, DateTime::parse_str(text), text, want);
+            expect_answer(rt, DateTime::parse_bytes(bytes), text, want);
         }
     }
 }
@@ -94,6 +87,7 @@ fn decimals_in_texts(rt: HostRuntime) {
             ("1654646404.1234567", "second_fraction_too_long"),
             ("1654646404.1234560", "second_fraction_too_long"),
             ("-1654646404.123456", "1917-07-26T23:59:55.876544"),
+            ("-15356304000.505050", "1483-05-18T23:59:59.494950"),
             ("1654646404123.456", "2022-06-08T00:00:04.123456"),
             ("1654646404123.4567", "millisecond_fraction_too_long"),
             ("1654646404123.0000", "millisecond_fraction_too_long"),
@@ -216,6 +210,7 @@ fn decimals_are_rounded(rt: HostRuntime) {
             ("-0.0000005000000001", "1969-12-31T23:59:59.999999"),
             ("0.9999995", "1970-01-01T00:00:01"),
             ("1689102037.5586429", "2023-07-11T19:00:37.558643"),
+            ("20000000000.0000001", "1970-08-20T11:33:20"),
             ("253402300799999.9994", "9999-12-31T23:59:59.999999"),
             ("253402300799999.9999", "date_too_large"),
             ("-62167219200000.0004", "0000-01-01T00:00:00"),
@@ -267,8 +262,8 @@ fn expect_with_offset<R: Abort>(rt: &R, offset: i32, text: &str, want: &str)
     };
     let bytes = text.as_bytes();
     let read = DateTime::parse_bytes_with_config(bytes, &config);
-    expect_answer(rt, read, bytes, want);
-    expect_answer(rt, from_decimal(bytes, &config), bytes, want);
+    expect_answer(rt, read, &text, want);
+    expect_answer(rt, from_decimal(bytes, &config), &text, want);
 }
 
 #[test]
@@ -288,13 +283,8 @@ fn decimals_get_the_offset(rt: HostRuntime) {
 fn expect_decimals<R: Abort>(rt: &R, unit: TimestampUnit, cases: &[(&str, &str)]) {
     for (text, want) in cases {
         let bytes = text.as_bytes();
-        expect_answer(rt, from_decimal(bytes, &config(unit, ERROR)), bytes, want);
-        expect_answer(
-            rt,
-            from_decimal(bytes, &config(unit, TRUNCATE)),
-            bytes,
-            want,
-        );
+        expect_answer(rt, from_decimal(bytes, &config(unit, ERROR)), text, want);
+        expect_answer(rt, from_decimal(bytes, &config(unit, TRUNCATE)), text, want);
     }
 }
 
@@ -334,7 +324,7 @@ fn expect_long<R: AllocGlobal + Abort>(
     for (front, byte, count, back, want) in cases {
         let text = repeated(rt.alloc(), front, *byte, *count, back.as_bytes())?;
         let answer = DateTime::parse_bytes_with_config(&text, config);
-        expect_answer(rt, answer, front.as_bytes(), want);
+        expect_answer(rt, answer, &(front, count, back), want);
     }
     Ok(())
 }

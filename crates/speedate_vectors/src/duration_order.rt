@@ -1,5 +1,6 @@
 //! The order of the quantities of ISO 8601 durations: texts in both orders.
 
+use crate::duration_texts::expect_read;
 use speedate::{Duration, IsoOrder, MicrosecondsPrecisionOverflowBehavior, TimeConfig};
 use std::process::Abort;
 use std::test::Fail;
@@ -20,18 +21,10 @@ fn config(order: IsoOrder, behavior: MicrosecondsPrecisionOverflowBehavior) -> T
     }
 }
 
-/// The text is to print as this one, or to be refused by the fault of that name.
-fn expect_answer<R: Abort>(rt: &R, text: &str, config: &TimeConfig, want: &str) {
-    match Duration::parse_bytes_with_config(text.as_bytes(), config) {
-        Ok(duration) => assert_eq!(rt; duration.to_text().as_str(), want, "{text}"),
-        Err(fault) => assert_eq!(rt; fault.name(), want, "{text}"),
-    }
-}
-
 /// Reads a text in one order, under both behaviors.
 fn expect_in<R: Abort>(rt: &R, order: IsoOrder, text: &str, want: &str) {
-    expect_answer(rt, text, &config(order, ERROR), want);
-    expect_answer(rt, text, &config(order, TRUNCATE), want);
+    expect_read(rt, text.as_bytes(), &config(order, ERROR), want);
+    expect_read(rt, text.as_bytes(), &config(order, TRUNCATE), want);
 }
 
 /// Reads each text in both orders, with the one answer beside it.
@@ -226,9 +219,14 @@ fn clocks_and_days_have_no_order(rt: HostRuntime) {
         ],
     );
     let strict = config(IsoOrder::Strict, ERROR);
-    expect_answer(&rt, "00:00:00.1234567", &strict, "second_fraction_too_long");
+    expect_read(
+        &rt,
+        b"00:00:00.1234567",
+        &strict,
+        "second_fraction_too_long",
+    );
     let strict = config(IsoOrder::Strict, TRUNCATE);
-    expect_answer(&rt, "00:00:00.1234567", &strict, "PT0.123456S");
+    expect_read(&rt, b"00:00:00.1234567", &strict, "PT0.123456S");
 }
 
 #[test]

@@ -180,15 +180,23 @@ fn one_without_an_offset_can_close_a_circle(rt: HostRuntime) {
 }
 
 #[test]
+fn one_without_an_offset_can_stand_between_equal_ones(rt: HostRuntime) {
+    let (first, between, last) = ("00:00:00-01:00", "00:30:00", "01:00:00Z");
+    expect_times(&rt, &[(0, first), (1, between)]);
+    expect_times(&rt, &[(0, between), (1, last)]);
+    expect_times(&rt, &[(0, first), (0, last)]);
+}
+
+#[test]
 fn equal_instants_need_not_be_equal_values(rt: HostRuntime) {
     let first = time_of(&rt, "12:00:00+01:00");
     let second = time_of(&rt, "11:00:00Z");
     assert_eq!(rt; first.cmp_instant(&second), Ordering::Equal);
-    assert!(rt; first != second);
+    assert!(rt; first != second, "{first} {second}");
     let first = date_time_of(&rt, "2022-01-02T01:00:00+03:00");
     let second = date_time_of(&rt, "2022-01-01T22:00:00Z");
     assert_eq!(rt; first.cmp_instant(&second), Ordering::Equal);
-    assert!(rt; first != second);
+    assert!(rt; first != second, "{first} {second}");
 }
 
 #[test]

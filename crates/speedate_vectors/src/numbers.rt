@@ -228,9 +228,13 @@ fn digits_beside_every_byte(rt: HostRuntime) {
 
 #[test]
 fn one_byte_among_zeros(rt: HostRuntime) {
+    let zeros = "000000000000000000000000";
+    assert_eq!(rt; int_parse_str(zeros), Some(0));
     for place in 0..24usize {
         let mut text = [b'0'; 24];
         text[place] = b'x';
+        let texts = str::from_utf8(&text);
+        assert_eq!(rt; texts.map(int_parse_str), Ok(None), "x at {place}");
         assert_eq!(rt; int_parse_bytes(&text), None, "x at {place}");
         assert!(rt; float_parse_bytes(&text).is_err(), "x at {place}");
     }

@@ -2,24 +2,8 @@
 
 ghost use Rattle.std.specs.Prelude.{◌≤◌};
 
+use crate::shown::expect_answer;
 use speedate::{Date, DateTime, Moment, ParseError, Time};
-use std::process::Abort;
-
-/// The answer is to be the time that prints as the text, or the fault of that name.
-fn expect_time<R: Abort>(rt: &R, answer: Result<Time, ParseError>, want: &str) {
-    match answer {
-        Ok(time) => assert_eq!(rt; time.to_text().as_str(), want),
-        Err(fault) => assert_eq!(rt; fault.name(), want),
-    }
-}
-
-/// The answer is to be the date-time that prints as the text, or the fault of that name.
-fn expect_date_time<R: Abort>(rt: &R, answer: Result<DateTime, ParseError>, want: &str) {
-    match answer {
-        Ok(value) => assert_eq!(rt; value.to_text().as_str(), want),
-        Err(fault) => assert_eq!(rt; fault.name(), want),
-    }
-}
 
 #[test]
 fn times_with_another_offset(rt: HostRuntime) {
@@ -39,7 +23,12 @@ fn times_with_another_offset(rt: HostRuntime) {
     ];
     for (text, offset, want) in cases {
         let time = Time::parse_str(text).ok().expect(&rt, "it is read");
-        expect_time(&rt, time.with_timezone_offset(offset), want);
+        expect_answer(
+            &rt,
+            time.with_timezone_offset(offset),
+            &(text, offset),
+            want,
+        );
     }
     let noon = Time::parse_str("12:00:00Z").ok().expect(&rt, "it is read");
     let west = noon
@@ -71,7 +60,12 @@ fn date_times_with_another_offset(rt: HostRuntime) {
     ];
     for (text, offset, want) in cases {
         let value = DateTime::parse_str(text).ok().expect(&rt, "it is read");
-        expect_date_time(&rt, value.with_timezone_offset(offset), want);
+        expect_answer(
+            &rt,
+            value.with_timezone_offset(offset),
+            &(text, offset),
+            want,
+        );
     }
 }
 
@@ -108,7 +102,7 @@ fn times_in_another_timezone(rt: HostRuntime) {
     ];
     for (text, offset, want) in cases {
         let time = Time::parse_str(text).ok().expect(&rt, "it is read");
-        expect_time(&rt, time.in_timezone(offset), want);
+        expect_answer(&rt, time.in_timezone(offset), &(text, offset), want);
     }
 }
 
@@ -165,7 +159,7 @@ fn date_times_in_another_timezone(rt: HostRuntime) {
     ];
     for (text, offset, want) in cases {
         let value = DateTime::parse_str(text).ok().expect(&rt, "it is read");
-        expect_date_time(&rt, value.in_timezone(offset), want);
+        expect_answer(&rt, value.in_timezone(offset), &(text, offset), want);
     }
 }
 
@@ -210,12 +204,11 @@ fn date_times_of_moments(rt: HostRuntime) {
         (moment(u64::MAX, 0), i32::MIN, "date_too_large"),
     ];
     for (told, offset, want) in cases {
-        expect_date_time(&rt, DateTime::now_at(told, offset), want);
-        expect_date_time(&rt, DateTime::now(|| Some(told), offset), want);
-        match Date::today(|| Some(told), offset) {
-            Ok(date) => assert!(rt; want.as_bytes().starts_with(date.to_text().as_bytes())),
-            Err(fault) => assert_eq!(rt; fault.name(), want),
-        }
+        let row = (told.second, offset);
+        expect_answer(&rt, DateTime::now_at(told, offset), &row, want);
+        expect_answer(&rt, DateTime::now(|| Some(told), offset), &row, want);
+        let day = want.split_once('T').map_or(want, |(day, _)| day);
+        expect_answer(&rt, Date::today(|| Some(told), offset), &row, day);
     }
 }
 
@@ -223,9 +216,9 @@ fn date_times_of_moments(rt: HostRuntime) {
 fn clocks_that_tell_nothing(rt: HostRuntime) {
     for offset in [0, 3600, 86_400, i32::MIN] {
         let now = DateTime::now(|| None, offset);
-        assert_eq!(rt; now, Err(ParseError::SystemTimeError));
+        assert_eq!(rt; now, Err(ParseError::SystemTimeError), "{offset}");
         let today = Date::today(|| None, offset);
-        assert_eq!(rt; today, Err(ParseError::SystemTimeError));
+        assert_eq!(rt; today, Err(ParseError::SystemTimeError), "{offset}");
     }
 }
 

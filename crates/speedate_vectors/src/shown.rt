@@ -1,10 +1,29 @@
-//! What Display writes, and what it answers where the writer takes nothing; what `parse` reads.
+//! What a call answers, as a text; what Display writes, and what it answers where the writer takes
+//! nothing; what `parse` reads.
 
+use arrayvec::ArrayString;
 use speedate::ParseError;
-use std::fmt::{self, Display, Write};
+use std::fmt::{self, Debug, Display, Write};
 use std::process::Abort;
 use std::str::FromStr;
 use std::test::Fail;
+
+/// The answer to a row is to be the value that is written as the text, or the fault of that name.
+pub fn expect_answer<R: Abort, T: Display + Copy, Row: Debug>(
+    rt: &R,
+    answer: Result<T, ParseError>,
+    row: &Row,
+    want: &str,
+) {
+    match answer {
+        Ok(value) => {
+            let mut text = ArrayString::<64>::new();
+            assert!(rt; write!(text, "{value}").is_ok(), "{row:?}");
+            assert_eq!(rt; text.as_str(), want, "{row:?}");
+        }
+        Err(fault) => assert_eq!(rt; fault.name(), want, "{row:?}"),
+    }
+}
 
 /// A value is to be written as the text, whatever width, fill or form is asked for.
 pub fn expect_shown<R: AllocGlobal + Abort, T: Display>(

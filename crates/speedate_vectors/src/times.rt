@@ -3,7 +3,7 @@
 ghost use Rattle.std.specs.Option.{ForSome};
 ghost use Rattle.speedate.specs.Offset.{IsOffset};
 
-use crate::shown::{expect_parsed, expect_shown};
+use crate::shown::{expect_answer, expect_parsed, expect_shown};
 use arrayvec::ArrayString;
 use speedate::{MicrosecondsPrecisionOverflowBehavior, ParseError, Time, TimeConfig};
 use speedate_civil::time::PureTime;
@@ -26,11 +26,9 @@ const NOON: Time = Time {
 };
 
 /// The bytes are to print as the text, or to be refused by the fault of that name.
-fn expect_answer<R: Abort>(rt: &R, bytes: &[u8], config: &TimeConfig, want: &str) {
-    match Time::parse_bytes_with_config(bytes, config) {
-        Ok(time) => assert_eq!(rt; time.to_text().as_str(), want, "{bytes:?}"),
-        Err(fault) => assert_eq!(rt; fault.name(), want, "{bytes:?}"),
-    }
+fn expect_read<R: Abort>(rt: &R, bytes: &[u8], config: &TimeConfig, want: &str) {
+    let answer = Time::parse_bytes_with_config(bytes, config);
+    expect_answer(rt, answer, &bytes, want);
 }
 
 /// Reads each text, under both behaviors, with the same answer beside it.
@@ -48,8 +46,8 @@ fn expect_each<R: AllocGlobal + Abort>(rt: &R, cases: &[(&str, &str)]) -> Result
             }
             Err(fault) => assert_eq!(rt; fault.name(), *want, "{text}"),
         }
-        expect_answer(rt, text.as_bytes(), &TimeConfig::default(), want);
-        expect_answer(rt, text.as_bytes(), &truncating, want);
+        expect_read(rt, text.as_bytes(), &TimeConfig::default(), want);
+        expect_read(rt, text.as_bytes(), &truncating, want);
     }
     Ok(())
 }
@@ -189,13 +187,13 @@ fn digits_past_the_sixth(rt: HostRuntime) {
         .microseconds_precision_overflow_behavior(TRUNCATING)
         .build();
     for (text, want) in cases {
-        expect_answer(&rt, text.as_bytes(), &truncating, want);
+        expect_read(&rt, text.as_bytes(), &truncating, want);
         let refused = if want == "out_of_range_hour" {
             want
         } else {
             "second_fraction_too_long"
         };
-        expect_answer(&rt, text.as_bytes(), &TimeConfig::default(), refused);
+        expect_read(&rt, text.as_bytes(), &TimeConfig::default(), refused);
     }
 }
 
@@ -280,10 +278,8 @@ fn times_from_timestamps(rt: HostRuntime) {
         (u32::MAX, u32::MAX, "time_too_large"),
     ];
     for (second, microsecond, want) in cases {
-        match Time::from_timestamp(second, microsecond) {
-            Ok(time) => assert_eq!(rt; time.to_text().as_str(), want, "{second} {microsecond}"),
-            Err(fault) => assert_eq!(rt; fault.name(), want, "{second} {microsecond}"),
-        }
+        let answer = Time::from_timestamp(second, microsecond);
+        expect_answer(&rt, answer, &(second, microsecond), want);
     }
 }
 
@@ -292,21 +288,17 @@ fn expect_attached<R: Abort>(rt: &R, offset: Option<i32>, want: &str)
     requires { ForSome offset IsOffset }
 {
     let config = TimeConfig::builder().unix_timestamp_offset(offset).build();
-    match Time::from_timestamp_with_config(1, 2, &config) {
-        Ok(time) => {
-            assert_eq!(rt; time.to_text().as_str(), want);
-            assert_eq!(rt; time.tz_offset, offset);
-        }
-        Err(fault) => assert_eq!(rt; fault.name(), want),
-    }
+    let attached = Time::from_timestamp_with_config(1, 2, &config);
+    expect_answer(rt, attached, &offset, want);
+    assert_eq!(rt; attached.map(|time| time.tz_offset), Ok(offset), "{want}");
     let late = Time::from_timestamp_with_config(86_400, 0, &config);
-    assert_eq!(rt; late, Err(ParseError::TimeTooLarge));
+    expect_answer(rt, late, &offset, "time_too_large");
 }
 
 #[test]
 fn a_configured_offset_is_not_for_texts(rt: HostRuntime) {
     let utc = TimeConfig::builder().unix_timestamp_offset(Some(0)).build();
-    expect_answer(&rt, b"12:13:12", &utc, "12:13:12");
+    expect_read(&rt, b"12:13:12", &utc, "12:13:12");
 }
 
 #[test]
@@ -345,8 +337,8 @@ fn seconds_and_milliseconds_of_the_day(rt: HostRuntime) {
         ),
     ];
     for (time, seconds, milliseconds) in cases {
-        assert_eq!(rt; time.total_seconds(), seconds);
-        assert_eq!(rt; time.total_ms(), milliseconds);
+        assert_eq!(rt; time.total_seconds(), seconds, "{time}");
+        assert_eq!(rt; time.total_ms(), milliseconds, "{time}");
     }
 }
 
@@ -379,7 +371,7 @@ fn expect_offset<R: Abort>(rt: &R, offset: i32, want: &str)
         microsecond: 0,
         tz_offset: Some(offset),
     };
-    assert_eq!(rt; time.to_text().as_str(), want);
+    assert_eq!(rt; time.to_text().as_str(), want, "{offset}");
 }
 
 #[test]

@@ -1,18 +1,10 @@
 //! Dates from timestamps, and from texts that are a timestamp.
 
-use speedate::{Date, DateConfig, ParseError, TimestampUnit};
-use std::process::Abort;
+use crate::shown::expect_answer;
+use speedate::{Date, DateConfig, TimestampUnit};
 
 fn in_unit(unit: TimestampUnit) -> DateConfig {
     DateConfig::builder().timestamp_unit(unit).build()
-}
-
-/// The answer is to be the date that prints as the text, or the fault of that name.
-fn expect_answer<R: Abort>(rt: &R, answer: Result<Date, ParseError>, want: &str) {
-    match answer {
-        Ok(date) => assert_eq!(rt; date.to_text().as_str(), want),
-        Err(fault) => assert_eq!(rt; fault.name(), want),
-    }
 }
 
 #[test]
@@ -245,7 +237,8 @@ fn dates_of_timestamps(rt: HostRuntime) {
     ];
     for (unit, exact, timestamp, want) in cases {
         let config = in_unit(unit);
-        expect_answer(&rt, Date::from_timestamp(timestamp, exact, &config), want);
+        let answer = Date::from_timestamp(timestamp, exact, &config);
+        expect_answer(&rt, answer, &(timestamp, exact), want);
     }
 }
 
@@ -283,10 +276,15 @@ fn dates_of_texts_that_may_be_timestamps(rt: HostRuntime) {
         ("-123456789x", "invalid_char_year"),
     ];
     for (text, want) in cases {
-        expect_answer(&rt, Date::parse_str(text), want);
-        expect_answer(&rt, Date::parse_bytes(text.as_bytes()), want);
+        expect_answer(&rt, Date::parse_str(text), &text, want);
+        expect_answer(&rt, Date::parse_bytes(text.as_bytes()), &text, want);
         let inferred = DateConfig::default();
-        expect_answer(&rt, Date::parse_str_with_config(text, &inferred), want);
+        expect_answer(
+            &rt,
+            Date::parse_str_with_config(text, &inferred),
+            &text,
+            want,
+        );
     }
 }
 
@@ -319,12 +317,17 @@ fn dates_of_texts_in_a_unit(rt: HostRuntime) {
     ];
     for (unit, text, want) in cases {
         let config = in_unit(unit);
-        expect_answer(&rt, Date::parse_str_with_config(text, &config), want);
+        expect_answer(&rt, Date::parse_str_with_config(text, &config), &text, want);
         let bytes = text.as_bytes();
-        expect_answer(&rt, Date::parse_bytes_with_config(bytes, &config), want);
+        expect_answer(
+            &rt,
+            Date::parse_bytes_with_config(bytes, &config),
+            &text,
+            want,
+        );
     }
     let bytes = b"\xff\xff\xff\xff\xff\xff\xff\xff\xff\xff";
-    expect_answer(&rt, Date::parse_bytes(bytes), "invalid_char_year");
+    expect_answer(&rt, Date::parse_bytes(bytes), bytes, "invalid_char_year");
 }
 
 #[test]
@@ -335,18 +338,21 @@ fn a_midnight_leads_back_to_its_date(rt: HostRuntime) {
             let seconds = in_unit(TimestampUnit::Second);
             assert_eq!(rt;
                 Date::from_timestamp(date.timestamp(), exact, &seconds),
-                Ok(date)
+                Ok(date),
+                "{number}"
             );
             let milliseconds = in_unit(TimestampUnit::Millisecond);
             assert_eq!(rt;
                 Date::from_timestamp(date.timestamp_ms(), exact, &milliseconds),
-                Ok(date)
+                Ok(date),
+                "{number}"
             );
             let microseconds = in_unit(TimestampUnit::Microsecond);
             let timestamp = date.timestamp_ms().saturating_mul(1000);
             assert_eq!(rt;
                 Date::from_timestamp(timestamp, exact, &microseconds),
-                Ok(date)
+                Ok(date),
+                "{number}"
             );
         }
     }

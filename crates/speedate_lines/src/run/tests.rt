@@ -51,9 +51,10 @@ fn run_over(source: Source<'_>, sink: Sink) -> Ended {
 /// The answers to an input that comes in pieces of `step` bytes, over ends that do not fail.
 fn answers<R: AllocGlobal + Abort>(rt: &R, input: &[u8], step: usize) -> Vec<u8> {
     let ended = run_over(Source::new(input, step), Sink::new(rt.alloc(), usize::MAX));
-    assert_eq!(rt; ended.result, Ok(()));
-    assert_eq!(rt; ended.flushes, 1);
-    assert!(rt; !ended.input_failed && !ended.output_failed);
+    let failed = (ended.input_failed, ended.output_failed);
+    let row = (input.len(), step);
+    assert_eq!(rt; ended.result, Ok(()), "{row:?}");
+    assert_eq!(rt; (ended.flushes, failed), (1, (false, false)), "{row:?}");
     ended.written
 }
 
@@ -179,6 +180,20 @@ fn limits_a_line(rt: HostRuntime) -> Result<(), Fail> {
                 "{count} by {step}"
             );
         }
+    }
+    Ok(())
+}
+
+#[test]
+fn answers_a_line_after_a_long_one(rt: HostRuntime) -> Result<(), Fail> {
+    let mut input = padded(rt.alloc(), b"", b'x', 10_000)?;
+    input.extend_from_slice(b"\nx")?;
+    for step in [1, 4096, 4097, usize::MAX] {
+        assert_eq!(rt;
+            answers(&rt, &input, step).as_slice(),
+            b"err line_too_long\nerr unknown_kind\n".as_slice(),
+            "by {step}"
+        );
     }
     Ok(())
 }

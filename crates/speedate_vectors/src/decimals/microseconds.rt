@@ -1,9 +1,9 @@
 //! Timestamps in microseconds, whole and decimal.
 
 use super::{
-    ERROR, INFER, MICROSECOND, TRUNCATE, config, expect_answer, expect_decimals, expect_long,
-    expect_texts,
+    ERROR, INFER, MICROSECOND, TRUNCATE, config, expect_decimals, expect_long, expect_texts,
 };
+use crate::shown::expect_answer;
 use speedate::DateTime;
 use std::test::Fail;
 
@@ -263,7 +263,7 @@ fn microseconds_beside_a_timestamp(rt: HostRuntime) {
     let config = config(MICROSECOND, ERROR);
     for (timestamp, microsecond, want) in cases {
         let answer = DateTime::from_timestamp_with_config(timestamp, microsecond, &config);
-        expect_answer(&rt, answer, want.as_bytes(), want);
+        expect_answer(&rt, answer, &(timestamp, microsecond), want);
     }
 }
 
@@ -287,6 +287,6 @@ fn a_timestamp_in_microseconds_leads_back(rt: HostRuntime) {
             .saturating_add(i64::from(value.time.microsecond));
         let back = DateTime::from_timestamp_with_config(timestamp, 0, &config);
         assert_eq!(rt; back, Ok(value), "{text}");
-        expect_answer(&rt, back, text.as_bytes(), text);
+        expect_answer(&rt, back, &timestamp, text);
     }
 }

@@ -1,6 +1,6 @@
 //! ISO 8601 durations from texts.
 
-use super::{expect_answer, expect_each, truncating};
+use super::{expect_each, expect_read, truncating};
 use crate::texts::repeated;
 use speedate::{Duration, TimeConfig};
 use std::process::Abort;
@@ -67,6 +67,7 @@ fn reads_fractions(rt: HostRuntime) {
             ("P1YT1.5S", "P1YT1.5S"),
             ("PT1M0.000001S", "PT1M0.000001S"),
             // to the nearest microsecond, ties away from zero
+            ("PT20.1253395S", "PT20.12534S"),
             ("PT0.0000005S", "PT0.000001S"),
             ("-PT0.0000005S", "-PT0.000001S"),
             ("PT0.0000004S", "PT0S"),
@@ -218,20 +219,20 @@ fn long_texts(rt: HostRuntime) -> Result<(), Fail> {
     ];
     for (front, byte, count, back, want) in cases {
         let text = repeated(rt.alloc(), front, byte, count, back)?;
-        expect_answer(&rt, &text, &truncating(), want);
-        expect_answer(&rt, &text, &TimeConfig::default(), want);
+        expect_read(&rt, &text, &truncating(), want);
+        expect_read(&rt, &text, &TimeConfig::default(), want);
     }
     let digits = repeated(rt.alloc(), "00:00:00.", b'9', 5_000, b"")?;
-    expect_answer(&rt, &digits, &truncating(), "PT0.999999S");
-    expect_answer(
+    expect_read(&rt, &digits, &truncating(), "PT0.999999S");
+    expect_read(
         &rt,
         &digits,
         &TimeConfig::default(),
         "second_fraction_too_long",
     );
     let other = repeated(rt.alloc(), "00:00:00.", b'9', 5_000, b"x")?;
-    expect_answer(&rt, &other, &truncating(), "extra_characters");
-    expect_answer(
+    expect_read(&rt, &other, &truncating(), "extra_characters");
+    expect_read(
         &rt,
         b"\xff\xff\xff\xff\xff",
         &TimeConfig::default(),

@@ -4,6 +4,7 @@ use super::{Ended, INPUT, answers, padded, run_over};
 use crate::ends::{Calls, Sink, Source};
 use crate::run::RunError;
 use std::alloc::{AllocError, Global};
+use std::fmt::Debug;
 use std::process::Abort;
 use std::test::Fail;
 
@@ -29,10 +30,14 @@ fn a_read_that_fails_leaves_the_unfinished_line(rt: HostRuntime) -> Result<(), F
                 ..Source::new(input, step)
             };
             let ended = run_over(source, Sink::new(rt.alloc(), usize::MAX));
-            assert_eq!(rt; ended.result, Err(RunError::Read));
-            assert_eq!(rt; ended.written.as_slice(), want);
-            assert_eq!(rt; ended.flushes, 0);
-            assert!(rt; ended.input_failed && !ended.output_failed);
+            let failed = (ended.input_failed, ended.output_failed);
+            assert_eq!(rt; ended.result, Err(RunError::Read), "{want:?} by {step}");
+            assert_eq!(rt; ended.written.as_slice(), want, "{want:?} by {step}");
+            assert_eq!(rt;
+                (ended.flushes, failed),
+                (0, (true, false)),
+                "{want:?} by {step}"
+            );
         }
     }
     Ok(())
@@ -56,9 +61,10 @@ fn complete_lines(input: &[u8], count: usize) -> usize {
         .count()
 }
 
-/// Asserts what was written, by what was read and how the run ended.
-fn assert_stated<R: AllocGlobal + Abort>(
+/// Asserts of a row what was written, by what was read and how the run ended.
+fn assert_stated<R: AllocGlobal + Abort, Row: Debug>(
     rt: &R,
+    row: &Row,
     input: &[u8],
     answers: &[&[u8]],
     ended: &Ended,
@@ -67,19 +73,19 @@ fn assert_stated<R: AllocGlobal + Abort>(
     let earlier = complete_lines(input, read.saturating_sub(ended.latest));
     let complete = complete_lines(input, read);
     let written = ended.written.as_slice();
+    let failed = (ended.input_failed, ended.output_failed);
     let all = first_answers(rt.alloc(), answers, answers.len())?;
     match ended.result {
         Ok(()) => {
-            assert_eq!(rt; ended.unread, 0);
-            assert_eq!(rt; written, all.as_slice());
-            assert_eq!(rt; ended.flushes, 1);
-            assert!(rt; !ended.input_failed && !ended.output_failed);
+            assert_eq!(rt; written, all.as_slice(), "{row:?}");
+            assert_eq!(rt; (ended.unread, ended.flushes), (0, 1), "{row:?}");
+            assert_eq!(rt; failed, (false, false), "{row:?}");
         }
         Err(RunError::Read) => {
             let due = first_answers(rt.alloc(), answers, complete)?;
-            assert_eq!(rt; written, due.as_slice());
-            assert_eq!(rt; ended.flushes, 0);
-            assert!(rt; ended.input_failed && !ended.output_failed);
+            assert_eq!(rt; written, due.as_slice(), "{row:?}");
+            assert_eq!(rt; ended.flushes, 0, "{row:?}");
+            assert_eq!(rt; failed, (true, false), "{row:?}");
         }
         Err(RunError::Write) => {
             let count = if ended.unread == 0 {
@@ -89,9 +95,9 @@ fn assert_stated<R: AllocGlobal + Abort>(
             };
             let due = first_answers(rt.alloc(), answers, count)?;
             let sure = first_answers(rt.alloc(), answers, earlier)?;
-            assert!(rt; due.starts_with(written));
-            assert!(rt; written.starts_with(sure.as_slice()));
-            assert!(rt; ended.output_failed && !ended.input_failed);
+            assert!(rt; due.starts_with(written), "{row:?}");
+            assert!(rt; written.starts_with(sure.as_slice()), "{row:?}");
+            assert_eq!(rt; failed, (false, true), "{row:?}");
         }
     }
     Ok(())
@@ -123,8 +129,9 @@ fn each_call_fails_in_turn(rt: HostRuntime) -> Result<(), Fail> {
             for write_step in [1, 4, usize::MAX] {
                 let source = Source::new(input, read_step);
                 let whole = run_over(source, Sink::new(rt.alloc(), write_step));
-                assert_eq!(rt; whole.result, Ok(()));
-                assert_stated(&rt, input, answers, &whole)?;
+                let steps = (read_step, write_step);
+                assert_eq!(rt; whole.result, Ok(()), "{steps:?}");
+                assert_stated(&rt, &steps, input, answers, &whole)?;
                 for call in 0..whole.reads {
                     for fails in [Calls::One(call), Calls::From(call)] {
                         let source = Source {
@@ -132,9 +139,10 @@ fn each_call_fails_in_turn(rt: HostRuntime) -> Result<(), Fail> {
                             ..Source::new(input, read_step)
                         };
                         let ended = run_over(source, Sink::new(rt.alloc(), write_step));
-                        assert_eq!(rt; ended.result, Err(RunError::Read), "{fails:?}");
-                        assert_eq!(rt; ended.reads, call + 1);
-                        assert_stated(&rt, input, answers, &ended)?;
+                        let row = (steps, fails);
+                        assert_eq!(rt; ended.result, Err(RunError::Read), "{row:?}");
+                        assert_eq!(rt; ended.reads, call + 1, "{row:?}");
+                        assert_stated(&rt, &row, input, answers, &ended)?;
                     }
                 }
                 for call in 0..whole.writes {
@@ -146,10 +154,11 @@ fn each_call_fails_in_turn(rt: HostRuntime) -> Result<(), Fail> {
                                 ..Sink::new(rt.alloc(), write_step)
                             };
                             let ended = run_over(Source::new(input, read_step), sink);
-                            assert_eq!(rt; ended.result, Err(RunError::Write), "{calls:?}");
-                            assert_eq!(rt; ended.writes, call + 1);
-                            assert_eq!(rt; ended.flushes, 0);
-                            assert_stated(&rt, input, answers, &ended)?;
+                            let row = (steps, fails, refuses);
+                            assert_eq!(rt; ended.result, Err(RunError::Write), "{row:?}");
+                            assert_eq!(rt; ended.writes, call + 1, "{row:?}");
+                            assert_eq!(rt; ended.flushes, 0, "{row:?}");
+                            assert_stated(&rt, &row, input, answers, &ended)?;
                         }
                     }
                 }
@@ -158,10 +167,11 @@ fn each_call_fails_in_turn(rt: HostRuntime) -> Result<(), Fail> {
                     ..Sink::new(rt.alloc(), write_step)
                 };
                 let ended = run_over(Source::new(input, read_step), sink);
-                assert_eq!(rt; ended.result, Err(RunError::Write));
-                assert_eq!(rt; ended.flushes, 1);
-                assert_eq!(rt; ended.written.as_slice(), whole.written.as_slice());
-                assert_stated(&rt, input, answers, &ended)?;
+                let written = whole.written.as_slice();
+                assert_eq!(rt; ended.result, Err(RunError::Write), "{steps:?}");
+                assert_eq!(rt; ended.flushes, 1, "{steps:?}");
+                assert_eq!(rt; ended.written.as_slice(), written, "{steps:?}");
+                assert_stated(&rt, &steps, input, answers, &ended)?;
             }
         }
     }
@@ -178,8 +188,9 @@ fn a_writer_that_fails_after_five_bytes_has_those(rt: HostRuntime) {
                 ..Sink::new(rt.alloc(), 5)
             };
             let ended = run_over(Source::new(INPUT, usize::MAX), sink);
-            assert_eq!(rt; ended.result, Err(RunError::Write));
-            assert_eq!(rt; ended.written.as_slice(), b"ok 20".as_slice());
+            let row = (fails, refuses);
+            assert_eq!(rt; ended.result, Err(RunError::Write), "{row:?}");
+            assert_eq!(rt; ended.written.as_slice(), b"ok 20".as_slice(), "{row:?}");
         }
     }
 }
@@ -195,12 +206,14 @@ fn the_end_of_the_input_is_the_first_read_that_gives_nothing(rt: HostRuntime) ->
             let ended = run_over(source, Sink::new(rt.alloc(), usize::MAX));
             let read = INPUT.len().saturating_sub(ended.unread);
             let before = INPUT.get(..read).ok_or("a part of the input")?;
-            assert_eq!(rt; ended.result, Ok(()));
+            let row = (step, call);
+            assert_eq!(rt; ended.result, Ok(()), "{row:?}");
             assert_eq!(rt;
                 ended.written.as_slice(),
-                answers(&rt, before, step).as_slice()
+                answers(&rt, before, step).as_slice(),
+                "{row:?}"
             );
-            assert_eq!(rt; ended.flushes, 1);
+            assert_eq!(rt; ended.flushes, 1, "{row:?}");
         }
     }
     Ok(())
