@@ -10,9 +10,10 @@ use Rattle.speedate_base.specs.Numbers.{has_minus, sign_length}
 use Rattle.speedate_base.specs.Requirement.{meets}
 use Rattle.speedate_base.specs.RequirementLaws.{meets-all, meets-next, meets-value}
 use Rattle.speedate.specs.DurationAnswer.{iso_answer, unsigned_answer, duration_answer}
-use Rattle.speedate.specs.DurationForm.{form_answer, IsDurationAnswer}
+use Rattle.speedate.specs.DurationForm.{form_answer, IsDurationAnswer, IsGrammarAnswer}
 use Rattle.speedate.specs.DurationNumbers.{DurationNumbers}
 use Rattle.speedate.specs.IsoForm.{Sums, no_sums, item_at, item_length, quantity_length, item_table, with_item, IsAnswerFrom, IsIsoAnswer}
+use Rattle.speedate.specs.IsoFormLaws.{duration_answer-only}
 use Rattle.speedate.specs.IsoFrontLaws.{answer-behind, answer-refused}
 
 -- an item has a byte
@@ -57,3 +58,17 @@ unfolding unsigned_answer
 duration_answer-is order behavior text =
     let rest = drop (sign_length text) text in
     (unsigned_answer order behavior (not (has_minus text)) rest, form-is order behavior (not (has_minus text)) rest (slice_index rest 0 == capital_p), refl)
+
+-- so what the relation allows is that answer
+pub duration_answer-unique : (order : IsoOrder) (behavior : MicrosecondsPrecisionOverflowBehavior) (text : List ℕ) (answer : Result DurationNumbers ParseError)
+    → IsDurationAnswer order behavior text answer → answer ≡ duration_answer order behavior text
+duration_answer-unique order behavior text answer there =
+    duration_answer-only order behavior text answer _ there (duration_answer-is order behavior text)
+
+-- and the function is the grammar's
+pub duration_answer-grammar : (order : IsoOrder) (behavior : MicrosecondsPrecisionOverflowBehavior) (text : List ℕ)
+    → IsGrammarAnswer order behavior text (duration_answer order behavior text)
+duration_answer-grammar order behavior text = record {
+  is_allowed = duration_answer-is order behavior text;
+  is_only = duration_answer-unique order behavior text;
+}

@@ -41,3 +41,8 @@ IsNormalAnswer order behavior positive text answer =
 abbrev pub IsDurationAnswer : IsoOrder → MicrosecondsPrecisionOverflowBehavior → List ℕ → Result DurationNumbers ParseError → Type 0
 IsDurationAnswer order behavior text answer =
     IsNormalAnswer order behavior (not (has_minus text)) (drop (sign_length text) text) answer
+
+-- an answer is the grammar's: the relation allows it, and allows no other
+pub record IsGrammarAnswer (order : IsoOrder) (behavior : MicrosecondsPrecisionOverflowBehavior) (text : List ℕ) (answer : Result DurationNumbers ParseError) : Type 0 where
+  pub is_allowed : IsDurationAnswer order behavior text answer
+  pub is_only : (other : Result DurationNumbers ParseError) → IsDurationAnswer order behavior text other → other ≡ answer

@@ -8,6 +8,8 @@ use Rattle.speedate_base.specs.declared.config.MicrosecondsPrecisionOverflowBeha
 use Rattle.speedate_base.specs.declared.faults.ParseError.{ParseError}
 use Rattle.speedate_base.specs.Ascii.{capital_p}
 use Rattle.speedate_base.specs.Numbers.{has_minus, sign_length, IsSign}
+use Rattle.speedate.specs.DurationAnswer.{duration_answer}
+use Rattle.speedate.specs.DurationAnswerLaws.{duration_answer-is, duration_answer-unique}
 use Rattle.speedate.specs.DurationNumbers.{DurationNumbers}
 use Rattle.speedate.specs.IsoForm.{Quantity, Item, Amount, item_text, no_sums, with_items, AreGood}
 use Rattle.speedate.specs.IsoFormLaws.{answer-exchanged_behind}
@@ -58,12 +60,12 @@ pair-exchanged behavior negative sign items first second rest answer is good one
     with-sign order.Lax behavior negative sign turned answer is (normal.0, moved, normal.2)
 
 -- texts that are one but for that order have one answer
-pub duration_answer-exchanged : (asked : IsoOrder) (behavior : MicrosecondsPrecisionOverflowBehavior) (one two : List ℕ) (answer : Answer)
-    → asked ≡ order.Lax → IsDurationAnswer asked behavior one answer → AreExchanged one two → IsDurationAnswer asked behavior two answer
-duration_answer-exchanged asked behavior one two answer lax there are =
-    let from = subst (λ (text : List ℕ). IsDurationAnswer order.Lax behavior text answer) are.is_one
-    (subst (λ (asked : IsoOrder). IsDurationAnswer asked behavior one answer) lax there) in
-    subst (λ (asked : IsoOrder). IsDurationAnswer asked behavior two answer) (sym lax)
-    (subst (λ (text : List ℕ). IsDurationAnswer order.Lax behavior text answer) (sym are.is_two)
+pub duration_answer-exchanged : (asked : IsoOrder) (behavior : MicrosecondsPrecisionOverflowBehavior) (one two : List ℕ)
+    → asked ≡ order.Lax → AreExchanged one two → duration_answer asked behavior one ≡ duration_answer asked behavior two
+duration_answer-exchanged asked behavior one two lax are =
+    let answer = duration_answer order.Lax behavior one in
+    let from = subst (λ (text : List ℕ). IsDurationAnswer order.Lax behavior text answer) are.is_one (duration_answer-is order.Lax behavior one) in
+    let moved = subst (λ (text : List ℕ). IsDurationAnswer order.Lax behavior text answer) (sym are.is_two)
     (pair-exchanged behavior are.negative are.sign are.items are.first are.second are.rest answer are.is_sign are.are_good are.is_plain_first
-    are.is_plain_second from))
+    are.is_plain_second from) in
+    rw lax (duration_answer-unique order.Lax behavior two answer moved)

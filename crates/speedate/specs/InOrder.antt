@@ -1,12 +1,15 @@
 -- Quantities of an ISO 8601 duration that come in the order of the standard: years, months, weeks and days, and behind the `T`
 -- hours, minutes and seconds, each at most once (ISO 8601 5.5.2.2, of which weeks beside others are not a form).
-use Rattle.std.specs.Prelude.{◌≡◌, ◌⊎◌, ℕ, Bool, true, ◌&&◌, List, [], ◌∷◌, ◌++◌, drop, slice_index, ◌==◌, Option, Some, None, Result, Err}
+use Rattle.std.specs.Prelude.{◌≡◌, ◌⊎◌, ℕ, Bool, true, false, ◌&&◌, List, [], ◌∷◌, ◌++◌, drop, slice_index, ◌==◌, Option, Some, None, if◌then◌else◌, Result, Ok, Err}
 use Rattle.std.specs.List.{flat_map}
+use Rattle.speedate_base.specs.declared.config.IsoOrder.{IsoOrder}
 use Rattle.speedate_base.specs.declared.config.IsoOrder.TheVariants as order
+use Rattle.speedate_base.specs.declared.config.MicrosecondsPrecisionOverflowBehavior.{MicrosecondsPrecisionOverflowBehavior}
 use Rattle.speedate_base.specs.declared.faults.ParseError.{ParseError}
 use Rattle.speedate_base.specs.declared.faults.ParseError.TheVariants as fault
 use Rattle.speedate_base.specs.Ascii.{capital_p}
 use Rattle.speedate_base.specs.Numbers.{sign_length, IsSign}
+use Rattle.speedate.specs.DurationAnswer.{duration_answer}
 use Rattle.speedate.specs.DurationNumbers.{DurationNumbers}
 use Rattle.speedate.specs.IsoForm.{DurationUnit, units, unit_in, unit_seconds, is_smaller, no_limit, Item, Mark, Amount, item_text, no_sums, with_items, AreGood}
 
@@ -39,3 +42,13 @@ IsLaxOrRefused lax answer = (answer ≡ lax) ⊎ (answer ≡ Err fault.DurationU
 -- a text is an ISO 8601 duration, and neither days nor a clock: behind its sign it begins with `P`
 abbrev pub is_iso : List ℕ → Bool
 is_iso text = slice_index (drop (sign_length text) text) 0 == capital_p
+
+-- an answer to a text in the order that is asked for, beside the one in the lax order: it is that one, or the refusal of a
+-- quantity out of order; an ISO 8601 duration that the lax order reads is made of good items; the strict order refuses such
+-- a text if and only if they are not in order; and it is not asked of a clock and of days
+pub record IsAnswerInOrder (asked : IsoOrder) (behavior : MicrosecondsPrecisionOverflowBehavior) (text : List ℕ) (answer : Result DurationNumbers ParseError) : Type 0 where
+  pub lax : IsLaxOrRefused (duration_answer order.Lax behavior text) answer
+  pub items : (numbers : DurationNumbers) → is_iso text ≡ true → duration_answer order.Lax behavior text ≡ Ok numbers → (items : List Item) × IsMadeOf text items
+  pub strict : (items : List Item) → asked ≡ order.Strict → IsMadeOf text items
+      → answer ≡ (if are_in_order false no_limit items then duration_answer order.Lax behavior text else Err fault.DurationUnitOrder)
+  pub other_forms : is_iso text ≡ false → answer ≡ duration_answer order.Lax behavior text

@@ -18,11 +18,11 @@ use Rattle.speedate_base.specs.Requirement.{meets, AllHold, result_and_then}
 use Rattle.speedate.specs.DurationNumbers.{DurationNumbers, normal_form}
 use Rattle.speedate.specs.DurationForm.{form_answer, IsDurationAnswer}
 use Rattle.speedate.specs.DurationAnswer.{iso_answer, unsigned_answer, duration_answer}
-use Rattle.speedate.specs.DurationAnswerLaws.{duration_answer-is}
+use Rattle.speedate.specs.DurationAnswerLaws.{duration_answer-is, duration_answer-unique}
 use Rattle.speedate.specs.ExchangedLaws.{with-sign}
-use Rattle.speedate.specs.InOrder.{IsLaxOrRefused, seconds_of, are_in_order, IsMadeOf, is_iso}
+use Rattle.speedate.specs.InOrder.{IsLaxOrRefused, IsAnswerInOrder, seconds_of, are_in_order, IsMadeOf, is_iso}
 use Rattle.speedate.specs.IsoForm.{DurationUnit, units, unit_in, Quantity, Item, Mark, Amount, item_text, IsItem, item_at, item_length, item_table, is_smaller, are_counted, Sums, no_limit, no_sums, with_quantity, with_item, with_items, AreGood, sums_numbers, Ends, IsAnswerFrom, IsIsoAnswer}
-use Rattle.speedate.specs.IsoFormLaws.{item_at-text, answer-with, duration_answer-only}
+use Rattle.speedate.specs.IsoFormLaws.{item_at-text, answer-with}
 use Rattle.speedate.specs.IsoFrontLaws.{answer-refused}
 
 abbrev Answer : Type 0
@@ -100,21 +100,13 @@ normal-both : (lax answer : Answer) → IsLaxOrRefused lax answer → IsLaxOrRef
 normal-both lax answer (inl same) = inl (ap (result_and_then normal_form) same)
 normal-both lax answer (inr refused) = inr (ap (result_and_then normal_form) refused)
 
+-- so the answer in any order is the lax one, or the text is refused for its order
 duration-both : (asked : IsoOrder) (behavior : MicrosecondsPrecisionOverflowBehavior) (text : List ℕ)
     → IsLaxOrRefused (duration_answer order.Lax behavior text) (duration_answer asked behavior text)
 unfolding unsigned_answer
 duration-both asked behavior text =
     let rest = drop (sign_length text) text in
     normal-both _ _ (unsigned-both asked behavior (not (has_minus text)) rest (slice_index rest 0 == capital_p))
-
--- whatever order is asked for, the answer to a text is the lax one, or the text is refused for its order
-pub answer-lax_or_refused : (asked : IsoOrder) (behavior : MicrosecondsPrecisionOverflowBehavior) (text : List ℕ) (lax answer : Answer)
-    → IsDurationAnswer order.Lax behavior text lax → IsDurationAnswer asked behavior text answer → IsLaxOrRefused lax answer
-answer-lax_or_refused asked behavior text lax answer one two =
-    let lax_is = duration_answer-only order.Lax behavior text _ lax (duration_answer-is order.Lax behavior text) one in
-    let answer_is = duration_answer-only asked behavior text _ answer (duration_answer-is asked behavior text) two in
-    subst (λ (lax : Answer). IsLaxOrRefused lax answer) lax_is
-    (subst (λ (answer : Answer). IsLaxOrRefused (duration_answer order.Lax behavior text) answer) answer_is (duration-both asked behavior text))
 
 -- a quantity with a unit adds to the sums with a limit what it adds to the others, and its unit is the next limit
 quantity-strict : (unit : Option DurationUnit) (quantity : Quantity) (limit : ℕ) (sums : Sums) → is_some unit ≡ true
@@ -214,28 +206,22 @@ chosen : (negative in_order : Bool) (sums : Sums)
 chosen negative true sums = refl
 chosen negative false sums = refl
 
--- so a text of good items is refused for its order exactly if they are not in order, and otherwise has the lax answer
-pub answer-in_order : (asked : IsoOrder) (behavior : MicrosecondsPrecisionOverflowBehavior) (text : List ℕ) (items : List Item) (lax answer : Answer)
-    → asked ≡ order.Strict → IsMadeOf text items → IsDurationAnswer order.Lax behavior text lax → IsDurationAnswer asked behavior text answer
-    → answer ≡ (if are_in_order false no_limit items then lax else Err fault.DurationUnitOrder)
-answer-in_order asked behavior text items lax answer strict is one two =
+-- so a text of good items is refused for its order if and only if they are not in order, and otherwise has the lax answer
+answer-strict : (asked : IsoOrder) (behavior : MicrosecondsPrecisionOverflowBehavior) (text : List ℕ) (items : List Item)
+    → asked ≡ order.Strict → IsMadeOf text items
+    → duration_answer asked behavior text ≡ (if are_in_order false no_limit items then duration_answer order.Lax behavior text else Err fault.DurationUnitOrder)
+answer-strict asked behavior text items strict is =
     let in_order = are_in_order false no_limit items in
-    let there = subst (λ (asked : IsoOrder). IsDurationAnswer asked behavior text answer) strict two in
-    let lax_is = duration_answer-only order.Lax behavior text _ lax (made-lax behavior text items is) one in
-    duration_answer-only order.Strict behavior text answer _ there (made-strict behavior text items is)
+    ap (λ (asked : IsoOrder). duration_answer asked behavior text) strict
+    ∙ sym (duration_answer-unique order.Strict behavior text _ (made-strict behavior text items is))
     ∙ chosen is.negative in_order (with_items items (no_sums order.Lax))
-    ∙ ap (λ (lax : Answer). if in_order then lax else Err fault.DurationUnitOrder) lax_is
+    ∙ ap (λ (lax : Answer). if in_order then lax else Err fault.DurationUnitOrder) (duration_answer-unique order.Lax behavior text _ (made-lax behavior text items is))
 
 -- a clock and days are not asked for an order
-other-form : (A B C : Type 0) (iso : Bool) → iso ≡ false → MatchBool iso A C → MatchBool iso B C
-other-form A B C true other there = absurd (false≢true (sym other))
-other-form A B C false other there = there
-
-pub answer-no_iso : (asked : IsoOrder) (behavior : MicrosecondsPrecisionOverflowBehavior) (text : List ℕ) (answer : Answer) → is_iso text ≡ false
-    → IsDurationAnswer asked behavior text answer → IsDurationAnswer order.Lax behavior text answer
-answer-no_iso asked behavior text answer other there =
-    let form = form_answer behavior (not (has_minus text)) (drop (sign_length text) text) in
-    (there.0, other-form _ _ (there.0 ≡ form) (is_iso text) other there.1, there.2)
+answer-no_iso : (asked : IsoOrder) (behavior : MicrosecondsPrecisionOverflowBehavior) (text : List ℕ) → is_iso text ≡ false
+    → duration_answer asked behavior text ≡ duration_answer order.Lax behavior text
+unfolding unsigned_answer
+answer-no_iso asked behavior text other = rw other refl
 
 -- an ISO 8601 duration begins with a `P` behind its sign
 first-byte : (text : List ℕ) → (slice_index text 0 == capital_p) ≡ true → text ≡ capital_p ∷ drop 1 text
@@ -260,14 +246,15 @@ ends-read positive sums (byte ∷ rest) form numbers ends same =
     absurd (cc)
 
 -- so an ISO 8601 duration that the lax order reads is made of good items
-pub answer-made : (behavior : MicrosecondsPrecisionOverflowBehavior) (text : List ℕ) (numbers : DurationNumbers) → is_iso text ≡ true
-    → IsDurationAnswer order.Lax behavior text (Ok numbers) → (items : List Item) × IsMadeOf text items
-answer-made behavior text numbers iso there =
+answer-items : (behavior : MicrosecondsPrecisionOverflowBehavior) (text : List ℕ) (numbers : DurationNumbers) → is_iso text ≡ true
+    → duration_answer order.Lax behavior text ≡ Ok numbers → (items : List Item) × IsMadeOf text items
+answer-items behavior text numbers iso same =
+    let there = duration_answer-is order.Lax behavior text in
     let length = sign_length text in
     let rest = drop length text in
     let form = form_answer behavior (not (has_minus text)) rest in
     let from = iso-form (IsIsoAnswer order.Lax (not (has_minus text)) (drop 1 rest) there.0) (there.0 ≡ form) (is_iso text) iso there.1 in
-    let ended = ends-read (not (has_minus text)) (with_items from.0 (no_sums order.Lax)) from.1 there.0 numbers from.4 there.2 in
+    let ended = ends-read (not (has_minus text)) (with_items from.0 (no_sums order.Lax)) from.1 there.0 numbers from.4 (sym same ∙ there.2) in
     let body = from.2 ∙ ap (λ (end : List ℕ). flat_map item_text from.0 ++ end) ended.0 ∙ append-nil (flat_map item_text from.0) in
     let made : IsMadeOf text from.0 = record {
       negative = has_minus text;
@@ -279,3 +266,13 @@ answer-made behavior text numbers iso there =
           ∙ ap (λ (behind : List ℕ). take length text ++ behind) (first-byte rest iso ∙ ap (λ (body : List ℕ). capital_p ∷ body) body);
     } in
     (from.0, made)
+
+-- the answer in the order that is asked for
+pub duration_answer-in_order : (asked : IsoOrder) (behavior : MicrosecondsPrecisionOverflowBehavior) (text : List ℕ)
+    → IsAnswerInOrder asked behavior text (duration_answer asked behavior text)
+duration_answer-in_order asked behavior text = record {
+  lax = duration-both asked behavior text;
+  items = answer-items behavior text;
+  strict = answer-strict asked behavior text;
+  other_forms = answer-no_iso asked behavior text;
+}

@@ -26,11 +26,13 @@ use Rattle.speedate_base.specs.Nearest.{nearest}
 use Rattle.speedate_base.specs.NearestLaws.{nearest-exact, scale-some}
 use Rattle.speedate_base.specs.Numbers.{has_minus, sign_length}
 use Rattle.speedate_base.specs.Offset.{seconds_per_day}
+use Rattle.speedate_base.specs.TextLaws.{text-distinct}
+use Rattle.speedate.specs.DurationAnswer.{duration_answer}
+use Rattle.speedate.specs.DurationAnswerLaws.{duration_answer-unique}
 use Rattle.speedate.specs.DurationForm.{IsFormAnswer, IsDurationAnswer}
 use Rattle.speedate.specs.DurationLaws.{normal_form-same}
 use Rattle.speedate.specs.DurationNumbers.{DurationNumbers, IsDuration}
 use Rattle.speedate.specs.DurationText.{counted_text, kept_digit, without_last_zeros, short_fraction_text, hours_text, days_text, start_text, rest_text, is_whole_days, duration_text}
-use Rattle.speedate.specs.IsoFormLaws.{duration_answer-only}
 use Rattle.speedate.specs.IsoForm.{DurationUnit, unit, units, unit_in, Quantity, Item, Mark, Amount, item_text, IsFraction, Sums, no_limit, no_sums, next_limit, is_smaller, unit_seconds, fraction_seconds, fraction_microseconds, with_quantity, with_item, with_items, AreGood, Ends, sums_numbers, IsIsoAnswer}
 
 -- a number without leading zeros is digits that spell it
@@ -461,19 +463,16 @@ start-answer order behavior false text answer is = is
 
 -- the printed text of a duration is answered by it, also where the order of the standard is asked for
 pub duration_text-reads : (order : IsoOrder) (behavior : MicrosecondsPrecisionOverflowBehavior) (numbers : DurationNumbers) → IsDuration numbers
-    → IsDurationAnswer order behavior (duration_text numbers) (Ok numbers)
+    → duration_answer order behavior (duration_text numbers) ≡ Ok numbers
 duration_text-reads order behavior numbers valid =
     let reads = rest-answer order numbers (is_whole_days numbers) (numbers.day == 0) valid refl refl in
     let text = days_text numbers ++ rest_text numbers in
-    subst (λ (printed : List ℕ). IsDurationAnswer order behavior printed (Ok numbers))
-    (sym (append_assoc (start_text numbers.positive) (days_text numbers) (rest_text numbers)))
-    (Ok numbers, start-answer order behavior numbers.positive text (Ok numbers) reads, sym (normal_form-same numbers valid))
+    let printed = sym (append_assoc (start_text numbers.positive) (days_text numbers) (rest_text numbers)) in
+    sym (duration_answer-unique order behavior (duration_text numbers) (Ok numbers) (subst (λ (printed : List ℕ). IsDurationAnswer order behavior printed (Ok numbers)) printed
+    (Ok numbers, start-answer order behavior numbers.positive text (Ok numbers) reads, sym (normal_form-same numbers valid))))
 
 -- so two durations with one text are one duration
 pub duration_text-distinct : (first second : DurationNumbers) → IsDuration first → IsDuration second → duration_text first ≡ duration_text second → first ≡ second
-duration_text-distinct first second one two same =
-    let reads = duration_text-reads order.Lax behavior.Error first one in
-    let other = subst (λ (text : List ℕ). IsDurationAnswer order.Lax behavior.Error text (Ok second)) (sym same)
-    (duration_text-reads order.Lax behavior.Error second two) in
-    let joined = duration_answer-only order.Lax behavior.Error (duration_text first) (Ok first) (Ok second) reads other in
-    cc
+duration_text-distinct first second one two =
+    text-distinct duration_text (duration_answer order.Lax behavior.Error) first second
+    (duration_text-reads order.Lax behavior.Error first one) (duration_text-reads order.Lax behavior.Error second two)

@@ -3,10 +3,11 @@
 ghost use Rattle.std.specs.Prelude.{◌≡◌, ℕ, ◌<◌, ◌≤◌, IfOk, List, Bool, false, if◌then◌else◌, true, Result, Ok, Err};
 ghost use Rattle.speedate_base.specs.declared.faults.ParseError.{ParseError};
 ghost use Rattle.speedate_base.specs.Requirement.{result_map, result_and_then};
-ghost use Rattle.speedate.specs.DurationForm.{has_day_letter, has_days, form_answer, IsNormalAnswer, IsDurationAnswer};
+ghost use Rattle.speedate.specs.DurationAnswer.{duration_answer};
+ghost use Rattle.speedate.specs.DurationForm.{has_day_letter, has_days, form_answer, IsNormalAnswer, IsGrammarAnswer};
 ghost use Rattle.speedate.specs.Exchanged.{AreExchanged};
-ghost use Rattle.speedate.specs.InOrder.{IsLaxOrRefused, IsMadeOf, are_in_order, is_iso};
-ghost use Rattle.speedate.specs.IsoForm.{Item, IsIsoAnswer, no_limit};
+ghost use Rattle.speedate.specs.InOrder.{IsAnswerInOrder};
+ghost use Rattle.speedate.specs.IsoForm.{IsIsoAnswer};
 ghost use Rattle.speedate.specs.DurationNumbers.{DurationNumbers, length_seconds, length_microseconds, normal_form, signed_seconds, signed_microsecond, signed_milliseconds};
 
 mod clock;
@@ -110,8 +111,8 @@ impl Duration {
     /// - `DurationValueTooLarge` and `DurationDaysTooLarge` as [`Duration::new`] has them, last.
     #[inline(always)]
     pub fn parse_str(text: &str) -> Result<Self, ParseError>
-        ensures answer { IsDurationAnswer order.Lax behavior.Error text.now (result_map parts result) }
-        ensures only { (other : Result DurationNumbers ParseError) → IsDurationAnswer order.Lax behavior.Error text.now other → other ≡ result_map parts result }
+        ensures answer { result_map parts result ≡ duration_answer order.Lax behavior.Error text.now }
+        ensures grammar { IsGrammarAnswer order.Lax behavior.Error text.now (result_map parts result) }
     {
         Self::parse_bytes(text.as_bytes())
     }
@@ -120,8 +121,8 @@ impl Duration {
     /// not positive from `b"-00:00:01"`. The bytes need not be text.
     #[inline(always)]
     pub fn parse_bytes(bytes: &[u8]) -> Result<Self, ParseError>
-        ensures answer { IsDurationAnswer order.Lax behavior.Error bytes.now (result_map parts result) }
-        ensures only { (other : Result DurationNumbers ParseError) → IsDurationAnswer order.Lax behavior.Error bytes.now other → other ≡ result_map parts result }
+        ensures answer { result_map parts result ≡ duration_answer order.Lax behavior.Error bytes.now }
+        ensures grammar { IsGrammarAnswer order.Lax behavior.Error bytes.now (result_map parts result) }
     {
         Self::parse(
             bytes,
@@ -145,16 +146,11 @@ impl Duration {
     /// answer.
     #[inline(always)]
     pub fn parse_bytes_with_config(bytes: &[u8], config: &TimeConfig) -> Result<Self, ParseError>
-        ensures answer { IsDurationAnswer config.now.iso_order config.now.microseconds_precision_overflow_behavior bytes.now (result_map parts result) }
-        ensures only { (other : Result DurationNumbers ParseError) → IsDurationAnswer config.now.iso_order config.now.microseconds_precision_overflow_behavior bytes.now other → other ≡ result_map parts result }
-        ensures lax { (lax : Result DurationNumbers ParseError) → IsDurationAnswer order.Lax config.now.microseconds_precision_overflow_behavior bytes.now lax → IsLaxOrRefused lax (result_map parts result) }
-        ensures in_order { (items : List Item) (lax : Result DurationNumbers ParseError) → config.now.iso_order ≡ order.Strict → IsMadeOf bytes.now items
-            → IsDurationAnswer order.Lax config.now.microseconds_precision_overflow_behavior bytes.now lax
-            → result_map parts result ≡ (if are_in_order false no_limit items then lax else Err fault.DurationUnitOrder) }
-        ensures made { (numbers : DurationNumbers) → is_iso bytes.now ≡ true → IsDurationAnswer order.Lax config.now.microseconds_precision_overflow_behavior bytes.now (Ok numbers)
-            → (items : List Item) × IsMadeOf bytes.now items }
-        ensures other_forms { is_iso bytes.now ≡ false → IsDurationAnswer order.Lax config.now.microseconds_precision_overflow_behavior bytes.now (result_map parts result) }
-        ensures exchanged { (other : List ℕ) → config.now.iso_order ≡ order.Lax → AreExchanged bytes.now other → IsDurationAnswer config.now.iso_order config.now.microseconds_precision_overflow_behavior other (result_map parts result) }
+        ensures answer { result_map parts result ≡ duration_answer config.now.iso_order config.now.microseconds_precision_overflow_behavior bytes.now }
+        ensures grammar { IsGrammarAnswer config.now.iso_order config.now.microseconds_precision_overflow_behavior bytes.now (result_map parts result) }
+        ensures order { IsAnswerInOrder config.now.iso_order config.now.microseconds_precision_overflow_behavior bytes.now (result_map parts result) }
+        ensures exchanged { (other : List ℕ) → config.now.iso_order ≡ order.Lax → AreExchanged bytes.now other
+            → result_map parts result ≡ duration_answer config.now.iso_order config.now.microseconds_precision_overflow_behavior other }
     {
         Self::parse(
             bytes,
@@ -170,8 +166,8 @@ impl Duration {
         order: IsoOrder,
         behavior: MicrosecondsPrecisionOverflowBehavior,
     ) -> Result<Self, ParseError>
-        ensures answer { IsDurationAnswer order behavior bytes.now (result_map parts result) }
-        ensures only { (other : Result DurationNumbers ParseError) → IsDurationAnswer order behavior bytes.now other → other ≡ result_map parts result }
+        ensures answer { result_map parts result ≡ duration_answer order behavior bytes.now }
+        ensures grammar { IsGrammarAnswer order behavior bytes.now (result_map parts result) }
     {
         let (negative, length) = sign(bytes);
         Self::unsigned(&bytes[length..], !negative, order, behavior)
@@ -270,13 +266,14 @@ impl FromStr for Duration {
     ghost use Rattle.speedate_base.specs.declared.config.MicrosecondsPrecisionOverflowBehavior.TheVariants as behavior;
     ghost use Rattle.speedate.specs.Duration.{parts};
 
-    ghost from_str_gives = { λ text result. IsDurationAnswer order.Lax behavior.Error text (result_map parts result) };
+    ghost from_str_gives = { λ text result. result_map parts result ≡ duration_answer order.Lax behavior.Error text };
 
     /// Reads a duration from a text, as [`Duration::parse_str`] does: `"PT90M".parse()` gives an hour
     /// and a half.
     #[inline]
     fn from_str(text: &str) -> Result<Self, ParseError>
-        ensures answer { IsDurationAnswer order.Lax behavior.Error text.now (result_map parts result) }
+        ensures answer { result_map parts result ≡ duration_answer order.Lax behavior.Error text.now }
+        ensures grammar { IsGrammarAnswer order.Lax behavior.Error text.now (result_map parts result) }
     {
         Self::parse_str(text)
     }
