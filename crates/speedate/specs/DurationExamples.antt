@@ -97,24 +97,24 @@ items-repeated : are_in_order false no_limit (one_of capital_y ∷ one_of capita
 items-repeated = refl
 
 -- a clock, and days with a clock behind them
-clock : form_answer behavior.Error true (codes "24:01:03.5") ≡ Ok (record { positive = true; day = 1; second = 63; microsecond = 500000 })
+clock : form_answer behavior.Error (codes "24:01:03.5") ≡ Ok (record { day = 1; second = 63; microsecond = 500000 })
 unfolding clock_form form_answer
 clock = refl
 
-days : form_answer behavior.Error false (codes "1 day, 1:00:42") ≡ Ok (record { positive = false; day = 1; second = 3642; microsecond = 0 })
+days : form_answer behavior.Error (codes "1 day, 1:00:42") ≡ Ok (record { day = 1; second = 3642; microsecond = 0 })
 unfolding clock_form day_form form_answer
 days = refl
 
 -- digits past the sixth are dropped, and nothing else
-digits-dropped : form_answer behavior.Truncate true (codes "00:00:00.1234567") ≡ Ok (record { positive = true; day = 0; second = 0; microsecond = 123456 })
+digits-dropped : form_answer behavior.Truncate (codes "00:00:00.1234567") ≡ Ok (record { day = 0; second = 0; microsecond = 123456 })
 unfolding clock_form form_answer
 digits-dropped = refl
 
-letter-refused : form_answer behavior.Truncate true (codes "00:00:00.123456x") ≡ Err fault.ExtraCharacters
+letter-refused : form_answer behavior.Truncate (codes "00:00:00.123456x") ≡ Err fault.ExtraCharacters
 unfolding clock_form form_answer
 letter-refused = refl
 
 -- four bytes are no clock
-short : form_answer behavior.Error true (codes "1:00") ≡ Err fault.DurationInvalidDays
+short : form_answer behavior.Error (codes "1:00") ≡ Err fault.DurationInvalidDays
 unfolding day_form form_answer
 short = refl

@@ -36,7 +36,7 @@ pub record IsMadeOf (text : List ℕ) (items : List Item) : Type 0 where
   pub is_text : text ≡ sign ++ capital_p ∷ flat_map item_text items
 
 -- an answer is the lax one, or it is that of a quantity out of order
-abbrev pub IsLaxOrRefused : Result DurationNumbers ParseError → Result DurationNumbers ParseError → Type 0
+abbrev pub IsLaxOrRefused : {A : Type 0} → Result A ParseError → Result A ParseError → Type 0
 IsLaxOrRefused lax answer = (answer ≡ lax) ⊎ (answer ≡ Err fault.DurationUnitOrder)
 
 -- a text is an ISO 8601 duration, and neither days nor a clock: behind its sign it begins with `P`

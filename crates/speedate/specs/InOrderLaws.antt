@@ -1,5 +1,5 @@
 -- Where the order of the standard is asked for, a duration is what the lax order makes of it, or is refused for its order.
-use Rattle.std.specs.Prelude.{◌≡◌, MatchBool, ℕ, zero, suc, ◌<◌, Bool, true, false, not, ◌&&◌, List, [], ◌∷◌, ◌++◌, length, take, drop, slice_index, nat_lt, ◌==◌, if◌then◌else◌, Option, Some, None, Result, Ok, Err, refl}
+use Rattle.std.specs.Prelude.{◌≡◌, ℕ, zero, suc, ◌<◌, Bool, true, false, not, ◌&&◌, List, [], ◌∷◌, ◌++◌, length, take, drop, slice_index, nat_lt, ◌==◌, if◌then◌else◌, Option, Some, None, Result, Ok, Err, refl}
 use Rattle.std.specs.List.{flat_map}
 use Rattle.std.specs.Option.{is_some}
 use Rattle.std.proofs.Common.{arith, ap, sym, ◌∙◌, subst, inl, inr}
@@ -15,18 +15,17 @@ use Rattle.speedate_base.specs.Ascii.{capital_p}
 use Rattle.speedate_base.specs.Numbers.{has_minus, sign_length}
 use Rattle.speedate_base.specs.NumberLaws.{sign-of_text}
 use Rattle.speedate_base.specs.Requirement.{meets, AllHold, result_and_then}
-use Rattle.speedate.specs.DurationNumbers.{DurationNumbers, normal_form}
-use Rattle.speedate.specs.DurationForm.{form_answer, IsDurationAnswer}
-use Rattle.speedate.specs.DurationAnswer.{iso_answer, unsigned_answer, duration_answer}
-use Rattle.speedate.specs.DurationAnswerLaws.{duration_answer-is, duration_answer-unique}
-use Rattle.speedate.specs.ExchangedLaws.{with-sign}
+use Rattle.speedate.specs.DurationNumbers.{DurationNumbers, UnsignedDuration, signed_form}
+use Rattle.speedate.specs.DurationForm.{form_answer}
+use Rattle.speedate.specs.DurationAnswer.{iso_answer, iso_form, unsigned_answer, duration_answer}
+use Rattle.speedate.specs.DurationAnswerLaws.{iso_form-is, iso_form-only, duration_answer-iso}
 use Rattle.speedate.specs.InOrder.{IsLaxOrRefused, IsAnswerInOrder, seconds_of, are_in_order, IsMadeOf, is_iso}
-use Rattle.speedate.specs.IsoForm.{DurationUnit, units, unit_in, Quantity, Item, Mark, Amount, item_text, IsItem, item_at, item_length, item_table, is_smaller, are_counted, Sums, no_limit, no_sums, with_quantity, with_item, with_items, AreGood, sums_numbers, Ends, IsAnswerFrom, IsIsoAnswer}
+use Rattle.speedate.specs.IsoForm.{DurationUnit, units, unit_in, Quantity, Item, Mark, Amount, item_text, IsItem, item_at, item_length, item_table, is_smaller, are_counted, Sums, no_limit, no_sums, with_quantity, with_item, with_items, AreGood, sums_length, Ends, IsAnswerFrom}
 use Rattle.speedate.specs.IsoFormLaws.{item_at-text, answer-with}
 use Rattle.speedate.specs.IsoFrontLaws.{answer-refused}
 
 abbrev Answer : Type 0
-Answer = Result DurationNumbers ParseError
+Answer = Result UnsignedDuration ParseError
 
 -- sums where any unit may come next, and where one has to be smaller than a limit
 abbrev as_lax : Sums → Sums
@@ -76,29 +75,29 @@ table-both sums (Amount quantity) lax answer both =
     (row-both (are_counted (with_item (Amount quantity) sums)) _ lax answer both))))))
 
 -- behind any items
-iso-both : (most : ℕ) (positive : Bool) (sums : Sums) (text : List ℕ)
-    → IsLaxOrRefused (iso_answer most positive (as_lax sums) text) (iso_answer most positive sums text)
+iso-both : (most : ℕ) (sums : Sums) (text : List ℕ)
+    → IsLaxOrRefused (iso_answer most (as_lax sums) text) (iso_answer most sums text)
 unfolding iso_answer
-iso-both most positive sums [] = inl refl
-iso-both zero positive sums (byte ∷ rest) = inl refl
-iso-both (suc most) positive sums (byte ∷ rest) =
+iso-both most sums [] = inl refl
+iso-both zero sums (byte ∷ rest) = inl refl
+iso-both (suc most) sums (byte ∷ rest) =
     let text = byte ∷ rest in
     let item = item_at text in
     let behind = drop (item_length text) text in
     table-both sums item _ _
-    (subst (λ (next : Sums). IsLaxOrRefused (iso_answer most positive next behind) (iso_answer most positive (with_item item sums) behind))
-    (item-lax item sums) (iso-both most positive (with_item item sums) behind))
+    (subst (λ (next : Sums). IsLaxOrRefused (iso_answer most next behind) (iso_answer most (with_item item sums) behind))
+    (item-lax item sums) (iso-both most (with_item item sums) behind))
 
-unsigned-both : (asked : IsoOrder) (behavior : MicrosecondsPrecisionOverflowBehavior) (positive : Bool) (text : List ℕ) (iso : Bool)
-    → IsLaxOrRefused (if iso then iso_answer (length text) positive (no_sums order.Lax) (drop 1 text) else form_answer behavior positive text)
-    (if iso then iso_answer (length text) positive (no_sums asked) (drop 1 text) else form_answer behavior positive text)
-unsigned-both asked behavior positive text true = iso-both (length text) positive (no_sums asked) (drop 1 text)
-unsigned-both asked behavior positive text false = inl refl
+both-signed : (positive : Bool) (lax answer : Answer) → IsLaxOrRefused lax answer
+    → IsLaxOrRefused (result_and_then (signed_form positive) lax) (result_and_then (signed_form positive) answer)
+both-signed positive lax answer (inl same) = inl (ap (result_and_then (signed_form positive)) same)
+both-signed positive lax answer (inr refused) = inr (ap (result_and_then (signed_form positive)) refused)
 
--- and in normal form, whose faults are of sums that both have
-normal-both : (lax answer : Answer) → IsLaxOrRefused lax answer → IsLaxOrRefused (result_and_then normal_form lax) (result_and_then normal_form answer)
-normal-both lax answer (inl same) = inl (ap (result_and_then normal_form) same)
-normal-both lax answer (inr refused) = inr (ap (result_and_then normal_form) refused)
+unsigned-both : (asked : IsoOrder) (behavior : MicrosecondsPrecisionOverflowBehavior) (text : List ℕ) (iso : Bool)
+    → IsLaxOrRefused (if iso then iso_form order.Lax (drop 1 text) else form_answer behavior text)
+    (if iso then iso_form asked (drop 1 text) else form_answer behavior text)
+unsigned-both asked behavior text true = iso-both (length (drop 1 text)) (no_sums asked) (drop 1 text)
+unsigned-both asked behavior text false = inl refl
 
 -- so the answer in any order is the lax one, or the text is refused for its order
 duration-both : (asked : IsoOrder) (behavior : MicrosecondsPrecisionOverflowBehavior) (text : List ℕ)
@@ -106,7 +105,7 @@ duration-both : (asked : IsoOrder) (behavior : MicrosecondsPrecisionOverflowBeha
 unfolding unsigned_answer
 duration-both asked behavior text =
     let rest = drop (sign_length text) text in
-    normal-both _ _ (unsigned-both asked behavior (not (has_minus text)) rest (slice_index rest 0 == capital_p))
+    both-signed (not (has_minus text)) _ _ (unsigned-both asked behavior rest (slice_index rest 0 == capital_p))
 
 -- a quantity with a unit adds to the sums with a limit what it adds to the others, and its unit is the next limit
 quantity-strict : (unit : Option DurationUnit) (quantity : Quantity) (limit : ℕ) (sums : Sums) → is_some unit ≡ true
@@ -119,17 +118,17 @@ quantity-mark None quantity sums = refl
 quantity-mark (Some unit) quantity sums = refl
 
 -- what good items add up to
-abbrev made : Bool → Sums → Answer
-made positive sums = if sums.some then Ok (sums_numbers positive sums) else Err fault.TooShort
+abbrev made : Sums → Answer
+made sums = if sums.some then Ok (sums_length sums) else Err fault.TooShort
 
-abbrev strict_made : Bool → Bool → Sums → Answer
-strict_made in_order positive sums = if in_order then made positive sums else Err fault.DurationUnitOrder
+abbrev strict_made : Bool → Sums → Answer
+strict_made in_order sums = if in_order then made sums else Err fault.DurationUnitOrder
 
 -- an item out of order refuses the text
-out_of_order : (positive : Bool) (limit : ℕ) (sums : Sums) (quantity : Quantity) (rest : List ℕ) → IsItem (Amount quantity)
+out_of_order : (limit : ℕ) (sums : Sums) (quantity : Quantity) (rest : List ℕ) → IsItem (Amount quantity)
     → AllHold (item_table sums (Amount quantity)) → is_smaller limit (unit_in (units sums.mark) quantity.letter) ≡ false
-    → IsAnswerFrom positive (as_strict limit sums) (item_text (Amount quantity) ++ rest) (Err fault.DurationUnitOrder)
-out_of_order positive limit sums quantity rest is all late =
+    → IsAnswerFrom (as_strict limit sums) (item_text (Amount quantity) ++ rest) (Err fault.DurationUnitOrder)
+out_of_order limit sums quantity rest is all late =
     let text = item_text (Amount quantity) ++ rest in
     let there = item_at-text sums (Amount quantity) rest is all in
     let read : Result ℕ ParseError = Ok 0 in
@@ -137,74 +136,60 @@ out_of_order positive limit sums quantity rest is all late =
     rw (all.0, all.1.0, all.1.1.0, all.1.1.1.0, late) refl in
     let digits = quantity.number ++ quantity.fraction in
     let some : 0 < length text = rw (length-append (item_text (Amount quantity)) rest, length-append digits (quantity.letter ∷ [])) (omega arith) in
-    answer-refused positive (as_strict limit sums) text fault.DurationUnitOrder 0 some
+    answer-refused (as_strict limit sums) text fault.DurationUnitOrder 0 some
     (subst (λ (item : Item). Err fault.DurationUnitOrder ≡ meets (item_table (as_strict limit sums) item) read) (sym there) refused)
 
 -- one in order goes on
-amount-strict : (positive : Bool) (limit : ℕ) (sums : Sums) (quantity : Quantity) (rest : List ℕ) (in_order smaller : Bool) (after : Sums)
+amount-strict : (limit : ℕ) (sums : Sums) (quantity : Quantity) (rest : List ℕ) (in_order smaller : Bool) (after : Sums)
     → IsItem (Amount quantity) → AllHold (item_table sums (Amount quantity))
     → is_smaller limit (unit_in (units sums.mark) quantity.letter) ≡ smaller
-    → IsAnswerFrom positive (as_strict (seconds_of (unit_in (units sums.mark) quantity.letter)) (with_item (Amount quantity) sums)) rest
-    (strict_made in_order positive after)
-    → IsAnswerFrom positive (as_strict limit sums) (item_text (Amount quantity) ++ rest) (strict_made (smaller && in_order) positive after)
-amount-strict positive limit sums quantity rest in_order false after is all late behind = out_of_order positive limit sums quantity rest is all late
-amount-strict positive limit sums quantity rest in_order true after is all smaller behind =
+    → IsAnswerFrom (as_strict (seconds_of (unit_in (units sums.mark) quantity.letter)) (with_item (Amount quantity) sums)) rest
+    (strict_made in_order after)
+    → IsAnswerFrom (as_strict limit sums) (item_text (Amount quantity) ++ rest) (strict_made (smaller && in_order) after)
+amount-strict limit sums quantity rest in_order false after is all late behind = out_of_order limit sums quantity rest is all late
+amount-strict limit sums quantity rest in_order true after is all smaller behind =
     let unit = unit_in (units sums.mark) quantity.letter in
     let same = quantity-strict unit quantity limit sums all.1.1.1.0 in
     let counted = sym (ap are_counted same) ∙ all.1.1.1.1.1.0 in
     let hold : AllHold (item_table (as_strict limit sums) (Amount quantity)) =
     (all.0, (all.1.0, (all.1.1.0, (all.1.1.1.0, (smaller, (counted, tt)))))) in
-    answer-with positive (as_strict limit sums) (Amount quantity) rest (strict_made in_order positive after) is hold
-    (subst (λ (next : Sums). IsAnswerFrom positive next rest (strict_made in_order positive after)) same behind)
+    answer-with (as_strict limit sums) (Amount quantity) rest (strict_made in_order after) is hold
+    (subst (λ (next : Sums). IsAnswerFrom next rest (strict_made in_order after)) same behind)
 
 -- so good items are refused exactly if they are not in order
-items-strict : (positive : Bool) (limit : ℕ) (sums : Sums) (items : List Item) → AreGood sums items
-    → IsAnswerFrom positive (as_strict limit sums) (flat_map item_text items)
-    (strict_made (are_in_order sums.mark limit items) positive (with_items items sums))
-items-strict positive limit sums [] good = ([], [], refl, tt, refl)
-items-strict positive limit sums (Mark ∷ items) good =
-    answer-with positive (as_strict limit sums) Mark (flat_map item_text items) _ tt good.1
-    (items-strict positive no_limit (with_item Mark sums) items good.2)
-items-strict positive limit sums (Amount quantity ∷ items) good =
+items-strict : (limit : ℕ) (sums : Sums) (items : List Item) → AreGood sums items
+    → IsAnswerFrom (as_strict limit sums) (flat_map item_text items)
+    (strict_made (are_in_order sums.mark limit items) (with_items items sums))
+items-strict limit sums [] good = ([], [], refl, tt, refl)
+items-strict limit sums (Mark ∷ items) good =
+    answer-with (as_strict limit sums) Mark (flat_map item_text items) _ tt good.1
+    (items-strict no_limit (with_item Mark sums) items good.2)
+items-strict limit sums (Amount quantity ∷ items) good =
     let unit = unit_in (units sums.mark) quantity.letter in
     let next = with_item (Amount quantity) sums in
-    let behind = items-strict positive (seconds_of unit) next items good.2 in
-    amount-strict positive limit sums quantity (flat_map item_text items) (are_in_order sums.mark (seconds_of unit) items) _
+    let behind = items-strict (seconds_of unit) next items good.2 in
+    amount-strict limit sums quantity (flat_map item_text items) (are_in_order sums.mark (seconds_of unit) items) _
     (with_items items next) good.0 good.1 refl
-    (subst (λ (mark : Bool). IsAnswerFrom positive (as_strict (seconds_of unit) next) (flat_map item_text items)
-    (strict_made (are_in_order mark (seconds_of unit) items) positive (with_items items next)))
+    (subst (λ (mark : Bool). IsAnswerFrom (as_strict (seconds_of unit) next) (flat_map item_text items)
+    (strict_made (are_in_order mark (seconds_of unit) items) (with_items items next)))
     (quantity-mark unit quantity sums) behind)
 
--- a text of good items has this answer in each order
-abbrev made_answer : (negative in_order : Bool) → Sums → Answer
-made_answer negative in_order sums =
-    result_and_then normal_form (if in_order then Ok (sums_numbers (not negative) sums) else Err fault.DurationUnitOrder)
+-- behind a `P`, in each order
+items-in_strict : (items : List Item) → AreGood (no_sums order.Lax) items
+    → iso_form order.Strict (flat_map item_text items) ≡ strict_made (are_in_order false no_limit items) (with_items items (no_sums order.Lax))
+items-in_strict items good =
+    sym (iso_form-only order.Strict (flat_map item_text items) _ (items-strict no_limit (no_sums order.Lax) items good))
 
-made-strict : (behavior : MicrosecondsPrecisionOverflowBehavior) (text : List ℕ) (items : List Item) (is : IsMadeOf text items)
-    → IsDurationAnswer order.Strict behavior text (made_answer is.negative (are_in_order false no_limit items) (with_items items (no_sums order.Lax)))
-made-strict behavior text items is =
-    let sums = with_items items (no_sums order.Lax) in
-    let in_order = are_in_order false no_limit items in
-    let from = items-strict (not is.negative) no_limit (no_sums order.Lax) items is.are_good in
-    let form = subst (λ (some : Bool). IsAnswerFrom (not is.negative) (no_sums order.Strict) (flat_map item_text items)
-    (if in_order then (if some then Ok (sums_numbers (not is.negative) sums) else Err fault.TooShort) else Err fault.DurationUnitOrder)) is.some from in
-    subst (λ (text : List ℕ). IsDurationAnswer order.Strict behavior text (made_answer is.negative in_order sums)) (sym is.is_text)
-    (with-sign order.Strict behavior is.negative is.sign (flat_map item_text items) _ is.is_sign (_, form, refl))
+items-in_lax : (items : List Item) → AreGood (no_sums order.Lax) items
+    → iso_form order.Lax (flat_map item_text items) ≡ made (with_items items (no_sums order.Lax))
+items-in_lax items good =
+    sym (iso_form-only order.Lax (flat_map item_text items) _ (items, [], sym (append-nil (flat_map item_text items)), good, refl))
 
-made-lax : (behavior : MicrosecondsPrecisionOverflowBehavior) (text : List ℕ) (items : List Item) (is : IsMadeOf text items)
-    → IsDurationAnswer order.Lax behavior text (made_answer is.negative true (with_items items (no_sums order.Lax)))
-made-lax behavior text items is =
-    let sums = with_items items (no_sums order.Lax) in
-    let numbers : Answer = Ok (sums_numbers (not is.negative) sums) in
-    let form : IsAnswerFrom (not is.negative) (no_sums order.Lax) (flat_map item_text items) numbers =
-    (items, [], sym (append-nil (flat_map item_text items)), is.are_good, rw is.some refl) in
-    subst (λ (text : List ℕ). IsDurationAnswer order.Lax behavior text (made_answer is.negative true sums)) (sym is.is_text)
-    (with-sign order.Lax behavior is.negative is.sign (flat_map item_text items) _ is.is_sign (numbers, form, refl))
-
-chosen : (negative in_order : Bool) (sums : Sums)
-    → made_answer negative in_order sums ≡ (if in_order then made_answer negative true sums else Err fault.DurationUnitOrder)
-chosen negative true sums = refl
-chosen negative false sums = refl
+chosen : (positive in_order : Bool) (lax : Answer)
+    → result_and_then (signed_form positive) (if in_order then lax else Err fault.DurationUnitOrder)
+    ≡ (if in_order then result_and_then (signed_form positive) lax else Err fault.DurationUnitOrder)
+chosen positive true lax = refl
+chosen positive false lax = refl
 
 -- so a text of good items is refused for its order if and only if they are not in order, and otherwise has the lax answer
 answer-strict : (asked : IsoOrder) (behavior : MicrosecondsPrecisionOverflowBehavior) (text : List ℕ) (items : List Item)
@@ -212,10 +197,13 @@ answer-strict : (asked : IsoOrder) (behavior : MicrosecondsPrecisionOverflowBeha
     → duration_answer asked behavior text ≡ (if are_in_order false no_limit items then duration_answer order.Lax behavior text else Err fault.DurationUnitOrder)
 answer-strict asked behavior text items strict is =
     let in_order = are_in_order false no_limit items in
-    ap (λ (asked : IsoOrder). duration_answer asked behavior text) strict
-    ∙ sym (duration_answer-unique order.Strict behavior text _ (made-strict behavior text items is))
-    ∙ chosen is.negative in_order (with_items items (no_sums order.Lax))
-    ∙ ap (λ (lax : Answer). if in_order then lax else Err fault.DurationUnitOrder) (duration_answer-unique order.Lax behavior text _ (made-lax behavior text items is))
+    let body = flat_map item_text items in
+    let step = result_and_then (signed_form (not is.negative)) in
+    let read = λ (order : IsoOrder). ap (duration_answer order behavior) is.is_text ∙ duration_answer-iso order behavior is.negative is.sign body is.is_sign in
+    let lax = read order.Lax ∙ ap step (items-in_lax items is.are_good) in
+    ap (λ (asked : IsoOrder). duration_answer asked behavior text) strict ∙ read order.Strict ∙ ap step (items-in_strict items is.are_good)
+    ∙ chosen (not is.negative) in_order (made (with_items items (no_sums order.Lax)))
+    ∙ ap (λ (lax : Result DurationNumbers ParseError). if in_order then lax else Err fault.DurationUnitOrder) (sym lax)
 
 -- a clock and days are not asked for an order
 answer-no_iso : (asked : IsoOrder) (behavior : MicrosecondsPrecisionOverflowBehavior) (text : List ℕ) → is_iso text ≡ false
@@ -228,44 +216,42 @@ first-byte : (text : List ℕ) → (slice_index text 0 == capital_p) ≡ true �
 first-byte [] is = absurd (false≢true is)
 first-byte (byte ∷ text) is = ap (λ (byte : ℕ). byte ∷ text) (eqb-true byte capital_p is)
 
-iso-form : (A C : Type 0) (iso : Bool) → iso ≡ true → MatchBool iso A C → A
-iso-form A C true is there = there
-iso-form A C false is there = absurd (false≢true is)
-
 -- one that is read has nothing behind its good items, and a quantity among them
 some-read : (positive some : Bool) (sums : Sums) (numbers : DurationNumbers)
-    → Ok numbers ≡ result_and_then normal_form (if some then Ok (sums_numbers positive sums) else Err fault.TooShort) → some ≡ true
+    → Ok numbers ≡ result_and_then (signed_form positive) (if some then Ok (sums_length sums) else Err fault.TooShort) → some ≡ true
 some-read positive true sums numbers same = refl
 some-read positive false sums numbers same = absurd (cc)
 
-ends-read : (positive : Bool) (sums : Sums) (rest : List ℕ) (form : Answer) (numbers : DurationNumbers) → Ends positive sums rest form
-    → Ok numbers ≡ result_and_then normal_form form → (rest ≡ []) × (sums.some ≡ true)
-ends-read positive sums [] form numbers ends same = (refl, some-read positive sums.some sums numbers (same ∙ ap (result_and_then normal_form) ends))
+ends-read : (positive : Bool) (sums : Sums) (rest : List ℕ) (form : Answer) (numbers : DurationNumbers) → Ends sums rest form
+    → Ok numbers ≡ result_and_then (signed_form positive) form → (rest ≡ []) × (sums.some ≡ true)
+ends-read positive sums [] form numbers ends same =
+    (refl, some-read positive sums.some sums numbers (same ∙ ap (result_and_then (signed_form positive)) ends))
 ends-read positive sums (byte ∷ rest) form numbers ends same =
-    let refused = same ∙ ap (result_and_then normal_form) ends.2 in
+    let refused = same ∙ ap (result_and_then (signed_form positive)) ends.2 in
     absurd (cc)
 
 -- so an ISO 8601 duration that the lax order reads is made of good items
 answer-items : (behavior : MicrosecondsPrecisionOverflowBehavior) (text : List ℕ) (numbers : DurationNumbers) → is_iso text ≡ true
     → duration_answer order.Lax behavior text ≡ Ok numbers → (items : List Item) × IsMadeOf text items
 answer-items behavior text numbers iso same =
-    let there = duration_answer-is order.Lax behavior text in
-    let length = sign_length text in
-    let rest = drop length text in
-    let form = form_answer behavior (not (has_minus text)) rest in
-    let from = iso-form (IsIsoAnswer order.Lax (not (has_minus text)) (drop 1 rest) there.0) (there.0 ≡ form) (is_iso text) iso there.1 in
-    let ended = ends-read (not (has_minus text)) (with_items from.0 (no_sums order.Lax)) from.1 there.0 numbers from.4 (sym same ∙ there.2) in
-    let body = from.2 ∙ ap (λ (end : List ℕ). flat_map item_text from.0 ++ end) ended.0 ∙ append-nil (flat_map item_text from.0) in
-    let made : IsMadeOf text from.0 = record {
+    let sign : List ℕ = take (sign_length text) text in
+    let rest = drop (sign_length text) text in
+    let body : List ℕ = drop 1 rest in
+    let is_sign = sign-of_text text in
+    let begins : text ≡ sign ++ capital_p ∷ body = sym (take-append-drop (sign_length text) text) ∙ ap (λ (rest : List ℕ). sign ++ rest) (first-byte rest iso) in
+    let read = sym same ∙ ap (duration_answer order.Lax behavior) begins ∙ duration_answer-iso order.Lax behavior (has_minus text) sign body is_sign in
+    let from = iso_form-is order.Lax body in
+    let ended = ends-read (not (has_minus text)) (with_items from.0 (no_sums order.Lax)) from.1 (iso_form order.Lax body) numbers from.4 read in
+    let is_body = from.2 ∙ ap (λ (end : List ℕ). flat_map item_text from.0 ++ end) ended.0 ∙ append-nil (flat_map item_text from.0) in
+    let is_made : IsMadeOf text from.0 = record {
       negative = has_minus text;
-      sign = take length text;
-      is_sign = sign-of_text text;
+      sign = sign;
+      is_sign = is_sign;
       are_good = from.3;
       some = ended.1;
-      is_text = sym (take-append-drop length text)
-          ∙ ap (λ (behind : List ℕ). take length text ++ behind) (first-byte rest iso ∙ ap (λ (body : List ℕ). capital_p ∷ body) body);
+      is_text = begins ∙ ap (λ (body : List ℕ). sign ++ capital_p ∷ body) is_body;
     } in
-    (from.0, made)
+    (from.0, is_made)
 
 -- the answer in the order that is asked for
 pub duration_answer-in_order : (asked : IsoOrder) (behavior : MicrosecondsPrecisionOverflowBehavior) (text : List ℕ)

@@ -16,7 +16,7 @@ use Rattle.speedate_base.specs.DigitRuns.{run_length, digits_value}
 use Rattle.speedate_base.specs.Nearest.{nearest}
 use Rattle.speedate_base.specs.Offset.{seconds_per_day}
 use Rattle.speedate_base.specs.Requirement.{Requirement, ◌else_fault◌, meets, AllHold}
-use Rattle.speedate.specs.DurationNumbers.{DurationNumbers}
+use Rattle.speedate.specs.DurationNumbers.{UnsignedDuration}
 
 -- a unit by its letter, and what one of it is: whole days, or seconds
 pub record DurationUnit : Type 0 where
@@ -191,21 +191,21 @@ abbrev pub AreGood : Sums → List Item → Type 0
 AreGood sums [] = Unit {0}
 AreGood sums (item ∷ items) = IsItem item × AllHold (item_table sums item) × AreGood (with_item item sums) items
 
--- the numbers of a duration by its sums
-abbrev pub sums_numbers : Bool → Sums → DurationNumbers
-sums_numbers positive sums = record { positive = positive; day = sums.day; second = sums.second; microsecond = sums.microsecond }
+-- the length that they are
+abbrev pub sums_length : Sums → UnsignedDuration
+sums_length sums = record { day = sums.day; second = sums.second; microsecond = sums.microsecond }
 
 -- how good items end: with nothing behind them, and then with a quantity among them or not; or with what has a fault
-abbrev pub Ends : Bool → Sums → List ℕ → Result DurationNumbers ParseError → Type 0
-Ends positive sums [] answer = answer ≡ (if sums.some then Ok (sums_numbers positive sums) else Err fault.TooShort)
-Ends positive sums (byte ∷ rest) answer =
-    (fault : ParseError) × (meets (item_table sums (item_at (byte ∷ rest))) (Ok (sums_numbers positive sums)) ≡ Err fault) × (answer ≡ Err fault)
+abbrev pub Ends : Sums → List ℕ → Result UnsignedDuration ParseError → Type 0
+Ends sums [] answer = answer ≡ (if sums.some then Ok (sums_length sums) else Err fault.TooShort)
+Ends sums (byte ∷ rest) answer =
+    (fault : ParseError) × (meets (item_table sums (item_at (byte ∷ rest))) (Ok (sums_length sums)) ≡ Err fault) × (answer ≡ Err fault)
 
 -- the answer to a text behind items: it is good items and an end
-abbrev pub IsAnswerFrom : Bool → Sums → List ℕ → Result DurationNumbers ParseError → Type 0
-IsAnswerFrom positive sums text answer =
-    (items : List Item) × (rest : List ℕ) × (text ≡ flat_map item_text items ++ rest) × AreGood sums items × Ends positive (with_items items sums) rest answer
+abbrev pub IsAnswerFrom : Sums → List ℕ → Result UnsignedDuration ParseError → Type 0
+IsAnswerFrom sums text answer =
+    (items : List Item) × (rest : List ℕ) × (text ≡ flat_map item_text items ++ rest) × AreGood sums items × Ends (with_items items sums) rest answer
 
 -- the answer to what follows a `P`
-abbrev pub IsIsoAnswer : IsoOrder → Bool → List ℕ → Result DurationNumbers ParseError → Type 0
-IsIsoAnswer order positive text answer = IsAnswerFrom positive (no_sums order) text answer
+abbrev pub IsIsoAnswer : IsoOrder → List ℕ → Result UnsignedDuration ParseError → Type 0
+IsIsoAnswer order text answer = IsAnswerFrom (no_sums order) text answer

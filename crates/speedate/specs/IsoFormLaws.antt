@@ -21,13 +21,13 @@ use Rattle.speedate_base.specs.DigitRunLaws.{run_length-append}
 use Rattle.speedate_base.specs.Numbers.{has_minus, sign_length}
 use Rattle.speedate_base.specs.Requirement.{meets, AllHold, result_and_then}
 use Rattle.speedate_base.specs.RequirementLaws.{meets-all}
-use Rattle.speedate.specs.DurationNumbers.{DurationNumbers, normal_form}
-use Rattle.speedate.specs.IsoForm.{DurationUnit, units, unit_in, Quantity, Item, Mark, Amount, item_text, is_point, IsFraction, IsItem, fraction_length, quantity_at, item_at, Sums, no_limit, unit_seconds, next_limit, is_smaller, with_quantity, with_item, with_items, item_table, AreGood, sums_numbers, Ends, IsAnswerFrom, IsIsoAnswer, no_sums}
+use Rattle.speedate.specs.DurationNumbers.{DurationNumbers, UnsignedDuration, signed_form}
+use Rattle.speedate.specs.IsoForm.{DurationUnit, units, unit_in, Quantity, Item, Mark, Amount, item_text, is_point, IsFraction, IsItem, fraction_length, quantity_at, item_at, Sums, no_limit, unit_seconds, next_limit, is_smaller, with_quantity, with_item, with_items, item_table, AreGood, sums_length, Ends, IsAnswerFrom, IsIsoAnswer, no_sums}
 use Rattle.speedate.specs.DurationForm.{form_answer, IsDurationAnswer}
 use Rattle.speedate.specs.Exchanged.{has_fraction, IsPlain}
 
 abbrev Answer : Type 0
-Answer = Result DurationNumbers ParseError
+Answer = Result UnsignedDuration ParseError
 
 -- the letter of a unit is no digit and no point
 unit-letter : (mark : Bool) (letter : ℕ) → is_some (unit_in (units mark) letter) ≡ true → (is_ascii_digit letter ≡ false) × (is_point letter ≡ false)
@@ -93,83 +93,82 @@ item_at-text sums Mark rest is all = refl
 item_at-text sums (Amount quantity) rest is all = item_at-amount sums.mark quantity rest is all.0 all.1.1.1.0
 
 -- an end has one answer
-ends-only : (positive : Bool) (sums : Sums) (rest : List ℕ) (first second : Answer) → Ends positive sums rest first → Ends positive sums rest second → first ≡ second
-ends-only positive sums [] first second one two = one ∙ sym two
-ends-only positive sums (byte ∷ rest) first second one two = one.2 ∙ sym one.1 ∙ two.1 ∙ sym two.2
+ends-only : (sums : Sums) (rest : List ℕ) (first second : Answer) → Ends sums rest first → Ends sums rest second → first ≡ second
+ends-only sums [] first second one two = one ∙ sym two
+ends-only sums (byte ∷ rest) first second one two = one.2 ∙ sym one.1 ∙ two.1 ∙ sym two.2
 
 -- and is no good item
-ends-no_item : (positive : Bool) (sums : Sums) (rest : List ℕ) (answer : Answer) → Ends positive sums rest answer → AllHold (item_table sums (item_at rest)) → ⊥
-ends-no_item positive sums [] answer ends all = false≢true all.0
-ends-no_item positive sums (byte ∷ rest) answer ends all =
-    let same = sym (meets-all (item_table sums (item_at (byte ∷ rest))) (Ok (sums_numbers positive sums)) all) ∙ ends.1 in
+ends-no_item : (sums : Sums) (rest : List ℕ) (answer : Answer) → Ends sums rest answer → AllHold (item_table sums (item_at rest)) → ⊥
+ends-no_item sums [] answer ends all = false≢true all.0
+ends-no_item sums (byte ∷ rest) answer ends all =
+    let same = sym (meets-all (item_table sums (item_at (byte ∷ rest))) (Ok (sums_length sums)) all) ∙ ends.1 in
     absurd (cc)
 
 -- an answer without a good item that stands in front is the answer to what follows it
-without-item : (positive : Bool) (sums : Sums) (item : Item) (text : List ℕ) (answer : Answer) (items : List Item) (rest : List ℕ)
+without-item : (sums : Sums) (item : Item) (text : List ℕ) (answer : Answer) (items : List Item) (rest : List ℕ)
     → IsItem item → AllHold (item_table sums item) → item_text item ++ text ≡ flat_map item_text items ++ rest
-    → AreGood sums items → Ends positive (with_items items sums) rest answer → IsAnswerFrom positive (with_item item sums) text answer
-without-item positive sums item text answer [] rest is all same good ends =
+    → AreGood sums items → Ends (with_items items sums) rest answer → IsAnswerFrom (with_item item sums) text answer
+without-item sums item text answer [] rest is all same good ends =
     let there = sym (ap item_at same) ∙ item_at-text sums item text is all in
-    absurd (ends-no_item positive sums rest answer ends (subst (λ (item : Item). AllHold (item_table sums item)) (sym there) all))
-without-item positive sums item text answer (next ∷ items) rest is all same good ends =
+    absurd (ends-no_item sums rest answer ends (subst (λ (item : Item). AllHold (item_table sums item)) (sym there) all))
+without-item sums item text answer (next ∷ items) rest is all same good ends =
     let behind = flat_map item_text items ++ rest in
     let joined = same ∙ append_assoc (item_text next) (flat_map item_text items) rest in
     let one : next ≡ item = sym (item_at-text sums next behind good.0 good.1) ∙ sym (ap item_at joined) ∙ item_at-text sums item text is all in
     let left = append_cancel_left (item_text item) text behind (joined ∙ ap (λ (item : Item). item_text item ++ behind) one) in
-    subst (λ (item : Item). IsAnswerFrom positive (with_item item sums) text answer) one (items, rest, left, good.2, ends)
+    subst (λ (item : Item). IsAnswerFrom (with_item item sums) text answer) one (items, rest, left, good.2, ends)
 
 -- the same of an answer as it is given
-pub answer-without : (positive : Bool) (sums : Sums) (item : Item) (text : List ℕ) (answer : Answer) → IsItem item → AllHold (item_table sums item)
-    → IsAnswerFrom positive sums (item_text item ++ text) answer → IsAnswerFrom positive (with_item item sums) text answer
-answer-without positive sums item text answer is all from = without-item positive sums item text answer from.0 from.1 is all from.2 from.3 from.4
+pub answer-without : (sums : Sums) (item : Item) (text : List ℕ) (answer : Answer) → IsItem item → AllHold (item_table sums item)
+    → IsAnswerFrom sums (item_text item ++ text) answer → IsAnswerFrom (with_item item sums) text answer
+answer-without sums item text answer is all from = without-item sums item text answer from.0 from.1 is all from.2 from.3 from.4
 
 -- where no good item begins a text, its end is its answer
-ended-only : (positive : Bool) (sums : Sums) (text : List ℕ) (first second : Answer) (items : List Item) (rest : List ℕ)
-    → Ends positive sums text first → text ≡ flat_map item_text items ++ rest → AreGood sums items → Ends positive (with_items items sums) rest second
+ended-only : (sums : Sums) (text : List ℕ) (first second : Answer) (items : List Item) (rest : List ℕ)
+    → Ends sums text first → text ≡ flat_map item_text items ++ rest → AreGood sums items → Ends (with_items items sums) rest second
     → first ≡ second
-ended-only positive sums text first second [] rest one same good two =
-    ends-only positive sums rest first second (subst (λ (text : List ℕ). Ends positive sums text first) same one) two
-ended-only positive sums text first second (item ∷ items) rest one same good two =
+ended-only sums text first second [] rest one same good two =
+    ends-only sums rest first second (subst (λ (text : List ℕ). Ends sums text first) same one) two
+ended-only sums text first second (item ∷ items) rest one same good two =
     let joined = same ∙ append_assoc (item_text item) (flat_map item_text items) rest in
     let there = ap item_at joined ∙ item_at-text sums item (flat_map item_text items ++ rest) good.0 good.1 in
-    absurd (ends-no_item positive sums text first one (subst (λ (item : Item). AllHold (item_table sums item)) (sym there) good.1))
+    absurd (ends-no_item sums text first one (subst (λ (item : Item). AllHold (item_table sums item)) (sym there) good.1))
 
 -- after good items and an end the answer is no other
-only : (positive : Bool) (sums : Sums) (items : List Item) (rest text : List ℕ) (first second : Answer) → text ≡ flat_map item_text items ++ rest
-    → AreGood sums items → Ends positive (with_items items sums) rest first → IsAnswerFrom positive sums text second → first ≡ second
-only positive sums [] rest text first second same good ends from =
-    ended-only positive sums text first second from.0 from.1 (subst (λ (text : List ℕ). Ends positive sums text first) (sym same) ends) from.2 from.3 from.4
-only positive sums (item ∷ items) rest text first second same good ends from =
+only : (sums : Sums) (items : List Item) (rest text : List ℕ) (first second : Answer) → text ≡ flat_map item_text items ++ rest
+    → AreGood sums items → Ends (with_items items sums) rest first → IsAnswerFrom sums text second → first ≡ second
+only sums [] rest text first second same good ends from =
+    ended-only sums text first second from.0 from.1 (subst (λ (text : List ℕ). Ends sums text first) (sym same) ends) from.2 from.3 from.4
+only sums (item ∷ items) rest text first second same good ends from =
     let behind = flat_map item_text items ++ rest in
     let joined = same ∙ append_assoc (item_text item) (flat_map item_text items) rest in
-    let next = answer-without positive sums item behind second good.0 good.1 (subst (λ (text : List ℕ). IsAnswerFrom positive sums text second) joined from) in
-    only positive (with_item item sums) items rest behind first second refl good.2 ends next
+    let next = answer-without sums item behind second good.0 good.1 (subst (λ (text : List ℕ). IsAnswerFrom sums text second) joined from) in
+    only (with_item item sums) items rest behind first second refl good.2 ends next
 
 -- a text has one answer
-pub answer-only : (positive : Bool) (sums : Sums) (text : List ℕ) (first second : Answer)
-    → IsAnswerFrom positive sums text first → IsAnswerFrom positive sums text second → first ≡ second
-answer-only positive sums text first second one two = only positive sums one.0 one.1 text first second one.2 one.3 one.4 two
+pub answer-only : (sums : Sums) (text : List ℕ) (first second : Answer)
+    → IsAnswerFrom sums text first → IsAnswerFrom sums text second → first ≡ second
+answer-only sums text first second one two = only sums one.0 one.1 text first second one.2 one.3 one.4 two
 
 -- and so has one behind a `P`, and one in the other forms
-form-only : (order : IsoOrder) (begins positive : Bool) (text : List ℕ) (form first second : Answer)
-    → MatchBool begins (IsIsoAnswer order positive text first) (first ≡ form) → MatchBool begins (IsIsoAnswer order positive text second) (second ≡ form)
+form-only : (order : IsoOrder) (begins : Bool) (text : List ℕ) (form first second : Answer)
+    → MatchBool begins (IsIsoAnswer order text first) (first ≡ form) → MatchBool begins (IsIsoAnswer order text second) (second ≡ form)
     → first ≡ second
-form-only order true positive text form first second one two = answer-only positive (no_sums order) text first second one two
-form-only order false positive text form first second one two = one ∙ sym two
+form-only order true text form first second one two = answer-only (no_sums order) text first second one two
+form-only order false text form first second one two = one ∙ sym two
 
 -- also behind a sign, and in its normal form
-pub duration_answer-only : (order : IsoOrder) (behavior : MicrosecondsPrecisionOverflowBehavior) (text : List ℕ) (first second : Answer)
+pub duration_answer-only : (order : IsoOrder) (behavior : MicrosecondsPrecisionOverflowBehavior) (text : List ℕ) (first second : Result DurationNumbers ParseError)
     → IsDurationAnswer order behavior text first → IsDurationAnswer order behavior text second → first ≡ second
 duration_answer-only order behavior text first second one two =
-    let positive = not (has_minus text) in
     let body = drop (sign_length text) text in
-    let same = form-only order (slice_index body 0 == capital_p) positive (drop 1 body) (form_answer behavior positive body) one.0 two.0 one.1 two.1 in
-    one.2 ∙ ap (result_and_then normal_form) same ∙ sym two.2
+    let same = form-only order (slice_index body 0 == capital_p) (drop 1 body) (form_answer behavior body) one.0 two.0 one.1 two.1 in
+    one.2 ∙ ap (result_and_then (signed_form (not (has_minus text)))) same ∙ sym two.2
 
 -- a good item in front of a text leaves the text's answer
-pub answer-with : (positive : Bool) (sums : Sums) (item : Item) (text : List ℕ) (answer : Answer) → IsItem item → AllHold (item_table sums item)
-    → IsAnswerFrom positive (with_item item sums) text answer → IsAnswerFrom positive sums (item_text item ++ text) answer
-answer-with positive sums item text answer is all from =
+pub answer-with : (sums : Sums) (item : Item) (text : List ℕ) (answer : Answer) → IsItem item → AllHold (item_table sums item)
+    → IsAnswerFrom (with_item item sums) text answer → IsAnswerFrom sums (item_text item ++ text) answer
+answer-with sums item text answer is all from =
     let joined = ap (λ (text : List ℕ). item_text item ++ text) from.2 ∙ sym (append_assoc (item_text item) (flat_map item_text from.0) from.1) in
     (item ∷ from.0, from.1, joined, (is, all, from.3), from.4)
 
@@ -233,21 +232,21 @@ plain-good sums quantity free plain fit =
     (plain.1, (tests.0, (ap not plain.3, (plain.4, (free-smaller sums quantity.letter free, (tests.1, tt))))))
 
 -- that fault ends a text
-ends-large : (positive : Bool) (sums : Sums) (text : List ℕ)
-    → meets (item_table sums (item_at text)) (Ok (sums_numbers positive sums)) ≡ Err fault.DurationValueTooLarge
-    → Ends positive sums text (Err fault.DurationValueTooLarge)
-ends-large positive sums [] same = absurd (cc)
-ends-large positive sums (byte ∷ rest) same = (fault.DurationValueTooLarge, same, refl)
+ends-large : (sums : Sums) (text : List ℕ)
+    → meets (item_table sums (item_at text)) (Ok (sums_length sums)) ≡ Err fault.DurationValueTooLarge
+    → Ends sums text (Err fault.DurationValueTooLarge)
+ends-large sums [] same = absurd (cc)
+ends-large sums (byte ∷ rest) same = (fault.DurationValueTooLarge, same, refl)
 
 -- so one that does not fit has it as the answer, whatever follows
-answer-large : (positive : Bool) (sums : Sums) (quantity : Quantity) (text : List ℕ) → IsFree sums → IsPlain sums quantity → fits sums quantity ≡ false
-    → IsAnswerFrom positive sums (item_text (Amount quantity) ++ text) (Err fault.DurationValueTooLarge)
-answer-large positive sums quantity text free plain large =
+answer-large : (sums : Sums) (quantity : Quantity) (text : List ℕ) → IsFree sums → IsPlain sums quantity → fits sums quantity ≡ false
+    → IsAnswerFrom sums (item_text (Amount quantity) ++ text) (Err fault.DurationValueTooLarge)
+answer-large sums quantity text free plain large =
     let there = item_at-amount sums.mark quantity text plain.0 plain.1 plain.4 in
-    let numbers : Answer = Ok (sums_numbers positive sums) in
+    let numbers : Answer = Ok (sums_length sums) in
     let refused = ap (λ (item : Item). meets (item_table sums item) numbers) there ∙ plain-table sums quantity numbers free plain
     ∙ ap (λ (test : Bool). if test then numbers else Err fault.DurationValueTooLarge) large in
-    ([], item_text (Amount quantity) ++ text, refl, tt, ends-large positive sums (item_text (Amount quantity) ++ text) refused)
+    ([], item_text (Amount quantity) ++ text, refl, tt, ends-large sums (item_text (Amount quantity) ++ text) refused)
 
 -- a quantity leaves the side as it is
 amount-mark : (unit : Option DurationUnit) (quantity : Quantity) (sums : Sums) → (with_quantity unit quantity sums).mark ≡ sums.mark
@@ -333,77 +332,77 @@ fits-exchanged sums first second free both =
     and_from _ _ (and_from _ _ two.0 (and_from _ _ few_days few_seconds)) (and_from _ _ one.0 (and_from _ _ day second_sum))
 
 -- where both fit, the answer is the answer to what follows them
-pair-with : (positive : Bool) (sums : Sums) (first second : Quantity) (rest : List ℕ) (answer : Answer) → IsFree sums
+pair-with : (sums : Sums) (first second : Quantity) (rest : List ℕ) (answer : Answer) → IsFree sums
     → (fits sums first && fits (with_item (Amount first) sums) second) ≡ true → IsPlain sums first → IsPlain sums second
-    → IsAnswerFrom positive (with_item (Amount second) (with_item (Amount first) sums)) rest answer
-    → IsAnswerFrom positive sums (item_text (Amount first) ++ (item_text (Amount second) ++ rest)) answer
-pair-with positive sums first second rest answer free both one two from =
+    → IsAnswerFrom (with_item (Amount second) (with_item (Amount first) sums)) rest answer
+    → IsAnswerFrom sums (item_text (Amount first) ++ (item_text (Amount second) ++ rest)) answer
+pair-with sums first second rest answer free both one two from =
     let next = with_item (Amount first) sums in
     let tests = and_parts (fits sums first) _ both in
     let good = plain-good next second (item-free (Amount first) sums free) (plain-next sums first second one two) tests.1 in
-    answer-with positive sums (Amount first) (item_text (Amount second) ++ rest) answer one.0 (plain-good sums first free one tests.0)
-    (answer-with positive next (Amount second) rest answer two.0 good from)
+    answer-with sums (Amount first) (item_text (Amount second) ++ rest) answer one.0 (plain-good sums first free one tests.0)
+    (answer-with next (Amount second) rest answer two.0 good from)
 
-pair-without : (positive : Bool) (sums : Sums) (first second : Quantity) (rest : List ℕ) (answer : Answer) → IsFree sums
+pair-without : (sums : Sums) (first second : Quantity) (rest : List ℕ) (answer : Answer) → IsFree sums
     → (fits sums first && fits (with_item (Amount first) sums) second) ≡ true → IsPlain sums first → IsPlain sums second
-    → IsAnswerFrom positive sums (item_text (Amount first) ++ (item_text (Amount second) ++ rest)) answer
-    → IsAnswerFrom positive (with_item (Amount second) (with_item (Amount first) sums)) rest answer
-pair-without positive sums first second rest answer free both one two from =
+    → IsAnswerFrom sums (item_text (Amount first) ++ (item_text (Amount second) ++ rest)) answer
+    → IsAnswerFrom (with_item (Amount second) (with_item (Amount first) sums)) rest answer
+pair-without sums first second rest answer free both one two from =
     let next = with_item (Amount first) sums in
     let tests = and_parts (fits sums first) _ both in
     let good = plain-good next second (item-free (Amount first) sums free) (plain-next sums first second one two) tests.1 in
-    answer-without positive next (Amount second) rest answer two.0 good
-    (answer-without positive sums (Amount first) (item_text (Amount second) ++ rest) answer one.0 (plain-good sums first free one tests.0) from)
+    answer-without next (Amount second) rest answer two.0 good
+    (answer-without sums (Amount first) (item_text (Amount second) ++ rest) answer one.0 (plain-good sums first free one tests.0) from)
 
 -- where one does not, the answer is its fault
-pair-large : (positive : Bool) (sums : Sums) (first second : Quantity) (rest : List ℕ) (test : Bool) → IsFree sums → fits sums first ≡ test
+pair-large : (sums : Sums) (first second : Quantity) (rest : List ℕ) (test : Bool) → IsFree sums → fits sums first ≡ test
     → (test && fits (with_item (Amount first) sums) second) ≡ false → IsPlain sums first → IsPlain sums second
-    → IsAnswerFrom positive sums (item_text (Amount first) ++ (item_text (Amount second) ++ rest)) (Err fault.DurationValueTooLarge)
-pair-large positive sums first second rest false free fit both one two = answer-large positive sums first (item_text (Amount second) ++ rest) free one fit
-pair-large positive sums first second rest true free fit both one two =
-    answer-with positive sums (Amount first) (item_text (Amount second) ++ rest) (Err fault.DurationValueTooLarge) one.0 (plain-good sums first free one fit)
-    (answer-large positive (with_item (Amount first) sums) second rest (item-free (Amount first) sums free) (plain-next sums first second one two) both)
+    → IsAnswerFrom sums (item_text (Amount first) ++ (item_text (Amount second) ++ rest)) (Err fault.DurationValueTooLarge)
+pair-large sums first second rest false free fit both one two = answer-large sums first (item_text (Amount second) ++ rest) free one fit
+pair-large sums first second rest true free fit both one two =
+    answer-with sums (Amount first) (item_text (Amount second) ++ rest) (Err fault.DurationValueTooLarge) one.0 (plain-good sums first free one fit)
+    (answer-large (with_item (Amount first) sums) second rest (item-free (Amount first) sums free) (plain-next sums first second one two) both)
 
 -- either way the order does not count
-exchanged : (positive : Bool) (sums : Sums) (first second : Quantity) (rest : List ℕ) (answer : Answer) (there back : Bool) → IsFree sums
+exchanged : (sums : Sums) (first second : Quantity) (rest : List ℕ) (answer : Answer) (there back : Bool) → IsFree sums
     → (fits sums first && fits (with_item (Amount first) sums) second) ≡ there → (fits sums second && fits (with_item (Amount second) sums) first) ≡ back
     → IsPlain sums first → IsPlain sums second
-    → IsAnswerFrom positive sums (item_text (Amount first) ++ (item_text (Amount second) ++ rest)) answer
-    → IsAnswerFrom positive sums (item_text (Amount second) ++ (item_text (Amount first) ++ rest)) answer
-exchanged positive sums first second rest answer true back free both turned one two from =
-    let behind = pair-without positive sums first second rest answer free both one two from in
-    let moved = subst (λ (sums : Sums). IsAnswerFrom positive sums rest answer) (amounts-exchanged first second sums free) behind in
-    pair-with positive sums second first rest answer free (fits-exchanged sums first second free both) two one moved
-exchanged positive sums first second rest answer false true free both turned one two from =
+    → IsAnswerFrom sums (item_text (Amount first) ++ (item_text (Amount second) ++ rest)) answer
+    → IsAnswerFrom sums (item_text (Amount second) ++ (item_text (Amount first) ++ rest)) answer
+exchanged sums first second rest answer true back free both turned one two from =
+    let behind = pair-without sums first second rest answer free both one two from in
+    let moved = subst (λ (sums : Sums). IsAnswerFrom sums rest answer) (amounts-exchanged first second sums free) behind in
+    pair-with sums second first rest answer free (fits-exchanged sums first second free both) two one moved
+exchanged sums first second rest answer false true free both turned one two from =
     absurd (false≢true (sym both ∙ fits-exchanged sums second first free turned))
-exchanged positive sums first second rest answer false false free both turned one two from =
-    let same = answer-only positive sums _ _ _ (pair-large positive sums first second rest (fits sums first) free refl both one two) from in
-    subst (λ (answer : Answer). IsAnswerFrom positive sums (item_text (Amount second) ++ (item_text (Amount first) ++ rest)) answer) same
-    (pair-large positive sums second first rest (fits sums second) free refl turned two one)
+exchanged sums first second rest answer false false free both turned one two from =
+    let same = answer-only sums _ _ _ (pair-large sums first second rest (fits sums first) free refl both one two) from in
+    subst (λ (answer : Answer). IsAnswerFrom sums (item_text (Amount second) ++ (item_text (Amount first) ++ rest)) answer) same
+    (pair-large sums second first rest (fits sums second) free refl turned two one)
 
 -- in the lax order two neighbouring quantities of one side, both without a fraction, can be exchanged, also where one of them is refused
-pub answer-exchanged : (positive : Bool) (sums : Sums) (first second : Quantity) (rest : List ℕ) (answer : Answer) → IsFree sums → IsPlain sums first
-    → IsPlain sums second → IsAnswerFrom positive sums (item_text (Amount first) ++ item_text (Amount second) ++ rest) answer
-    → IsAnswerFrom positive sums (item_text (Amount second) ++ item_text (Amount first) ++ rest) answer
-answer-exchanged positive sums first second rest answer free one two from =
+pub answer-exchanged : (sums : Sums) (first second : Quantity) (rest : List ℕ) (answer : Answer) → IsFree sums → IsPlain sums first
+    → IsPlain sums second → IsAnswerFrom sums (item_text (Amount first) ++ item_text (Amount second) ++ rest) answer
+    → IsAnswerFrom sums (item_text (Amount second) ++ item_text (Amount first) ++ rest) answer
+answer-exchanged sums first second rest answer free one two from =
     let text = append_assoc (item_text (Amount first)) (item_text (Amount second)) rest in
     let turned = append_assoc (item_text (Amount second)) (item_text (Amount first)) rest in
-    let nested = subst (λ (text : List ℕ). IsAnswerFrom positive sums text answer) text from in
-    subst (λ (text : List ℕ). IsAnswerFrom positive sums text answer) (sym turned)
-    (exchanged positive sums first second rest answer _ _ free refl refl one two nested)
+    let nested = subst (λ (text : List ℕ). IsAnswerFrom sums text answer) text from in
+    subst (λ (text : List ℕ). IsAnswerFrom sums text answer) (sym turned)
+    (exchanged sums first second rest answer _ _ free refl refl one two nested)
 
 -- wherever they stand behind good items
-pub answer-exchanged_behind : (positive : Bool) (sums : Sums) (items : List Item) (first second : Quantity) (rest : List ℕ) (answer : Answer)
+pub answer-exchanged_behind : (sums : Sums) (items : List Item) (first second : Quantity) (rest : List ℕ) (answer : Answer)
     → IsFree sums → AreGood sums items → IsPlain (with_items items sums) first → IsPlain (with_items items sums) second
-    → IsAnswerFrom positive sums (flat_map item_text items ++ (item_text (Amount first) ++ item_text (Amount second) ++ rest)) answer
-    → IsAnswerFrom positive sums (flat_map item_text items ++ (item_text (Amount second) ++ item_text (Amount first) ++ rest)) answer
-answer-exchanged_behind positive sums [] first second rest answer free good one two from = answer-exchanged positive sums first second rest answer free one two from
-answer-exchanged_behind positive sums (item ∷ items) first second rest answer free good one two from =
+    → IsAnswerFrom sums (flat_map item_text items ++ (item_text (Amount first) ++ item_text (Amount second) ++ rest)) answer
+    → IsAnswerFrom sums (flat_map item_text items ++ (item_text (Amount second) ++ item_text (Amount first) ++ rest)) answer
+answer-exchanged_behind sums [] first second rest answer free good one two from = answer-exchanged sums first second rest answer free one two from
+answer-exchanged_behind sums (item ∷ items) first second rest answer free good one two from =
     let text = item_text (Amount first) ++ item_text (Amount second) ++ rest in
     let turned = item_text (Amount second) ++ item_text (Amount first) ++ rest in
     let joined = append_assoc (item_text item) (flat_map item_text items) text in
-    let behind = answer-without positive sums item (flat_map item_text items ++ text) answer good.0 good.1
-    (subst (λ (text : List ℕ). IsAnswerFrom positive sums text answer) joined from) in
-    let next = answer-exchanged_behind positive (with_item item sums) items first second rest answer (item-free item sums free) good.2 one two behind in
-    subst (λ (text : List ℕ). IsAnswerFrom positive sums text answer) (sym (append_assoc (item_text item) (flat_map item_text items) turned))
-    (answer-with positive sums item (flat_map item_text items ++ turned) answer good.0 good.1 next)
+    let behind = answer-without sums item (flat_map item_text items ++ text) answer good.0 good.1
+    (subst (λ (text : List ℕ). IsAnswerFrom sums text answer) joined from) in
+    let next = answer-exchanged_behind (with_item item sums) items first second rest answer (item-free item sums free) good.2 one two behind in
+    subst (λ (text : List ℕ). IsAnswerFrom sums text answer) (sym (append_assoc (item_text item) (flat_map item_text items) turned))
+    (answer-with sums item (flat_map item_text items ++ turned) answer good.0 good.1 next)

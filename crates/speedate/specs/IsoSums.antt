@@ -1,9 +1,9 @@
 -- What contracts see of a unit and of the sums of items.
-use Rattle.std.specs.Prelude.{Bool, List, ℕ, Result}
+use Rattle.std.specs.Prelude.{List, ℕ, Result}
 use Rattle.speedate_base.specs.declared.faults.ParseError.{ParseError}
 use Rattle.speedate.specs.declared.duration.iso.DurationUnit.{DurationUnit as StructDurationUnit}
 use Rattle.speedate.specs.declared.duration.iso.Sums.{Sums as StructSums}
-use Rattle.speedate.specs.DurationNumbers.{DurationNumbers}
+use Rattle.speedate.specs.DurationNumbers.{UnsignedDuration}
 use Rattle.speedate.specs.IsoForm.{DurationUnit, Sums, IsAnswerFrom}
 
 -- a unit by its letter and its worth
@@ -26,4 +26,4 @@ sums_parts sums = record {
 -- a text behind sums goes on as a rest behind other sums: what answers the rest answers the text
 abbrev pub GoesOn : Sums → List ℕ → Sums → List ℕ → Type 0
 GoesOn sums text next rest =
-    (positive : Bool) (answer : Result DurationNumbers ParseError) → IsAnswerFrom positive next rest answer → IsAnswerFrom positive sums text answer
+    (answer : Result UnsignedDuration ParseError) → IsAnswerFrom next rest answer → IsAnswerFrom sums text answer

@@ -1,5 +1,5 @@
 -- The text by which a duration is printed is read as the duration.
-use Rattle.std.specs.Prelude.{◌≡◌, ℕ, ◌+◌, ◌-◌, ◌*◌, ◌/◌, ◌%◌, ◌^◌, ◌<◌, ◌≤◌, Bool, true, false, not, ◌&&◌, ◌==◌, nat_lt, nat_le, if◌then◌else◌, List, [], ◌∷◌, ◌++◌, length, drop, Some, pos, unsigned_abs, Result, Ok, codes, refl}
+use Rattle.std.specs.Prelude.{◌≡◌, ℕ, ◌+◌, ◌-◌, ◌*◌, ◌/◌, ◌%◌, ◌^◌, ◌<◌, ◌≤◌, Bool, true, false, not, ◌&&◌, ◌==◌, nat_lt, nat_le, if◌then◌else◌, List, [], ◌∷◌, ◌++◌, length, drop, Some, pos, unsigned_abs, Ok, codes, refl}
 use Rattle.std.specs.Char.{is_ascii_digit}
 use Rattle.std.specs.Fmt.{decimal}
 use Rattle.std.specs.List.{list_all, flat_map}
@@ -16,7 +16,6 @@ use Rattle.speedate_base.specs.declared.config.IsoOrder.{IsoOrder}
 use Rattle.speedate_base.specs.declared.config.IsoOrder.TheVariants as order
 use Rattle.speedate_base.specs.declared.config.MicrosecondsPrecisionOverflowBehavior.{MicrosecondsPrecisionOverflowBehavior}
 use Rattle.speedate_base.specs.declared.config.MicrosecondsPrecisionOverflowBehavior.TheVariants as behavior
-use Rattle.speedate_base.specs.declared.faults.ParseError.{ParseError}
 use Rattle.speedate_base.specs.Ascii.{digit_zero, full_stop, capital_d, capital_h, capital_m, capital_s, capital_t, capital_y}
 use Rattle.speedate_base.specs.Digits.{digit_value, six_digit_text}
 use Rattle.speedate_base.specs.DigitLaws.{six_digits-printed}
@@ -24,16 +23,15 @@ use Rattle.speedate_base.specs.DigitRuns.{digits_value}
 use Rattle.speedate_base.specs.DigitRunLaws.{digits_value-lt}
 use Rattle.speedate_base.specs.Nearest.{nearest}
 use Rattle.speedate_base.specs.NearestLaws.{nearest-exact, scale-some}
-use Rattle.speedate_base.specs.Numbers.{has_minus, sign_length}
+use Rattle.speedate_base.specs.Requirement.{result_and_then}
 use Rattle.speedate_base.specs.Offset.{seconds_per_day}
 use Rattle.speedate_base.specs.TextLaws.{text-distinct}
-use Rattle.speedate.specs.DurationAnswer.{duration_answer}
-use Rattle.speedate.specs.DurationAnswerLaws.{duration_answer-unique}
-use Rattle.speedate.specs.DurationForm.{IsFormAnswer, IsDurationAnswer}
+use Rattle.speedate.specs.DurationAnswer.{iso_form, unsigned_answer, duration_answer}
+use Rattle.speedate.specs.DurationAnswerLaws.{iso_form-only}
 use Rattle.speedate.specs.DurationLaws.{normal_form-same}
-use Rattle.speedate.specs.DurationNumbers.{DurationNumbers, IsDuration}
+use Rattle.speedate.specs.DurationNumbers.{DurationNumbers, IsDuration, length_of, signed_form}
 use Rattle.speedate.specs.DurationText.{counted_text, kept_digit, without_last_zeros, short_fraction_text, hours_text, days_text, start_text, rest_text, is_whole_days, duration_text}
-use Rattle.speedate.specs.IsoForm.{DurationUnit, unit, units, unit_in, Quantity, Item, Mark, Amount, item_text, IsFraction, Sums, no_limit, no_sums, next_limit, is_smaller, unit_seconds, fraction_seconds, fraction_microseconds, with_quantity, with_item, with_items, AreGood, Ends, sums_numbers, IsIsoAnswer}
+use Rattle.speedate.specs.IsoForm.{DurationUnit, unit, units, unit_in, Quantity, Item, Mark, Amount, item_text, IsFraction, Sums, no_limit, no_sums, next_limit, is_smaller, unit_seconds, fraction_seconds, fraction_microseconds, with_quantity, with_item, with_items, AreGood, Ends, sums_length, IsIsoAnswer}
 
 -- a number without leading zeros is digits that spell it
 abbrev AreDigits : List ℕ → Type 0
@@ -417,28 +415,28 @@ hours-leads order numbers some valid other =
 
 -- a text that leads from no sums to those of a duration is answered by it
 leads-answer : (order : IsoOrder) (numbers : DurationNumbers) (text : List ℕ) (after : Sums) → Leads (no_sums order) text after → after.some ≡ true
-    → sums_numbers numbers.positive after ≡ numbers → IsIsoAnswer order numbers.positive text (Ok numbers)
+    → sums_length after ≡ length_of numbers → IsIsoAnswer order text (Ok (length_of numbers))
 leads-answer order numbers text after leads some same = (
   leads.0,
   [],
   sym (append-nil (flat_map item_text leads.0) ∙ leads.1),
   leads.2,
-  subst (λ (sums : Sums). Ends numbers.positive sums [] (Ok numbers)) (sym leads.3) (rw some (ap Ok (sym same))),
+  subst (λ (sums : Sums). Ends sums [] (Ok (length_of numbers))) (sym leads.3) (rw some (ap Ok (sym same))),
 )
 
 -- the sums of whole days
 whole-numbers : (order : IsoOrder) (numbers : DurationNumbers) → is_whole_days numbers ≡ true
-    → sums_numbers numbers.positive (whole_sums order no_limit true true numbers.day 0) ≡ numbers
+    → sums_length (whole_sums order no_limit true true numbers.day 0) ≡ length_of numbers
 whole-numbers order numbers whole =
     let tests = and_parts (numbers.second == 0) (numbers.microsecond == 0) whole in
     let second_is = sym (eqb-true numbers.second 0 tests.0) in
     let microsecond_is = sym (eqb-true numbers.microsecond 0 tests.1) in
-    λ i. record { positive = numbers.positive; day = numbers.day; second = second_is i; microsecond = microsecond_is i }
+    λ i. record { day = numbers.day; second = second_is i; microsecond = microsecond_is i }
 
 -- what is printed behind the `P` is answered by the duration
 rest-answer : (order : IsoOrder) (numbers : DurationNumbers) (whole none : Bool) → IsDuration numbers → is_whole_days numbers ≡ whole
     → (numbers.day == 0) ≡ none
-    → IsIsoAnswer order numbers.positive (days_text numbers ++ (if whole then (if none then codes "T0S" else []) else capital_t ∷ hours_text numbers)) (Ok numbers)
+    → IsIsoAnswer order (days_text numbers ++ (if whole then (if none then codes "T0S" else []) else capital_t ∷ hours_text numbers)) (Ok (length_of numbers))
 rest-answer order numbers true true valid whole none =
     leads-answer order numbers _ _
     (leads-append (no_sums order) _ _ _ _ (days-leads order numbers.day valid.day)
@@ -456,20 +454,20 @@ rest-answer order numbers false none valid other is =
 
 -- a `P` with a sign or without one stands for what is behind it
 start-answer : (order : IsoOrder) (behavior : MicrosecondsPrecisionOverflowBehavior) (positive : Bool) (text : List ℕ)
-    (answer : Result DurationNumbers ParseError) → IsIsoAnswer order positive text answer
-    → let printed = start_text positive ++ text in IsFormAnswer order behavior (not (has_minus printed)) (drop (sign_length printed) printed) answer
-start-answer order behavior true text answer is = is
-start-answer order behavior false text answer is = is
+    → duration_answer order behavior (start_text positive ++ text) ≡ result_and_then (signed_form positive) (iso_form order text)
+unfolding unsigned_answer
+start-answer order behavior true text = refl
+start-answer order behavior false text = refl
 
 -- the printed text of a duration is answered by it, also where the order of the standard is asked for
 pub duration_text-reads : (order : IsoOrder) (behavior : MicrosecondsPrecisionOverflowBehavior) (numbers : DurationNumbers) → IsDuration numbers
     → duration_answer order behavior (duration_text numbers) ≡ Ok numbers
 duration_text-reads order behavior numbers valid =
-    let reads = rest-answer order numbers (is_whole_days numbers) (numbers.day == 0) valid refl refl in
     let text = days_text numbers ++ rest_text numbers in
-    let printed = sym (append_assoc (start_text numbers.positive) (days_text numbers) (rest_text numbers)) in
-    sym (duration_answer-unique order behavior (duration_text numbers) (Ok numbers) (subst (λ (printed : List ℕ). IsDurationAnswer order behavior printed (Ok numbers)) printed
-    (Ok numbers, start-answer order behavior numbers.positive text (Ok numbers) reads, sym (normal_form-same numbers valid))))
+    let reads = iso_form-only order text _ (rest-answer order numbers (is_whole_days numbers) (numbers.day == 0) valid refl refl) in
+    ap (duration_answer order behavior) (append_assoc (start_text numbers.positive) (days_text numbers) (rest_text numbers))
+    ∙ start-answer order behavior numbers.positive text ∙ ap (result_and_then (signed_form numbers.positive)) (sym reads)
+    ∙ normal_form-same numbers valid
 
 -- so two durations with one text are one duration
 pub duration_text-distinct : (first second : DurationNumbers) → IsDuration first → IsDuration second → duration_text first ≡ duration_text second → first ≡ second

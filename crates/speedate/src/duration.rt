@@ -1,28 +1,26 @@
 //! Durations: days, seconds and microseconds, with a sign.
 
-ghost use Rattle.std.specs.Prelude.{◌≡◌, ℕ, ◌<◌, ◌≤◌, IfOk, List, Bool, false, if◌then◌else◌, true, Result, Ok, Err};
-ghost use Rattle.speedate_base.specs.declared.faults.ParseError.{ParseError};
-ghost use Rattle.speedate_base.specs.Requirement.{result_map, result_and_then};
+ghost use Rattle.std.specs.Prelude.{◌≡◌, ℕ, ◌<◌, ◌≤◌, IfOk, List};
+ghost use Rattle.speedate_base.specs.Requirement.{result_map};
 ghost use Rattle.speedate.specs.DurationAnswer.{duration_answer};
-ghost use Rattle.speedate.specs.DurationForm.{has_day_letter, has_days, form_answer, IsNormalAnswer, IsGrammarAnswer};
+ghost use Rattle.speedate.specs.DurationForm.{IsGrammarAnswer};
 ghost use Rattle.speedate.specs.Exchanged.{AreExchanged};
 ghost use Rattle.speedate.specs.InOrder.{IsAnswerInOrder};
-ghost use Rattle.speedate.specs.IsoForm.{IsIsoAnswer};
-ghost use Rattle.speedate.specs.DurationNumbers.{DurationNumbers, length_seconds, length_microseconds, normal_form, signed_seconds, signed_microsecond, signed_milliseconds};
+ghost use Rattle.speedate.specs.DurationNumbers.{length_seconds, length_microseconds, normal_form, signed_form, signed_seconds, signed_microsecond, signed_milliseconds};
 
 mod clock;
 mod days;
 mod iso;
 mod order;
 mod text;
+mod unsigned;
 
-use days::is_day_letter;
-use iso::Sums;
 use speedate_base::config::{IsoOrder, MicrosecondsPrecisionOverflowBehavior, TimeConfig};
 use speedate_base::faults::ParseError;
-use speedate_base::numbers::{byte_at, digit_run, sign, with_sign};
+use speedate_base::numbers::{sign, with_sign};
 use speedate_base::util::SECONDS_PER_DAY;
 use std::str::FromStr;
+use unsigned::UnsignedDuration;
 
 /// A length of time: days of 86,400 seconds, seconds of a day, and microseconds of a second, with a
 /// sign. A length of nothing may have either sign.
@@ -46,8 +44,7 @@ pub struct Duration {
 impl Duration {
     ghost use Rattle.speedate_base.specs.declared.config.IsoOrder.TheVariants as order;
     ghost use Rattle.speedate_base.specs.declared.config.MicrosecondsPrecisionOverflowBehavior.TheVariants as behavior;
-    ghost use Rattle.speedate_base.specs.declared.faults.ParseError.TheVariants as fault;
-    ghost use Rattle.speedate.specs.Duration.{parts};
+    ghost use Rattle.speedate.specs.Duration.{parts, unsigned_parts};
 
     /// The duration of so many days, seconds and microseconds, of any size, brought into their
     /// ranges: 2 days, 101 seconds and 123 microseconds for 1 day, 86,500 seconds and 1,000,123
@@ -170,52 +167,29 @@ impl Duration {
         ensures grammar { IsGrammarAnswer order behavior bytes.now (result_map parts result) }
     {
         let (negative, length) = sign(bytes);
-        Self::unsigned(&bytes[length..], !negative, order, behavior)
+        let size = UnsignedDuration::parse(&bytes[length..], order, behavior)?;
+        Self::signed(!negative, size)
     }
 
-    /// Reads a duration whose sign was read, in the form that its text has.
+    /// Puts the sign on a length, and brings it into its normal form. A clock's length has it.
     #[inline(always)]
-    fn unsigned(
-        bytes: &[u8],
-        positive: bool,
-        order: IsoOrder,
-        behavior: MicrosecondsPrecisionOverflowBehavior,
-    ) -> Result<Self, ParseError>
-        ensures answer { IsNormalAnswer order behavior positive bytes.now (result_map parts result) }
+    fn signed(positive: bool, size: UnsignedDuration) -> Result<Self, ParseError>
+        ensures answer { result_map parts result ≡ signed_form positive (unsigned_parts size) }
     {
-        if byte_at(bytes, 0) == b'P' {
-            return Self::from_iso(&bytes[1..], positive, order);
+        let UnsignedDuration {
+            day,
+            second,
+            microsecond,
+        } = size;
+        if day <= 999_999_999 && second < SECONDS_PER_DAY && microsecond < 1_000_000 {
+            return Ok(Duration {
+                positive,
+                day,
+                second,
+                microsecond,
+            });
         }
-        Self::days_or_clock(bytes, positive, behavior)
-    }
-
-    /// Reads what follows the `P` of a duration.
-    #[inline(always)]
-    fn from_iso(body: &[u8], positive: bool, order: IsoOrder) -> Result<Self, ParseError>
-        ensures answer { (form : Result DurationNumbers ParseError) × IsIsoAnswer order positive body.now form × (result_map parts result ≡ result_and_then normal_form form) }
-    {
-        let sums = Sums::read(body, order)?;
-        Self::new(positive, sums.day, sums.second, sums.microsecond)
-    }
-
-    /// Reads a duration of days, or one that a clock shows.
-    #[tactic(auto, using(crate::proofs::DurationFacts::normal_form_answered), unfolding(crate::specs::DurationForm::form_answer))]
-    #[inline(always)]
-    fn days_or_clock(
-        bytes: &[u8],
-        positive: bool,
-        behavior: MicrosecondsPrecisionOverflowBehavior,
-    ) -> Result<Self, ParseError>
-        ensures answer { result_map parts result ≡ result_and_then normal_form (form_answer behavior positive bytes.now) }
-    {
-        if bytes.is_empty() {
-            return Err(ParseError::TooShort);
-        }
-        let number = digit_run(bytes, 0);
-        if has_days(bytes) {
-            return Self::from_days(bytes, number, positive, behavior);
-        }
-        Self::from_clock(bytes, number, positive, behavior)
+        Self::new(positive, day, second, microsecond)
     }
 
     /// The whole seconds with the sign: -86,401 for a day and a second that are not positive.
@@ -277,21 +251,4 @@ impl FromStr for Duration {
     {
         Self::parse_str(text)
     }
-}
-
-/// Whether a text has days: the letter of a day stands anywhere in it, or it is too short for a
-/// clock.
-#[inline]
-fn has_days(bytes: &[u8]) -> bool
-    ensures { result ≡ has_days bytes.now }
-{
-    bytes.len() < 5 || has_day_letter(bytes)
-}
-
-/// Whether the letter of a day stands anywhere.
-#[inline]
-fn has_day_letter(bytes: &[u8]) -> bool
-    ensures { result ≡ has_day_letter bytes.now }
-{
-    bytes.iter().any(|&byte| is_day_letter(byte))
 }

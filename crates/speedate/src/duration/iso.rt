@@ -7,9 +7,9 @@ ghost use Rattle.speedate_base.specs.DigitRuns.{run_length, run_value, digits_va
 ghost use Rattle.std.specs.Option.{option_map};
 ghost use Rattle.speedate_base.specs.declared.faults.ParseError.TheVariants as fault;
 ghost use Rattle.speedate_base.specs.Requirement.{meets, result_map};
-ghost use Rattle.speedate.specs.IsoForm.{Amount, Mark, units, unit_in, is_point, fraction_length, unit_seconds, next_limit, fraction_seconds, fraction_microseconds, quantity_at, quantity_length, item_at, item_length, are_counted, with_amount, with_item, item_table, sums_numbers, unit_fault, no_sums, IsAnswerFrom, IsIsoAnswer};
+ghost use Rattle.speedate.specs.IsoForm.{Amount, Mark, units, unit_in, is_point, fraction_length, unit_seconds, next_limit, fraction_seconds, fraction_microseconds, quantity_at, quantity_length, item_at, item_length, are_counted, with_amount, with_item, item_table, sums_length, unit_fault, no_sums, IsAnswerFrom};
 
-use super::Duration;
+use super::unsigned::UnsignedDuration;
 use speedate_base::config::IsoOrder;
 use speedate_base::faults::ParseError;
 use speedate_base::numbers::{byte_at, digit_run, run_end};
@@ -142,15 +142,17 @@ pub(super) struct Sums {
     /// Whether there was a quantity.
     some: bool,
     /// The days.
-    pub(super) day: u32,
+    day: u32,
     /// The seconds.
-    pub(super) second: u32,
+    second: u32,
     /// The microseconds, up to a whole second.
-    pub(super) microsecond: u32,
+    microsecond: u32,
     ghost microsecond_small: { microsecond ≤ (if fraction then 1000000 else 0) },
 }
 
 impl Sums {
+    ghost use Rattle.speedate.specs.Duration.{unsigned_parts};
+    ghost use Rattle.speedate.specs.DurationAnswer.{iso_form};
     ghost use Rattle.speedate.specs.IsoSums.{unit_parts, sums_parts, GoesOn};
 
     /// Reads all items of a duration, and adds them up.
@@ -158,8 +160,8 @@ impl Sums {
     /// Most texts are plain quantities, a `T`, and plain quantities again. These are read straight on;
     /// what is left where they end is read item by item, with all that may be wrong in it.
     #[inline(always)]
-    pub(super) fn read(body: &[u8], order: IsoOrder) -> Result<Self, ParseError>
-        ensures answer { (positive : Bool) → IsIsoAnswer order positive body.now (result_map (λ sums. sums_numbers positive (sums_parts sums)) result) }
+    pub(super) fn read(body: &[u8], order: IsoOrder) -> Result<UnsignedDuration, ParseError>
+        ensures answer { result_map unsigned_parts result ≡ iso_form order body.now }
     {
         let (sums, end) = Self::of_plain(body, order);
         sums.with_rest(body, end)
@@ -271,25 +273,29 @@ impl Sums {
 
     /// Reads the items from a place on one by one, and adds them.
     #[inline(always)]
-    fn with_rest(self, body: &[u8], start: usize) -> Result<Self, ParseError>
+    fn with_rest(self, body: &[u8], start: usize) -> Result<UnsignedDuration, ParseError>
         requires start { start ≤ length body.now }
-        ensures answer { (positive : Bool) → IsAnswerFrom positive (sums_parts self) (drop start body.now) (result_map (λ sums. sums_numbers positive (sums_parts sums)) result) }
+        ensures answer { IsAnswerFrom (sums_parts self) (drop start body.now) (result_map unsigned_parts result) }
     {
         let mut sums = self;
         let mut place = start;
         while place < body.len() {
             place += sums.take_item(&body[place..])?;
         }
-        sums.ended()
+        sums.length()
     }
 
-    /// The sums of all items, where a quantity is among them.
+    /// The length that all items add up to, where a quantity is among them.
     #[inline(always)]
-    fn ended(self) -> Result<Self, ParseError>
-        ensures answer { result ≡ (if self.some then Ok self else Err fault.TooShort) }
+    fn length(self) -> Result<UnsignedDuration, ParseError>
+        ensures answer { result_map unsigned_parts result ≡ (if self.some then Ok (sums_length (sums_parts self)) else Err fault.TooShort) }
     {
         if self.some {
-            Ok(self)
+            Ok(UnsignedDuration {
+                day: self.day,
+                second: self.second,
+                microsecond: self.microsecond,
+            })
         } else {
             Err(ParseError::TooShort)
         }
