@@ -396,19 +396,11 @@ fn short_number(text: &[u8], place: usize) -> Option<(u32, usize)>
     ensures small { IfSome result (λ number. number.0 < 1000000) }
     ensures some { IfSome result (λ number. place < number.1) }
 {
-    let mut value = 0;
-    let mut end = place;
-    while byte_at(text, end).is_ascii_digit() {
-        if end - place == SHORT_LENGTH {
-            return None;
-        }
-        value = 10 * value + u32::from(byte_at(text, end) - b'0');
-        end += 1;
-    }
-    if end == place {
+    let number = digit_run(text, place);
+    if number.length == 0 || number.length > SHORT_LENGTH {
         return None;
     }
-    Some((value, end))
+    Some((number.value as u32, place + number.length))
 }
 
 /// How many bytes the fraction has that stands at the front of a text: its sign and digits.
