@@ -13,7 +13,7 @@ use Rattle.speedate.specs.DurationForm.{form_answer}
 use Rattle.speedate.specs.DurationNumbers.{normal_form, signed_milliseconds}
 use Rattle.speedate.specs.DurationOrder.{duration_order}
 use Rattle.speedate.specs.InOrder.{are_in_order, IsMadeOf}
-use Rattle.speedate.specs.IsoForm.{Item, Mark, Amount, no_limit}
+use Rattle.speedate.specs.IsoForm.{Item, Mark, Amount, units}
 
 -- whole seconds are carried, and then whole days
 carried : normal_form (record { positive = false; day = 1; second = 86500; microsecond = 1000123 })
@@ -90,10 +90,10 @@ items-made = record {
   is_text = refl;
 }
 
-items-in_order : are_in_order false no_limit (one_of capital_m ∷ Mark ∷ one_of capital_m ∷ []) ≡ true
+items-in_order : are_in_order (units false) (one_of capital_m ∷ Mark ∷ one_of capital_m ∷ []) ≡ true
 items-in_order = refl
 
-items-repeated : are_in_order false no_limit (one_of capital_y ∷ one_of capital_y ∷ []) ≡ false
+items-repeated : are_in_order (units false) (one_of capital_y ∷ one_of capital_y ∷ []) ≡ false
 items-repeated = refl
 
 -- a clock, and days with a clock behind them

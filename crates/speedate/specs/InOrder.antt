@@ -1,7 +1,8 @@
 -- Quantities of an ISO 8601 duration that come in the order of the standard: years, months, weeks and days, and behind the `T`
 -- hours, minutes and seconds, each at most once (ISO 8601 5.5.2.2, of which weeks beside others are not a form).
-use Rattle.std.specs.Prelude.{◌≡◌, ◌⊎◌, ℕ, Bool, true, false, ◌&&◌, List, [], ◌∷◌, ◌++◌, drop, slice_index, ◌==◌, Option, Some, None, if◌then◌else◌, Result, Ok, Err}
+use Rattle.std.specs.Prelude.{◌≡◌, ◌⊎◌, ℕ, Bool, true, false, ◌&&◌, List, [], ◌∷◌, ◌++◌, drop, slice_index, ◌==◌, if◌then◌else◌, Result, Ok, Err}
 use Rattle.std.specs.List.{flat_map}
+use Rattle.std.specs.Option.{is_some}
 use Rattle.speedate_base.specs.declared.config.IsoOrder.{IsoOrder}
 use Rattle.speedate_base.specs.declared.config.IsoOrder.TheVariants as order
 use Rattle.speedate_base.specs.declared.config.MicrosecondsPrecisionOverflowBehavior.{MicrosecondsPrecisionOverflowBehavior}
@@ -11,20 +12,21 @@ use Rattle.speedate_base.specs.Ascii.{capital_p}
 use Rattle.speedate_base.specs.Numbers.{sign_length, IsSign}
 use Rattle.speedate.specs.DurationAnswer.{duration_answer}
 use Rattle.speedate.specs.DurationNumbers.{DurationNumbers}
-use Rattle.speedate.specs.IsoForm.{DurationUnit, units, unit_in, unit_seconds, is_smaller, no_limit, Item, Mark, Amount, item_text, no_sums, with_items, AreGood}
+use Rattle.speedate.specs.IsoForm.{DurationUnit, units, unit_in, units_after, Item, Mark, Amount, item_text, no_sums, with_items, AreGood}
 
--- the seconds of a unit, which are the next one's limit
-abbrev pub seconds_of : Option DurationUnit → ℕ
-seconds_of None = no_limit
-seconds_of (Some unit) = unit_seconds unit
+-- the unit of each quantity is among those that may still come, and a `T` begins anew
+abbrev pub are_in_order : List DurationUnit → List Item → Bool
+are_in_order next [] = true
+are_in_order next (Mark ∷ items) = are_in_order (units true) items
+are_in_order next (Amount quantity ∷ items) =
+    is_some (unit_in next quantity.letter) && are_in_order (units_after quantity.letter next) items
 
--- each unit is smaller than the one before it, and a `T` begins anew
-abbrev pub are_in_order : Bool → ℕ → List Item → Bool
-are_in_order mark limit [] = true
-are_in_order mark limit (Mark ∷ items) = are_in_order true no_limit items
-are_in_order mark limit (Amount quantity ∷ items) =
-    let unit = unit_in (units mark) quantity.letter in
-    is_smaller limit unit && are_in_order mark (seconds_of unit) items
+-- letters are some of others, in their order, and each at most as often as there
+abbrev pub are_some_of : List ℕ → List ℕ → Bool
+are_some_of [] others = true
+are_some_of (letter ∷ letters) [] = false
+are_some_of (letter ∷ letters) (other ∷ others) =
+    if letter == other then are_some_of letters others else are_some_of (letter ∷ letters) others
 
 -- a text is a duration of good items, a quantity among them
 pub record IsMadeOf (text : List ℕ) (items : List Item) : Type 0 where
@@ -50,5 +52,5 @@ pub record IsAnswerInOrder (asked : IsoOrder) (behavior : MicrosecondsPrecisionO
   pub lax : IsLaxOrRefused (duration_answer order.Lax behavior text) answer
   pub items : (numbers : DurationNumbers) → is_iso text ≡ true → duration_answer order.Lax behavior text ≡ Ok numbers → (items : List Item) × IsMadeOf text items
   pub strict : (items : List Item) → asked ≡ order.Strict → IsMadeOf text items
-      → answer ≡ (if are_in_order false no_limit items then duration_answer order.Lax behavior text else Err fault.DurationUnitOrder)
+      → answer ≡ (if are_in_order (units false) items then duration_answer order.Lax behavior text else Err fault.DurationUnitOrder)
   pub other_forms : is_iso text ≡ false → answer ≡ duration_answer order.Lax behavior text

@@ -1,10 +1,9 @@
 -- Where the order of the standard is asked for, a duration is what the lax order makes of it, or is refused for its order.
-use Rattle.std.specs.Prelude.{◌≡◌, ℕ, zero, suc, ◌<◌, Bool, true, false, not, ◌&&◌, List, [], ◌∷◌, ◌++◌, length, take, drop, slice_index, nat_lt, ◌==◌, if◌then◌else◌, Option, Some, None, Result, Ok, Err, refl}
+use Rattle.std.specs.Prelude.{◌≡◌, ℕ, zero, suc, ◌<◌, Bool, true, false, not, ◌&&◌, List, [], ◌∷◌, ◌++◌, map, length, take, drop, slice_index, nat_lt, ◌==◌, if◌then◌else◌, Option, Some, None, Result, Ok, Err, refl}
 use Rattle.std.specs.List.{flat_map}
 use Rattle.std.specs.Option.{is_some}
 use Rattle.std.proofs.Common.{arith, ap, sym, ◌∙◌, subst, inl, inr}
 use Rattle.std.proofs.lemmas.Bool.{eqb-true, false≢true}
-use Rattle.std.proofs.lemmas.Bool.Decides.{nat_tests}
 use Rattle.std.proofs.lemmas.List.{append-nil, length-append, take-append-drop}
 use Rattle.speedate_base.specs.declared.config.IsoOrder.{IsoOrder}
 use Rattle.speedate_base.specs.declared.config.IsoOrder.TheVariants as order
@@ -19,25 +18,20 @@ use Rattle.speedate.specs.DurationNumbers.{DurationNumbers, UnsignedDuration, si
 use Rattle.speedate.specs.DurationForm.{form_answer}
 use Rattle.speedate.specs.DurationAnswer.{iso_answer, iso_form, unsigned_answer, duration_answer}
 use Rattle.speedate.specs.DurationAnswerLaws.{iso_form-is, iso_form-only, duration_answer-iso}
-use Rattle.speedate.specs.InOrder.{IsLaxOrRefused, IsAnswerInOrder, seconds_of, are_in_order, IsMadeOf, is_iso}
-use Rattle.speedate.specs.IsoForm.{DurationUnit, units, unit_in, Quantity, Item, Mark, Amount, item_text, IsItem, item_at, item_length, item_table, is_smaller, are_counted, Sums, no_limit, no_sums, with_quantity, with_item, with_items, AreGood, sums_length, Ends, IsAnswerFrom}
+use Rattle.speedate.specs.InOrder.{IsLaxOrRefused, IsAnswerInOrder, are_in_order, are_some_of, IsMadeOf, is_iso}
+use Rattle.speedate.specs.IsoForm.{DurationUnit, units, unit_in, Quantity, Item, Mark, Amount, item_text, IsItem, item_at, item_length, item_table, units_after, are_counted, Sums, no_sums, with_quantity, with_item, with_items, AreGood, sums_length, Ends, IsAnswerFrom}
 use Rattle.speedate.specs.IsoFormLaws.{item_at-text, answer-with}
 use Rattle.speedate.specs.IsoFrontLaws.{answer-refused}
 
 abbrev Answer : Type 0
 Answer = Result UnsignedDuration ParseError
 
--- sums where any unit may come next, and where one has to be smaller than a limit
+-- sums behind which any unit of the side may come, and those behind which only some may
 abbrev as_lax : Sums → Sums
-as_lax sums = record sums { order = order.Lax; limit = no_limit }
+as_lax sums = record sums { order = order.Lax; next_units = units sums.mark }
 
-abbrev as_strict : ℕ → Sums → Sums
-as_strict limit sums = record sums { order = order.Strict; limit = limit }
-
--- every unit is smaller than no limit
-never-refused : (mark : Bool) (letter : ℕ) → is_smaller no_limit (unit_in (units mark) letter) ≡ true
-never-refused true letter = grind (arith, nat_tests)
-never-refused false letter = grind (arith, nat_tests)
+abbrev as_strict : List DurationUnit → Sums → Sums
+as_strict next sums = record sums { order = order.Strict; next_units = next }
 
 -- an item adds the same to both
 quantity-lax : (unit : Option DurationUnit) (quantity : Quantity) (sums : Sums)
@@ -49,30 +43,31 @@ item-lax : (item : Item) (sums : Sums) → as_lax (with_item item sums) ≡ with
 item-lax Mark sums = refl
 item-lax (Amount quantity) sums = quantity-lax (unit_in (units sums.mark) quantity.letter) quantity sums
 
--- a row that both tables have, and the row of the order, which the lax one passes
+-- a row that both tables have, and the two rows of the letter, of which the lax one passes both or the first refuses
 row-both : (test : Bool) (fault : ParseError) (lax answer : Answer) → IsLaxOrRefused lax answer
     → IsLaxOrRefused (if test then lax else Err fault) (if test then answer else Err fault)
 row-both true fault lax answer both = both
 row-both false fault lax answer both = inl refl
 
-row-order : (test : Bool) (lax answer : Answer) → IsLaxOrRefused lax answer → IsLaxOrRefused lax (if test then answer else Err fault.DurationUnitOrder)
-row-order true lax answer both = both
-row-order false lax answer both = inr refl
+rows-unit : (has comes : Bool) (unknown : ParseError) (lax answer : Answer) → IsLaxOrRefused lax answer
+    → IsLaxOrRefused (if has then (if has then lax else Err fault.DurationUnitOrder) else Err unknown)
+    (if has then (if comes then answer else Err fault.DurationUnitOrder) else Err unknown)
+rows-unit true true unknown lax answer both = both
+rows-unit true false unknown lax answer both = inr refl
+rows-unit false comes unknown lax answer both = inl refl
 
 -- so the table of an item lets both through, refuses both alike, or refuses for the order
 table-both : (sums : Sums) (item : Item) (lax answer : Answer) → IsLaxOrRefused lax answer
     → IsLaxOrRefused (meets (item_table (as_lax sums) item) lax) (meets (item_table sums item) answer)
 table-both sums Mark lax answer both = row-both (not sums.mark) _ lax answer both
 table-both sums (Amount quantity) lax answer both =
-    let unit = unit_in (units sums.mark) quantity.letter in
     let counted = ap are_counted (item-lax (Amount quantity) sums) in
-    rw (never-refused sums.mark quantity.letter, sym counted)
+    rw (sym counted)
     (row-both (nat_lt 0 (length quantity.number)) _ _ _
     (row-both _ _ _ _
     (row-both (not sums.fraction) _ _ _
-    (row-both (is_some unit) _ _ _
-    (row-order (is_smaller sums.limit unit) _ _
-    (row-both (are_counted (with_item (Amount quantity) sums)) _ lax answer both))))))
+    (rows-unit (is_some (unit_in (units sums.mark) quantity.letter)) (is_some (unit_in sums.next_units quantity.letter)) _ _ _
+    (row-both (are_counted (with_item (Amount quantity) sums)) _ lax answer both)))))
 
 -- behind any items
 iso-both : (most : ℕ) (sums : Sums) (text : List ℕ)
@@ -107,15 +102,27 @@ duration-both asked behavior text =
     let rest = drop (sign_length text) text in
     both-signed (not (has_minus text)) _ _ (unsigned-both asked behavior rest (slice_index rest 0 == capital_p))
 
--- a quantity with a unit adds to the sums with a limit what it adds to the others, and its unit is the next limit
-quantity-strict : (unit : Option DurationUnit) (quantity : Quantity) (limit : ℕ) (sums : Sums) → is_some unit ≡ true
-    → as_strict (seconds_of unit) (with_quantity unit quantity sums) ≡ with_quantity unit quantity (as_strict limit sums)
-quantity-strict None quantity limit sums has = absurd (false≢true has)
-quantity-strict (Some unit) quantity limit sums has = refl
+-- the unit of a letter has that letter
+found-letter : (test : Bool) (one : DurationUnit) (other : Option DurationUnit) (letter : ℕ) (unit : DurationUnit) → (letter == one.letter) ≡ test
+    → (other ≡ Some unit → unit.letter ≡ letter) → (if test then Some one else other) ≡ Some unit → unit.letter ≡ letter
+found-letter true one other letter unit test behind same =
+    let is : one ≡ unit = cc in
+    sym (eqb-true letter one.letter test ∙ ap (λ (unit : DurationUnit). unit.letter) is)
+found-letter false one other letter unit test behind same = behind same
 
-quantity-mark : (unit : Option DurationUnit) (quantity : Quantity) (sums : Sums) → (with_quantity unit quantity sums).mark ≡ sums.mark
-quantity-mark None quantity sums = refl
-quantity-mark (Some unit) quantity sums = refl
+unit-letter : (units : List DurationUnit) (letter : ℕ) (unit : DurationUnit) → unit_in units letter ≡ Some unit → unit.letter ≡ letter
+unit-letter [] letter unit same = absurd (cc)
+unit-letter (one ∷ units) letter unit same =
+    found-letter (letter == one.letter) one (unit_in units letter) letter unit refl (unit-letter units letter unit) same
+
+-- a quantity with a unit adds to the sums of the strict order what it adds to the others, and leaves what follows its unit
+quantity-strict : (unit : Option DurationUnit) (quantity : Quantity) (next : List DurationUnit) (sums : Sums) → unit_in (units sums.mark) quantity.letter ≡ unit
+    → is_some unit ≡ true → as_strict (units_after quantity.letter next) (with_quantity unit quantity sums) ≡ with_quantity unit quantity (as_strict next sums)
+quantity-strict None quantity next sums is has = absurd (false≢true has)
+quantity-strict (Some unit) quantity next sums is has =
+    let letter = sym (unit-letter (units sums.mark) quantity.letter unit is) in
+    let after = with_quantity (Some unit) quantity sums in
+    ap (λ (letter : ℕ). as_strict (units_after letter next) after) letter
 
 -- what good items add up to
 abbrev made : Sums → Answer
@@ -125,60 +132,54 @@ abbrev strict_made : Bool → Sums → Answer
 strict_made in_order sums = if in_order then made sums else Err fault.DurationUnitOrder
 
 -- an item out of order refuses the text
-out_of_order : (limit : ℕ) (sums : Sums) (quantity : Quantity) (rest : List ℕ) → IsItem (Amount quantity)
-    → AllHold (item_table sums (Amount quantity)) → is_smaller limit (unit_in (units sums.mark) quantity.letter) ≡ false
-    → IsAnswerFrom (as_strict limit sums) (item_text (Amount quantity) ++ rest) (Err fault.DurationUnitOrder)
-out_of_order limit sums quantity rest is all late =
+out_of_order : (next : List DurationUnit) (sums : Sums) (quantity : Quantity) (rest : List ℕ) → IsItem (Amount quantity)
+    → AllHold (item_table sums (Amount quantity)) → is_some (unit_in next quantity.letter) ≡ false
+    → IsAnswerFrom (as_strict next sums) (item_text (Amount quantity) ++ rest) (Err fault.DurationUnitOrder)
+out_of_order next sums quantity rest is all late =
     let text = item_text (Amount quantity) ++ rest in
     let there = item_at-text sums (Amount quantity) rest is all in
     let read : Result ℕ ParseError = Ok 0 in
-    let refused : Err fault.DurationUnitOrder ≡ meets (item_table (as_strict limit sums) (Amount quantity)) read =
+    let refused : Err fault.DurationUnitOrder ≡ meets (item_table (as_strict next sums) (Amount quantity)) read =
     rw (all.0, all.1.0, all.1.1.0, all.1.1.1.0, late) refl in
     let digits = quantity.number ++ quantity.fraction in
     let some : 0 < length text = rw (length-append (item_text (Amount quantity)) rest, length-append digits (quantity.letter ∷ [])) (omega arith) in
-    answer-refused (as_strict limit sums) text fault.DurationUnitOrder 0 some
-    (subst (λ (item : Item). Err fault.DurationUnitOrder ≡ meets (item_table (as_strict limit sums) item) read) (sym there) refused)
+    answer-refused (as_strict next sums) text fault.DurationUnitOrder 0 some
+    (subst (λ (item : Item). Err fault.DurationUnitOrder ≡ meets (item_table (as_strict next sums) item) read) (sym there) refused)
 
 -- one in order goes on
-amount-strict : (limit : ℕ) (sums : Sums) (quantity : Quantity) (rest : List ℕ) (in_order smaller : Bool) (after : Sums)
+amount-strict : (next : List DurationUnit) (sums : Sums) (quantity : Quantity) (rest : List ℕ) (in_order comes : Bool) (after : Sums)
     → IsItem (Amount quantity) → AllHold (item_table sums (Amount quantity))
-    → is_smaller limit (unit_in (units sums.mark) quantity.letter) ≡ smaller
-    → IsAnswerFrom (as_strict (seconds_of (unit_in (units sums.mark) quantity.letter)) (with_item (Amount quantity) sums)) rest
+    → is_some (unit_in next quantity.letter) ≡ comes
+    → IsAnswerFrom (as_strict (units_after quantity.letter next) (with_item (Amount quantity) sums)) rest
     (strict_made in_order after)
-    → IsAnswerFrom (as_strict limit sums) (item_text (Amount quantity) ++ rest) (strict_made (smaller && in_order) after)
-amount-strict limit sums quantity rest in_order false after is all late behind = out_of_order limit sums quantity rest is all late
-amount-strict limit sums quantity rest in_order true after is all smaller behind =
+    → IsAnswerFrom (as_strict next sums) (item_text (Amount quantity) ++ rest) (strict_made (comes && in_order) after)
+amount-strict next sums quantity rest in_order false after is all late behind = out_of_order next sums quantity rest is all late
+amount-strict next sums quantity rest in_order true after is all comes behind =
     let unit = unit_in (units sums.mark) quantity.letter in
-    let same = quantity-strict unit quantity limit sums all.1.1.1.0 in
+    let same = quantity-strict unit quantity next sums refl all.1.1.1.0 in
     let counted = sym (ap are_counted same) ∙ all.1.1.1.1.1.0 in
-    let hold : AllHold (item_table (as_strict limit sums) (Amount quantity)) =
-    (all.0, (all.1.0, (all.1.1.0, (all.1.1.1.0, (smaller, (counted, tt)))))) in
-    answer-with (as_strict limit sums) (Amount quantity) rest (strict_made in_order after) is hold
+    let hold : AllHold (item_table (as_strict next sums) (Amount quantity)) =
+    (all.0, (all.1.0, (all.1.1.0, (all.1.1.1.0, (comes, (counted, tt)))))) in
+    answer-with (as_strict next sums) (Amount quantity) rest (strict_made in_order after) is hold
     (subst (λ (next : Sums). IsAnswerFrom next rest (strict_made in_order after)) same behind)
 
 -- so good items are refused exactly if they are not in order
-items-strict : (limit : ℕ) (sums : Sums) (items : List Item) → AreGood sums items
-    → IsAnswerFrom (as_strict limit sums) (flat_map item_text items)
-    (strict_made (are_in_order sums.mark limit items) (with_items items sums))
-items-strict limit sums [] good = ([], [], refl, tt, refl)
-items-strict limit sums (Mark ∷ items) good =
-    answer-with (as_strict limit sums) Mark (flat_map item_text items) _ tt good.1
-    (items-strict no_limit (with_item Mark sums) items good.2)
-items-strict limit sums (Amount quantity ∷ items) good =
-    let unit = unit_in (units sums.mark) quantity.letter in
-    let next = with_item (Amount quantity) sums in
-    let behind = items-strict (seconds_of unit) next items good.2 in
-    amount-strict limit sums quantity (flat_map item_text items) (are_in_order sums.mark (seconds_of unit) items) _
-    (with_items items next) good.0 good.1 refl
-    (subst (λ (mark : Bool). IsAnswerFrom (as_strict (seconds_of unit) next) (flat_map item_text items)
-    (strict_made (are_in_order mark (seconds_of unit) items) (with_items items next)))
-    (quantity-mark unit quantity sums) behind)
+items-strict : (next : List DurationUnit) (sums : Sums) (items : List Item) → AreGood sums items
+    → IsAnswerFrom (as_strict next sums) (flat_map item_text items)
+    (strict_made (are_in_order next items) (with_items items sums))
+items-strict next sums [] good = ([], [], refl, tt, refl)
+items-strict next sums (Mark ∷ items) good =
+    answer-with (as_strict next sums) Mark (flat_map item_text items) _ tt good.1 (items-strict (units true) (with_item Mark sums) items good.2)
+items-strict next sums (Amount quantity ∷ items) good =
+    let after = units_after quantity.letter next in
+    amount-strict next sums quantity (flat_map item_text items) (are_in_order after items) _ (with_items items (with_item (Amount quantity) sums))
+    good.0 good.1 refl (items-strict after (with_item (Amount quantity) sums) items good.2)
 
 -- behind a `P`, in each order
 items-in_strict : (items : List Item) → AreGood (no_sums order.Lax) items
-    → iso_form order.Strict (flat_map item_text items) ≡ strict_made (are_in_order false no_limit items) (with_items items (no_sums order.Lax))
+    → iso_form order.Strict (flat_map item_text items) ≡ strict_made (are_in_order (units false) items) (with_items items (no_sums order.Lax))
 items-in_strict items good =
-    sym (iso_form-only order.Strict (flat_map item_text items) _ (items-strict no_limit (no_sums order.Lax) items good))
+    sym (iso_form-only order.Strict (flat_map item_text items) _ (items-strict (units false) (no_sums order.Lax) items good))
 
 items-in_lax : (items : List Item) → AreGood (no_sums order.Lax) items
     → iso_form order.Lax (flat_map item_text items) ≡ made (with_items items (no_sums order.Lax))
@@ -194,9 +195,9 @@ chosen positive false lax = refl
 -- so a text of good items is refused for its order if and only if they are not in order, and otherwise has the lax answer
 answer-strict : (asked : IsoOrder) (behavior : MicrosecondsPrecisionOverflowBehavior) (text : List ℕ) (items : List Item)
     → asked ≡ order.Strict → IsMadeOf text items
-    → duration_answer asked behavior text ≡ (if are_in_order false no_limit items then duration_answer order.Lax behavior text else Err fault.DurationUnitOrder)
+    → duration_answer asked behavior text ≡ (if are_in_order (units false) items then duration_answer order.Lax behavior text else Err fault.DurationUnitOrder)
 answer-strict asked behavior text items strict is =
-    let in_order = are_in_order false no_limit items in
+    let in_order = are_in_order (units false) items in
     let body = flat_map item_text items in
     let step = result_and_then (signed_form (not is.negative)) in
     let read = λ (order : IsoOrder). ap (duration_answer order behavior) is.is_text ∙ duration_answer-iso order behavior is.negative is.sign body is.is_sign in
@@ -252,6 +253,33 @@ answer-items behavior text numbers iso same =
       is_text = begins ∙ ap (λ (body : List ℕ). sign ++ capital_p ∷ body) is_body;
     } in
     (from.0, is_made)
+
+-- the letters of quantities, and of units
+abbrev pub letters : List Quantity → List ℕ
+letters quantities = map (λ (quantity : Quantity). quantity.letter) quantities
+
+abbrev pub unit_letters : List DurationUnit → List ℕ
+unit_letters units = map (λ (unit : DurationUnit). unit.letter) units
+
+first-letter : (test : Bool) (unit : DurationUnit) (next : List DurationUnit) (quantity : Quantity) (quantities : List Quantity) (rest : List Item) (last : Bool)
+    → are_in_order next (map Amount quantities ++ rest) ≡ (are_some_of (letters quantities) (unit_letters next) && last)
+    → are_in_order next (map Amount (quantity ∷ quantities) ++ rest) ≡ (are_some_of (letters (quantity ∷ quantities)) (unit_letters next) && last)
+    → (is_some (if test then Some unit else unit_in next quantity.letter)
+    && are_in_order (if test then next else units_after quantity.letter next) (map Amount quantities ++ rest))
+    ≡ ((if test then are_some_of (letters quantities) (unit_letters next) else are_some_of (letters (quantity ∷ quantities)) (unit_letters next)) && last)
+first-letter true unit next quantity quantities rest last here behind = here
+first-letter false unit next quantity quantities rest last here behind = behind
+
+-- quantities of one side, in front of nothing or of a `T`, are in order if and only if their letters are some of those of the
+-- side, in the order of the table, each at most once
+pub are_in_order-letters : (next : List DurationUnit) (quantities : List Quantity) (rest : List Item) (last : Bool)
+    → ((next : List DurationUnit) → are_in_order next rest ≡ last)
+    → are_in_order next (map Amount quantities ++ rest) ≡ (are_some_of (letters quantities) (unit_letters next) && last)
+are_in_order-letters next [] rest last ends = ends next
+are_in_order-letters [] (quantity ∷ quantities) rest last ends = refl
+are_in_order-letters (unit ∷ next) (quantity ∷ quantities) rest last ends =
+    first-letter (quantity.letter == unit.letter) unit next quantity quantities rest last (are_in_order-letters next quantities rest last ends)
+    (are_in_order-letters next (quantity ∷ quantities) rest last ends)
 
 -- the answer in the order that is asked for
 pub duration_answer-in_order : (asked : IsoOrder) (behavior : MicrosecondsPrecisionOverflowBehavior) (text : List ℕ)

@@ -27,7 +27,7 @@ pub record DurationUnit : Type 0 where
 abbrev pub unit : ℕ → ℕ → ℕ → DurationUnit
 unit letter day second = record { letter = letter; day = day; second = second }
 
--- the units before the `T`, and those behind it
+-- the units before the `T`, and those behind it, in the order of the standard
 abbrev pub units : Bool → List DurationUnit
 units false = unit capital_y 365 0 ∷ unit capital_m 30 0 ∷ unit capital_w 7 0 ∷ unit capital_d 1 0 ∷ []
 units true = unit capital_h 0 3600 ∷ unit capital_m 0 60 ∷ unit capital_s 0 1 ∷ []
@@ -36,6 +36,11 @@ units true = unit capital_h 0 3600 ∷ unit capital_m 0 60 ∷ unit capital_s 0 
 abbrev pub unit_in : List DurationUnit → ℕ → Option DurationUnit
 unit_in [] letter = None
 unit_in (unit ∷ units) letter = if letter == unit.letter then Some unit else unit_in units letter
+
+-- the units that follow the one of a letter
+abbrev pub units_after : ℕ → List DurationUnit → List DurationUnit
+units_after letter [] = []
+units_after letter (unit ∷ units) = if letter == unit.letter then units else units_after letter units
 
 -- a quantity: the digits of its number, its fraction, which is a sign and digits or nothing, and the letter of its unit
 pub record Quantity : Type 0 where
@@ -92,10 +97,10 @@ abbrev pub item_length : List ℕ → ℕ
 item_length text = if slice_index text 0 == capital_t then 1 else quantity_length text
 
 -- what the items so far add up to: whether there was a `T`, a fraction, a quantity; days, seconds and microseconds. And the
--- order in which quantities have to come, with the seconds than which the next one's unit has to have fewer
+-- order in which quantities have to come, with the units that may still come on this side
 pub record Sums : Type 0 where
   pub order : IsoOrder
-  pub limit : ℕ
+  pub next_units : List DurationUnit
   pub mark : Bool
   pub fraction : Bool
   pub some : Bool
@@ -103,13 +108,9 @@ pub record Sums : Type 0 where
   pub second : ℕ
   pub microsecond : ℕ
 
--- more seconds than a unit has
-abbrev pub no_limit : ℕ
-no_limit = 31536001
-
 -- of no items
 abbrev pub no_sums : IsoOrder → Sums
-no_sums order = record { order = order; limit = no_limit; mark = false; fraction = false; some = false; day = 0; second = 0; microsecond = 0 }
+no_sums order = record { order = order; next_units = units false; mark = false; fraction = false; some = false; day = 0; second = 0; microsecond = 0 }
 
 -- the seconds of one of a unit
 abbrev pub unit_seconds : DurationUnit → ℕ
@@ -125,10 +126,10 @@ fraction_microseconds unit digits =
     unsigned_abs (nearest (pos (digits_value digits * (1000000 * unit_seconds unit))) (10 ^ length digits))
     - 1000000 * fraction_seconds unit digits
 
--- in the strict order the next unit on a side is smaller than the last one, in the lax one it may be any
-abbrev pub next_limit : IsoOrder → DurationUnit → ℕ
-next_limit order.Lax unit = no_limit
-next_limit order.Strict unit = unit_seconds unit
+-- behind the unit of a letter the strict order leaves what follows it, the lax one the whole side
+abbrev pub units_behind : IsoOrder → Bool → ℕ → List DurationUnit → List DurationUnit
+units_behind order.Lax mark letter next = units mark
+units_behind order.Strict mark letter next = units_after letter next
 
 -- the sums with so many of a unit, and with a fraction of it
 abbrev pub with_amount : DurationUnit → ℕ → List ℕ → Sums → Sums
@@ -136,7 +137,7 @@ with_amount unit number fraction sums =
     let digits = drop 1 fraction in
     record {
       order = sums.order;
-      limit = next_limit sums.order unit;
+      next_units = units_behind sums.order sums.mark unit.letter sums.next_units;
       mark = sums.mark;
       fraction = sums.fraction || nat_lt 0 (length fraction);
       some = true;
@@ -155,7 +156,7 @@ with_quantity None quantity sums = sums
 with_quantity (Some unit) quantity sums = with_amount unit (digits_value quantity.number) quantity.fraction sums
 
 abbrev pub with_item : Item → Sums → Sums
-with_item Mark sums = record sums { mark = true; limit = no_limit }
+with_item Mark sums = record sums { mark = true; next_units = units true }
 with_item (Amount quantity) sums = with_quantity (unit_in (units sums.mark) quantity.letter) quantity sums
 
 -- the fault of a letter that is no unit of its side
@@ -163,13 +164,8 @@ abbrev pub unit_fault : Bool → ParseError
 unit_fault false = fault.DurationInvalidDateUnit
 unit_fault true = fault.DurationInvalidTimeUnit
 
--- a unit has fewer seconds than a limit
-abbrev pub is_smaller : ℕ → Option DurationUnit → Bool
-is_smaller limit None = true
-is_smaller limit (Some unit) = nat_lt (unit_seconds unit) limit
-
 -- what an item has to meet behind others: at most one `T`; a number; at most one fraction, and nothing behind it; a unit
--- of its side; its place in the order; and sums that are counted in 32 bits
+-- of its side, and one that may still come; and sums that are counted in 32 bits
 abbrev pub item_table : Sums → Item → List Requirement
 item_table sums Mark = (not sums.mark else_fault fault.DurationTRepeated) ∷ []
 item_table sums (Amount quantity) =
@@ -177,7 +173,7 @@ item_table sums (Amount quantity) =
     ∷ (nat_le (digits_value quantity.number) 4294967295 else_fault fault.DurationValueTooLarge)
     ∷ (not sums.fraction else_fault fault.DurationInvalidFraction)
     ∷ (is_some (unit_in (units sums.mark) quantity.letter) else_fault unit_fault sums.mark)
-    ∷ (is_smaller sums.limit (unit_in (units sums.mark) quantity.letter) else_fault fault.DurationUnitOrder)
+    ∷ (is_some (unit_in sums.next_units quantity.letter) else_fault fault.DurationUnitOrder)
     ∷ (are_counted (with_item (Amount quantity) sums) else_fault fault.DurationValueTooLarge)
     ∷ []
 

@@ -22,7 +22,7 @@ use Rattle.speedate_base.specs.Numbers.{has_minus, sign_length}
 use Rattle.speedate_base.specs.Requirement.{meets, AllHold, result_and_then}
 use Rattle.speedate_base.specs.RequirementLaws.{meets-all}
 use Rattle.speedate.specs.DurationNumbers.{DurationNumbers, UnsignedDuration, signed_form}
-use Rattle.speedate.specs.IsoForm.{DurationUnit, units, unit_in, Quantity, Item, Mark, Amount, item_text, is_point, IsFraction, IsItem, fraction_length, quantity_at, item_at, Sums, no_limit, unit_seconds, next_limit, is_smaller, with_quantity, with_item, with_items, item_table, AreGood, sums_length, Ends, IsAnswerFrom, IsIsoAnswer, no_sums}
+use Rattle.speedate.specs.IsoForm.{DurationUnit, units, unit_in, Quantity, Item, Mark, Amount, item_text, is_point, IsFraction, IsItem, fraction_length, quantity_at, item_at, Sums, units_behind, with_quantity, with_item, with_items, item_table, AreGood, sums_length, Ends, IsAnswerFrom, IsIsoAnswer, no_sums}
 use Rattle.speedate.specs.DurationForm.{form_answer, IsDurationAnswer}
 use Rattle.speedate.specs.Exchanged.{has_fraction, IsPlain}
 
@@ -174,38 +174,20 @@ answer-with sums item text answer is all from =
 
 -- sums behind which any unit may come
 abbrev pub IsFree : Sums → Type 0
-IsFree sums = (sums.order ≡ order.Lax) × (sums.limit ≡ no_limit)
+IsFree sums = (sums.order ≡ order.Lax) × (sums.next_units ≡ units sums.mark)
 
 -- in the lax order those behind an item are such sums again
 amount-free : (unit : Option DurationUnit) (quantity : Quantity) (sums : Sums) → IsFree sums → IsFree (with_quantity unit quantity sums)
 amount-free None quantity sums free = free
-amount-free (Some unit) quantity sums free = (free.0, ap (λ (order : IsoOrder). next_limit order unit) free.0)
+amount-free (Some unit) quantity sums free = (free.0, ap (λ (order : IsoOrder). units_behind order sums.mark unit.letter sums.next_units) free.0)
 
 item-free : (item : Item) (sums : Sums) → IsFree sums → IsFree (with_item item sums)
 item-free Mark sums free = (free.0, refl)
 item-free (Amount quantity) sums free = amount-free (unit_in (units sums.mark) quantity.letter) quantity sums free
 
--- one of two units is smaller than a limit where both are
-smaller-found : (test : Bool) (limit : ℕ) (one : DurationUnit) (other : Option DurationUnit) → nat_lt (unit_seconds one) limit ≡ true
-    → is_smaller limit other ≡ true → is_smaller limit (if test then Some one else other) ≡ true
-smaller-found true limit one other here behind = here
-smaller-found false limit one other here behind = behind
-
--- where all units of a list are smaller than a limit, the unit of a letter is
-unit-smaller : (limit : ℕ) (units : List DurationUnit) (letter : ℕ) → list_all (λ unit. nat_lt (unit_seconds unit) limit) units ≡ true
-    → is_smaller limit (unit_in units letter) ≡ true
-unit-smaller limit [] letter all = refl
-unit-smaller limit (unit ∷ units) letter all =
-    let tests = and_parts (nat_lt (unit_seconds unit) limit) _ all in
-    smaller-found (letter == unit.letter) limit unit (unit_in units letter) tests.0 (unit-smaller limit units letter tests.1)
-
-units-smaller : (mark : Bool) → list_all (λ unit. nat_lt (unit_seconds unit) no_limit) (units mark) ≡ true
-units-smaller true = refl
-units-smaller false = refl
-
--- so behind sums of the lax order each has its place
-free-smaller : (sums : Sums) (letter : ℕ) → IsFree sums → is_smaller sums.limit (unit_in (units sums.mark) letter) ≡ true
-free-smaller sums letter free = rw free.1 (unit-smaller no_limit (units sums.mark) letter (units-smaller sums.mark))
+-- so behind sums of the lax order each unit of the side may come
+free-comes : (sums : Sums) (letter : ℕ) → IsFree sums → is_some (unit_in (units sums.mark) letter) ≡ true → is_some (unit_in sums.next_units letter) ≡ true
+free-comes sums letter free has = ap (λ (next : List DurationUnit). is_some (unit_in next letter)) free.1 ∙ has
 
 -- whether its number and the sums with it are counted in 32 bits
 abbrev fits : Sums → Quantity → Bool
@@ -223,13 +205,13 @@ two-rows false sums fault next = refl
 plain-table : {A : Type 0} (sums : Sums) (quantity : Quantity) (next : Result A ParseError) → IsFree sums → IsPlain sums quantity
     → meets (item_table sums (Amount quantity)) next ≡ (if fits sums quantity then next else Err fault.DurationValueTooLarge)
 plain-table sums quantity next free plain =
-    rw (plain.1, plain.3, plain.4, free-smaller sums quantity.letter free) (two-rows (nat_le (digits_value quantity.number) 4294967295) _ fault.DurationValueTooLarge next)
+    rw (plain.1, plain.3, plain.4, free-comes sums quantity.letter free plain.4) (two-rows (nat_le (digits_value quantity.number) 4294967295) _ fault.DurationValueTooLarge next)
 
 -- one that fits meets each row
 plain-good : (sums : Sums) (quantity : Quantity) → IsFree sums → IsPlain sums quantity → fits sums quantity ≡ true → AllHold (item_table sums (Amount quantity))
 plain-good sums quantity free plain fit =
     let tests = and_parts (nat_le (digits_value quantity.number) 4294967295) _ fit in
-    (plain.1, (tests.0, (ap not plain.3, (plain.4, (free-smaller sums quantity.letter free, (tests.1, tt))))))
+    (plain.1, (tests.0, (ap not plain.3, (plain.4, (free-comes sums quantity.letter free plain.4, (tests.1, tt))))))
 
 -- that fault ends a text
 ends-large : (sums : Sums) (text : List ℕ)
@@ -278,14 +260,15 @@ amounts-swap : (one two : Option DurationUnit) (first second : Quantity) (sums :
 amounts-swap None two first second sums free = refl
 amounts-swap (Some one) None first second sums free = refl
 amounts-swap (Some one) (Some two) first second sums free =
-    let limits = ap (λ (order : IsoOrder). next_limit order two) free.0 ∙ sym (ap (λ (order : IsoOrder). next_limit order one) free.0) in
+    let behind = λ (unit : DurationUnit) (next : List DurationUnit). ap (λ (order : IsoOrder). units_behind order sums.mark unit.letter next) free.0 in
+    let both = behind two (units_behind sums.order sums.mark one.letter sums.next_units) ∙ sym (behind one (units_behind sums.order sums.mark two.letter sums.next_units)) in
     let fractions = or-swap sums.fraction (has_fraction first) (has_fraction second) in
     let days = add-swap sums.day _ _ _ _ in
     let seconds = add-swap sums.second _ _ _ _ in
     let microseconds = add_right_comm sums.microsecond _ _ in
     λ i. record {
       order = sums.order;
-      limit = limits i;
+      next_units = both i;
       mark = sums.mark;
       fraction = fractions i;
       some = true;

@@ -1,5 +1,5 @@
 -- What stands at the front of a text as an item, and how the answer to a text goes on behind it.
-use Rattle.std.specs.Prelude.{◌≡◌, ℕ, suc, ◌+◌, ◌<◌, Bool, true, false, List, [], ◌∷◌, ◌++◌, length, take, drop, slice_index, if◌then◌else◌, ◌≤◌, ◌==◌, nat_lt, not, Option, Some, Result, Ok, Err, refl}
+use Rattle.std.specs.Prelude.{◌≡◌, ℕ, suc, ◌+◌, ◌<◌, Bool, true, false, List, [], ◌∷◌, ◌++◌, length, take, drop, slice_index, if◌then◌else◌, ◌≤◌, ◌==◌, not, Option, Some, Result, Ok, Err, refl}
 use Rattle.std.specs.Char.{is_ascii_digit}
 use Rattle.std.specs.List.{list_all}
 use Rattle.std.specs.Option.{is_some}
@@ -16,7 +16,7 @@ use Rattle.speedate_base.specs.Requirement.{meets, AllHold}
 use Rattle.speedate_base.specs.RequirementLaws.{meets-next}
 use Rattle.speedate.specs.DurationNumbers.{UnsignedDuration}
 use Rattle.speedate.specs.IsoFormLaws.{answer-with}
-use Rattle.speedate.specs.IsoForm.{DurationUnit, Quantity, Item, Amount, Mark, Sums, IsItem, quantity_at, quantity_length, item_at, item_length, item_text, item_table, unit_seconds, is_smaller, with_amount, with_quantity, with_item, are_counted, Ends, IsAnswerFrom, sums_length, units, unit_in, is_point, fraction_length, IsFraction}
+use Rattle.speedate.specs.IsoForm.{DurationUnit, Quantity, Item, Amount, Mark, Sums, IsItem, quantity_at, quantity_length, item_at, item_length, item_text, item_table, with_amount, with_quantity, with_item, are_counted, Ends, IsAnswerFrom, sums_length, units, unit_in, is_point, fraction_length, IsFraction}
 
 -- behind the sign of a fraction stand digits
 digits-behind : (text : List ℕ) (point : Bool) → list_all is_ascii_digit (drop 1 (take (if point then 1 + run_length text 1 else 0) text)) ≡ true
@@ -97,9 +97,9 @@ pub answer-behind-plain : (sums next : Sums) (body : List ℕ) (place end number
     (answer : Result UnsignedDuration ParseError)
     → sums.fraction ≡ false → number ≡ run_value body place → end ≡ place + run_length body place → letter ≡ slice_index body end
     → Some unit ≡ unit_in (units sums.mark) letter → next ≡ with_amount unit number [] sums
-    → place < end → number ≤ 4294967295 → nat_lt (unit_seconds unit) sums.limit ≡ true → are_counted (with_amount unit number [] sums) ≡ true
+    → place < end → number ≤ 4294967295 → is_some (unit_in sums.next_units letter) ≡ true → are_counted (with_amount unit number [] sums) ≡ true
     → IsAnswerFrom next (drop (end + 1) body) answer → IsAnswerFrom sums (drop place body) answer
-answer-behind-plain sums next body place end number letter unit answer none spelled ended read is added some small smaller counted behind =
+answer-behind-plain sums next body place end number letter unit answer none spelled ended read is added some small may_come counted behind =
     let text : List ℕ = drop place body in
     let count = run_length body place in
     let quantity : Quantity = record { number = take count text; fraction = []; letter = slice_index (drop count text) 0 } in
@@ -111,7 +111,7 @@ answer-behind-plain sums next body place end number letter unit answer none spel
     let within = letter-within sums.mark (drop count text) 0 (ap is_some has) in
     let whole = parted text count 0 within in
     let long : length (take count text) ≡ count = length-take-le count text (prefix_len-le-length is_ascii_digit text) in
-    let ordered = ap (is_smaller sums.limit) has ∙ smaller in
+    let ordered = ap (λ (letter : ℕ). is_some (unit_in sums.next_units letter)) (first ∙ sym read) ∙ may_come in
     let all : AllHold (item_table sums (Amount quantity)) = (grind (arith, nat_tests, some, ended, long), (grind (arith, nat_tests, small, spelled), (ap not none, (ap is_some has, (ordered, (ap are_counted (same ∙ added) ∙ counted, tt)))))) in
     let last : place + (count + 0 + 1) ≡ end + 1 = omega (arith, ended) in
     let rest = ap (λ (n : ℕ). drop n body) (sym last) ∙ sym (drop-drop (count + 0 + 1) place body) in

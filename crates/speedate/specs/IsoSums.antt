@@ -1,20 +1,30 @@
 -- What contracts see of a unit and of the sums of items.
-use Rattle.std.specs.Prelude.{List, ℕ, Result}
+use Rattle.std.specs.Prelude.{Bool, ◌≡◌, ◌∷◌, [], ◌==◌, if◌then◌else◌, drop, zero, suc, Some, List, ℕ, Result}
 use Rattle.speedate_base.specs.declared.faults.ParseError.{ParseError}
 use Rattle.speedate.specs.declared.duration.iso.DurationUnit.{DurationUnit as StructDurationUnit}
 use Rattle.speedate.specs.declared.duration.iso.Sums.{Sums as StructSums}
 use Rattle.speedate.specs.DurationNumbers.{UnsignedDuration}
-use Rattle.speedate.specs.IsoForm.{DurationUnit, Sums, IsAnswerFrom}
+use Rattle.speedate.specs.IsoForm.{DurationUnit, units, unit_in, Sums, IsAnswerFrom}
 
 -- a unit by its letter and its worth
 abbrev pub unit_parts : StructDurationUnit → DurationUnit
 unit_parts unit = record { letter = unit.letter; day = unit.day; second = unit.second }
 
+-- how many units a list has before the one of a letter
+abbrev pub unit_place : ℕ → List DurationUnit → ℕ
+unit_place letter [] = zero
+unit_place letter (unit ∷ units) = if letter == unit.letter then zero else suc (unit_place letter units)
+
+-- a unit is one of a side, at its place
+pub record IsUnitOf (mark : Bool) (unit : StructDurationUnit) : Type 0 where
+  pub is_unit : unit_in (units mark) unit.letter ≡ Some (unit_parts unit)
+  pub is_place : unit.place ≡ unit_place unit.letter (units mark)
+
 -- sums by their numbers
 abbrev pub sums_parts : StructSums → Sums
 sums_parts sums = record {
   order = sums.order;
-  limit = sums.limit;
+  next_units = drop sums.passed (units sums.mark);
   mark = sums.mark;
   fraction = sums.fraction;
   some = sums.some;

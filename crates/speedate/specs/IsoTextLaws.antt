@@ -31,7 +31,7 @@ use Rattle.speedate.specs.DurationAnswerLaws.{iso_form-only}
 use Rattle.speedate.specs.DurationLaws.{normal_form-same}
 use Rattle.speedate.specs.DurationNumbers.{DurationNumbers, IsDuration, length_of, signed_form}
 use Rattle.speedate.specs.DurationText.{counted_text, kept_digit, without_last_zeros, short_fraction_text, hours_text, days_text, start_text, rest_text, is_whole_days, duration_text}
-use Rattle.speedate.specs.IsoForm.{DurationUnit, unit, units, unit_in, Quantity, Item, Mark, Amount, item_text, IsFraction, Sums, no_limit, no_sums, next_limit, is_smaller, unit_seconds, fraction_seconds, fraction_microseconds, with_quantity, with_item, with_items, AreGood, Ends, sums_length, IsIsoAnswer}
+use Rattle.speedate.specs.IsoForm.{DurationUnit, unit, units, unit_in, Quantity, Item, Mark, Amount, item_text, IsFraction, Sums, no_sums, units_behind, unit_seconds, fraction_seconds, fraction_microseconds, with_quantity, with_item, with_items, AreGood, Ends, sums_length, IsIsoAnswer}
 
 -- a number without leading zeros is digits that spell it
 abbrev AreDigits : List ℕ → Type 0
@@ -130,15 +130,15 @@ leads-append before between after text more first second = (
 )
 
 -- sums with no fraction so far
-abbrev whole_sums : IsoOrder → ℕ → Bool → Bool → ℕ → ℕ → Sums
-whole_sums order limit mark some day second =
-    record { order = order; limit = limit; mark = mark; fraction = false; some = some; day = day; second = second; microsecond = 0 }
+abbrev whole_sums : IsoOrder → List DurationUnit → Bool → Bool → ℕ → ℕ → Sums
+whole_sums order next mark some day second =
+    record { order = order; next_units = next; mark = mark; fraction = false; some = some; day = day; second = second; microsecond = 0 }
 
 -- sums whose last item is printed seconds
-abbrev clock_sums : IsoOrder → ℕ → Bool → ℕ → ℕ → ℕ → Sums
-clock_sums order limit some day second microsecond = record {
+abbrev clock_sums : IsoOrder → List DurationUnit → Bool → ℕ → ℕ → ℕ → Sums
+clock_sums order next some day second microsecond = record {
   order = order;
-  limit = limit;
+  next_units = next;
   mark = true;
   fraction = nat_lt 0 (length (short_fraction_text microsecond));
   some = some;
@@ -147,21 +147,14 @@ clock_sums order limit some day second microsecond = record {
   microsecond = microsecond;
 }
 
--- what the next unit has to be smaller than behind so many of a unit, of which nothing is printed for none
-abbrev counted_limit : IsoOrder → DurationUnit → Bool → ℕ → ℕ
-counted_limit order unit none limit = if none then limit else next_limit order unit
-
--- a smaller unit can follow, whatever the order
-still-smaller : (order : IsoOrder) (unit : DurationUnit) (none : Bool) (limit small : ℕ) → small < no_limit → small < unit_seconds unit → small < limit
-    → small < counted_limit order unit none limit
-still-smaller order unit true limit small never less under = under
-still-smaller order.Lax unit false limit small never less under = never
-still-smaller order.Strict unit false limit small never less under = less
+-- the units that may come behind so many of a unit, of which nothing is printed for none
+abbrev units_left : IsoOrder → Bool → ℕ → Bool → List DurationUnit → List DurationUnit
+units_left order mark letter none next = if none then next else units_behind order mark letter next
 
 -- so many of a unit of one side, which may come next, bring days and seconds to others, all of which fit
-record Adds (unit : DurationUnit) (limit : ℕ) (mark : Bool) (number day second days seconds : ℕ) : Type 0 where
+record Adds (unit : DurationUnit) (next : List DurationUnit) (mark : Bool) (number day second days seconds : ℕ) : Type 0 where
   found : unit_in (units mark) unit.letter ≡ Some unit
-  smaller : unit_seconds unit < limit
+  comes : is_some (unit_in next unit.letter) ≡ true
   day_sum : day + number * unit.day ≡ days
   second_sum : second + number * unit.second ≡ seconds
   few : number ≤ 4294967295
@@ -177,12 +170,12 @@ no-fraction : (unit : DurationUnit) → IsMicroseconds unit [] 0
 no-fraction unit = (tt, no-seconds unit, no-microseconds unit)
 
 -- a number, its fraction and its unit lead to the sums with so many of the unit
-amount-leads : (order : IsoOrder) (limit : ℕ) (unit : DurationUnit) (mark some : Bool) (number day second days seconds microsecond : ℕ) (fraction : List ℕ)
-    → Adds unit limit mark number day second days seconds → IsMicroseconds unit fraction microsecond
-    → Leads (whole_sums order limit mark some day second) (decimal number ++ fraction ++ unit.letter ∷ [])
+amount-leads : (order : IsoOrder) (next : List DurationUnit) (unit : DurationUnit) (mark some : Bool) (number day second days seconds microsecond : ℕ) (fraction : List ℕ)
+    → Adds unit next mark number day second days seconds → IsMicroseconds unit fraction microsecond
+    → Leads (whole_sums order next mark some day second) (decimal number ++ fraction ++ unit.letter ∷ [])
     (record {
       order = order;
-      limit = next_limit order unit;
+      next_units = units_behind order mark unit.letter next;
       mark = mark;
       fraction = nat_lt 0 (length fraction);
       some = true;
@@ -190,8 +183,8 @@ amount-leads : (order : IsoOrder) (limit : ℕ) (unit : DurationUnit) (mark some
       second = seconds;
       microsecond = microsecond;
     })
-amount-leads order limit unit mark some number day second days seconds microsecond fraction adds means =
-    let sums = whole_sums order limit mark some day second in
+amount-leads order next unit mark some number day second days seconds microsecond fraction adds means =
+    let sums = whole_sums order next mark some day second in
     let quantity : Quantity = record { number = decimal number; fraction = fraction; letter = unit.letter } in
     let small : number < 2 ^ 64 = omega (arith, adds.few) in
     let spelled = digits_value-decimal digits_model number small in
@@ -204,7 +197,7 @@ amount-leads order limit unit mark some number day second days seconds microseco
     let sum = ap (λ one. with_quantity one quantity sums) adds.found
     ∙ (λ i. record {
       order = order;
-      limit = next_limit order unit;
+      next_units = units_behind order mark unit.letter next;
       mark = mark;
       fraction = nat_lt 0 (length fraction);
       some = true;
@@ -214,70 +207,69 @@ amount-leads order limit unit mark some number day second days seconds microseco
     }) in
     let sum_fits = ap (λ (sums : Sums). nat_le sums.day 4294967295 && nat_le sums.second 4294967295) sum
     ∙ and_from _ _ (le-leb days 4294967295 adds.few_days) (le-leb seconds 4294967295 adds.few_seconds) in
-    let smaller = ap (is_smaller limit) adds.found ∙ lt-ltb (unit_seconds unit) limit adds.smaller in
     let some_digits = lt-ltb 0 (length (decimal number)) (decimal_nonempty number small) in (
       Amount quantity ∷ [],
       append-nil (item_text (Amount quantity)),
       (
         (digits_decimal digits_model number small, means.0),
-        (some_digits, (le-leb _ 4294967295 fits, (refl, (ap is_some adds.found, (smaller, (sum_fits, tt)))))),
+        (some_digits, (le-leb _ 4294967295 fits, (refl, (ap is_some adds.found, (adds.comes, (sum_fits, tt)))))),
         tt,
       ),
       sum,
     )
 
 -- so do a number and its unit
-whole-leads : (order : IsoOrder) (limit : ℕ) (unit : DurationUnit) (mark some : Bool) (number day second days seconds : ℕ)
-    → Adds unit limit mark number day second days seconds
-    → Leads (whole_sums order limit mark some day second) (decimal number ++ unit.letter ∷ [])
-    (whole_sums order (next_limit order unit) mark true days seconds)
-whole-leads order limit unit mark some number day second days seconds adds =
-    let after = whole_sums order (next_limit order unit) mark true days seconds in
-    subst (λ (digits : List ℕ). Leads (whole_sums order limit mark some day second) (digits ++ unit.letter ∷ []) after) (append-nil (decimal number))
-    (amount-leads order limit unit mark some number day second days seconds 0 [] adds (no-fraction unit))
+whole-leads : (order : IsoOrder) (next : List DurationUnit) (unit : DurationUnit) (mark some : Bool) (number day second days seconds : ℕ)
+    → Adds unit next mark number day second days seconds
+    → Leads (whole_sums order next mark some day second) (decimal number ++ unit.letter ∷ [])
+    (whole_sums order (units_behind order mark unit.letter next) mark true days seconds)
+whole-leads order next unit mark some number day second days seconds adds =
+    let after = whole_sums order (units_behind order mark unit.letter next) mark true days seconds in
+    subst (λ (digits : List ℕ). Leads (whole_sums order next mark some day second) (digits ++ unit.letter ∷ []) after) (append-nil (decimal number))
+    (amount-leads order next unit mark some number day second days seconds 0 [] adds (no-fraction unit))
 
 -- and where there is nothing for none
-counted-of : (order : IsoOrder) (limit : ℕ) (unit : DurationUnit) (mark some none : Bool) (number day second days seconds : ℕ)
-    → (number == 0) ≡ none → Adds unit limit mark number day second days seconds
-    → Leads (whole_sums order limit mark some day second) (if none then [] else decimal number ++ unit.letter ∷ [])
-    (whole_sums order (counted_limit order unit none limit) mark (if none then some else true) days seconds)
-counted-of order limit unit mark some true number day second days seconds none adds =
+counted-of : (order : IsoOrder) (next : List DurationUnit) (unit : DurationUnit) (mark some none : Bool) (number day second days seconds : ℕ)
+    → (number == 0) ≡ none → Adds unit next mark number day second days seconds
+    → Leads (whole_sums order next mark some day second) (if none then [] else decimal number ++ unit.letter ∷ [])
+    (whole_sums order (units_left order mark unit.letter none next) mark (if none then some else true) days seconds)
+counted-of order next unit mark some true number day second days seconds none adds =
     let zero_is = eqb-true number 0 none in
     let day_is : day ≡ days = grind (arith, zero_is, adds.day_sum) in
     let second_is : second ≡ seconds = grind (arith, zero_is, adds.second_sum) in
-    ([], refl, tt, λ i. whole_sums order limit mark some (day_is i) (second_is i))
-counted-of order limit unit mark some false number day second days seconds other adds =
-    whole-leads order limit unit mark some number day second days seconds adds
+    ([], refl, tt, λ i. whole_sums order next mark some (day_is i) (second_is i))
+counted-of order next unit mark some false number day second days seconds other adds =
+    whole-leads order next unit mark some number day second days seconds adds
 
-counted-leads : (order : IsoOrder) (limit : ℕ) (unit : DurationUnit) (mark some : Bool) (number day second days seconds : ℕ)
-    → Adds unit limit mark number day second days seconds
-    → Leads (whole_sums order limit mark some day second) (counted_text number unit.letter)
-    (whole_sums order (counted_limit order unit (number == 0) limit) mark (if number == 0 then some else true) days seconds)
-counted-leads order limit unit mark some number day second days seconds =
-    counted-of order limit unit mark some (number == 0) number day second days seconds refl
+counted-leads : (order : IsoOrder) (next : List DurationUnit) (unit : DurationUnit) (mark some : Bool) (number day second days seconds : ℕ)
+    → Adds unit next mark number day second days seconds
+    → Leads (whole_sums order next mark some day second) (counted_text number unit.letter)
+    (whole_sums order (units_left order mark unit.letter (number == 0) next) mark (if number == 0 then some else true) days seconds)
+counted-leads order next unit mark some number day second days seconds =
+    counted-of order next unit mark some (number == 0) number day second days seconds refl
 
 -- a `T` leads to the other side
-mark-leads : (order : IsoOrder) (limit : ℕ) (some : Bool) (day second : ℕ)
-    → Leads (whole_sums order limit false some day second) (capital_t ∷ []) (whole_sums order no_limit true some day second)
-mark-leads order limit some day second = (Mark ∷ [], refl, (tt, (refl, tt), tt), refl)
+mark-leads : (order : IsoOrder) (next : List DurationUnit) (some : Bool) (day second : ℕ)
+    → Leads (whole_sums order next false some day second) (capital_t ∷ []) (whole_sums order (units true) true some day second)
+mark-leads order next some day second = (Mark ∷ [], refl, (tt, (refl, tt), tt), refl)
 
 -- no seconds at all
-zero-leads : (order : IsoOrder) (limit : ℕ) (some : Bool) (day : ℕ) → day ≤ 4294967295
-    → Leads (whole_sums order limit false some day 0) (codes "T0S") (whole_sums order (next_limit order (unit capital_s 0 1)) true true day 0)
-zero-leads order limit some day few =
-    let after = whole_sums order (next_limit order (unit capital_s 0 1)) true true day 0 in
-    let adds : Adds (unit capital_s 0 1) no_limit true 0 day 0 day 0 = record {
+zero-leads : (order : IsoOrder) (next : List DurationUnit) (some : Bool) (day : ℕ) → day ≤ 4294967295
+    → Leads (whole_sums order next false some day 0) (codes "T0S") (whole_sums order (units_behind order true capital_s (units true)) true true day 0)
+zero-leads order next some day few =
+    let after = whole_sums order (units_behind order true capital_s (units true)) true true day 0 in
+    let adds : Adds (unit capital_s 0 1) (units true) true 0 day 0 day 0 = record {
       found = refl;
-      smaller = lit< tt;
+      comes = refl;
       day_sum = omega arith;
       second_sum = refl;
       few = omega arith;
       few_days = few;
       few_seconds = omega arith;
     } in
-    subst (λ (digits : List ℕ). Leads (whole_sums order limit false some day 0) (capital_t ∷ digits ++ capital_s ∷ []) after) (decimal_digit 0 (lit< tt))
-    (leads-append _ _ _ (capital_t ∷ []) _ (mark-leads order limit some day 0)
-    (whole-leads order no_limit (unit capital_s 0 1) true some 0 day 0 day 0 adds))
+    subst (λ (digits : List ℕ). Leads (whole_sums order next false some day 0) (capital_t ∷ digits ++ capital_s ∷ []) after) (decimal_digit 0 (lit< tt))
+    (leads-append _ _ _ (capital_t ∷ []) _ (mark-leads order next some day 0)
+    (whole-leads order (units true) (unit capital_s 0 1) true some 0 day 0 day 0 adds))
 
 -- the printed fraction of a second is its microseconds
 fraction-of : (microsecond : ℕ) (none : Bool) → (microsecond == 0) ≡ none → microsecond < 1000000
@@ -292,93 +284,110 @@ fraction-of microsecond false other small =
     ((refl, all), second-seconds digits all, second-microseconds digits microsecond all worth)
 
 -- seconds with their fraction lead to what they add up to
-seconds-of : (order : IsoOrder) (limit : ℕ) (some none : Bool) (number microsecond day second seconds : ℕ) → ((number == 0) && (microsecond == 0)) ≡ none
-    → microsecond < 1000000 → Adds (unit capital_s 0 1) limit true number day second day seconds
-    → Leads (whole_sums order limit true some day second) (if none then [] else decimal number ++ short_fraction_text microsecond ++ capital_s ∷ [])
-    (clock_sums order (counted_limit order (unit capital_s 0 1) none limit) (if none then some else true) day seconds microsecond)
-seconds-of order limit some true number microsecond day second seconds none small adds =
+seconds-of : (order : IsoOrder) (next : List DurationUnit) (some none : Bool) (number microsecond day second seconds : ℕ) → ((number == 0) && (microsecond == 0)) ≡ none
+    → microsecond < 1000000 → Adds (unit capital_s 0 1) next true number day second day seconds
+    → Leads (whole_sums order next true some day second) (if none then [] else decimal number ++ short_fraction_text microsecond ++ capital_s ∷ [])
+    (clock_sums order (units_left order true capital_s none next) (if none then some else true) day seconds microsecond)
+seconds-of order next some true number microsecond day second seconds none small adds =
     let tests = and_parts (number == 0) (microsecond == 0) none in
     let second_is : second ≡ seconds = omega (arith, eqb-true number 0 tests.0, adds.second_sum) in
     let microsecond_is = sym (eqb-true microsecond 0 tests.1) in
-    ([], refl, tt, λ i. clock_sums order limit some day (second_is i) (microsecond_is i))
-seconds-of order limit some false number microsecond day second seconds other small adds =
-    amount-leads order limit (unit capital_s 0 1) true some number day second day seconds microsecond (short_fraction_text microsecond) adds
+    ([], refl, tt, λ i. clock_sums order next some day (second_is i) (microsecond_is i))
+seconds-of order next some false number microsecond day second seconds other small adds =
+    amount-leads order next (unit capital_s 0 1) true some number day second day seconds microsecond (short_fraction_text microsecond) adds
     (fraction-of microsecond (microsecond == 0) refl small)
 
 -- there are years or days exactly if there are days
 days-some : (day : ℕ) → (if day % 365 == 0 then (if day / 365 == 0 then false else true) else true) ≡ not (day == 0)
 days-some day = grind (arith, nat_tests)
 
--- what comes behind years, and behind years and days, has to be smaller than this
-abbrev years_limit : IsoOrder → ℕ → ℕ
-years_limit order day = counted_limit order (unit capital_y 365 0) (day / 365 == 0) no_limit
+-- what may come behind years, and behind years and days
+abbrev years_left : IsoOrder → ℕ → List DurationUnit
+years_left order day = units_left order false capital_y (day / 365 == 0) (units false)
 
-abbrev days_limit : IsoOrder → ℕ → ℕ
-days_limit order day = counted_limit order (unit capital_d 1 0) (day % 365 == 0) (years_limit order day)
+abbrev days_left : IsoOrder → ℕ → List DurationUnit
+days_left order day = units_left order false capital_d (day % 365 == 0) (years_left order day)
+
+days-come : (order : IsoOrder) (none : Bool) → is_some (unit_in (units_left order false capital_y none (units false)) capital_d) ≡ true
+days-come order true = refl
+days-come order.Lax false = refl
+days-come order.Strict false = refl
 
 -- years and days lead to the days
 days-leads : (order : IsoOrder) (day : ℕ) → day ≤ 999999999
     → Leads (no_sums order) (counted_text (day / 365) capital_y ++ counted_text (day % 365) capital_d)
-    (whole_sums order (days_limit order day) false (not (day == 0)) day 0)
+    (whole_sums order (days_left order day) false (not (day == 0)) day 0)
 days-leads order day few =
     let text = counted_text (day / 365) capital_y ++ counted_text (day % 365) capital_d in
     let years = day / 365 * 365 in
     let few_years : day / 365 ≤ 4294967295 = omega (arith, few) in
-    let years_add : Adds (unit capital_y 365 0) no_limit false (day / 365) 0 0 years 0 = record {
+    let years_add : Adds (unit capital_y 365 0) (units false) false (day / 365) 0 0 years 0 = record {
       found = refl;
-      smaller = lit< tt;
+      comes = refl;
       day_sum = omega arith;
       second_sum = omega arith;
       few = few_years;
       few_days = omega (arith, few);
       few_seconds = omega arith;
     } in
-    let days_add : Adds (unit capital_d 1 0) (years_limit order day) false (day % 365) years 0 day 0 = record {
+    let days_add : Adds (unit capital_d 1 0) (years_left order day) false (day % 365) years 0 day 0 = record {
       found = refl;
-      smaller = still-smaller order (unit capital_y 365 0) (day / 365 == 0) no_limit 86400 (lit< tt) (lit< tt) (lit< tt);
+      comes = days-come order (day / 365 == 0);
       day_sum = omega arith;
       second_sum = omega arith;
       few = omega arith;
       few_days = omega (arith, few);
       few_seconds = omega arith;
     } in
-    subst (λ (some : Bool). Leads (no_sums order) text (whole_sums order (days_limit order day) false some day 0)) (days-some day)
+    subst (λ (some : Bool). Leads (no_sums order) text (whole_sums order (days_left order day) false some day 0)) (days-some day)
     (leads-append (no_sums order) _ _ _ _
-    (counted-leads order no_limit (unit capital_y 365 0) false false (day / 365) 0 0 years 0 years_add)
-    (counted-leads order (years_limit order day) (unit capital_d 1 0) false _ (day % 365) years 0 day 0 days_add))
+    (counted-leads order (units false) (unit capital_y 365 0) false false (day / 365) 0 0 years 0 years_add)
+    (counted-leads order (years_left order day) (unit capital_d 1 0) false _ (day % 365) years 0 day 0 days_add))
 
 -- there are hours, minutes or seconds where there is something behind the days
 hours-some : (second microsecond : ℕ) (some : Bool) → ((second == 0) && (microsecond == 0)) ≡ false
     → (if (second % 60 == 0) && (microsecond == 0) then (if second / 60 % 60 == 0 then (if second / 3600 == 0 then some else true) else true) else true) ≡ true
 hours-some second microsecond some other = grind (arith, nat_tests)
 
--- what comes behind hours, behind minutes, and behind seconds has to be smaller than this
-abbrev hours_limit : IsoOrder → ℕ → ℕ
-hours_limit order second = counted_limit order (unit capital_h 0 3600) (second / 3600 == 0) no_limit
+-- what may come behind hours, behind minutes, and behind seconds
+abbrev hours_left : IsoOrder → Bool → List DurationUnit
+hours_left order none = units_left order true capital_h none (units true)
 
-abbrev minutes_limit : IsoOrder → ℕ → ℕ
-minutes_limit order second = counted_limit order (unit capital_m 0 60) (second / 60 % 60 == 0) (hours_limit order second)
+abbrev minutes_left : IsoOrder → Bool → Bool → List DurationUnit
+minutes_left order none no_minutes = units_left order true capital_m no_minutes (hours_left order none)
 
-abbrev seconds_limit : IsoOrder → ℕ → ℕ → ℕ
-seconds_limit order second microsecond =
-    counted_limit order (unit capital_s 0 1) ((second % 60 == 0) && (microsecond == 0)) (minutes_limit order second)
+abbrev seconds_left : IsoOrder → ℕ → ℕ → List DurationUnit
+seconds_left order second microsecond =
+    units_left order true capital_s ((second % 60 == 0) && (microsecond == 0)) (minutes_left order (second / 3600 == 0) (second / 60 % 60 == 0))
+
+minutes-come : (order : IsoOrder) (none : Bool) → is_some (unit_in (hours_left order none) capital_m) ≡ true
+minutes-come order true = refl
+minutes-come order.Lax false = refl
+minutes-come order.Strict false = refl
+
+seconds-come : (order : IsoOrder) (none no_minutes : Bool) → is_some (unit_in (minutes_left order none no_minutes) capital_s) ≡ true
+seconds-come order true true = refl
+seconds-come order.Lax none false = refl
+seconds-come order.Lax false true = refl
+seconds-come order.Strict true false = refl
+seconds-come order.Strict false true = refl
+seconds-come order.Strict false false = refl
 
 -- hours, minutes and seconds lead to the seconds and microseconds
 hours-leads : (order : IsoOrder) (numbers : DurationNumbers) (some : Bool) → IsDuration numbers → is_whole_days numbers ≡ false
-    → Leads (whole_sums order no_limit true some numbers.day 0) (hours_text numbers)
-    (clock_sums order (seconds_limit order numbers.second numbers.microsecond) true numbers.day numbers.second numbers.microsecond)
+    → Leads (whole_sums order (units true) true some numbers.day 0) (hours_text numbers)
+    (clock_sums order (seconds_left order numbers.second numbers.microsecond) true numbers.day numbers.second numbers.microsecond)
 hours-leads order numbers some valid other =
     let day = numbers.day in
     let hours = numbers.second / 3600 * 3600 in
     let minutes = hours + numbers.second / 60 % 60 * 60 in
     let few : day ≤ 4294967295 = omega (arith, valid.day) in
     let few_hours : numbers.second / 3600 ≤ 4294967295 = omega (arith, valid.second) in
-    let under_hours = hours_limit order numbers.second in
-    let under_minutes = minutes_limit order numbers.second in
-    let behind_hours = λ (small : ℕ). still-smaller order (unit capital_h 0 3600) (numbers.second / 3600 == 0) no_limit small in
-    let hours_add : Adds (unit capital_h 0 3600) no_limit true (numbers.second / 3600) day 0 day hours = record {
+    let under_hours = hours_left order (numbers.second / 3600 == 0) in
+    let under_minutes = minutes_left order (numbers.second / 3600 == 0) (numbers.second / 60 % 60 == 0) in
+    let hours_add : Adds (unit capital_h 0 3600) (units true) true (numbers.second / 3600) day 0 day hours = record {
       found = refl;
-      smaller = lit< tt;
+      comes = refl;
       day_sum = omega arith;
       second_sum = omega arith;
       few = few_hours;
@@ -387,7 +396,7 @@ hours-leads order numbers some valid other =
     } in
     let minutes_add : Adds (unit capital_m 0 60) under_hours true (numbers.second / 60 % 60) day hours day minutes = record {
       found = refl;
-      smaller = behind_hours 60 (lit< tt) (lit< tt) (lit< tt);
+      comes = minutes-come order (numbers.second / 3600 == 0);
       day_sum = omega arith;
       second_sum = omega arith;
       few = omega arith;
@@ -396,20 +405,19 @@ hours-leads order numbers some valid other =
     } in
     let seconds_add : Adds (unit capital_s 0 1) under_minutes true (numbers.second % 60) day minutes day numbers.second = record {
       found = refl;
-      smaller = still-smaller order (unit capital_m 0 60) (numbers.second / 60 % 60 == 0) under_hours 1 (lit< tt) (lit< tt)
-          (behind_hours 1 (lit< tt) (lit< tt) (lit< tt));
+      comes = seconds-come order (numbers.second / 3600 == 0) (numbers.second / 60 % 60 == 0);
       day_sum = omega arith;
       second_sum = omega arith;
       few = omega arith;
       few_days = few;
       few_seconds = omega (arith, valid.second);
     } in
-    let after = λ (last : Bool). clock_sums order (seconds_limit order numbers.second numbers.microsecond) last day numbers.second numbers.microsecond in
-    subst (λ (last : Bool). Leads (whole_sums order no_limit true some day 0) (hours_text numbers) (after last))
+    let after = λ (last : Bool). clock_sums order (seconds_left order numbers.second numbers.microsecond) last day numbers.second numbers.microsecond in
+    subst (λ (last : Bool). Leads (whole_sums order (units true) true some day 0) (hours_text numbers) (after last))
     (hours-some numbers.second numbers.microsecond some other)
     (leads-append _ _ _ _ _
     (leads-append _ _ _ _ _
-    (counted-leads order no_limit (unit capital_h 0 3600) true some (numbers.second / 3600) day 0 day hours hours_add)
+    (counted-leads order (units true) (unit capital_h 0 3600) true some (numbers.second / 3600) day 0 day hours hours_add)
     (counted-leads order under_hours (unit capital_m 0 60) true _ (numbers.second / 60 % 60) day hours day minutes minutes_add))
     (seconds-of order under_minutes _ _ (numbers.second % 60) numbers.microsecond day minutes numbers.second refl valid.microsecond seconds_add))
 
@@ -426,7 +434,7 @@ leads-answer order numbers text after leads some same = (
 
 -- the sums of whole days
 whole-numbers : (order : IsoOrder) (numbers : DurationNumbers) → is_whole_days numbers ≡ true
-    → sums_length (whole_sums order no_limit true true numbers.day 0) ≡ length_of numbers
+    → sums_length (whole_sums order [] true true numbers.day 0) ≡ length_of numbers
 whole-numbers order numbers whole =
     let tests = and_parts (numbers.second == 0) (numbers.microsecond == 0) whole in
     let second_is = sym (eqb-true numbers.second 0 tests.0) in
@@ -440,7 +448,7 @@ rest-answer : (order : IsoOrder) (numbers : DurationNumbers) (whole none : Bool)
 rest-answer order numbers true true valid whole none =
     leads-answer order numbers _ _
     (leads-append (no_sums order) _ _ _ _ (days-leads order numbers.day valid.day)
-    (zero-leads order (days_limit order numbers.day) _ numbers.day (omega (arith, valid.day))))
+    (zero-leads order (days_left order numbers.day) _ numbers.day (omega (arith, valid.day))))
     refl (whole-numbers order numbers whole)
 rest-answer order numbers true false valid whole some =
     leads-answer order numbers _ _
@@ -449,7 +457,7 @@ rest-answer order numbers true false valid whole some =
 rest-answer order numbers false none valid other is =
     leads-answer order numbers _ _
     (leads-append (no_sums order) _ _ _ _ (days-leads order numbers.day valid.day)
-    (leads-append _ _ _ (capital_t ∷ []) _ (mark-leads order (days_limit order numbers.day) _ numbers.day 0) (hours-leads order numbers _ valid other)))
+    (leads-append _ _ _ (capital_t ∷ []) _ (mark-leads order (days_left order numbers.day) _ numbers.day 0) (hours-leads order numbers _ valid other)))
     refl refl
 
 -- a `P` with a sign or without one stands for what is behind it

@@ -1,13 +1,13 @@
 //! The form of a duration that ISO 8601 has.
 
-ghost use Rattle.std.specs.Prelude.{◌≡◌, ◌+◌, ◌*◌, ◌<◌, ◌≤◌, length, take, drop, slice_index, nat_lt, IsTrue, Bool, true, false, Ok, Err, IfOk, IfSome, [], if◌then◌else◌};
+ghost use Rattle.std.specs.Prelude.{◌≡◌, ◌+◌, ◌*◌, ◌<◌, ◌≤◌, length, take, drop, slice_index, IsTrue, Bool, true, false, Ok, Err, IfOk, IfSome, [], if◌then◌else◌};
 ghost use Rattle.std.specs.Char.{is_ascii_digit};
 ghost use Rattle.std.specs.List.{list_all};
 ghost use Rattle.speedate_base.specs.DigitRuns.{run_length, run_value, digits_value};
-ghost use Rattle.std.specs.Option.{option_map};
+ghost use Rattle.std.specs.Option.{option_map, is_some};
 ghost use Rattle.speedate_base.specs.declared.faults.ParseError.TheVariants as fault;
 ghost use Rattle.speedate_base.specs.Requirement.{meets, result_map};
-ghost use Rattle.speedate.specs.IsoForm.{Amount, Mark, units, unit_in, is_point, fraction_length, unit_seconds, next_limit, fraction_seconds, fraction_microseconds, quantity_at, quantity_length, item_at, item_length, are_counted, with_amount, with_item, item_table, sums_length, unit_fault, no_sums, IsAnswerFrom};
+ghost use Rattle.speedate.specs.IsoForm.{Amount, Mark, units, unit_in, is_point, fraction_length, unit_seconds, units_behind, fraction_seconds, fraction_microseconds, quantity_at, quantity_length, item_at, item_length, are_counted, with_amount, with_item, item_table, sums_length, unit_fault, no_sums, IsAnswerFrom};
 
 use super::unsigned::UnsignedDuration;
 use speedate_base::config::IsoOrder;
@@ -22,40 +22,43 @@ const SHORT_LENGTH: usize = 6;
 /// How many digits of a fraction of a second are whole microseconds.
 const MICROSECOND_LENGTH: usize = 6;
 
-/// More seconds than a unit has.
-const NO_LIMIT: u32 = 31_536_001;
-
-/// A unit of time: its letter, and what one of it is, whole days or seconds.
+/// A unit of time: its letter, its place among the units of its side, and what one of it is, whole
+/// days or seconds.
 #[derive(Clone, Copy)]
 struct DurationUnit {
     letter: u8,
+    place: usize,
     day: u32,
     second: u32,
+    ghost place_small: { place ≤ 3 },
     ghost day_small: { day ≤ 365 },
     ghost second_small: { second ≤ 3600 },
     ghost one_small: { 86400 * day + second ≤ 31536000 },
 }
 
 impl DurationUnit {
-    ghost use Rattle.speedate.specs.IsoSums.{unit_parts};
+    ghost use Rattle.speedate.specs.IsoSums.{unit_parts, IsUnitOf};
 
     /// The unit of a letter, before the `T` or behind it.
     #[inline(always)]
     fn of_letter(letter: u8, behind_mark: bool) -> Option<Self>
         ensures unit { option_map unit_parts result ≡ unit_in (units behind_mark) letter }
+        ensures side { IfSome result (λ unit. IsUnitOf behind_mark unit) }
+        ensures letter { IfSome result (λ unit. unit.letter ≡ letter) }
     {
-        let (day, second) = match (behind_mark, letter) {
-            (false, b'Y') => (365, 0),
-            (false, b'M') => (30, 0),
-            (false, b'W') => (7, 0),
-            (false, b'D') => (1, 0),
-            (true, b'H') => (0, 3600),
-            (true, b'M') => (0, 60),
-            (true, b'S') => (0, 1),
+        let (place, day, second) = match (behind_mark, letter) {
+            (false, b'Y') => (0, 365, 0),
+            (false, b'M') => (1, 30, 0),
+            (false, b'W') => (2, 7, 0),
+            (false, b'D') => (3, 1, 0),
+            (true, b'H') => (0, 0, 3600),
+            (true, b'M') => (1, 0, 60),
+            (true, b'S') => (2, 0, 1),
             _ => return None,
         };
         Some(DurationUnit {
             letter,
+            place,
             day,
             second,
         })
@@ -107,17 +110,6 @@ impl DurationUnit {
         (whole as u32, ((twice + 1) / 2 - 1_000_000 * whole) as u32)
     }
 
-    /// The seconds than which the unit behind this one has to have fewer.
-    #[inline(always)]
-    fn next_limit(&self, order: IsoOrder) -> u32
-        ensures limit { result ≡ next_limit order (unit_parts self.now) }
-    {
-        match order {
-            IsoOrder::Lax => NO_LIMIT,
-            IsoOrder::Strict => self.seconds() as u32,
-        }
-    }
-
     /// The seconds of one of this unit.
     #[inline(always)]
     fn seconds(&self) -> u64
@@ -133,8 +125,8 @@ impl DurationUnit {
 pub(super) struct Sums {
     /// The order in which quantities have to come.
     order: IsoOrder,
-    /// The seconds than which the next unit has to have fewer.
-    limit: u32,
+    /// How many units of this side may no longer come: those from here on may.
+    passed: usize,
     /// Whether there was a `T`.
     mark: bool,
     /// Whether a quantity had a fraction.
@@ -153,7 +145,7 @@ pub(super) struct Sums {
 impl Sums {
     ghost use Rattle.speedate.specs.Duration.{unsigned_parts};
     ghost use Rattle.speedate.specs.DurationAnswer.{iso_form};
-    ghost use Rattle.speedate.specs.IsoSums.{unit_parts, sums_parts, GoesOn};
+    ghost use Rattle.speedate.specs.IsoSums.{unit_parts, IsUnitOf, sums_parts, GoesOn};
 
     /// Reads all items of a duration, and adds them up.
     ///
@@ -176,7 +168,7 @@ impl Sums {
     {
         let none = Sums {
             order,
-            limit: NO_LIMIT,
+            passed: 0,
             mark: false,
             fraction: false,
             some: false,
@@ -198,7 +190,7 @@ impl Sums {
     {
         let mut sums = self;
         sums.mark = true;
-        sums.limit = NO_LIMIT;
+        sums.passed = 0;
         sums
     }
 
@@ -243,25 +235,43 @@ impl Sums {
         Some((sums, end + 1))
     }
 
-    /// Whether a unit has its place in the order.
+    /// Whether a unit of this side may still come.
     #[inline(always)]
     fn takes(&self, unit: &DurationUnit) -> bool
-        ensures taken { result ≡ nat_lt (unit_seconds (unit_parts unit.now)) self.now.limit }
+        requires { IsUnitOf self.now.mark unit.now }
+        ensures taken { result ≡ is_some (unit_in (sums_parts self.now).next_units unit.now.letter) }
+        ensures place { IsTrue result → self.now.passed ≤ unit.now.place }
     {
-        unit.seconds() < u64::from(self.limit)
+        self.passed <= unit.place
+    }
+
+    /// How many units of this side may no longer come behind one of them.
+    #[inline(always)]
+    fn passed_by(&self, unit: &DurationUnit) -> usize
+        requires unit { IsUnitOf self.now.mark unit.now }
+        requires place { self.now.passed ≤ unit.now.place }
+        ensures units { drop result (units self.now.mark)
+            ≡ units_behind self.now.order self.now.mark unit.now.letter (sums_parts self.now).next_units }
+    {
+        match self.order {
+            IsoOrder::Lax => 0,
+            IsoOrder::Strict => unit.place + 1,
+        }
     }
 
     /// The sums with so many of a unit, or `None` where they are not counted in 32 bits.
     #[inline(always)]
     fn with_whole(self, number: u32, unit: &DurationUnit) -> Option<Self>
         requires none { self.fraction ≡ false }
+        requires unit { IsUnitOf self.mark unit.now }
+        requires place { self.passed ≤ unit.now.place }
         requires short { number < 1000000 }
         ensures sums { IfSome result (λ sums. sums_parts sums ≡ with_amount (unit_parts unit.now) number [] (sums_parts self)) }
         ensures counted { IfSome result (λ _. IsTrue (are_counted (with_amount (unit_parts unit.now) number [] (sums_parts self)))) }
     {
         Some(Sums {
             order: self.order,
-            limit: unit.next_limit(self.order),
+            passed: self.passed_by(unit),
             mark: self.mark,
             fraction: false,
             some: true,
@@ -353,6 +363,8 @@ impl Sums {
     #[inline(always)]
     fn add(&mut self, number: u32, unit: &DurationUnit, fraction: &[u8]) -> Result<(), ParseError>
         requires none { self.old.fraction ≡ false }
+        requires unit { IsUnitOf self.old.mark unit.now }
+        requires place { self.old.passed ≤ unit.now.place }
         requires digits { IsTrue (list_all is_ascii_digit (drop 1 fraction.now)) }
         ensures counted { result ≡ (if are_counted (with_amount (unit_parts unit.now) number fraction.now (sums_parts self.old))
             then Ok tt else Err fault.DurationValueTooLarge) }
@@ -374,7 +386,7 @@ impl Sums {
         }
         *self = Sums {
             order: self.order,
-            limit: unit.next_limit(self.order),
+            passed: self.passed_by(unit),
             mark: self.mark,
             fraction: !fraction.is_empty(),
             some: true,
