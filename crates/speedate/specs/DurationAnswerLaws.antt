@@ -12,12 +12,12 @@ use Rattle.speedate_base.specs.RequirementLaws.{meets-all, meets-next, meets-val
 use Rattle.speedate.specs.DurationAnswer.{iso_answer, iso_form, unsigned_answer, duration_answer}
 use Rattle.speedate.specs.DurationForm.{form_answer, IsDurationAnswer, IsGrammarAnswer}
 use Rattle.speedate.specs.DurationNumbers.{DurationNumbers, UnsignedDuration, signed_form}
-use Rattle.speedate.specs.IsoForm.{Sums, no_sums, item_at, item_length, quantity_length, item_table, with_item, IsAnswerFrom, IsIsoAnswer}
+use Rattle.speedate.specs.IsoForm.{Sums, no_sums, item_at, item_length, component_length, item_table, with_item, IsAnswerFrom, IsIsoAnswer}
 use Rattle.speedate.specs.IsoFormLaws.{answer-only, duration_answer-only}
 use Rattle.speedate.specs.IsoFrontLaws.{answer-behind, answer-refused}
 
 -- an item has a byte
-length-some : (text : List ℕ) (mark : Bool) → 0 < (if mark then 1 else quantity_length text)
+length-some : (text : List ℕ) (is_time : Bool) → 0 < (if is_time then 1 else component_length text)
 length-some text true = omega arith
 length-some text false = omega arith
 

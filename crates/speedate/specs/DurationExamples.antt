@@ -13,7 +13,7 @@ use Rattle.speedate.specs.DurationForm.{form_answer}
 use Rattle.speedate.specs.DurationNumbers.{normal_form, signed_milliseconds}
 use Rattle.speedate.specs.DurationOrder.{duration_order}
 use Rattle.speedate.specs.InOrder.{are_in_order, IsMadeOf}
-use Rattle.speedate.specs.IsoForm.{Item, Mark, Amount, units}
+use Rattle.speedate.specs.IsoForm.{Item, TimeDesignator, Component, units}
 
 -- whole seconds are carried, and then whole days
 carried : normal_form (record { positive = false; day = 1; second = 86500; microsecond = 1000123 })
@@ -46,7 +46,7 @@ longer = refl
 cut : signed_milliseconds (record { positive = false; day = 0; second = 1; microsecond = 1999 }) ≡ neg_ℤ (pos 1001)
 cut = refl
 
--- ISO 8601: quantities in any order, a tie away from nothing, and the first item that is refused
+-- ISO 8601: components in any order, a tie away from nothing, and the first item that is refused
 iso : duration_answer order.Lax behavior.Error (codes "-P3DT6S5M") ≡ Ok (record { positive = false; day = 3; second = 306; microsecond = 0 })
 unfolding iso_answer unsigned_answer
 iso = refl
@@ -74,9 +74,9 @@ iso-repeated = refl
 
 -- the items of the first and of the last of these
 abbrev one_of : ℕ → Item
-one_of letter = Amount (record { number = codes "1"; fraction = []; letter = letter })
+one_of designator = Component (record { number = codes "1"; fraction = []; designator = designator })
 
-items-made : IsMadeOf (codes "P1MT1M") (one_of capital_m ∷ Mark ∷ one_of capital_m ∷ [])
+items-made : IsMadeOf (codes "P1MT1M") (one_of capital_m ∷ TimeDesignator ∷ one_of capital_m ∷ [])
 items-made = record {
   negative = false;
   sign = [];
@@ -90,7 +90,7 @@ items-made = record {
   is_text = refl;
 }
 
-items-in_order : are_in_order (units false) (one_of capital_m ∷ Mark ∷ one_of capital_m ∷ []) ≡ true
+items-in_order : are_in_order (units false) (one_of capital_m ∷ TimeDesignator ∷ one_of capital_m ∷ []) ≡ true
 items-in_order = refl
 
 items-repeated : are_in_order (units false) (one_of capital_y ∷ one_of capital_y ∷ []) ≡ false
@@ -110,9 +110,9 @@ digits-dropped : form_answer behavior.Truncate (codes "00:00:00.1234567") ≡ Ok
 unfolding clock_form form_answer
 digits-dropped = refl
 
-letter-refused : form_answer behavior.Truncate (codes "00:00:00.123456x") ≡ Err fault.ExtraCharacters
+designator-refused : form_answer behavior.Truncate (codes "00:00:00.123456x") ≡ Err fault.ExtraCharacters
 unfolding clock_form form_answer
-letter-refused = refl
+designator-refused = refl
 
 -- four bytes are no clock
 short : form_answer behavior.Error (codes "1:00") ≡ Err fault.DurationInvalidDays

@@ -1,34 +1,34 @@
--- ISO 8601 durations that are one but for the order of two neighbouring quantities of one side.
+-- ISO 8601 durations that are one but for the order of two neighbouring components of one side.
 use Rattle.std.specs.Prelude.{◌≡◌, ℕ, Bool, true, false, List, ◌∷◌, ◌++◌, length, nat_lt}
 use Rattle.std.specs.List.{flat_map}
 use Rattle.std.specs.Option.{is_some}
 use Rattle.speedate_base.specs.declared.config.IsoOrder.TheVariants as order
 use Rattle.speedate_base.specs.Ascii.{capital_p}
 use Rattle.speedate_base.specs.Numbers.{IsSign}
-use Rattle.speedate.specs.IsoForm.{units, unit_in, Quantity, Item, Amount, item_text, IsItem, Sums, no_sums, with_items, AreGood}
+use Rattle.speedate.specs.IsoForm.{units, unit_in, ComponentText, Item, Component, item_text, IsItem, Sums, no_sums, with_items, AreGood}
 
--- a quantity has a fraction, if only its sign
-abbrev pub has_fraction : Quantity → Bool
-has_fraction quantity = nat_lt 0 (length quantity.fraction)
+-- a component has a fraction, if only its decimal mark
+abbrev pub has_fraction : ComponentText → Bool
+has_fraction component = nat_lt 0 (length component.fraction)
 
--- a quantity without a fraction that can be refused for its size alone, where quantities may come in any order
-abbrev pub IsPlain : Sums → Quantity → Type 0
-IsPlain sums quantity =
-    IsItem (Amount quantity) × (nat_lt 0 (length quantity.number) ≡ true) × (has_fraction quantity ≡ false) × (sums.fraction ≡ false)
-    × (is_some (unit_in (units sums.mark) quantity.letter) ≡ true)
+-- a component without a fraction that can be refused for its size alone, where components may come in any order
+abbrev pub IsPlain : Sums → ComponentText → Type 0
+IsPlain sums component =
+    IsItem (Component component) × (nat_lt 0 (length component.number) ≡ true) × (has_fraction component ≡ false) × (sums.fraction ≡ false)
+    × (is_some (unit_in (units sums.is_time) component.designator) ≡ true)
 
--- the text of a duration that has two quantities, one next to the other, behind items and in front of a rest
-abbrev pub pair_text : List ℕ → List Item → Quantity → Quantity → List ℕ → List ℕ
+-- the text of a duration that has two components, one next to the other, behind items and in front of a rest
+abbrev pub pair_text : List ℕ → List Item → ComponentText → ComponentText → List ℕ → List ℕ
 pair_text sign items first second rest =
-    sign ++ capital_p ∷ (flat_map item_text items ++ (item_text (Amount first) ++ item_text (Amount second) ++ rest))
+    sign ++ capital_p ∷ (flat_map item_text items ++ (item_text (Component first) ++ item_text (Component second) ++ rest))
 
--- two texts are one but for the order of two neighbouring quantities of one side, which have no fraction sign
+-- two texts are one but for the order of two neighbouring components of one side, which have no decimal mark
 pub record AreExchanged (one two : List ℕ) : Type 0 where
   pub negative : Bool
   pub sign : List ℕ
   pub items : List Item
-  pub first : Quantity
-  pub second : Quantity
+  pub first : ComponentText
+  pub second : ComponentText
   pub rest : List ℕ
   pub is_sign : IsSign negative sign
   pub are_good : AreGood (no_sums order.Lax) items

@@ -1,4 +1,4 @@
--- Quantities of an ISO 8601 duration that come in the order of the standard: years, months, weeks and days, and behind the `T`
+-- Components of an ISO 8601 duration that come in the order of the standard: years, months, weeks and days, and behind the `T`
 -- hours, minutes and seconds, each at most once (ISO 8601 5.5.2.2, of which weeks beside others are not a form).
 use Rattle.std.specs.Prelude.{◌≡◌, ◌⊎◌, ℕ, Bool, true, false, ◌&&◌, List, [], ◌∷◌, ◌++◌, drop, slice_index, ◌==◌, if◌then◌else◌, Result, Ok, Err}
 use Rattle.std.specs.List.{flat_map}
@@ -12,23 +12,23 @@ use Rattle.speedate_base.specs.Ascii.{capital_p}
 use Rattle.speedate_base.specs.Numbers.{sign_length, IsSign}
 use Rattle.speedate.specs.DurationAnswer.{duration_answer}
 use Rattle.speedate.specs.DurationNumbers.{DurationNumbers}
-use Rattle.speedate.specs.IsoForm.{DurationUnit, units, unit_in, units_after, Item, Mark, Amount, item_text, no_sums, with_items, AreGood}
+use Rattle.speedate.specs.IsoForm.{DurationUnit, units, unit_in, units_after, Item, TimeDesignator, Component, item_text, no_sums, with_items, AreGood}
 
--- the unit of each quantity is among those that may still come, and a `T` begins anew
+-- the unit of each component is among those that may still come, and a `T` begins anew
 abbrev pub are_in_order : List DurationUnit → List Item → Bool
 are_in_order next [] = true
-are_in_order next (Mark ∷ items) = are_in_order (units true) items
-are_in_order next (Amount quantity ∷ items) =
-    is_some (unit_in next quantity.letter) && are_in_order (units_after quantity.letter next) items
+are_in_order next (TimeDesignator ∷ items) = are_in_order (units true) items
+are_in_order next (Component component ∷ items) =
+    is_some (unit_in next component.designator) && are_in_order (units_after component.designator next) items
 
--- letters are some of others, in their order, and each at most as often as there
+-- designators are some of others, in their order, and each at most as often as there
 abbrev pub are_some_of : List ℕ → List ℕ → Bool
 are_some_of [] others = true
-are_some_of (letter ∷ letters) [] = false
-are_some_of (letter ∷ letters) (other ∷ others) =
-    if letter == other then are_some_of letters others else are_some_of (letter ∷ letters) others
+are_some_of (designator ∷ designators) [] = false
+are_some_of (designator ∷ designators) (other ∷ others) =
+    if designator == other then are_some_of designators others else are_some_of (designator ∷ designators) others
 
--- a text is a duration of good items, a quantity among them
+-- a text is a duration of good items, a component among them
 pub record IsMadeOf (text : List ℕ) (items : List Item) : Type 0 where
   pub negative : Bool
   pub sign : List ℕ
@@ -37,7 +37,7 @@ pub record IsMadeOf (text : List ℕ) (items : List Item) : Type 0 where
   pub some : (with_items items (no_sums order.Lax)).some ≡ true
   pub is_text : text ≡ sign ++ capital_p ∷ flat_map item_text items
 
--- an answer is the lax one, or it is that of a quantity out of order
+-- an answer is the lax one, or it is that of a component out of order
 abbrev pub IsLaxOrRefused : {A : Type 0} → Result A ParseError → Result A ParseError → Type 0
 IsLaxOrRefused lax answer = (answer ≡ lax) ⊎ (answer ≡ Err fault.DurationUnitOrder)
 
@@ -46,7 +46,7 @@ abbrev pub is_iso : List ℕ → Bool
 is_iso text = slice_index (drop (sign_length text) text) 0 == capital_p
 
 -- an answer to a text in the order that is asked for, beside the one in the lax order: it is that one, or the refusal of a
--- quantity out of order; an ISO 8601 duration that the lax order reads is made of good items; the strict order refuses such
+-- component out of order; an ISO 8601 duration that the lax order reads is made of good items; the strict order refuses such
 -- a text if and only if they are not in order; and it is not asked of a clock and of days
 pub record IsAnswerInOrder (asked : IsoOrder) (behavior : MicrosecondsPrecisionOverflowBehavior) (text : List ℕ) (answer : Result DurationNumbers ParseError) : Type 0 where
   pub lax : IsLaxOrRefused (duration_answer order.Lax behavior text) answer

@@ -19,7 +19,7 @@ use Rattle.speedate.specs.DurationForm.{form_answer}
 use Rattle.speedate.specs.DurationAnswer.{iso_answer, iso_form, unsigned_answer, duration_answer}
 use Rattle.speedate.specs.DurationAnswerLaws.{iso_form-is, iso_form-only, duration_answer-iso}
 use Rattle.speedate.specs.InOrder.{IsLaxOrRefused, IsAnswerInOrder, are_in_order, are_some_of, IsMadeOf, is_iso}
-use Rattle.speedate.specs.IsoForm.{DurationUnit, units, unit_in, Quantity, Item, Mark, Amount, item_text, IsItem, item_at, item_length, item_table, units_after, are_counted, Sums, no_sums, with_quantity, with_item, with_items, AreGood, sums_length, Ends, IsAnswerFrom}
+use Rattle.speedate.specs.IsoForm.{DurationUnit, units, unit_in, ComponentText, Item, TimeDesignator, Component, item_text, IsItem, item_at, item_length, item_table, units_after, are_counted, Sums, no_sums, with_component, with_item, with_items, AreGood, sums_length, Ends, IsAnswerFrom}
 use Rattle.speedate.specs.IsoFormLaws.{item_at-text, answer-with}
 use Rattle.speedate.specs.IsoFrontLaws.{answer-refused}
 
@@ -28,22 +28,22 @@ Answer = Result UnsignedDuration ParseError
 
 -- sums behind which any unit of the side may come, and those behind which only some may
 abbrev as_lax : Sums → Sums
-as_lax sums = record sums { order = order.Lax; next_units = units sums.mark }
+as_lax sums = record sums { order = order.Lax; next_units = units sums.is_time }
 
 abbrev as_strict : List DurationUnit → Sums → Sums
 as_strict next sums = record sums { order = order.Strict; next_units = next }
 
 -- an item adds the same to both
-quantity-lax : (unit : Option DurationUnit) (quantity : Quantity) (sums : Sums)
-    → as_lax (with_quantity unit quantity sums) ≡ with_quantity unit quantity (as_lax sums)
-quantity-lax None quantity sums = refl
-quantity-lax (Some unit) quantity sums = refl
+component-lax : (unit : Option DurationUnit) (component : ComponentText) (sums : Sums)
+    → as_lax (with_component unit component sums) ≡ with_component unit component (as_lax sums)
+component-lax None component sums = refl
+component-lax (Some unit) component sums = refl
 
 item-lax : (item : Item) (sums : Sums) → as_lax (with_item item sums) ≡ with_item item (as_lax sums)
-item-lax Mark sums = refl
-item-lax (Amount quantity) sums = quantity-lax (unit_in (units sums.mark) quantity.letter) quantity sums
+item-lax TimeDesignator sums = refl
+item-lax (Component component) sums = component-lax (unit_in (units sums.is_time) component.designator) component sums
 
--- a row that both tables have, and the two rows of the letter, of which the lax one passes both or the first refuses
+-- a row that both tables have, and the two rows of the designator, of which the lax one passes both or the first refuses
 row-both : (test : Bool) (fault : ParseError) (lax answer : Answer) → IsLaxOrRefused lax answer
     → IsLaxOrRefused (if test then lax else Err fault) (if test then answer else Err fault)
 row-both true fault lax answer both = both
@@ -59,15 +59,15 @@ rows-unit false comes unknown lax answer both = inl refl
 -- so the table of an item lets both through, refuses both alike, or refuses for the order
 table-both : (sums : Sums) (item : Item) (lax answer : Answer) → IsLaxOrRefused lax answer
     → IsLaxOrRefused (meets (item_table (as_lax sums) item) lax) (meets (item_table sums item) answer)
-table-both sums Mark lax answer both = row-both (not sums.mark) _ lax answer both
-table-both sums (Amount quantity) lax answer both =
-    let counted = ap are_counted (item-lax (Amount quantity) sums) in
+table-both sums TimeDesignator lax answer both = row-both (not sums.is_time) _ lax answer both
+table-both sums (Component component) lax answer both =
+    let counted = ap are_counted (item-lax (Component component) sums) in
     rw (sym counted)
-    (row-both (nat_lt 0 (length quantity.number)) _ _ _
+    (row-both (nat_lt 0 (length component.number)) _ _ _
     (row-both _ _ _ _
     (row-both (not sums.fraction) _ _ _
-    (rows-unit (is_some (unit_in (units sums.mark) quantity.letter)) (is_some (unit_in sums.next_units quantity.letter)) _ _ _
-    (row-both (are_counted (with_item (Amount quantity) sums)) _ lax answer both)))))
+    (rows-unit (is_some (unit_in (units sums.is_time) component.designator)) (is_some (unit_in sums.next_units component.designator)) _ _ _
+    (row-both (are_counted (with_item (Component component) sums)) _ lax answer both)))))
 
 -- behind any items
 iso-both : (most : ℕ) (sums : Sums) (text : List ℕ)
@@ -102,87 +102,87 @@ duration-both asked behavior text =
     let rest = drop (sign_length text) text in
     both-signed (not (has_minus text)) _ _ (unsigned-both asked behavior rest (slice_index rest 0 == capital_p))
 
--- the unit of a letter has that letter
-found-letter : (test : Bool) (one : DurationUnit) (other : Option DurationUnit) (letter : ℕ) (unit : DurationUnit) → (letter == one.letter) ≡ test
-    → (other ≡ Some unit → unit.letter ≡ letter) → (if test then Some one else other) ≡ Some unit → unit.letter ≡ letter
-found-letter true one other letter unit test behind same =
+-- the unit of a designator has that designator
+found-designator : (test : Bool) (one : DurationUnit) (other : Option DurationUnit) (designator : ℕ) (unit : DurationUnit) → (designator == one.designator) ≡ test
+    → (other ≡ Some unit → unit.designator ≡ designator) → (if test then Some one else other) ≡ Some unit → unit.designator ≡ designator
+found-designator true one other designator unit test behind same =
     let is : one ≡ unit = cc in
-    sym (eqb-true letter one.letter test ∙ ap (λ (unit : DurationUnit). unit.letter) is)
-found-letter false one other letter unit test behind same = behind same
+    sym (eqb-true designator one.designator test ∙ ap (λ (unit : DurationUnit). unit.designator) is)
+found-designator false one other designator unit test behind same = behind same
 
-unit-letter : (units : List DurationUnit) (letter : ℕ) (unit : DurationUnit) → unit_in units letter ≡ Some unit → unit.letter ≡ letter
-unit-letter [] letter unit same = absurd (cc)
-unit-letter (one ∷ units) letter unit same =
-    found-letter (letter == one.letter) one (unit_in units letter) letter unit refl (unit-letter units letter unit) same
+unit-designator : (units : List DurationUnit) (designator : ℕ) (unit : DurationUnit) → unit_in units designator ≡ Some unit → unit.designator ≡ designator
+unit-designator [] designator unit same = absurd (cc)
+unit-designator (one ∷ units) designator unit same =
+    found-designator (designator == one.designator) one (unit_in units designator) designator unit refl (unit-designator units designator unit) same
 
--- a quantity with a unit adds to the sums of the strict order what it adds to the others, and leaves what follows its unit
-quantity-strict : (unit : Option DurationUnit) (quantity : Quantity) (next : List DurationUnit) (sums : Sums) → unit_in (units sums.mark) quantity.letter ≡ unit
-    → is_some unit ≡ true → as_strict (units_after quantity.letter next) (with_quantity unit quantity sums) ≡ with_quantity unit quantity (as_strict next sums)
-quantity-strict None quantity next sums is has = absurd (false≢true has)
-quantity-strict (Some unit) quantity next sums is has =
-    let letter = sym (unit-letter (units sums.mark) quantity.letter unit is) in
-    let after = with_quantity (Some unit) quantity sums in
-    ap (λ (letter : ℕ). as_strict (units_after letter next) after) letter
+-- a component with a unit adds to the sums of the strict order what it adds to the others, and leaves what follows its unit
+component-strict : (unit : Option DurationUnit) (component : ComponentText) (next : List DurationUnit) (sums : Sums) → unit_in (units sums.is_time) component.designator ≡ unit
+    → is_some unit ≡ true → as_strict (units_after component.designator next) (with_component unit component sums) ≡ with_component unit component (as_strict next sums)
+component-strict None component next sums is has = absurd (false≢true has)
+component-strict (Some unit) component next sums is has =
+    let designator = sym (unit-designator (units sums.is_time) component.designator unit is) in
+    let after = with_component (Some unit) component sums in
+    ap (λ (designator : ℕ). as_strict (units_after designator next) after) designator
 
 -- what good items add up to
-abbrev made : Sums → Answer
-made sums = if sums.some then Ok (sums_length sums) else Err fault.TooShort
+abbrev lax_end : Sums → Answer
+lax_end sums = if sums.some then Ok (sums_length sums) else Err fault.TooShort
 
-abbrev strict_made : Bool → Sums → Answer
-strict_made in_order sums = if in_order then made sums else Err fault.DurationUnitOrder
+abbrev strict_end : Bool → Sums → Answer
+strict_end in_order sums = if in_order then lax_end sums else Err fault.DurationUnitOrder
 
 -- an item out of order refuses the text
-out_of_order : (next : List DurationUnit) (sums : Sums) (quantity : Quantity) (rest : List ℕ) → IsItem (Amount quantity)
-    → AllHold (item_table sums (Amount quantity)) → is_some (unit_in next quantity.letter) ≡ false
-    → IsAnswerFrom (as_strict next sums) (item_text (Amount quantity) ++ rest) (Err fault.DurationUnitOrder)
-out_of_order next sums quantity rest is all late =
-    let text = item_text (Amount quantity) ++ rest in
-    let there = item_at-text sums (Amount quantity) rest is all in
+out_of_order : (next : List DurationUnit) (sums : Sums) (component : ComponentText) (rest : List ℕ) → IsItem (Component component)
+    → AllHold (item_table sums (Component component)) → is_some (unit_in next component.designator) ≡ false
+    → IsAnswerFrom (as_strict next sums) (item_text (Component component) ++ rest) (Err fault.DurationUnitOrder)
+out_of_order next sums component rest is all late =
+    let text = item_text (Component component) ++ rest in
+    let there = item_at-text sums (Component component) rest is all in
     let read : Result ℕ ParseError = Ok 0 in
-    let refused : Err fault.DurationUnitOrder ≡ meets (item_table (as_strict next sums) (Amount quantity)) read =
+    let refused : Err fault.DurationUnitOrder ≡ meets (item_table (as_strict next sums) (Component component)) read =
     rw (all.0, all.1.0, all.1.1.0, all.1.1.1.0, late) refl in
-    let digits = quantity.number ++ quantity.fraction in
-    let some : 0 < length text = rw (length-append (item_text (Amount quantity)) rest, length-append digits (quantity.letter ∷ [])) (omega arith) in
+    let digits = component.number ++ component.fraction in
+    let some : 0 < length text = rw (length-append (item_text (Component component)) rest, length-append digits (component.designator ∷ [])) (omega arith) in
     answer-refused (as_strict next sums) text fault.DurationUnitOrder 0 some
     (subst (λ (item : Item). Err fault.DurationUnitOrder ≡ meets (item_table (as_strict next sums) item) read) (sym there) refused)
 
 -- one in order goes on
-amount-strict : (next : List DurationUnit) (sums : Sums) (quantity : Quantity) (rest : List ℕ) (in_order comes : Bool) (after : Sums)
-    → IsItem (Amount quantity) → AllHold (item_table sums (Amount quantity))
-    → is_some (unit_in next quantity.letter) ≡ comes
-    → IsAnswerFrom (as_strict (units_after quantity.letter next) (with_item (Amount quantity) sums)) rest
-    (strict_made in_order after)
-    → IsAnswerFrom (as_strict next sums) (item_text (Amount quantity) ++ rest) (strict_made (comes && in_order) after)
-amount-strict next sums quantity rest in_order false after is all late behind = out_of_order next sums quantity rest is all late
-amount-strict next sums quantity rest in_order true after is all comes behind =
-    let unit = unit_in (units sums.mark) quantity.letter in
-    let same = quantity-strict unit quantity next sums refl all.1.1.1.0 in
+amount-strict : (next : List DurationUnit) (sums : Sums) (component : ComponentText) (rest : List ℕ) (in_order comes : Bool) (after : Sums)
+    → IsItem (Component component) → AllHold (item_table sums (Component component))
+    → is_some (unit_in next component.designator) ≡ comes
+    → IsAnswerFrom (as_strict (units_after component.designator next) (with_item (Component component) sums)) rest
+    (strict_end in_order after)
+    → IsAnswerFrom (as_strict next sums) (item_text (Component component) ++ rest) (strict_end (comes && in_order) after)
+amount-strict next sums component rest in_order false after is all late behind = out_of_order next sums component rest is all late
+amount-strict next sums component rest in_order true after is all comes behind =
+    let unit = unit_in (units sums.is_time) component.designator in
+    let same = component-strict unit component next sums refl all.1.1.1.0 in
     let counted = sym (ap are_counted same) ∙ all.1.1.1.1.1.0 in
-    let hold : AllHold (item_table (as_strict next sums) (Amount quantity)) =
+    let hold : AllHold (item_table (as_strict next sums) (Component component)) =
     (all.0, (all.1.0, (all.1.1.0, (all.1.1.1.0, (comes, (counted, tt)))))) in
-    answer-with (as_strict next sums) (Amount quantity) rest (strict_made in_order after) is hold
-    (subst (λ (next : Sums). IsAnswerFrom next rest (strict_made in_order after)) same behind)
+    answer-with (as_strict next sums) (Component component) rest (strict_end in_order after) is hold
+    (subst (λ (next : Sums). IsAnswerFrom next rest (strict_end in_order after)) same behind)
 
 -- so good items are refused exactly if they are not in order
 items-strict : (next : List DurationUnit) (sums : Sums) (items : List Item) → AreGood sums items
     → IsAnswerFrom (as_strict next sums) (flat_map item_text items)
-    (strict_made (are_in_order next items) (with_items items sums))
+    (strict_end (are_in_order next items) (with_items items sums))
 items-strict next sums [] good = ([], [], refl, tt, refl)
-items-strict next sums (Mark ∷ items) good =
-    answer-with (as_strict next sums) Mark (flat_map item_text items) _ tt good.1 (items-strict (units true) (with_item Mark sums) items good.2)
-items-strict next sums (Amount quantity ∷ items) good =
-    let after = units_after quantity.letter next in
-    amount-strict next sums quantity (flat_map item_text items) (are_in_order after items) _ (with_items items (with_item (Amount quantity) sums))
-    good.0 good.1 refl (items-strict after (with_item (Amount quantity) sums) items good.2)
+items-strict next sums (TimeDesignator ∷ items) good =
+    answer-with (as_strict next sums) TimeDesignator (flat_map item_text items) _ tt good.1 (items-strict (units true) (with_item TimeDesignator sums) items good.2)
+items-strict next sums (Component component ∷ items) good =
+    let after = units_after component.designator next in
+    amount-strict next sums component (flat_map item_text items) (are_in_order after items) _ (with_items items (with_item (Component component) sums))
+    good.0 good.1 refl (items-strict after (with_item (Component component) sums) items good.2)
 
 -- behind a `P`, in each order
 items-in_strict : (items : List Item) → AreGood (no_sums order.Lax) items
-    → iso_form order.Strict (flat_map item_text items) ≡ strict_made (are_in_order (units false) items) (with_items items (no_sums order.Lax))
+    → iso_form order.Strict (flat_map item_text items) ≡ strict_end (are_in_order (units false) items) (with_items items (no_sums order.Lax))
 items-in_strict items good =
     sym (iso_form-only order.Strict (flat_map item_text items) _ (items-strict (units false) (no_sums order.Lax) items good))
 
 items-in_lax : (items : List Item) → AreGood (no_sums order.Lax) items
-    → iso_form order.Lax (flat_map item_text items) ≡ made (with_items items (no_sums order.Lax))
+    → iso_form order.Lax (flat_map item_text items) ≡ lax_end (with_items items (no_sums order.Lax))
 items-in_lax items good =
     sym (iso_form-only order.Lax (flat_map item_text items) _ (items, [], sym (append-nil (flat_map item_text items)), good, refl))
 
@@ -203,7 +203,7 @@ answer-strict asked behavior text items strict is =
     let read = λ (order : IsoOrder). ap (duration_answer order behavior) is.is_text ∙ duration_answer-iso order behavior is.negative is.sign body is.is_sign in
     let lax = read order.Lax ∙ ap step (items-in_lax items is.are_good) in
     ap (λ (asked : IsoOrder). duration_answer asked behavior text) strict ∙ read order.Strict ∙ ap step (items-in_strict items is.are_good)
-    ∙ chosen (not is.negative) in_order (made (with_items items (no_sums order.Lax)))
+    ∙ chosen (not is.negative) in_order (lax_end (with_items items (no_sums order.Lax)))
     ∙ ap (λ (lax : Result DurationNumbers ParseError). if in_order then lax else Err fault.DurationUnitOrder) (sym lax)
 
 -- a clock and days are not asked for an order
@@ -217,7 +217,7 @@ first-byte : (text : List ℕ) → (slice_index text 0 == capital_p) ≡ true �
 first-byte [] is = absurd (false≢true is)
 first-byte (byte ∷ text) is = ap (λ (byte : ℕ). byte ∷ text) (eqb-true byte capital_p is)
 
--- one that is read has nothing behind its good items, and a quantity among them
+-- one that is read has nothing behind its good items, and a component among them
 some-read : (positive some : Bool) (sums : Sums) (numbers : DurationNumbers)
     → Ok numbers ≡ result_and_then (signed_form positive) (if some then Ok (sums_length sums) else Err fault.TooShort) → some ≡ true
 some-read positive true sums numbers same = refl
@@ -254,32 +254,32 @@ answer-items behavior text numbers iso same =
     } in
     (from.0, is_made)
 
--- the letters of quantities, and of units
-abbrev pub letters : List Quantity → List ℕ
-letters quantities = map (λ (quantity : Quantity). quantity.letter) quantities
+-- the designators of components, and of units
+abbrev pub designators : List ComponentText → List ℕ
+designators components = map (λ (component : ComponentText). component.designator) components
 
-abbrev pub unit_letters : List DurationUnit → List ℕ
-unit_letters units = map (λ (unit : DurationUnit). unit.letter) units
+abbrev pub unit_designators : List DurationUnit → List ℕ
+unit_designators units = map (λ (unit : DurationUnit). unit.designator) units
 
-first-letter : (test : Bool) (unit : DurationUnit) (next : List DurationUnit) (quantity : Quantity) (quantities : List Quantity) (rest : List Item) (last : Bool)
-    → are_in_order next (map Amount quantities ++ rest) ≡ (are_some_of (letters quantities) (unit_letters next) && last)
-    → are_in_order next (map Amount (quantity ∷ quantities) ++ rest) ≡ (are_some_of (letters (quantity ∷ quantities)) (unit_letters next) && last)
-    → (is_some (if test then Some unit else unit_in next quantity.letter)
-    && are_in_order (if test then next else units_after quantity.letter next) (map Amount quantities ++ rest))
-    ≡ ((if test then are_some_of (letters quantities) (unit_letters next) else are_some_of (letters (quantity ∷ quantities)) (unit_letters next)) && last)
-first-letter true unit next quantity quantities rest last here behind = here
-first-letter false unit next quantity quantities rest last here behind = behind
+first-designator : (test : Bool) (unit : DurationUnit) (next : List DurationUnit) (component : ComponentText) (components : List ComponentText) (rest : List Item) (last : Bool)
+    → are_in_order next (map Component components ++ rest) ≡ (are_some_of (designators components) (unit_designators next) && last)
+    → are_in_order next (map Component (component ∷ components) ++ rest) ≡ (are_some_of (designators (component ∷ components)) (unit_designators next) && last)
+    → (is_some (if test then Some unit else unit_in next component.designator)
+    && are_in_order (if test then next else units_after component.designator next) (map Component components ++ rest))
+    ≡ ((if test then are_some_of (designators components) (unit_designators next) else are_some_of (designators (component ∷ components)) (unit_designators next)) && last)
+first-designator true unit next component components rest last here behind = here
+first-designator false unit next component components rest last here behind = behind
 
--- quantities of one side, in front of nothing or of a `T`, are in order if and only if their letters are some of those of the
+-- components of one side, in front of nothing or of a `T`, are in order if and only if their designators are some of those of the
 -- side, in the order of the table, each at most once
-pub are_in_order-letters : (next : List DurationUnit) (quantities : List Quantity) (rest : List Item) (last : Bool)
+pub are_in_order-designators : (next : List DurationUnit) (components : List ComponentText) (rest : List Item) (last : Bool)
     → ((next : List DurationUnit) → are_in_order next rest ≡ last)
-    → are_in_order next (map Amount quantities ++ rest) ≡ (are_some_of (letters quantities) (unit_letters next) && last)
-are_in_order-letters next [] rest last ends = ends next
-are_in_order-letters [] (quantity ∷ quantities) rest last ends = refl
-are_in_order-letters (unit ∷ next) (quantity ∷ quantities) rest last ends =
-    first-letter (quantity.letter == unit.letter) unit next quantity quantities rest last (are_in_order-letters next quantities rest last ends)
-    (are_in_order-letters next (quantity ∷ quantities) rest last ends)
+    → are_in_order next (map Component components ++ rest) ≡ (are_some_of (designators components) (unit_designators next) && last)
+are_in_order-designators next [] rest last ends = ends next
+are_in_order-designators [] (component ∷ components) rest last ends = refl
+are_in_order-designators (unit ∷ next) (component ∷ components) rest last ends =
+    first-designator (component.designator == unit.designator) unit next component components rest last (are_in_order-designators next components rest last ends)
+    (are_in_order-designators next (component ∷ components) rest last ends)
 
 -- the answer in the order that is asked for
 pub duration_answer-in_order : (asked : IsoOrder) (behavior : MicrosecondsPrecisionOverflowBehavior) (text : List ℕ)

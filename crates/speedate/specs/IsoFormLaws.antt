@@ -1,4 +1,4 @@
--- A text has one answer as a duration, and in an ISO 8601 duration quantities of one side can be exchanged.
+-- A text has one answer as a duration, and in an ISO 8601 duration components of one side can be exchanged.
 use Rattle.std.specs.Prelude.{◌≡◌, MatchBool, ℕ, ◌+◌, ◌≤◌, Bool, true, false, not, ◌&&◌, ◌||◌, List, [], ◌∷◌, ◌++◌, length, drop, slice_index, nat_le, nat_lt, ◌==◌, if◌then◌else◌, Option, Some, None, Result, Ok, Err, refl}
 use Rattle.std.specs.Char.{is_ascii_digit}
 use Rattle.std.specs.List.{list_all, prefix_len, flat_map}
@@ -22,75 +22,75 @@ use Rattle.speedate_base.specs.Numbers.{has_minus, sign_length}
 use Rattle.speedate_base.specs.Requirement.{meets, AllHold, result_and_then}
 use Rattle.speedate_base.specs.RequirementLaws.{meets-all}
 use Rattle.speedate.specs.DurationNumbers.{DurationNumbers, UnsignedDuration, signed_form}
-use Rattle.speedate.specs.IsoForm.{DurationUnit, units, unit_in, Quantity, Item, Mark, Amount, item_text, is_point, IsFraction, IsItem, fraction_length, quantity_at, item_at, Sums, units_behind, with_quantity, with_item, with_items, item_table, AreGood, sums_length, Ends, IsAnswerFrom, IsIsoAnswer, no_sums}
+use Rattle.speedate.specs.IsoForm.{DurationUnit, units, unit_in, ComponentText, Item, TimeDesignator, Component, item_text, is_decimal_mark, IsFraction, IsItem, fraction_length, component_at, item_at, Sums, units_behind, with_component, with_item, with_items, item_table, AreGood, sums_length, Ends, IsAnswerFrom, IsIsoAnswer, no_sums}
 use Rattle.speedate.specs.DurationForm.{form_answer, IsDurationAnswer}
 use Rattle.speedate.specs.Exchanged.{has_fraction, IsPlain}
 
 abbrev Answer : Type 0
 Answer = Result UnsignedDuration ParseError
 
--- the letter of a unit is no digit and no point
-unit-letter : (mark : Bool) (letter : ℕ) → is_some (unit_in (units mark) letter) ≡ true → (is_ascii_digit letter ≡ false) × (is_point letter ≡ false)
-unit-letter true letter has = (grind (arith, nat_tests, has), grind (arith, nat_tests, has))
-unit-letter false letter has = (grind (arith, nat_tests, has), grind (arith, nat_tests, has))
+-- the designator of a unit is no digit and no decimal mark
+unit-designator : (is_time : Bool) (designator : ℕ) → is_some (unit_in (units is_time) designator) ≡ true → (is_ascii_digit designator ≡ false) × (is_decimal_mark designator ≡ false)
+unit-designator true designator has = (grind (arith, nat_tests, has), grind (arith, nat_tests, has))
+unit-designator false designator has = (grind (arith, nat_tests, has), grind (arith, nat_tests, has))
 
--- no digit is a point
-point-no_digit : (byte : ℕ) → is_point byte ≡ true → is_ascii_digit byte ≡ false
-point-no_digit byte is = grind (arith, nat_tests, is)
+-- no digit is a decimal mark
+mark-no_digit : (byte : ℕ) → is_decimal_mark byte ≡ true → is_ascii_digit byte ≡ false
+mark-no_digit byte is = grind (arith, nat_tests, is)
 
 -- digits end before a byte that is none
 run-ended : (digits : List ℕ) (byte : ℕ) (rest : List ℕ) → list_all is_ascii_digit digits ≡ true → is_ascii_digit byte ≡ false
     → prefix_len is_ascii_digit (digits ++ byte ∷ rest) ≡ length digits
 run-ended digits byte rest all other = run_length-append digits (byte ∷ rest) all ∙ rw other (omega arith)
 
--- a fraction ends before a letter
-fraction-ended : (fraction : List ℕ) (letter : ℕ) (rest : List ℕ) → IsFraction fraction → is_ascii_digit letter ≡ false → is_point letter ≡ false
-    → fraction_length (fraction ++ letter ∷ rest) ≡ length fraction
-fraction-ended [] letter rest is digit point = rw point refl
-fraction-ended (sign ∷ digits) letter rest is digit point = rw (is.0, run-ended digits letter rest is.1 digit) (omega arith)
+-- a fraction ends before a designator
+fraction-ended : (fraction : List ℕ) (designator : ℕ) (rest : List ℕ) → IsFraction fraction → is_ascii_digit designator ≡ false → is_decimal_mark designator ≡ false
+    → fraction_length (fraction ++ designator ∷ rest) ≡ length fraction
+fraction-ended [] designator rest is digit point = rw point refl
+fraction-ended (mark ∷ digits) designator rest is digit point = rw (is.0, run-ended digits designator rest is.1 digit) (omega arith)
 
 -- nor does it begin with a digit
-number-ended : (number fraction : List ℕ) (letter : ℕ) (rest : List ℕ) → list_all is_ascii_digit number ≡ true → IsFraction fraction → is_ascii_digit letter ≡ false
-    → prefix_len is_ascii_digit (number ++ (fraction ++ letter ∷ rest)) ≡ length number
-number-ended number [] letter rest all is digit = run-ended number letter rest all digit
-number-ended number (sign ∷ digits) letter rest all is digit = run-ended number sign (digits ++ letter ∷ rest) all (point-no_digit sign is.0)
+number-ended : (number fraction : List ℕ) (designator : ℕ) (rest : List ℕ) → list_all is_ascii_digit number ≡ true → IsFraction fraction → is_ascii_digit designator ≡ false
+    → prefix_len is_ascii_digit (number ++ (fraction ++ designator ∷ rest)) ≡ length number
+number-ended number [] designator rest all is digit = run-ended number designator rest all digit
+number-ended number (mark ∷ digits) designator rest all is digit = run-ended number mark (digits ++ designator ∷ rest) all (mark-no_digit mark is.0)
 
 -- digits begin with no `T`
-number-no_mark : (number rest : List ℕ) → nat_lt 0 (length number) ≡ true → list_all is_ascii_digit number ≡ true
+number-no_designator : (number rest : List ℕ) → nat_lt 0 (length number) ≡ true → list_all is_ascii_digit number ≡ true
     → (slice_index (number ++ rest) 0 == capital_t) ≡ false
-number-no_mark [] rest some all = absurd (cc)
-number-no_mark (digit ∷ number) rest some all = grind (arith, nat_tests, (and_parts (is_ascii_digit digit) _ all).0)
+number-no_designator [] rest some all = absurd (cc)
+number-no_designator (digit ∷ number) rest some all = grind (arith, nat_tests, (and_parts (is_ascii_digit digit) _ all).0)
 
--- the beginning of a quantity's text is the quantity
-quantity_at-text : (quantity : Quantity) (rest : List ℕ) → IsItem (Amount quantity) → is_ascii_digit quantity.letter ≡ false → is_point quantity.letter ≡ false
-    → quantity_at (quantity.number ++ (quantity.fraction ++ quantity.letter ∷ rest)) ≡ quantity
-quantity_at-text quantity rest is digit point =
-    let behind = quantity.fraction ++ quantity.letter ∷ rest in
+-- the beginning of a component's text is the component
+component_at-text : (component : ComponentText) (rest : List ℕ) → IsItem (Component component) → is_ascii_digit component.designator ≡ false → is_decimal_mark component.designator ≡ false
+    → component_at (component.number ++ (component.fraction ++ component.designator ∷ rest)) ≡ component
+component_at-text component rest is digit point =
+    let behind = component.fraction ++ component.designator ∷ rest in
     rw (
-      number-ended quantity.number quantity.fraction quantity.letter rest is.0 is.1 digit,
-      take-append_seam quantity.number behind,
-      drop-append_seam quantity.number behind,
-      fraction-ended quantity.fraction quantity.letter rest is.1 digit point,
-      take-append_seam quantity.fraction (quantity.letter ∷ rest),
-      get_or-append_seam quantity.fraction quantity.letter rest 0,
+      number-ended component.number component.fraction component.designator rest is.0 is.1 digit,
+      take-append_seam component.number behind,
+      drop-append_seam component.number behind,
+      fraction-ended component.fraction component.designator rest is.1 digit point,
+      take-append_seam component.fraction (component.designator ∷ rest),
+      get_or-append_seam component.fraction component.designator rest 0,
     ) refl
 
 -- its text is its parts in front of what follows
-amount-joined : (quantity : Quantity) (rest : List ℕ) → item_text (Amount quantity) ++ rest ≡ quantity.number ++ (quantity.fraction ++ quantity.letter ∷ rest)
-amount-joined quantity rest = simp append_assoc
+amount-joined : (component : ComponentText) (rest : List ℕ) → item_text (Component component) ++ rest ≡ component.number ++ (component.fraction ++ component.designator ∷ rest)
+amount-joined component rest = simp append_assoc
 
--- so what begins with a number and ends with the letter of a unit is one item, whatever follows
-item_at-amount : (mark : Bool) (quantity : Quantity) (rest : List ℕ) → IsItem (Amount quantity) → nat_lt 0 (length quantity.number) ≡ true
-    → is_some (unit_in (units mark) quantity.letter) ≡ true → item_at (item_text (Amount quantity) ++ rest) ≡ Amount quantity
-item_at-amount mark quantity rest is some has =
-    let unit = unit-letter mark quantity.letter has in
-    rw (amount-joined quantity rest, number-no_mark quantity.number (quantity.fraction ++ quantity.letter ∷ rest) some is.0)
-    (ap Amount (quantity_at-text quantity rest is unit.0 unit.1))
+-- so what begins with a number and ends with the designator of a unit is one item, whatever follows
+item_at-amount : (is_time : Bool) (component : ComponentText) (rest : List ℕ) → IsItem (Component component) → nat_lt 0 (length component.number) ≡ true
+    → is_some (unit_in (units is_time) component.designator) ≡ true → item_at (item_text (Component component) ++ rest) ≡ Component component
+item_at-amount is_time component rest is some has =
+    let unit = unit-designator is_time component.designator has in
+    rw (amount-joined component rest, number-no_designator component.number (component.fraction ++ component.designator ∷ rest) some is.0)
+    (ap Component (component_at-text component rest is unit.0 unit.1))
 
 -- and a good item is read back from its text
 pub item_at-text : (sums : Sums) (item : Item) (rest : List ℕ) → IsItem item → AllHold (item_table sums item) → item_at (item_text item ++ rest) ≡ item
-item_at-text sums Mark rest is all = refl
-item_at-text sums (Amount quantity) rest is all = item_at-amount sums.mark quantity rest is all.0 all.1.1.1.0
+item_at-text sums TimeDesignator rest is all = refl
+item_at-text sums (Component component) rest is all = item_at-amount sums.is_time component rest is all.0 all.1.1.1.0
 
 -- an end has one answer
 ends-only : (sums : Sums) (rest : List ℕ) (first second : Answer) → Ends sums rest first → Ends sums rest second → first ≡ second
@@ -174,26 +174,26 @@ answer-with sums item text answer is all from =
 
 -- sums behind which any unit may come
 abbrev pub IsFree : Sums → Type 0
-IsFree sums = (sums.order ≡ order.Lax) × (sums.next_units ≡ units sums.mark)
+IsFree sums = (sums.order ≡ order.Lax) × (sums.next_units ≡ units sums.is_time)
 
 -- in the lax order those behind an item are such sums again
-amount-free : (unit : Option DurationUnit) (quantity : Quantity) (sums : Sums) → IsFree sums → IsFree (with_quantity unit quantity sums)
-amount-free None quantity sums free = free
-amount-free (Some unit) quantity sums free = (free.0, ap (λ (order : IsoOrder). units_behind order sums.mark unit.letter sums.next_units) free.0)
+amount-free : (unit : Option DurationUnit) (component : ComponentText) (sums : Sums) → IsFree sums → IsFree (with_component unit component sums)
+amount-free None component sums free = free
+amount-free (Some unit) component sums free = (free.0, ap (λ (order : IsoOrder). units_behind order sums.is_time unit.designator sums.next_units) free.0)
 
 item-free : (item : Item) (sums : Sums) → IsFree sums → IsFree (with_item item sums)
-item-free Mark sums free = (free.0, refl)
-item-free (Amount quantity) sums free = amount-free (unit_in (units sums.mark) quantity.letter) quantity sums free
+item-free TimeDesignator sums free = (free.0, refl)
+item-free (Component component) sums free = amount-free (unit_in (units sums.is_time) component.designator) component sums free
 
 -- so behind sums of the lax order each unit of the side may come
-free-comes : (sums : Sums) (letter : ℕ) → IsFree sums → is_some (unit_in (units sums.mark) letter) ≡ true → is_some (unit_in sums.next_units letter) ≡ true
-free-comes sums letter free has = ap (λ (next : List DurationUnit). is_some (unit_in next letter)) free.1 ∙ has
+free-comes : (sums : Sums) (designator : ℕ) → IsFree sums → is_some (unit_in (units sums.is_time) designator) ≡ true → is_some (unit_in sums.next_units designator) ≡ true
+free-comes sums designator free has = ap (λ (next : List DurationUnit). is_some (unit_in next designator)) free.1 ∙ has
 
 -- whether its number and the sums with it are counted in 32 bits
-abbrev fits : Sums → Quantity → Bool
-fits sums quantity =
-    nat_le (digits_value quantity.number) 4294967295
-    && (nat_le (with_item (Amount quantity) sums).day 4294967295 && nat_le (with_item (Amount quantity) sums).second 4294967295)
+abbrev fits : Sums → ComponentText → Bool
+fits sums component =
+    nat_le (digits_value component.number) 4294967295
+    && (nat_le (with_item (Component component) sums).day 4294967295 && nat_le (with_item (Component component) sums).second 4294967295)
 
 -- two rows of one fault are one row
 two-rows : {A : Type 0} (number sums : Bool) (fault : ParseError) (next : Result A ParseError)
@@ -201,17 +201,17 @@ two-rows : {A : Type 0} (number sums : Bool) (fault : ParseError) (next : Result
 two-rows true sums fault next = refl
 two-rows false sums fault next = refl
 
--- the table of such a quantity is that test
-plain-table : {A : Type 0} (sums : Sums) (quantity : Quantity) (next : Result A ParseError) → IsFree sums → IsPlain sums quantity
-    → meets (item_table sums (Amount quantity)) next ≡ (if fits sums quantity then next else Err fault.DurationValueTooLarge)
-plain-table sums quantity next free plain =
-    rw (plain.1, plain.3, plain.4, free-comes sums quantity.letter free plain.4) (two-rows (nat_le (digits_value quantity.number) 4294967295) _ fault.DurationValueTooLarge next)
+-- the table of such a component is that test
+plain-table : {A : Type 0} (sums : Sums) (component : ComponentText) (next : Result A ParseError) → IsFree sums → IsPlain sums component
+    → meets (item_table sums (Component component)) next ≡ (if fits sums component then next else Err fault.DurationValueTooLarge)
+plain-table sums component next free plain =
+    rw (plain.1, plain.3, plain.4, free-comes sums component.designator free plain.4) (two-rows (nat_le (digits_value component.number) 4294967295) _ fault.DurationValueTooLarge next)
 
 -- one that fits meets each row
-plain-good : (sums : Sums) (quantity : Quantity) → IsFree sums → IsPlain sums quantity → fits sums quantity ≡ true → AllHold (item_table sums (Amount quantity))
-plain-good sums quantity free plain fit =
-    let tests = and_parts (nat_le (digits_value quantity.number) 4294967295) _ fit in
-    (plain.1, (tests.0, (ap not plain.3, (plain.4, (free-comes sums quantity.letter free plain.4, (tests.1, tt))))))
+plain-good : (sums : Sums) (component : ComponentText) → IsFree sums → IsPlain sums component → fits sums component ≡ true → AllHold (item_table sums (Component component))
+plain-good sums component free plain fit =
+    let tests = and_parts (nat_le (digits_value component.number) 4294967295) _ fit in
+    (plain.1, (tests.0, (ap not plain.3, (plain.4, (free-comes sums component.designator free plain.4, (tests.1, tt))))))
 
 -- that fault ends a text
 ends-large : (sums : Sums) (text : List ℕ)
@@ -221,33 +221,33 @@ ends-large sums [] same = absurd (cc)
 ends-large sums (byte ∷ rest) same = (fault.DurationValueTooLarge, same, refl)
 
 -- so one that does not fit has it as the answer, whatever follows
-answer-large : (sums : Sums) (quantity : Quantity) (text : List ℕ) → IsFree sums → IsPlain sums quantity → fits sums quantity ≡ false
-    → IsAnswerFrom sums (item_text (Amount quantity) ++ text) (Err fault.DurationValueTooLarge)
-answer-large sums quantity text free plain large =
-    let there = item_at-amount sums.mark quantity text plain.0 plain.1 plain.4 in
+answer-large : (sums : Sums) (component : ComponentText) (text : List ℕ) → IsFree sums → IsPlain sums component → fits sums component ≡ false
+    → IsAnswerFrom sums (item_text (Component component) ++ text) (Err fault.DurationValueTooLarge)
+answer-large sums component text free plain large =
+    let there = item_at-amount sums.is_time component text plain.0 plain.1 plain.4 in
     let numbers : Answer = Ok (sums_length sums) in
-    let refused = ap (λ (item : Item). meets (item_table sums item) numbers) there ∙ plain-table sums quantity numbers free plain
+    let refused = ap (λ (item : Item). meets (item_table sums item) numbers) there ∙ plain-table sums component numbers free plain
     ∙ ap (λ (test : Bool). if test then numbers else Err fault.DurationValueTooLarge) large in
-    ([], item_text (Amount quantity) ++ text, refl, tt, ends-large sums (item_text (Amount quantity) ++ text) refused)
+    ([], item_text (Component component) ++ text, refl, tt, ends-large sums (item_text (Component component) ++ text) refused)
 
--- a quantity leaves the side as it is
-amount-mark : (unit : Option DurationUnit) (quantity : Quantity) (sums : Sums) → (with_quantity unit quantity sums).mark ≡ sums.mark
-amount-mark None quantity sums = refl
-amount-mark (Some unit) quantity sums = refl
+-- a component leaves the side as it is
+amount-side : (unit : Option DurationUnit) (component : ComponentText) (sums : Sums) → (with_component unit component sums).is_time ≡ sums.is_time
+amount-side None component sums = refl
+amount-side (Some unit) component sums = refl
 
 -- without a fraction it brings none
-amount-fraction : (unit : Option DurationUnit) (quantity : Quantity) (sums : Sums) → has_fraction quantity ≡ false → sums.fraction ≡ false
-    → (with_quantity unit quantity sums).fraction ≡ false
-amount-fraction None quantity sums none whole = whole
-amount-fraction (Some unit) quantity sums none whole = or_from sums.fraction (has_fraction quantity) whole none
+amount-fraction : (unit : Option DurationUnit) (component : ComponentText) (sums : Sums) → has_fraction component ≡ false → sums.fraction ≡ false
+    → (with_component unit component sums).fraction ≡ false
+amount-fraction None component sums none whole = whole
+amount-fraction (Some unit) component sums none whole = or_from sums.fraction (has_fraction component) whole none
 
 -- and it takes nothing from the sums
-amount-grows : (unit : Option DurationUnit) (quantity : Quantity) (sums : Sums)
-    → (sums.day ≤ (with_quantity unit quantity sums).day) × (sums.second ≤ (with_quantity unit quantity sums).second)
-amount-grows None quantity sums = (omega arith, omega arith)
-amount-grows (Some unit) quantity sums = (omega arith, omega arith)
+amount-grows : (unit : Option DurationUnit) (component : ComponentText) (sums : Sums)
+    → (sums.day ≤ (with_component unit component sums).day) × (sums.second ≤ (with_component unit component sums).second)
+amount-grows None component sums = (omega arith, omega arith)
+amount-grows (Some unit) component sums = (omega arith, omega arith)
 
--- how sums of two quantities are exchanged, field by field
+-- how sums of two components are exchanged, field by field
 or-swap : (a b c : Bool) → (a || b || c) ≡ (a || c || b)
 or-swap a b c = or_assoc a b c ∙ ap (λ (test : Bool). a || test) (or_comm b c) ∙ sym (or_assoc a c b)
 
@@ -255,13 +255,13 @@ add-swap : (a b c d e : ℕ) → a + b + c + d + e ≡ a + d + e + b + c
 add-swap a b c d e = omega arith
 
 -- whatever their units are
-amounts-swap : (one two : Option DurationUnit) (first second : Quantity) (sums : Sums) → IsFree sums
-    → with_quantity two second (with_quantity one first sums) ≡ with_quantity one first (with_quantity two second sums)
+amounts-swap : (one two : Option DurationUnit) (first second : ComponentText) (sums : Sums) → IsFree sums
+    → with_component two second (with_component one first sums) ≡ with_component one first (with_component two second sums)
 amounts-swap None two first second sums free = refl
 amounts-swap (Some one) None first second sums free = refl
 amounts-swap (Some one) (Some two) first second sums free =
-    let behind = λ (unit : DurationUnit) (next : List DurationUnit). ap (λ (order : IsoOrder). units_behind order sums.mark unit.letter next) free.0 in
-    let both = behind two (units_behind sums.order sums.mark one.letter sums.next_units) ∙ sym (behind one (units_behind sums.order sums.mark two.letter sums.next_units)) in
+    let behind = λ (unit : DurationUnit) (next : List DurationUnit). ap (λ (order : IsoOrder). units_behind order sums.is_time unit.designator next) free.0 in
+    let both = behind two (units_behind sums.order sums.is_time one.designator sums.next_units) ∙ sym (behind one (units_behind sums.order sums.is_time two.designator sums.next_units)) in
     let fractions = or-swap sums.fraction (has_fraction first) (has_fraction second) in
     let days = add-swap sums.day _ _ _ _ in
     let seconds = add-swap sums.second _ _ _ _ in
@@ -269,7 +269,7 @@ amounts-swap (Some one) (Some two) first second sums free =
     λ i. record {
       order = sums.order;
       next_units = both i;
-      mark = sums.mark;
+      is_time = sums.is_time;
       fraction = fractions i;
       some = true;
       day = days i;
@@ -278,80 +278,80 @@ amounts-swap (Some one) (Some two) first second sums free =
     }
 
 -- the unit of the second does not depend on the first
-with_amount-next : (first second : Quantity) (sums : Sums) → with_item (Amount second) (with_item (Amount first) sums)
-    ≡ with_quantity (unit_in (units sums.mark) second.letter) second (with_quantity (unit_in (units sums.mark) first.letter) first sums)
+with_amount-next : (first second : ComponentText) (sums : Sums) → with_item (Component second) (with_item (Component first) sums)
+    ≡ with_component (unit_in (units sums.is_time) second.designator) second (with_component (unit_in (units sums.is_time) first.designator) first sums)
 with_amount-next first second sums =
-    let next = with_item (Amount first) sums in
-    ap (λ (mark : Bool). with_quantity (unit_in (units mark) second.letter) second next) (amount-mark (unit_in (units sums.mark) first.letter) first sums)
+    let next = with_item (Component first) sums in
+    ap (λ (is_time : Bool). with_component (unit_in (units is_time) second.designator) second next) (amount-side (unit_in (units sums.is_time) first.designator) first sums)
 
--- so the sums of two quantities do not depend on their order
-pub amounts-exchanged : (first second : Quantity) (sums : Sums) → IsFree sums
-    → with_item (Amount second) (with_item (Amount first) sums) ≡ with_item (Amount first) (with_item (Amount second) sums)
+-- so the sums of two components do not depend on their order
+pub amounts-exchanged : (first second : ComponentText) (sums : Sums) → IsFree sums
+    → with_item (Component second) (with_item (Component first) sums) ≡ with_item (Component first) (with_item (Component second) sums)
 amounts-exchanged first second sums free =
-    with_amount-next first second sums ∙ amounts-swap (unit_in (units sums.mark) first.letter) (unit_in (units sums.mark) second.letter) first second sums free
+    with_amount-next first second sums ∙ amounts-swap (unit_in (units sums.is_time) first.designator) (unit_in (units sums.is_time) second.designator) first second sums free
     ∙ sym (with_amount-next second first sums)
 
--- a quantity behind another one can still be refused for its size alone
-plain-next : (sums : Sums) (first second : Quantity) → IsPlain sums first → IsPlain sums second → IsPlain (with_item (Amount first) sums) second
+-- a component behind another one can still be refused for its size alone
+plain-next : (sums : Sums) (first second : ComponentText) → IsPlain sums first → IsPlain sums second → IsPlain (with_item (Component first) sums) second
 plain-next sums first second one two =
-    let unit = unit_in (units sums.mark) first.letter in
-    let has = ap (λ (mark : Bool). is_some (unit_in (units mark) second.letter)) (amount-mark unit first sums) ∙ two.4 in
+    let unit = unit_in (units sums.is_time) first.designator in
+    let has = ap (λ (is_time : Bool). is_some (unit_in (units is_time) second.designator)) (amount-side unit first sums) ∙ two.4 in
     (two.0, two.1, two.2, amount-fraction unit first sums one.2 one.3, has)
 
 -- nor does it depend on it whether both fit
-fits-exchanged : (sums : Sums) (first second : Quantity) → IsFree sums → (fits sums first && fits (with_item (Amount first) sums) second) ≡ true
-    → (fits sums second && fits (with_item (Amount second) sums) first) ≡ true
+fits-exchanged : (sums : Sums) (first second : ComponentText) → IsFree sums → (fits sums first && fits (with_item (Component first) sums) second) ≡ true
+    → (fits sums second && fits (with_item (Component second) sums) first) ≡ true
 fits-exchanged sums first second free both =
-    let front = with_item (Amount second) sums in
+    let front = with_item (Component second) sums in
     let tests = and_parts (fits sums first) _ both in
     let one = and_parts (nat_le (digits_value first.number) 4294967295) _ tests.0 in
     let two = and_parts (nat_le (digits_value second.number) 4294967295) _ tests.1 in
-    let total = and_parts (nat_le (with_item (Amount second) (with_item (Amount first) sums)).day 4294967295) _ two.1 in
+    let total = and_parts (nat_le (with_item (Component second) (with_item (Component first) sums)).day 4294967295) _ two.1 in
     let day = ap (λ (sums : Sums). nat_le sums.day 4294967295) (sym (amounts-exchanged first second sums free)) ∙ total.0 in
     let second_sum = ap (λ (sums : Sums). nat_le sums.second 4294967295) (sym (amounts-exchanged first second sums free)) ∙ total.1 in
-    let grows = amount-grows (unit_in (units front.mark) first.letter) first front in
+    let grows = amount-grows (unit_in (units front.is_time) first.designator) first front in
     let few_days : nat_le front.day 4294967295 ≡ true = grind (arith, nat_tests, grows.0, day) in
     let few_seconds : nat_le front.second 4294967295 ≡ true = grind (arith, nat_tests, grows.1, second_sum) in
     and_from _ _ (and_from _ _ two.0 (and_from _ _ few_days few_seconds)) (and_from _ _ one.0 (and_from _ _ day second_sum))
 
 -- where both fit, the answer is the answer to what follows them
-pair-with : (sums : Sums) (first second : Quantity) (rest : List ℕ) (answer : Answer) → IsFree sums
-    → (fits sums first && fits (with_item (Amount first) sums) second) ≡ true → IsPlain sums first → IsPlain sums second
-    → IsAnswerFrom (with_item (Amount second) (with_item (Amount first) sums)) rest answer
-    → IsAnswerFrom sums (item_text (Amount first) ++ (item_text (Amount second) ++ rest)) answer
+pair-with : (sums : Sums) (first second : ComponentText) (rest : List ℕ) (answer : Answer) → IsFree sums
+    → (fits sums first && fits (with_item (Component first) sums) second) ≡ true → IsPlain sums first → IsPlain sums second
+    → IsAnswerFrom (with_item (Component second) (with_item (Component first) sums)) rest answer
+    → IsAnswerFrom sums (item_text (Component first) ++ (item_text (Component second) ++ rest)) answer
 pair-with sums first second rest answer free both one two from =
-    let next = with_item (Amount first) sums in
+    let next = with_item (Component first) sums in
     let tests = and_parts (fits sums first) _ both in
-    let good = plain-good next second (item-free (Amount first) sums free) (plain-next sums first second one two) tests.1 in
-    answer-with sums (Amount first) (item_text (Amount second) ++ rest) answer one.0 (plain-good sums first free one tests.0)
-    (answer-with next (Amount second) rest answer two.0 good from)
+    let good = plain-good next second (item-free (Component first) sums free) (plain-next sums first second one two) tests.1 in
+    answer-with sums (Component first) (item_text (Component second) ++ rest) answer one.0 (plain-good sums first free one tests.0)
+    (answer-with next (Component second) rest answer two.0 good from)
 
-pair-without : (sums : Sums) (first second : Quantity) (rest : List ℕ) (answer : Answer) → IsFree sums
-    → (fits sums first && fits (with_item (Amount first) sums) second) ≡ true → IsPlain sums first → IsPlain sums second
-    → IsAnswerFrom sums (item_text (Amount first) ++ (item_text (Amount second) ++ rest)) answer
-    → IsAnswerFrom (with_item (Amount second) (with_item (Amount first) sums)) rest answer
+pair-without : (sums : Sums) (first second : ComponentText) (rest : List ℕ) (answer : Answer) → IsFree sums
+    → (fits sums first && fits (with_item (Component first) sums) second) ≡ true → IsPlain sums first → IsPlain sums second
+    → IsAnswerFrom sums (item_text (Component first) ++ (item_text (Component second) ++ rest)) answer
+    → IsAnswerFrom (with_item (Component second) (with_item (Component first) sums)) rest answer
 pair-without sums first second rest answer free both one two from =
-    let next = with_item (Amount first) sums in
+    let next = with_item (Component first) sums in
     let tests = and_parts (fits sums first) _ both in
-    let good = plain-good next second (item-free (Amount first) sums free) (plain-next sums first second one two) tests.1 in
-    answer-without next (Amount second) rest answer two.0 good
-    (answer-without sums (Amount first) (item_text (Amount second) ++ rest) answer one.0 (plain-good sums first free one tests.0) from)
+    let good = plain-good next second (item-free (Component first) sums free) (plain-next sums first second one two) tests.1 in
+    answer-without next (Component second) rest answer two.0 good
+    (answer-without sums (Component first) (item_text (Component second) ++ rest) answer one.0 (plain-good sums first free one tests.0) from)
 
 -- where one does not, the answer is its fault
-pair-large : (sums : Sums) (first second : Quantity) (rest : List ℕ) (test : Bool) → IsFree sums → fits sums first ≡ test
-    → (test && fits (with_item (Amount first) sums) second) ≡ false → IsPlain sums first → IsPlain sums second
-    → IsAnswerFrom sums (item_text (Amount first) ++ (item_text (Amount second) ++ rest)) (Err fault.DurationValueTooLarge)
-pair-large sums first second rest false free fit both one two = answer-large sums first (item_text (Amount second) ++ rest) free one fit
+pair-large : (sums : Sums) (first second : ComponentText) (rest : List ℕ) (test : Bool) → IsFree sums → fits sums first ≡ test
+    → (test && fits (with_item (Component first) sums) second) ≡ false → IsPlain sums first → IsPlain sums second
+    → IsAnswerFrom sums (item_text (Component first) ++ (item_text (Component second) ++ rest)) (Err fault.DurationValueTooLarge)
+pair-large sums first second rest false free fit both one two = answer-large sums first (item_text (Component second) ++ rest) free one fit
 pair-large sums first second rest true free fit both one two =
-    answer-with sums (Amount first) (item_text (Amount second) ++ rest) (Err fault.DurationValueTooLarge) one.0 (plain-good sums first free one fit)
-    (answer-large (with_item (Amount first) sums) second rest (item-free (Amount first) sums free) (plain-next sums first second one two) both)
+    answer-with sums (Component first) (item_text (Component second) ++ rest) (Err fault.DurationValueTooLarge) one.0 (plain-good sums first free one fit)
+    (answer-large (with_item (Component first) sums) second rest (item-free (Component first) sums free) (plain-next sums first second one two) both)
 
 -- either way the order does not count
-exchanged : (sums : Sums) (first second : Quantity) (rest : List ℕ) (answer : Answer) (there back : Bool) → IsFree sums
-    → (fits sums first && fits (with_item (Amount first) sums) second) ≡ there → (fits sums second && fits (with_item (Amount second) sums) first) ≡ back
+exchanged : (sums : Sums) (first second : ComponentText) (rest : List ℕ) (answer : Answer) (there back : Bool) → IsFree sums
+    → (fits sums first && fits (with_item (Component first) sums) second) ≡ there → (fits sums second && fits (with_item (Component second) sums) first) ≡ back
     → IsPlain sums first → IsPlain sums second
-    → IsAnswerFrom sums (item_text (Amount first) ++ (item_text (Amount second) ++ rest)) answer
-    → IsAnswerFrom sums (item_text (Amount second) ++ (item_text (Amount first) ++ rest)) answer
+    → IsAnswerFrom sums (item_text (Component first) ++ (item_text (Component second) ++ rest)) answer
+    → IsAnswerFrom sums (item_text (Component second) ++ (item_text (Component first) ++ rest)) answer
 exchanged sums first second rest answer true back free both turned one two from =
     let behind = pair-without sums first second rest answer free both one two from in
     let moved = subst (λ (sums : Sums). IsAnswerFrom sums rest answer) (amounts-exchanged first second sums free) behind in
@@ -360,29 +360,29 @@ exchanged sums first second rest answer false true free both turned one two from
     absurd (false≢true (sym both ∙ fits-exchanged sums second first free turned))
 exchanged sums first second rest answer false false free both turned one two from =
     let same = answer-only sums _ _ _ (pair-large sums first second rest (fits sums first) free refl both one two) from in
-    subst (λ (answer : Answer). IsAnswerFrom sums (item_text (Amount second) ++ (item_text (Amount first) ++ rest)) answer) same
+    subst (λ (answer : Answer). IsAnswerFrom sums (item_text (Component second) ++ (item_text (Component first) ++ rest)) answer) same
     (pair-large sums second first rest (fits sums second) free refl turned two one)
 
--- in the lax order two neighbouring quantities of one side, both without a fraction, can be exchanged, also where one of them is refused
-pub answer-exchanged : (sums : Sums) (first second : Quantity) (rest : List ℕ) (answer : Answer) → IsFree sums → IsPlain sums first
-    → IsPlain sums second → IsAnswerFrom sums (item_text (Amount first) ++ item_text (Amount second) ++ rest) answer
-    → IsAnswerFrom sums (item_text (Amount second) ++ item_text (Amount first) ++ rest) answer
+-- in the lax order two neighbouring components of one side, both without a fraction, can be exchanged, also where one of them is refused
+pub answer-exchanged : (sums : Sums) (first second : ComponentText) (rest : List ℕ) (answer : Answer) → IsFree sums → IsPlain sums first
+    → IsPlain sums second → IsAnswerFrom sums (item_text (Component first) ++ item_text (Component second) ++ rest) answer
+    → IsAnswerFrom sums (item_text (Component second) ++ item_text (Component first) ++ rest) answer
 answer-exchanged sums first second rest answer free one two from =
-    let text = append_assoc (item_text (Amount first)) (item_text (Amount second)) rest in
-    let turned = append_assoc (item_text (Amount second)) (item_text (Amount first)) rest in
+    let text = append_assoc (item_text (Component first)) (item_text (Component second)) rest in
+    let turned = append_assoc (item_text (Component second)) (item_text (Component first)) rest in
     let nested = subst (λ (text : List ℕ). IsAnswerFrom sums text answer) text from in
     subst (λ (text : List ℕ). IsAnswerFrom sums text answer) (sym turned)
     (exchanged sums first second rest answer _ _ free refl refl one two nested)
 
 -- wherever they stand behind good items
-pub answer-exchanged_behind : (sums : Sums) (items : List Item) (first second : Quantity) (rest : List ℕ) (answer : Answer)
+pub answer-exchanged_behind : (sums : Sums) (items : List Item) (first second : ComponentText) (rest : List ℕ) (answer : Answer)
     → IsFree sums → AreGood sums items → IsPlain (with_items items sums) first → IsPlain (with_items items sums) second
-    → IsAnswerFrom sums (flat_map item_text items ++ (item_text (Amount first) ++ item_text (Amount second) ++ rest)) answer
-    → IsAnswerFrom sums (flat_map item_text items ++ (item_text (Amount second) ++ item_text (Amount first) ++ rest)) answer
+    → IsAnswerFrom sums (flat_map item_text items ++ (item_text (Component first) ++ item_text (Component second) ++ rest)) answer
+    → IsAnswerFrom sums (flat_map item_text items ++ (item_text (Component second) ++ item_text (Component first) ++ rest)) answer
 answer-exchanged_behind sums [] first second rest answer free good one two from = answer-exchanged sums first second rest answer free one two from
 answer-exchanged_behind sums (item ∷ items) first second rest answer free good one two from =
-    let text = item_text (Amount first) ++ item_text (Amount second) ++ rest in
-    let turned = item_text (Amount second) ++ item_text (Amount first) ++ rest in
+    let text = item_text (Component first) ++ item_text (Component second) ++ rest in
+    let turned = item_text (Component second) ++ item_text (Component first) ++ rest in
     let joined = append_assoc (item_text item) (flat_map item_text items) text in
     let behind = answer-without sums item (flat_map item_text items ++ text) answer good.0 good.1
     (subst (λ (text : List ℕ). IsAnswerFrom sums text answer) joined from) in

@@ -9,13 +9,13 @@ use Rattle.speedate.specs.IsoForm.{DurationUnit, units, unit_in}
 use Rattle.speedate.specs.IsoSums.{unit_place}
 
 -- a unit is among those from a place on if and only if its own place is none before that
-pub unit-from : (mark : Bool) (passed letter : ℕ) → is_some (unit_in (units mark) letter) ≡ true
-    → is_some (unit_in (drop passed (units mark)) letter) ≡ nat_le passed (unit_place letter (units mark))
-unit-from mark zero letter has = has ∙ sym (le-leb zero (unit_place letter (units mark)) (omega arith))
-unit-from false (suc zero) letter has = grind (arith, nat_tests, has)
-unit-from false (suc (suc zero)) letter has = grind (arith, nat_tests, has)
-unit-from false (suc (suc (suc zero))) letter has = grind (arith, nat_tests, has)
-unit-from false (suc (suc (suc (suc passed)))) letter has = rw (drop-nil {A = DurationUnit} passed) (grind (arith, nat_tests, has))
-unit-from true (suc zero) letter has = grind (arith, nat_tests, has)
-unit-from true (suc (suc zero)) letter has = grind (arith, nat_tests, has)
-unit-from true (suc (suc (suc passed))) letter has = rw (drop-nil {A = DurationUnit} passed) (grind (arith, nat_tests, has))
+pub unit-from : (is_time : Bool) (passed designator : ℕ) → is_some (unit_in (units is_time) designator) ≡ true
+    → is_some (unit_in (drop passed (units is_time)) designator) ≡ nat_le passed (unit_place designator (units is_time))
+unit-from is_time zero designator has = has ∙ sym (le-leb zero (unit_place designator (units is_time)) (omega arith))
+unit-from false (suc zero) designator has = grind (arith, nat_tests, has)
+unit-from false (suc (suc zero)) designator has = grind (arith, nat_tests, has)
+unit-from false (suc (suc (suc zero))) designator has = grind (arith, nat_tests, has)
+unit-from false (suc (suc (suc (suc passed)))) designator has = rw (drop-nil {A = DurationUnit} passed) (grind (arith, nat_tests, has))
+unit-from true (suc zero) designator has = grind (arith, nat_tests, has)
+unit-from true (suc (suc zero)) designator has = grind (arith, nat_tests, has)
+unit-from true (suc (suc (suc passed))) designator has = rw (drop-nil {A = DurationUnit} passed) (grind (arith, nat_tests, has))

@@ -6,26 +6,26 @@ use Rattle.speedate.specs.declared.duration.iso.Sums.{Sums as StructSums}
 use Rattle.speedate.specs.DurationNumbers.{UnsignedDuration}
 use Rattle.speedate.specs.IsoForm.{DurationUnit, units, unit_in, Sums, IsAnswerFrom}
 
--- a unit by its letter and its worth
+-- a unit by its designator and its worth
 abbrev pub unit_parts : StructDurationUnit → DurationUnit
-unit_parts unit = record { letter = unit.letter; day = unit.day; second = unit.second }
+unit_parts unit = record { designator = unit.designator; day = unit.day; second = unit.second }
 
--- how many units a list has before the one of a letter
+-- how many units a list has before the one of a designator
 abbrev pub unit_place : ℕ → List DurationUnit → ℕ
-unit_place letter [] = zero
-unit_place letter (unit ∷ units) = if letter == unit.letter then zero else suc (unit_place letter units)
+unit_place designator [] = zero
+unit_place designator (unit ∷ units) = if designator == unit.designator then zero else suc (unit_place designator units)
 
 -- a unit is one of a side, at its place
-pub record IsUnitOf (mark : Bool) (unit : StructDurationUnit) : Type 0 where
-  pub is_unit : unit_in (units mark) unit.letter ≡ Some (unit_parts unit)
-  pub is_place : unit.place ≡ unit_place unit.letter (units mark)
+pub record IsUnitOf (is_time : Bool) (unit : StructDurationUnit) : Type 0 where
+  pub is_unit : unit_in (units is_time) unit.designator ≡ Some (unit_parts unit)
+  pub is_place : unit.place ≡ unit_place unit.designator (units is_time)
 
 -- sums by their numbers
 abbrev pub sums_parts : StructSums → Sums
 sums_parts sums = record {
   order = sums.order;
-  next_units = drop sums.passed (units sums.mark);
-  mark = sums.mark;
+  next_units = drop sums.passed (units sums.is_time);
+  is_time = sums.is_time;
   fraction = sums.fraction;
   some = sums.some;
   day = sums.day;

@@ -31,7 +31,7 @@ use Rattle.speedate.specs.DurationAnswerLaws.{iso_form-only}
 use Rattle.speedate.specs.DurationLaws.{normal_form-same}
 use Rattle.speedate.specs.DurationNumbers.{DurationNumbers, IsDuration, length_of, signed_form}
 use Rattle.speedate.specs.DurationText.{counted_text, kept_digit, without_last_zeros, short_fraction_text, hours_text, days_text, start_text, rest_text, is_whole_days, duration_text}
-use Rattle.speedate.specs.IsoForm.{DurationUnit, unit, units, unit_in, Quantity, Item, Mark, Amount, item_text, IsFraction, Sums, no_sums, units_behind, unit_seconds, fraction_seconds, fraction_microseconds, with_quantity, with_item, with_items, AreGood, Ends, sums_length, IsIsoAnswer}
+use Rattle.speedate.specs.IsoForm.{DurationUnit, unit, units, unit_in, ComponentText, Item, TimeDesignator, Component, item_text, IsFraction, Sums, no_sums, units_behind, unit_seconds, fraction_seconds, fraction_microseconds, with_component, with_item, with_items, AreGood, Ends, sums_length, IsIsoAnswer}
 
 -- a number without leading zeros is digits that spell it
 abbrev AreDigits : List ℕ → Type 0
@@ -131,15 +131,15 @@ leads-append before between after text more first second = (
 
 -- sums with no fraction so far
 abbrev whole_sums : IsoOrder → List DurationUnit → Bool → Bool → ℕ → ℕ → Sums
-whole_sums order next mark some day second =
-    record { order = order; next_units = next; mark = mark; fraction = false; some = some; day = day; second = second; microsecond = 0 }
+whole_sums order next is_time some day second =
+    record { order = order; next_units = next; is_time = is_time; fraction = false; some = some; day = day; second = second; microsecond = 0 }
 
 -- sums whose last item is printed seconds
 abbrev clock_sums : IsoOrder → List DurationUnit → Bool → ℕ → ℕ → ℕ → Sums
 clock_sums order next some day second microsecond = record {
   order = order;
   next_units = next;
-  mark = true;
+  is_time = true;
   fraction = nat_lt 0 (length (short_fraction_text microsecond));
   some = some;
   day = day;
@@ -149,12 +149,12 @@ clock_sums order next some day second microsecond = record {
 
 -- the units that may come behind so many of a unit, of which nothing is printed for none
 abbrev units_left : IsoOrder → Bool → ℕ → Bool → List DurationUnit → List DurationUnit
-units_left order mark letter none next = if none then next else units_behind order mark letter next
+units_left order is_time designator none next = if none then next else units_behind order is_time designator next
 
 -- so many of a unit of one side, which may come next, bring days and seconds to others, all of which fit
-record Adds (unit : DurationUnit) (next : List DurationUnit) (mark : Bool) (number day second days seconds : ℕ) : Type 0 where
-  found : unit_in (units mark) unit.letter ≡ Some unit
-  comes : is_some (unit_in next unit.letter) ≡ true
+record Adds (unit : DurationUnit) (next : List DurationUnit) (is_time : Bool) (number day second days seconds : ℕ) : Type 0 where
+  found : unit_in (units is_time) unit.designator ≡ Some unit
+  comes : is_some (unit_in next unit.designator) ≡ true
   day_sum : day + number * unit.day ≡ days
   second_sum : second + number * unit.second ≡ seconds
   few : number ≤ 4294967295
@@ -170,22 +170,22 @@ no-fraction : (unit : DurationUnit) → IsMicroseconds unit [] 0
 no-fraction unit = (tt, no-seconds unit, no-microseconds unit)
 
 -- a number, its fraction and its unit lead to the sums with so many of the unit
-amount-leads : (order : IsoOrder) (next : List DurationUnit) (unit : DurationUnit) (mark some : Bool) (number day second days seconds microsecond : ℕ) (fraction : List ℕ)
-    → Adds unit next mark number day second days seconds → IsMicroseconds unit fraction microsecond
-    → Leads (whole_sums order next mark some day second) (decimal number ++ fraction ++ unit.letter ∷ [])
+amount-leads : (order : IsoOrder) (next : List DurationUnit) (unit : DurationUnit) (is_time some : Bool) (number day second days seconds microsecond : ℕ) (fraction : List ℕ)
+    → Adds unit next is_time number day second days seconds → IsMicroseconds unit fraction microsecond
+    → Leads (whole_sums order next is_time some day second) (decimal number ++ fraction ++ unit.designator ∷ [])
     (record {
       order = order;
-      next_units = units_behind order mark unit.letter next;
-      mark = mark;
+      next_units = units_behind order is_time unit.designator next;
+      is_time = is_time;
       fraction = nat_lt 0 (length fraction);
       some = true;
       day = days;
       second = seconds;
       microsecond = microsecond;
     })
-amount-leads order next unit mark some number day second days seconds microsecond fraction adds means =
-    let sums = whole_sums order next mark some day second in
-    let quantity : Quantity = record { number = decimal number; fraction = fraction; letter = unit.letter } in
+amount-leads order next unit is_time some number day second days seconds microsecond fraction adds means =
+    let sums = whole_sums order next is_time some day second in
+    let component : ComponentText = record { number = decimal number; fraction = fraction; designator = unit.designator } in
     let small : number < 2 ^ 64 = omega (arith, adds.few) in
     let spelled = digits_value-decimal digits_model number small in
     let fits : digits_value (decimal number) ≤ 4294967295 = omega (arith, spelled, adds.few) in
@@ -194,11 +194,11 @@ amount-leads order next unit mark some number day second days seconds microsecon
     let second_is : second + digits_value (decimal number) * unit.second + fraction_seconds unit (drop 1 fraction) % seconds_per_day ≡ seconds =
     rw (spelled, means.1, adds.second_sum) (omega arith) in
     let microsecond_is : 0 + fraction_microseconds unit (drop 1 fraction) ≡ microsecond = omega (arith, means.2) in
-    let sum = ap (λ one. with_quantity one quantity sums) adds.found
+    let sum = ap (λ one. with_component one component sums) adds.found
     ∙ (λ i. record {
       order = order;
-      next_units = units_behind order mark unit.letter next;
-      mark = mark;
+      next_units = units_behind order is_time unit.designator next;
+      is_time = is_time;
       fraction = nat_lt 0 (length fraction);
       some = true;
       day = day_is i;
@@ -208,8 +208,8 @@ amount-leads order next unit mark some number day second days seconds microsecon
     let sum_fits = ap (λ (sums : Sums). nat_le sums.day 4294967295 && nat_le sums.second 4294967295) sum
     ∙ and_from _ _ (le-leb days 4294967295 adds.few_days) (le-leb seconds 4294967295 adds.few_seconds) in
     let some_digits = lt-ltb 0 (length (decimal number)) (decimal_nonempty number small) in (
-      Amount quantity ∷ [],
-      append-nil (item_text (Amount quantity)),
+      Component component ∷ [],
+      append-nil (item_text (Component component)),
       (
         (digits_decimal digits_model number small, means.0),
         (some_digits, (le-leb _ 4294967295 fits, (refl, (ap is_some adds.found, (adds.comes, (sum_fits, tt)))))),
@@ -219,39 +219,39 @@ amount-leads order next unit mark some number day second days seconds microsecon
     )
 
 -- so do a number and its unit
-whole-leads : (order : IsoOrder) (next : List DurationUnit) (unit : DurationUnit) (mark some : Bool) (number day second days seconds : ℕ)
-    → Adds unit next mark number day second days seconds
-    → Leads (whole_sums order next mark some day second) (decimal number ++ unit.letter ∷ [])
-    (whole_sums order (units_behind order mark unit.letter next) mark true days seconds)
-whole-leads order next unit mark some number day second days seconds adds =
-    let after = whole_sums order (units_behind order mark unit.letter next) mark true days seconds in
-    subst (λ (digits : List ℕ). Leads (whole_sums order next mark some day second) (digits ++ unit.letter ∷ []) after) (append-nil (decimal number))
-    (amount-leads order next unit mark some number day second days seconds 0 [] adds (no-fraction unit))
+whole-leads : (order : IsoOrder) (next : List DurationUnit) (unit : DurationUnit) (is_time some : Bool) (number day second days seconds : ℕ)
+    → Adds unit next is_time number day second days seconds
+    → Leads (whole_sums order next is_time some day second) (decimal number ++ unit.designator ∷ [])
+    (whole_sums order (units_behind order is_time unit.designator next) is_time true days seconds)
+whole-leads order next unit is_time some number day second days seconds adds =
+    let after = whole_sums order (units_behind order is_time unit.designator next) is_time true days seconds in
+    subst (λ (digits : List ℕ). Leads (whole_sums order next is_time some day second) (digits ++ unit.designator ∷ []) after) (append-nil (decimal number))
+    (amount-leads order next unit is_time some number day second days seconds 0 [] adds (no-fraction unit))
 
 -- and where there is nothing for none
-counted-of : (order : IsoOrder) (next : List DurationUnit) (unit : DurationUnit) (mark some none : Bool) (number day second days seconds : ℕ)
-    → (number == 0) ≡ none → Adds unit next mark number day second days seconds
-    → Leads (whole_sums order next mark some day second) (if none then [] else decimal number ++ unit.letter ∷ [])
-    (whole_sums order (units_left order mark unit.letter none next) mark (if none then some else true) days seconds)
-counted-of order next unit mark some true number day second days seconds none adds =
+counted-of : (order : IsoOrder) (next : List DurationUnit) (unit : DurationUnit) (is_time some none : Bool) (number day second days seconds : ℕ)
+    → (number == 0) ≡ none → Adds unit next is_time number day second days seconds
+    → Leads (whole_sums order next is_time some day second) (if none then [] else decimal number ++ unit.designator ∷ [])
+    (whole_sums order (units_left order is_time unit.designator none next) is_time (if none then some else true) days seconds)
+counted-of order next unit is_time some true number day second days seconds none adds =
     let zero_is = eqb-true number 0 none in
     let day_is : day ≡ days = grind (arith, zero_is, adds.day_sum) in
     let second_is : second ≡ seconds = grind (arith, zero_is, adds.second_sum) in
-    ([], refl, tt, λ i. whole_sums order next mark some (day_is i) (second_is i))
-counted-of order next unit mark some false number day second days seconds other adds =
-    whole-leads order next unit mark some number day second days seconds adds
+    ([], refl, tt, λ i. whole_sums order next is_time some (day_is i) (second_is i))
+counted-of order next unit is_time some false number day second days seconds other adds =
+    whole-leads order next unit is_time some number day second days seconds adds
 
-counted-leads : (order : IsoOrder) (next : List DurationUnit) (unit : DurationUnit) (mark some : Bool) (number day second days seconds : ℕ)
-    → Adds unit next mark number day second days seconds
-    → Leads (whole_sums order next mark some day second) (counted_text number unit.letter)
-    (whole_sums order (units_left order mark unit.letter (number == 0) next) mark (if number == 0 then some else true) days seconds)
-counted-leads order next unit mark some number day second days seconds =
-    counted-of order next unit mark some (number == 0) number day second days seconds refl
+counted-leads : (order : IsoOrder) (next : List DurationUnit) (unit : DurationUnit) (is_time some : Bool) (number day second days seconds : ℕ)
+    → Adds unit next is_time number day second days seconds
+    → Leads (whole_sums order next is_time some day second) (counted_text number unit.designator)
+    (whole_sums order (units_left order is_time unit.designator (number == 0) next) is_time (if number == 0 then some else true) days seconds)
+counted-leads order next unit is_time some number day second days seconds =
+    counted-of order next unit is_time some (number == 0) number day second days seconds refl
 
 -- a `T` leads to the other side
-mark-leads : (order : IsoOrder) (next : List DurationUnit) (some : Bool) (day second : ℕ)
+designator-leads : (order : IsoOrder) (next : List DurationUnit) (some : Bool) (day second : ℕ)
     → Leads (whole_sums order next false some day second) (capital_t ∷ []) (whole_sums order (units true) true some day second)
-mark-leads order next some day second = (Mark ∷ [], refl, (tt, (refl, tt), tt), refl)
+designator-leads order next some day second = (TimeDesignator ∷ [], refl, (tt, (refl, tt), tt), refl)
 
 -- no seconds at all
 zero-leads : (order : IsoOrder) (next : List DurationUnit) (some : Bool) (day : ℕ) → day ≤ 4294967295
@@ -268,7 +268,7 @@ zero-leads order next some day few =
       few_seconds = omega arith;
     } in
     subst (λ (digits : List ℕ). Leads (whole_sums order next false some day 0) (capital_t ∷ digits ++ capital_s ∷ []) after) (decimal_digit 0 (lit< tt))
-    (leads-append _ _ _ (capital_t ∷ []) _ (mark-leads order next some day 0)
+    (leads-append _ _ _ (capital_t ∷ []) _ (designator-leads order next some day 0)
     (whole-leads order (units true) (unit capital_s 0 1) true some 0 day 0 day 0 adds))
 
 -- the printed fraction of a second is its microseconds
@@ -457,7 +457,7 @@ rest-answer order numbers true false valid whole some =
 rest-answer order numbers false none valid other is =
     leads-answer order numbers _ _
     (leads-append (no_sums order) _ _ _ _ (days-leads order numbers.day valid.day)
-    (leads-append _ _ _ (capital_t ∷ []) _ (mark-leads order (days_left order numbers.day) _ numbers.day 0) (hours-leads order numbers _ valid other)))
+    (leads-append _ _ _ (capital_t ∷ []) _ (designator-leads order (days_left order numbers.day) _ numbers.day 0) (hours-leads order numbers _ valid other)))
     refl refl
 
 -- a `P` with a sign or without one stands for what is behind it

@@ -82,7 +82,7 @@ impl Duration {
     /// seconds for `"1 day, 1:00:42"`, or the text's one fault.
     ///
     /// One `+` or `-` may come first. What follows is an ISO 8601 duration where it begins with `P`,
-    /// `P1Y2DT3H4M5.5S`: quantities in any order on their side of the `T`, the last one with a
+    /// `P1Y2DT3H4M5.5S`: components in any order on their side of the `T`, the last one with a
     /// fraction of any number of digits, which is taken to its nearest microsecond; a year has 365
     /// days and a month 30. The other forms are this library's own: hours, minutes and seconds as a
     /// clock shows them, `24:01:03.5`, or days with or without such a clock behind them,
@@ -92,10 +92,10 @@ impl Duration {
     /// - `TooShort` where nothing follows the sign;
     /// - behind a `P`, at the first item that has one: `DurationTRepeated` for a second `T`;
     ///   `DurationInvalidNumber` where no digit comes first; `DurationValueTooLarge` where the number
-    ///   is over 4,294,967,295; `DurationInvalidFraction` behind a quantity with a fraction;
-    ///   `DurationInvalidDateUnit` or `DurationInvalidTimeUnit` for another letter than a unit's;
+    ///   is over 4,294,967,295; `DurationInvalidFraction` behind a component with a fraction;
+    ///   `DurationInvalidDateUnit` or `DurationInvalidTimeUnit` for another designator than a unit's of its side;
     ///   `DurationValueTooLarge` where the days or the seconds so far are over 4,294,967,295; and
-    ///   `TooShort` where all items are good and none is a quantity;
+    ///   `TooShort` where all items are good and none is a component;
     /// - of days: `DurationInvalidNumber` where no digit comes first, `DurationValueTooLarge` where
     ///   their number is over 4,294,967,295, `DurationInvalidDays` where no `d`, `day` or `days`
     ///   follows it, all small or all in capitals but for the `d`; then those of a clock behind
@@ -129,17 +129,17 @@ impl Duration {
     }
 
     /// Reads a duration from the bytes of a text, as [`Duration::parse_str`] does, but for the
-    /// digits of a clock's second past the sixth and for the order of quantities. With the behavior
+    /// digits of a clock's second past the sixth and for the order of components. With the behavior
     /// `Truncate` those digits are dropped, so that `b"00:00:01.1234567"` is a second and 123,456
     /// microseconds; to an ISO 8601 duration it does not matter. With the order `Strict` there is one fault more, `DurationUnitOrder` behind a
-    /// `P`: a quantity whose unit does not come later than that of the quantity before it on its side
+    /// `P`: a component whose unit does not come later than that of the component before it on its side
     /// of the `T`, in the order `Y`, `M`, `W`, `D` and behind the `T` `H`, `M`, `S`, as in `b"P1D1Y"`.
-    /// It is looked for behind the fault of a letter that is no unit and in front of sums that are
+    /// It is looked for behind the fault of a designator that is no unit and in front of sums that are
     /// too large. What `Strict` accepts has the value that `Lax` gives it, and days and clocks are
     /// read alike in both. The offset of the configuration does not matter.
     ///
-    /// With the order `Lax` two neighbouring quantities of an ISO 8601 duration on one side of its
-    /// `T`, both without a fraction sign, can be exchanged: `b"P1DT2H3M"` and `b"P1DT3M2H"` have one
+    /// With the order `Lax` two neighbouring components of an ISO 8601 duration on one side of its
+    /// `T`, both without a decimal mark, can be exchanged: `b"P1DT2H3M"` and `b"P1DT3M2H"` have one
     /// answer.
     #[inline(always)]
     pub fn parse_bytes_with_config(bytes: &[u8], config: &TimeConfig) -> Result<Self, ParseError>

@@ -7,7 +7,7 @@ ghost use Rattle.speedate_base.specs.DigitRuns.{run_length, run_value, digits_va
 ghost use Rattle.std.specs.Option.{option_map, is_some};
 ghost use Rattle.speedate_base.specs.declared.faults.ParseError.TheVariants as fault;
 ghost use Rattle.speedate_base.specs.Requirement.{meets, result_map};
-ghost use Rattle.speedate.specs.IsoForm.{Amount, Mark, units, unit_in, is_point, fraction_length, unit_seconds, units_behind, fraction_seconds, fraction_microseconds, quantity_at, quantity_length, item_at, item_length, are_counted, with_amount, with_item, item_table, sums_length, unit_fault, no_sums, IsAnswerFrom};
+ghost use Rattle.speedate.specs.IsoForm.{Component, TimeDesignator, units, unit_in, is_decimal_mark, fraction_length, unit_seconds, units_behind, fraction_seconds, fraction_microseconds, component_at, component_length, item_at, item_length, are_counted, with_amount, with_item, item_table, sums_length, unit_fault, no_sums, IsAnswerFrom};
 
 use super::unsigned::UnsignedDuration;
 use speedate_base::config::IsoOrder;
@@ -22,11 +22,11 @@ const SHORT_LENGTH: usize = 6;
 /// How many digits of a fraction of a second are whole microseconds.
 const MICROSECOND_LENGTH: usize = 6;
 
-/// A unit of time: its letter, its place among the units of its side, and what one of it is, whole
+/// A unit of time: its designator, its place among the units of its side, and what one of it is, whole
 /// days or seconds.
 #[derive(Clone, Copy)]
 struct DurationUnit {
-    letter: u8,
+    designator: u8,
     place: usize,
     day: u32,
     second: u32,
@@ -39,14 +39,14 @@ struct DurationUnit {
 impl DurationUnit {
     ghost use Rattle.speedate.specs.IsoSums.{unit_parts, IsUnitOf};
 
-    /// The unit of a letter, before the `T` or behind it.
+    /// The unit of a designator, before the `T` or behind it.
     #[inline(always)]
-    fn of_letter(letter: u8, behind_mark: bool) -> Option<Self>
-        ensures unit { option_map unit_parts result ≡ unit_in (units behind_mark) letter }
-        ensures side { IfSome result (λ unit. IsUnitOf behind_mark unit) }
-        ensures letter { IfSome result (λ unit. unit.letter ≡ letter) }
+    fn of_designator(designator: u8, is_time: bool) -> Option<Self>
+        ensures unit { option_map unit_parts result ≡ unit_in (units is_time) designator }
+        ensures side { IfSome result (λ unit. IsUnitOf is_time unit) }
+        ensures designator { IfSome result (λ unit. unit.designator ≡ designator) }
     {
-        let (place, day, second) = match (behind_mark, letter) {
+        let (place, day, second) = match (is_time, designator) {
             (false, b'Y') => (0, 365, 0),
             (false, b'M') => (1, 30, 0),
             (false, b'W') => (2, 7, 0),
@@ -57,7 +57,7 @@ impl DurationUnit {
             _ => return None,
         };
         Some(DurationUnit {
-            letter,
+            designator,
             place,
             day,
             second,
@@ -123,15 +123,15 @@ impl DurationUnit {
 /// What the items of a duration add up to.
 #[derive(Clone, Copy)]
 pub(super) struct Sums {
-    /// The order in which quantities have to come.
+    /// The order in which components have to come.
     order: IsoOrder,
     /// How many units of this side may no longer come: those from here on may.
     passed: usize,
     /// Whether there was a `T`.
-    mark: bool,
-    /// Whether a quantity had a fraction.
+    is_time: bool,
+    /// Whether a component had a fraction.
     fraction: bool,
-    /// Whether there was a quantity.
+    /// Whether there was a component.
     some: bool,
     /// The days.
     day: u32,
@@ -149,7 +149,7 @@ impl Sums {
 
     /// Reads all items of a duration, and adds them up.
     ///
-    /// Most texts are plain quantities, a `T`, and plain quantities again. These are read straight on;
+    /// Most texts are plain components, a `T`, and plain components again. These are read straight on;
     /// what is left where they end is read item by item, with all that may be wrong in it.
     #[inline(always)]
     pub(super) fn read(body: &[u8], order: IsoOrder) -> Result<UnsignedDuration, ParseError>
@@ -159,7 +159,7 @@ impl Sums {
         sums.with_rest(body, end)
     }
 
-    /// The sums of the plain quantities at the front of a text, of those behind a `T` that follows
+    /// The sums of the plain components at the front of a text, of those behind a `T` that follows
     /// them, and where these end.
     #[inline(always)]
     fn of_plain(body: &[u8], order: IsoOrder) -> (Self, usize)
@@ -169,7 +169,7 @@ impl Sums {
         let none = Sums {
             order,
             passed: 0,
-            mark: false,
+            is_time: false,
             fraction: false,
             some: false,
             day: 0,
@@ -180,27 +180,27 @@ impl Sums {
         if byte_at(body, end) != b'T' {
             return (days, end);
         }
-        days.behind_mark().with_plain(body, end + 1)
+        days.begin_time().with_plain(body, end + 1)
     }
 
     /// The sums behind the `T`.
     #[inline(always)]
-    fn behind_mark(self) -> Self
-        ensures sums { sums_parts result ≡ with_item Mark (sums_parts self) }
+    fn begin_time(self) -> Self
+        ensures sums { sums_parts result ≡ with_item TimeDesignator (sums_parts self) }
     {
         let mut sums = self;
-        sums.mark = true;
+        sums.is_time = true;
         sums.passed = 0;
         sums
     }
 
-    /// The sums with the plain quantities from a place on, as many as there are, and where they end.
+    /// The sums with the plain components from a place on, as many as there are, and where they end.
     #[inline(always)]
     fn with_plain(self, body: &[u8], start: usize) -> (Self, usize)
         requires none { self.fraction ≡ false }
         requires start { start ≤ length body.now }
         ensures goes_on { GoesOn (sums_parts self) (drop start body.now) (sums_parts result.0) (drop result.1 body.now) }
-        ensures mark { result.0.mark ≡ self.mark }
+        ensures side { result.0.is_time ≡ self.is_time }
         ensures none { result.0.fraction ≡ false }
         ensures within { result.1 ≤ length body.now }
     {
@@ -213,21 +213,21 @@ impl Sums {
         (sums, place)
     }
 
-    /// The sums with the plain quantity at a place, and where it ends: a number of few digits, and
-    /// the letter of its unit. `None` where no such stands there, where the unit is out of order, or
+    /// The sums with the plain component at a place, and where it ends: a number of few digits, and
+    /// the designator of its unit. `None` where no such stands there, where the unit is out of order, or
     /// where the sums grow too large.
     #[inline(always)]
     fn with_next(self, body: &[u8], place: usize) -> Option<(Self, usize)>
         requires none { self.fraction ≡ false }
         requires place { place ≤ length body.now }
         ensures goes_on { IfSome result (λ next. GoesOn (sums_parts self) (drop place body.now) (sums_parts next.0) (drop next.1 body.now)) }
-        ensures mark { IfSome result (λ next. next.0.mark ≡ self.mark) }
+        ensures side { IfSome result (λ next. next.0.is_time ≡ self.is_time) }
         ensures none { IfSome result (λ next. next.0.fraction ≡ false) }
         ensures some { IfSome result (λ next. place < next.1) }
         ensures within { IfSome result (λ next. next.1 ≤ length body.now) }
     {
         let (number, end) = short_number(body, place)?;
-        let unit = DurationUnit::of_letter(byte_at(body, end), self.mark)?;
+        let unit = DurationUnit::of_designator(byte_at(body, end), self.is_time)?;
         if !self.takes(&unit) {
             return None;
         }
@@ -238,8 +238,8 @@ impl Sums {
     /// Whether a unit of this side may still come.
     #[inline(always)]
     fn takes(&self, unit: &DurationUnit) -> bool
-        requires { IsUnitOf self.now.mark unit.now }
-        ensures taken { result ≡ is_some (unit_in (sums_parts self.now).next_units unit.now.letter) }
+        requires { IsUnitOf self.now.is_time unit.now }
+        ensures taken { result ≡ is_some (unit_in (sums_parts self.now).next_units unit.now.designator) }
         ensures place { IsTrue result → self.now.passed ≤ unit.now.place }
     {
         self.passed <= unit.place
@@ -248,10 +248,10 @@ impl Sums {
     /// How many units of this side may no longer come behind one of them.
     #[inline(always)]
     fn passed_by(&self, unit: &DurationUnit) -> usize
-        requires unit { IsUnitOf self.now.mark unit.now }
+        requires unit { IsUnitOf self.now.is_time unit.now }
         requires place { self.now.passed ≤ unit.now.place }
-        ensures units { drop result (units self.now.mark)
-            ≡ units_behind self.now.order self.now.mark unit.now.letter (sums_parts self.now).next_units }
+        ensures units { drop result (units self.now.is_time)
+            ≡ units_behind self.now.order self.now.is_time unit.now.designator (sums_parts self.now).next_units }
     {
         match self.order {
             IsoOrder::Lax => 0,
@@ -263,7 +263,7 @@ impl Sums {
     #[inline(always)]
     fn with_whole(self, number: u32, unit: &DurationUnit) -> Option<Self>
         requires none { self.fraction ≡ false }
-        requires unit { IsUnitOf self.mark unit.now }
+        requires unit { IsUnitOf self.is_time unit.now }
         requires place { self.passed ≤ unit.now.place }
         requires short { number < 1000000 }
         ensures sums { IfSome result (λ sums. sums_parts sums ≡ with_amount (unit_parts unit.now) number [] (sums_parts self)) }
@@ -272,7 +272,7 @@ impl Sums {
         Some(Sums {
             order: self.order,
             passed: self.passed_by(unit),
-            mark: self.mark,
+            is_time: self.is_time,
             fraction: false,
             some: true,
             day: self.day.checked_add(number * unit.day)?,
@@ -295,7 +295,7 @@ impl Sums {
         sums.length()
     }
 
-    /// The length that all items add up to, where a quantity is among them.
+    /// The length that all items add up to, where a component is among them.
     #[inline(always)]
     fn length(self) -> Result<UnsignedDuration, ParseError>
         ensures answer { result_map unsigned_parts result ≡ (if self.some then Ok (sums_length (sums_parts self)) else Err fault.TooShort) }
@@ -321,20 +321,20 @@ impl Sums {
         ensures within { IfOk result (λ size. size ≤ length text.now) }
     {
         if text[0] == b'T' {
-            if self.mark {
+            if self.is_time {
                 return Err(ParseError::DurationTRepeated);
             }
-            *self = self.behind_mark();
+            *self = self.begin_time();
             return Ok(1);
         }
-        self.take_quantity(text)
+        self.take_component(text)
     }
 
-    /// Reads the quantity that begins a text, and adds it. Answers how many bytes it has.
+    /// Reads the component that begins a text, and adds it. Answers how many bytes it has.
     #[inline(always)]
-    fn take_quantity(&mut self, text: &[u8]) -> Result<usize, ParseError>
-        ensures answer { result ≡ meets (item_table (sums_parts self.old) (Amount (quantity_at text.now))) (Ok (quantity_length text.now)) }
-        ensures sums { IfOk result (λ _. sums_parts self.new ≡ with_item (Amount (quantity_at text.now)) (sums_parts self.old)) }
+    fn take_component(&mut self, text: &[u8]) -> Result<usize, ParseError>
+        ensures answer { result ≡ meets (item_table (sums_parts self.old) (Component (component_at text.now))) (Ok (component_length text.now)) }
+        ensures sums { IfOk result (λ _. sums_parts self.new ≡ with_item (Component (component_at text.now)) (sums_parts self.old)) }
         ensures some { IfOk result (λ size. 0 < size) }
         ensures within { IfOk result (λ size. size ≤ length text.now) }
     {
@@ -350,8 +350,10 @@ impl Sums {
         }
         let rest = &text[number.length..];
         let size = fraction_length(rest);
-        let letter = byte_at(rest, size);
-        let unit = DurationUnit::of_letter(letter, self.mark).ok_or(unit_fault(self.mark))?;
+        let designator = byte_at(rest, size);
+        let unit = DurationUnit::of_designator(designator, self.is_time).ok_or(unit_fault(
+            self.is_time,
+        ))?;
         if !self.takes(&unit) {
             return Err(ParseError::DurationUnitOrder);
         }
@@ -359,11 +361,11 @@ impl Sums {
         Ok(number.length + size + 1)
     }
 
-    /// Adds so many of a unit, and a fraction of it, which is nothing or a sign and digits.
+    /// Adds so many of a unit, and a fraction of it, which is nothing or a decimal mark and digits.
     #[inline(always)]
     fn add(&mut self, number: u32, unit: &DurationUnit, fraction: &[u8]) -> Result<(), ParseError>
         requires none { self.old.fraction ≡ false }
-        requires unit { IsUnitOf self.old.mark unit.now }
+        requires unit { IsUnitOf self.old.is_time unit.now }
         requires place { self.old.passed ≤ unit.now.place }
         requires digits { IsTrue (list_all is_ascii_digit (drop 1 fraction.now)) }
         ensures counted { result ≡ (if are_counted (with_amount (unit_parts unit.now) number fraction.now (sums_parts self.old))
@@ -387,7 +389,7 @@ impl Sums {
         *self = Sums {
             order: self.order,
             passed: self.passed_by(unit),
-            mark: self.mark,
+            is_time: self.is_time,
             fraction: !fraction.is_empty(),
             some: true,
             day: day as u32,
@@ -415,7 +417,7 @@ fn short_number(text: &[u8], place: usize) -> Option<(u32, usize)>
     Some((number.value as u32, place + number.length))
 }
 
-/// How many bytes the fraction has that stands at the front of a text: its sign and digits.
+/// How many bytes the fraction has that stands at the front of a text: its decimal mark and digits.
 #[inline(always)]
 fn fraction_length(text: &[u8]) -> usize
     ensures len { result ≡ fraction_length text.now }
@@ -428,20 +430,20 @@ fn fraction_length(text: &[u8]) -> usize
     }
 }
 
-/// Whether the sign of a fraction stands at the front of a text.
+/// Whether a decimal mark stands at the front of a text.
 #[inline(always)]
 fn begins_fraction(text: &[u8]) -> bool
-    ensures point { result ≡ is_point (slice_index text.now 0) }
+    ensures mark { result ≡ is_decimal_mark (slice_index text.now 0) }
     ensures some { IsTrue result → 0 < length text.now }
 {
     matches!(text, [b'.' | b',', ..])
 }
 
-/// The fault of a letter that is no unit before the `T`, or behind it.
-fn unit_fault(behind_mark: bool) -> ParseError
-    ensures { result ≡ unit_fault behind_mark }
+/// The fault of a designator that is none of its side.
+fn unit_fault(is_time: bool) -> ParseError
+    ensures { result ≡ unit_fault is_time }
 {
-    if behind_mark {
+    if is_time {
         ParseError::DurationInvalidTimeUnit
     } else {
         ParseError::DurationInvalidDateUnit

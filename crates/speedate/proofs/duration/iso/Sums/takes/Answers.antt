@@ -7,4 +7,4 @@ pub returns-clause-taken : goal.returns-clause-taken
 returns-clause-taken c =
     let sums = c.args.self.now in
     let unit = c.args.unit.now in
-    ap (nat_le sums.passed) c.requires.is_place ∙ sym (unit-from sums.mark sums.passed unit.letter (ap is_some c.requires.is_unit))
+    ap (nat_le sums.passed) c.requires.is_place ∙ sym (unit-from sums.is_time sums.passed unit.designator (ap is_some c.requires.is_unit))

@@ -9,7 +9,7 @@ pub returns-clause-goes_on : goal.returns-clause-goes_on
 returns-clause-goes_on c = λ answer behind.
     let number = c.in_ok-number.ensures in
     let sums = sums_parts c.args.self in
-    let comes = ap (λ (letter : ℕ). is_some (unit_in sums.next_units letter)) (sym c.in_ok-unit.ensures.letter)
+    let comes = ap (λ (designator : ℕ). is_some (unit_in sums.next_units designator)) (sym c.in_ok-unit.ensures.designator)
     ∙ sym c.takes.ensures.taken ∙ c.if-not-takes.false in
     answer-behind-plain sums (sums_parts c.in_ok-sums.sums) c.args.body.now c.args.place c.in_ok-number.end
     c.in_ok-number.number _ (unit_parts c.in_ok-unit.unit) answer
