@@ -1,7 +1,7 @@
 -- The answer that is read from the left is the answer.
 use Rattle.std.specs.Prelude.{◌≡◌, ℕ, zero, suc, ◌<◌, ◌≤◌, Bool, true, false, not, MatchBool, List, [], ◌∷◌, ◌++◌, length, drop, slice_index, ◌==◌, if◌then◌else◌, Result, Ok, Err, refl}
-use Rattle.std.proofs.Common.{arith, sym, subst, inl, inr, lt_irrefl}
-use Rattle.std.proofs.lemmas.List.{length-drop}
+use Rattle.std.proofs.Common.{arith, ap, sym, ◌∙◌, subst, inl, inr, lt_irrefl}
+use Rattle.std.proofs.lemmas.List.{length-append, length-drop}
 use Rattle.speedate_base.specs.declared.config.IsoOrder.{IsoOrder}
 use Rattle.speedate_base.specs.declared.config.MicrosecondsPrecisionOverflowBehavior.{MicrosecondsPrecisionOverflowBehavior}
 use Rattle.speedate_base.specs.declared.faults.ParseError.{ParseError}
@@ -12,8 +12,8 @@ use Rattle.speedate_base.specs.RequirementLaws.{meets-all, meets-next, meets-val
 use Rattle.speedate.specs.DurationAnswer.{iso_answer, iso_form, unsigned_answer, duration_answer}
 use Rattle.speedate.specs.DurationForm.{form_answer, IsDurationAnswer, IsGrammarAnswer}
 use Rattle.speedate.specs.DurationNumbers.{DurationNumbers, UnsignedDuration, signed_form}
-use Rattle.speedate.specs.IsoForm.{Sums, no_sums, item_at, item_length, component_length, item_table, with_item, IsAnswerFrom, IsIsoAnswer}
-use Rattle.speedate.specs.IsoFormLaws.{answer-only, duration_answer-only}
+use Rattle.speedate.specs.IsoForm.{Item, TimeDesignator, Component, item_text, IsItem, Sums, no_sums, item_at, item_length, component_length, item_table, with_item, IsAnswerFrom, IsIsoAnswer}
+use Rattle.speedate.specs.IsoFormLaws.{answer-only, answer-with, duration_answer-only}
 use Rattle.speedate.specs.IsoFrontLaws.{answer-behind, answer-refused}
 
 -- an item has a byte
@@ -44,6 +44,32 @@ iso_answer-from (suc most) sums (byte ∷ rest) few =
     let left : length (drop (item_length text) text) ≤ most = omega (arith, few, length-drop (item_length text) text, item_length-some text) in
     step sums text (meets (item_table sums (item_at text)) (Ok 0)) (iso_answer most (with_item (item_at text) sums) (drop (item_length text) text))
     (omega arith) refl (iso_answer-from most (with_item (item_at text) sums) (drop (item_length text) text) left)
+
+-- an item in front of a text, as it is read, lets through the answer behind it, or refuses
+item-front : (sums : Sums) (item : Item) (text : List ℕ) (front : Result ℕ ParseError) (next : Result UnsignedDuration ParseError) → 0 < length (item_text item ++ text)
+    → front ≡ meets (item_table sums item) (Ok 0) → IsItem item → item_at (item_text item ++ text) ≡ item → IsAnswerFrom (with_item item sums) text next
+    → IsAnswerFrom sums (item_text item ++ text) (meets (item_table sums item) next)
+item-front sums item text (Ok none) next some same is there behind =
+    let held = meets-value (item_table sums item) 0 none (sym same) in
+    subst (IsAnswerFrom sums (item_text item ++ text)) (sym (meets-all (item_table sums item) next held.0)) (answer-with sums item text next is held.0 behind)
+item-front sums item text (Err fault) next some same is there behind =
+    let refused = same ∙ ap (λ (item : Item). meets (item_table sums item) (Ok 0)) (sym there) in
+    subst (IsAnswerFrom sums (item_text item ++ text)) (meets-next (item_table sums item) 0 (Err fault) next same)
+    (answer-refused sums (item_text item ++ text) fault 0 some refused)
+
+item_text-some : (item : Item) (text : List ℕ) → 0 < length (item_text item ++ text)
+item_text-some TimeDesignator text = omega arith
+item_text-some (Component component) text =
+    let digits = component.number ++ component.fraction in
+    omega (arith, length-append (item_text (Component component)) text, length-append digits (component.designator ∷ []))
+
+pub iso_answer-item : (sums : Sums) (item : Item) (text : List ℕ) → IsItem item → item_at (item_text item ++ text) ≡ item
+    → iso_answer (length (item_text item ++ text)) sums (item_text item ++ text) ≡ meets (item_table sums item) (iso_answer (length text) (with_item item sums) text)
+iso_answer-item sums item text is there =
+    let whole = item_text item ++ text in
+    answer-only sums whole _ _ (iso_answer-from (length whole) sums whole (omega arith))
+    (item-front sums item text (meets (item_table sums item) (Ok 0)) _ (item_text-some item text) refl is there
+    (iso_answer-from (length text) (with_item item sums) text (omega arith)))
 
 -- so an ISO 8601 duration has one answer behind its `P`
 pub iso_form-is : (order : IsoOrder) (text : List ℕ) → IsIsoAnswer order text (iso_form order text)

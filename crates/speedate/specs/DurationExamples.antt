@@ -1,19 +1,20 @@
 -- Examples of durations and the ends of ranges, each true by computation alone.
-use Rattle.std.specs.Prelude.{◌≡◌, ℕ, true, false, [], ◌∷◌, pos, neg_ℤ, codes, Ok, Err, refl}
+use Rattle.std.specs.Prelude.{◌≡◌, ℕ, true, false, List, [], ◌∷◌, pos, neg_ℤ, codes, Ok, Err, refl}
 use Rattle.std.proofs.Common.{inl}
 use Rattle.std.specs.declared.cmp.Ordering.TheVariants as ordering
 use Rattle.speedate_base.specs.declared.config.IsoOrder.TheVariants as order
 use Rattle.speedate_base.specs.declared.config.MicrosecondsPrecisionOverflowBehavior.TheVariants as behavior
 use Rattle.speedate_base.specs.declared.faults.ParseError.TheVariants as fault
-use Rattle.speedate_base.specs.Ascii.{capital_m, capital_y}
+use Rattle.speedate_base.specs.Ascii.{capital_d, capital_m, capital_y}
 use Rattle.speedate.specs.ClockForm.{clock_form}
 use Rattle.speedate.specs.DayForm.{day_form}
 use Rattle.speedate.specs.DurationAnswer.{iso_answer, unsigned_answer, duration_answer}
 use Rattle.speedate.specs.DurationForm.{form_answer}
 use Rattle.speedate.specs.DurationNumbers.{normal_form, signed_milliseconds}
 use Rattle.speedate.specs.DurationOrder.{duration_order}
+use Rattle.speedate.specs.Exchanged.{AreExchanged}
 use Rattle.speedate.specs.InOrder.{are_in_order, IsMadeOf}
-use Rattle.speedate.specs.IsoForm.{Item, TimeDesignator, Component, units}
+use Rattle.speedate.specs.IsoForm.{ComponentText, Item, TimeDesignator, Component, units}
 
 -- whole seconds are carried, and then whole days
 carried : normal_form (record { positive = false; day = 1; second = 86500; microsecond = 1000123 })
@@ -95,6 +96,26 @@ items-in_order = refl
 
 items-repeated : are_in_order (units false) (one_of capital_y ∷ one_of capital_y ∷ []) ≡ false
 items-repeated = refl
+
+-- two components that change places after one that is too large
+abbrev whole : List ℕ → ℕ → ComponentText
+whole number designator = record { number = number; fraction = []; designator = designator }
+
+exchanged-large : AreExchanged (codes "P99999999999Y1M2D") (codes "P99999999999Y2D1M")
+exchanged-large = record {
+  negative = false;
+  sign = [];
+  items = Component (whole (codes "99999999999") capital_y) ∷ [];
+  first = whole (codes "1") capital_m;
+  second = whole (codes "2") capital_d;
+  rest = [];
+  is_sign = inl refl;
+  are_whole = (((refl, tt), refl, refl), tt);
+  is_plain_first = (((refl, tt), refl, refl), refl, refl);
+  is_plain_second = (((refl, tt), refl, refl), refl, refl);
+  is_one = refl;
+  is_two = refl;
+}
 
 -- a clock, and days with a clock behind them
 clock : form_answer behavior.Error (codes "24:01:03.5") ≡ Ok (record { day = 1; second = 63; microsecond = 500000 })
