@@ -13,7 +13,7 @@ use Rattle.speedate.specs.DurationNumbers.{UnsignedDuration}
 abbrev pub is_day_letter : ℕ → Bool
 is_day_letter byte = (byte == small_d) || (byte == capital_d)
 
--- where it stands: behind the number of the days, and one space if there is one
+-- where it stands: after the number of the days, and one space if there is one
 abbrev pub letter_place : List ℕ → ℕ
 letter_place text =
     let end = run_length text 0 in
@@ -61,7 +61,7 @@ days_table text =
     ∷ ((nat_lt 0 (ending_length (behind_letter text)) || not (begins_ending (behind_letter text))) else_fault fault.DurationInvalidDays)
     ∷ []
 
--- what the clock behind them has to meet: it has fewer than 24 hours
+-- what the clock after them has to meet: it has fewer than 24 hours
 abbrev pub day_table : UnsignedDuration → List Requirement
 day_table clock = ((clock.day == 0) else_fault fault.DurationHourValueTooLarge) ∷ []
 
@@ -75,7 +75,7 @@ rest_answer behavior rest =
     if length rest == 0 then Ok (record { day = 0; second = 0; microsecond = 0 })
     else result_and_then under_a_day (clock_form behavior rest)
 
--- the numbers of days and of a clock behind them
+-- the numbers of days and of a clock after them
 abbrev pub with_days : ℕ → UnsignedDuration → UnsignedDuration
 with_days days clock = record clock { day = days }
 

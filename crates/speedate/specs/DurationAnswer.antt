@@ -11,7 +11,7 @@ use Rattle.speedate.specs.DurationForm.{form_answer}
 use Rattle.speedate.specs.DurationNumbers.{DurationNumbers, UnsignedDuration, signed_form}
 use Rattle.speedate.specs.IsoForm.{Sums, no_sums, item_at, item_length, item_table, with_item, sums_length}
 
--- the answer to a text behind items, of which there are at most so many
+-- the answer to a text after items, of which there are at most so many
 unfoldable pub iso_answer : ℕ → Sums → List ℕ → Result UnsignedDuration ParseError
 iso_answer most sums [] = if sums.some then Ok (sums_length sums) else Err fault.TooShort
 iso_answer zero sums (byte ∷ rest) = Err fault.TooShort
@@ -19,7 +19,7 @@ iso_answer (suc most) sums (byte ∷ rest) =
     let text = byte ∷ rest in
     meets (item_table sums (item_at text)) (iso_answer most (with_item (item_at text) sums) (drop (item_length text) text))
 
--- the length that a text says behind its `P`, or the text's fault
+-- the length that a text says after its `P`, or the text's fault
 abbrev pub iso_form : IsoOrder → List ℕ → Result UnsignedDuration ParseError
 iso_form order text = iso_answer (length text) (no_sums order) text
 

@@ -45,7 +45,7 @@ iso_answer-from (suc most) sums (byte ∷ rest) few =
     step sums text (meets (item_table sums (item_at text)) (Ok 0)) (iso_answer most (with_item (item_at text) sums) (drop (item_length text) text))
     (omega arith) refl (iso_answer-from most (with_item (item_at text) sums) (drop (item_length text) text) left)
 
--- an item in front of a text, as it is read, lets through the answer behind it, or refuses
+-- an item before a text, as it is read, lets through the answer after it, or refuses
 item-front : (sums : Sums) (item : Item) (text : List ℕ) (front : Result ℕ ParseError) (next : Result UnsignedDuration ParseError) → 0 < length (item_text item ++ text)
     → front ≡ meets (item_table sums item) (Ok 0) → IsItem item → item_at (item_text item ++ text) ≡ item → IsAnswerFrom (with_item item sums) text next
     → IsAnswerFrom sums (item_text item ++ text) (meets (item_table sums item) next)
@@ -71,7 +71,7 @@ iso_answer-item sums item text is there =
     (item-front sums item text (meets (item_table sums item) (Ok 0)) _ (item_text-some item text) refl is there
     (iso_answer-from (length text) (with_item item sums) text (omega arith)))
 
--- so an ISO 8601 duration has one answer behind its `P`
+-- so an ISO 8601 duration has one answer after its `P`
 pub iso_form-is : (order : IsoOrder) (text : List ℕ) → IsIsoAnswer order text (iso_form order text)
 iso_form-is order text = iso_answer-from (length text) (no_sums order) text (omega arith)
 
@@ -92,7 +92,7 @@ duration_answer-is order behavior text =
     let rest = drop (sign_length text) text in
     (unsigned_answer order behavior rest, form-is order behavior rest (slice_index rest 0 == capital_p), refl)
 
--- behind a sign and a `P` it is that of ISO 8601
+-- after a sign and a `P` it is that of ISO 8601
 pub duration_answer-iso : (order : IsoOrder) (behavior : MicrosecondsPrecisionOverflowBehavior) (negative : Bool) (sign body : List ℕ) → IsSign negative sign
     → duration_answer order behavior (sign ++ capital_p ∷ body) ≡ result_and_then (signed_form (not negative)) (iso_form order body)
 unfolding unsigned_answer

@@ -33,12 +33,12 @@ past = refl
 over : normal_form (record { positive = true; day = 0; second = 4294967295; microsecond = 1000000 }) ≡ Err fault.DurationValueTooLarge
 over = refl
 
--- nothing that is not positive is before nothing that is
+-- a negative duration of nothing is before the positive one
 nothing : duration_order (record { positive = false; day = 0; second = 0; microsecond = 0 }) (record { positive = true; day = 0; second = 0; microsecond = 0 })
     ≡ ordering.Less
 nothing = refl
 
--- the longer of two that are not positive comes first
+-- the longer of two that are negative comes first
 longer : duration_order (record { positive = false; day = 4; second = 0; microsecond = 0 }) (record { positive = false; day = 3; second = 0; microsecond = 0 })
     ≡ ordering.Less
 longer = refl
@@ -60,7 +60,7 @@ iso-refused : duration_answer order.Lax behavior.Error (codes "P1.D1D") ≡ Err 
 unfolding iso_answer unsigned_answer
 iso-refused = refl
 
--- the same text in the order of the standard, and a unit twice; behind the `T` the order begins anew
+-- the same text in the order of the standard, and a unit twice; after the `T` the order begins anew
 iso-in_order : duration_answer order.Strict behavior.Error (codes "P1MT1M") ≡ Ok (record { positive = true; day = 30; second = 60; microsecond = 0 })
 unfolding iso_answer unsigned_answer
 iso-in_order = refl
@@ -117,7 +117,7 @@ exchanged-large = record {
   is_two = refl;
 }
 
--- a clock, and days with a clock behind them
+-- a clock, and days with a clock after them
 clock : form_answer behavior.Error (codes "24:01:03.5") ≡ Ok (record { day = 1; second = 63; microsecond = 500000 })
 unfolding clock_form form_answer
 clock = refl

@@ -26,7 +26,7 @@ AreWhole sums (item ∷ items) = IsWhole sums item × AreWhole (with_item item s
 abbrev pub IsPlain : Sums → ComponentText → Type 0
 IsPlain sums component = IsWhole sums (Component component) × (has_fraction component ≡ false) × (sums.fraction ≡ false)
 
--- the text of a duration that has two components, one next to the other, behind items and in front of a rest
+-- the text of a duration that has two components, one next to the other, after items and before a rest
 abbrev pub pair_text : List ℕ → List Item → ComponentText → ComponentText → List ℕ → List ℕ
 pair_text sign items first second rest =
     sign ++ capital_p ∷ (flat_map item_text items ++ (item_text (Component first) ++ (item_text (Component second) ++ rest)))

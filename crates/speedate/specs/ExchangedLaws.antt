@@ -33,11 +33,11 @@ item_at-whole : (sums : Sums) (item : Item) (rest : List ℕ) → IsWhole sums i
 item_at-whole sums TimeDesignator rest whole = refl
 item_at-whole sums (Component component) rest whole = item_at-amount sums.is_time component rest whole.0 whole.1 whole.2
 
--- sums behind which any unit may come
+-- sums after which any unit may come
 abbrev IsFree : Sums → Type 0
 IsFree sums = (sums.order ≡ order.Lax) × (sums.next_units ≡ units sums.is_time)
 
--- in the lax order those behind an item are such sums again
+-- in the lax order those after an item are such sums again
 amount-free : (unit : Option DurationUnit) (component : ComponentText) (sums : Sums) → IsFree sums → IsFree (with_component unit component sums)
 amount-free None component sums free = free
 amount-free (Some unit) component sums free = (free.0, ap (λ (order : IsoOrder). units_behind order sums.is_time unit.designator sums.next_units) free.0)
@@ -46,7 +46,7 @@ item-free : (item : Item) (sums : Sums) → IsFree sums → IsFree (with_item it
 item-free TimeDesignator sums free = (free.0, refl)
 item-free (Component component) sums free = amount-free (unit_in (units sums.is_time) component.designator) component sums free
 
--- so behind sums of the lax order each unit of the side may come
+-- so after sums of the lax order each unit of the side may come
 free-comes : (sums : Sums) (designator : ℕ) → IsFree sums → is_some (unit_in (units sums.is_time) designator) ≡ true → is_some (unit_in sums.next_units designator) ≡ true
 free-comes sums designator free has = ap (λ (next : List DurationUnit). is_some (unit_in next designator)) free.1 ∙ has
 
@@ -130,7 +130,7 @@ amounts-exchanged first second sums free =
     with_amount-next first second sums ∙ amounts-swap (unit_in (units sums.is_time) first.designator) (unit_in (units sums.is_time) second.designator) first second sums free
     ∙ sym (with_amount-next second first sums)
 
--- a component behind another one can still be refused for its size alone
+-- a component after another one can still be refused for its size alone
 plain-next : (sums : Sums) (first second : ComponentText) → IsPlain sums first → IsPlain sums second → IsPlain (with_item (Component first) sums) second
 plain-next sums first second one two =
     let unit = unit_in (units sums.is_time) first.designator in
@@ -162,11 +162,11 @@ fits-exchanged : (sums : Sums) (first second : ComponentText) → IsFree sums
     → (fits sums first && fits (with_item (Component first) sums) second) ≡ (fits sums second && fits (with_item (Component second) sums) first)
 fits-exchanged sums first second free = same-test _ _ (fits-both sums first second free) (fits-both sums second first free)
 
--- the answer to a text behind sums
+-- the answer to a text after sums
 abbrev answer_from : Sums → List ℕ → Answer
 answer_from sums text = iso_answer (length text) sums text
 
--- the answer to two components and what follows: that behind them where both fit
+-- the answer to two components and what follows: that after them where both fit
 pair-answer : (sums : Sums) (first second : ComponentText) (rest : List ℕ) → IsFree sums → IsPlain sums first → IsPlain sums second
     → answer_from sums (item_text (Component first) ++ (item_text (Component second) ++ rest))
     ≡ (if fits sums first && fits (with_item (Component first) sums) second
@@ -191,7 +191,7 @@ pair-exchanged sums first second rest free one two =
     (fits-exchanged sums first second free) (amounts-exchanged first second sums free)
     ∙ sym (pair-answer sums second first rest free two one)
 
--- nor where they stand behind items, whether these are refused or not
+-- nor where they stand after items, whether these are refused or not
 behind-exchanged : (sums : Sums) (items : List Item) (first second : ComponentText) (rest : List ℕ) → IsFree sums → AreWhole sums items
     → IsPlain (with_items items sums) first → IsPlain (with_items items sums) second
     → answer_from sums (flat_map item_text items ++ (item_text (Component first) ++ (item_text (Component second) ++ rest)))

@@ -1,4 +1,4 @@
--- Components of an ISO 8601 duration that come in the order of the standard: years, months, weeks and days, and behind the `T`
+-- Components of an ISO 8601 duration that come in the order of the standard: years, months, weeks and days, and after the `T`
 -- hours, minutes and seconds, each at most once (ISO 8601 5.5.2.2, of which weeks beside others are not a form).
 use Rattle.std.specs.Prelude.{◌≡◌, ◌⊎◌, ℕ, Bool, true, false, ◌&&◌, List, [], ◌∷◌, ◌++◌, drop, slice_index, ◌==◌, if◌then◌else◌, Result, Ok, Err}
 use Rattle.std.specs.List.{flat_map}
@@ -41,7 +41,7 @@ pub record IsMadeOf (text : List ℕ) (items : List Item) : Type 0 where
 abbrev pub IsLaxOrRefused : {A : Type 0} → Result A ParseError → Result A ParseError → Type 0
 IsLaxOrRefused lax answer = (answer ≡ lax) ⊎ (answer ≡ Err fault.DurationUnitOrder)
 
--- a text is an ISO 8601 duration, and neither days nor a clock: behind its sign it begins with `P`
+-- a text is an ISO 8601 duration, and neither days nor a clock: after its sign it begins with `P`
 abbrev pub is_iso : List ℕ → Bool
 is_iso text = slice_index (drop (sign_length text) text) 0 == capital_p
 

@@ -26,7 +26,7 @@ use Rattle.speedate.specs.IsoFrontLaws.{answer-refused}
 abbrev Answer : Type 0
 Answer = Result UnsignedDuration ParseError
 
--- sums behind which any unit of the side may come, and those behind which only some may
+-- sums after which any unit of the side may come, and those after which only some may
 abbrev as_lax : Sums → Sums
 as_lax sums = record sums { order = order.Lax; next_units = units sums.is_time }
 
@@ -69,7 +69,7 @@ table-both sums (Component component) lax answer both =
     (rows-unit (is_some (unit_in (units sums.is_time) component.designator)) (is_some (unit_in sums.next_units component.designator)) _ _ _
     (row-both (are_counted (with_item (Component component) sums)) _ lax answer both)))))
 
--- behind any items
+-- after any items
 iso-both : (most : ℕ) (sums : Sums) (text : List ℕ)
     → IsLaxOrRefused (iso_answer most (as_lax sums) text) (iso_answer most sums text)
 unfolding iso_answer
@@ -163,7 +163,7 @@ amount-strict next sums component rest in_order true after is all comes behind =
     answer-with (as_strict next sums) (Component component) rest (strict_end in_order after) is hold
     (subst (λ (next : Sums). IsAnswerFrom next rest (strict_end in_order after)) same behind)
 
--- so good items are refused exactly if they are not in order
+-- so good items are refused if and only if they are not in order
 items-strict : (next : List DurationUnit) (sums : Sums) (items : List Item) → AreGood sums items
     → IsAnswerFrom (as_strict next sums) (flat_map item_text items)
     (strict_end (are_in_order next items) (with_items items sums))
@@ -175,7 +175,7 @@ items-strict next sums (Component component ∷ items) good =
     amount-strict next sums component (flat_map item_text items) (are_in_order after items) _ (with_items items (with_item (Component component) sums))
     good.0 good.1 refl (items-strict after (with_item (Component component) sums) items good.2)
 
--- behind a `P`, in each order
+-- after a `P`, in each order
 items-in_strict : (items : List Item) → AreGood (no_sums order.Lax) items
     → iso_form order.Strict (flat_map item_text items) ≡ strict_end (are_in_order (units false) items) (with_items items (no_sums order.Lax))
 items-in_strict items good =
@@ -212,12 +212,12 @@ answer-no_iso : (asked : IsoOrder) (behavior : MicrosecondsPrecisionOverflowBeha
 unfolding unsigned_answer
 answer-no_iso asked behavior text other = rw other refl
 
--- an ISO 8601 duration begins with a `P` behind its sign
+-- an ISO 8601 duration begins with a `P` after its sign
 first-byte : (text : List ℕ) → (slice_index text 0 == capital_p) ≡ true → text ≡ capital_p ∷ drop 1 text
 first-byte [] is = absurd (false≢true is)
 first-byte (byte ∷ text) is = ap (λ (byte : ℕ). byte ∷ text) (eqb-true byte capital_p is)
 
--- one that is read has nothing behind its good items, and a component among them
+-- one that is read has nothing after its good items, and a component among them
 some-read : (positive some : Bool) (sums : Sums) (numbers : DurationNumbers)
     → Ok numbers ≡ result_and_then (signed_form positive) (if some then Ok (sums_length sums) else Err fault.TooShort) → some ≡ true
 some-read positive true sums numbers same = refl
@@ -270,7 +270,7 @@ first-designator : (test : Bool) (unit : DurationUnit) (next : List DurationUnit
 first-designator true unit next component components rest last here behind = here
 first-designator false unit next component components rest last here behind = behind
 
--- components of one side, in front of nothing or of a `T`, are in order if and only if their designators are some of those of the
+-- components of one side, before nothing or a `T`, are in order if and only if their designators are some of those of the
 -- side, in the order of the table, each at most once
 pub are_in_order-designators : (next : List DurationUnit) (components : List ComponentText) (rest : List Item) (last : Bool)
     → ((next : List DurationUnit) → are_in_order next rest ≡ last)

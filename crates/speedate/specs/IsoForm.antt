@@ -1,4 +1,4 @@
--- ISO 8601 durations behind their `P`: years, months, weeks and days, and behind a `T` hours, minutes and seconds.
+-- ISO 8601 durations after their `P`: years, months, weeks and days, and after a `T` hours, minutes and seconds.
 -- Departs from it: components may come in any order on their side and more than once, unless a configuration asks for the
 -- order of the standard, and weeks beside others; the last
 -- one may have a fraction whatever its unit; a `T` may come last; a year has 365 days and a month 30; a sign may come
@@ -27,7 +27,7 @@ pub record DurationUnit : Type 0 where
 abbrev pub unit : ℕ → ℕ → ℕ → DurationUnit
 unit designator day second = record { designator = designator; day = day; second = second }
 
--- the units before the `T`, and those behind it, in the order of the standard
+-- the units before the `T`, and those after it, in the order of the standard
 abbrev pub units : Bool → List DurationUnit
 units false = unit capital_y 365 0 ∷ unit capital_m 30 0 ∷ unit capital_w 7 0 ∷ unit capital_d 1 0 ∷ []
 units true = unit capital_h 0 3600 ∷ unit capital_m 0 60 ∷ unit capital_s 0 1 ∷ []
@@ -76,7 +76,7 @@ IsItem (Component component) = IsTrue (list_all is_ascii_digit component.number)
 abbrev pub fraction_length : List ℕ → ℕ
 fraction_length text = if is_decimal_mark (slice_index text 0) then 1 + run_length text 1 else 0
 
--- the item that begins a text, whole or cut short: behind the end of the text its designator is 0
+-- the item that begins a text, whole or cut short: after the end of the text its designator is 0
 abbrev pub component_at : List ℕ → ComponentText
 component_at text =
     let rest = drop (run_length text 0) text in
@@ -126,7 +126,7 @@ fraction_microseconds unit digits =
     unsigned_abs (nearest (pos (digits_value digits * (1000000 * unit_seconds unit))) (10 ^ length digits))
     - 1000000 * fraction_seconds unit digits
 
--- behind the unit of a designator the strict order leaves what follows it, the lax one the whole side
+-- after the unit of a designator the strict order leaves what follows it, the lax one the whole side
 abbrev pub units_behind : IsoOrder → Bool → ℕ → List DurationUnit → List DurationUnit
 units_behind order.Lax is_time designator next = units is_time
 units_behind order.Strict is_time designator next = units_after designator next
@@ -164,7 +164,7 @@ abbrev pub unit_fault : Bool → ParseError
 unit_fault false = fault.DurationInvalidDateUnit
 unit_fault true = fault.DurationInvalidTimeUnit
 
--- what an item has to meet behind others: at most one `T`; a number; at most one fraction, and nothing behind it; a unit
+-- what an item has to meet after others: at most one `T`; a number; at most one fraction, and nothing after it; a unit
 -- of its side, and one that may still come; and sums that are counted in 32 bits
 abbrev pub item_table : Sums → Item → List Requirement
 item_table sums TimeDesignator = (not sums.is_time else_fault fault.DurationTRepeated) ∷ []
@@ -177,12 +177,12 @@ item_table sums (Component component) =
     ∷ (are_counted (with_item (Component component) sums) else_fault fault.DurationValueTooLarge)
     ∷ []
 
--- the sums of a list of items behind others
+-- the sums of a list of items after others
 abbrev pub with_items : List Item → Sums → Sums
 with_items [] sums = sums
 with_items (item ∷ items) sums = with_items items (with_item item sums)
 
--- each of a list of items is one, and meets the table behind those before it
+-- each of a list of items is one, and meets the table after those before it
 abbrev pub AreGood : Sums → List Item → Type 0
 AreGood sums [] = Unit {0}
 AreGood sums (item ∷ items) = IsItem item × AllHold (item_table sums item) × AreGood (with_item item sums) items
@@ -191,13 +191,13 @@ AreGood sums (item ∷ items) = IsItem item × AllHold (item_table sums item) ×
 abbrev pub sums_length : Sums → UnsignedDuration
 sums_length sums = record { day = sums.day; second = sums.second; microsecond = sums.microsecond }
 
--- how good items end: with nothing behind them, and then with a component among them or not; or with what has a fault
+-- how good items end: with nothing after them, and then with a component among them or not; or with what has a fault
 abbrev pub Ends : Sums → List ℕ → Result UnsignedDuration ParseError → Type 0
 Ends sums [] answer = answer ≡ (if sums.some then Ok (sums_length sums) else Err fault.TooShort)
 Ends sums (byte ∷ rest) answer =
     (fault : ParseError) × (meets (item_table sums (item_at (byte ∷ rest))) (Ok (sums_length sums)) ≡ Err fault) × (answer ≡ Err fault)
 
--- the answer to a text behind items: it is good items and an end
+-- the answer to a text after items: it is good items and an end
 abbrev pub IsAnswerFrom : Sums → List ℕ → Result UnsignedDuration ParseError → Type 0
 IsAnswerFrom sums text answer =
     (items : List Item) × (rest : List ℕ) × (text ≡ flat_map item_text items ++ rest) × AreGood sums items × Ends (with_items items sums) rest answer

@@ -69,7 +69,7 @@ component_at-text component rest is digit point =
       get_or-append_seam component.fraction component.designator rest 0,
     ) refl
 
--- its text is its parts in front of what follows
+-- its text is its parts before what follows
 amount-joined : (component : ComponentText) (rest : List ℕ) → item_text (Component component) ++ rest ≡ component.number ++ (component.fraction ++ component.designator ∷ rest)
 amount-joined component rest = simp append_assoc
 
@@ -133,14 +133,14 @@ answer-only sums text first second one two =
     let moved = subst (λ (items : List Item). Ends (with_items items sums) one.1 first) front.0 one.4 in
     ends-only (with_items two.0 sums) two.1 first second (subst (λ (rest : List ℕ). Ends (with_items two.0 sums) rest first) front.1 moved) two.4
 
--- and so has one behind a `P`, and one in the other forms
+-- and so has one after a `P`, and one in the other forms
 form-only : (order : IsoOrder) (begins : Bool) (text : List ℕ) (form first second : Answer)
     → MatchBool begins (IsIsoAnswer order text first) (first ≡ form) → MatchBool begins (IsIsoAnswer order text second) (second ≡ form)
     → first ≡ second
 form-only order true text form first second one two = answer-only (no_sums order) text first second one two
 form-only order false text form first second one two = one ∙ sym two
 
--- also behind a sign, and in its normal form
+-- also after a sign, and in its normal form
 pub duration_answer-only : (order : IsoOrder) (behavior : MicrosecondsPrecisionOverflowBehavior) (text : List ℕ) (first second : Result DurationNumbers ParseError)
     → IsDurationAnswer order behavior text first → IsDurationAnswer order behavior text second → first ≡ second
 duration_answer-only order behavior text first second one two =
@@ -148,7 +148,7 @@ duration_answer-only order behavior text first second one two =
     let same = form-only order (slice_index body 0 == capital_p) (drop 1 body) (form_answer behavior body) one.0 two.0 one.1 two.1 in
     one.2 ∙ ap (result_and_then (signed_form (not (has_minus text)))) same ∙ sym two.2
 
--- a good item in front of a text leaves the text's answer
+-- a good item before a text leaves the text's answer
 pub answer-with : (sums : Sums) (item : Item) (text : List ℕ) (answer : Answer) → IsItem item → AllHold (item_table sums item)
     → IsAnswerFrom (with_item item sums) text answer → IsAnswerFrom sums (item_text item ++ text) answer
 answer-with sums item text answer is all from =

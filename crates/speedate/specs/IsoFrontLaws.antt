@@ -1,4 +1,4 @@
--- What stands at the front of a text as an item, and how the answer to a text goes on behind it.
+-- What stands at the front of a text as an item, and how the answer to a text goes on after it.
 use Rattle.std.specs.Prelude.{◌≡◌, ℕ, suc, ◌+◌, ◌<◌, Bool, true, false, List, [], ◌∷◌, ◌++◌, length, take, drop, slice_index, if◌then◌else◌, ◌≤◌, ◌==◌, not, Option, Some, Result, Ok, Err, refl}
 use Rattle.std.specs.Char.{is_ascii_digit}
 use Rattle.std.specs.List.{list_all}
@@ -18,7 +18,7 @@ use Rattle.speedate.specs.DurationNumbers.{UnsignedDuration}
 use Rattle.speedate.specs.IsoFormLaws.{answer-with}
 use Rattle.speedate.specs.IsoForm.{DurationUnit, ComponentText, Item, Component, TimeDesignator, Sums, IsItem, component_at, component_length, item_at, item_length, item_text, item_table, with_amount, with_component, with_item, are_counted, Ends, IsAnswerFrom, sums_length, units, unit_in, is_decimal_mark, fraction_length, IsFraction}
 
--- behind a decimal mark stand digits
+-- after a decimal mark stand digits
 digits-behind : (text : List ℕ) (has_mark : Bool) → list_all is_ascii_digit (drop 1 (take (if has_mark then 1 + run_length text 1 else 0) text)) ≡ true
 digits-behind text true = ap (list_all is_ascii_digit) (drop-take 1 (run_length text 1) text) ∙ run-digits (drop 1 text)
 digits-behind text false = refl
@@ -68,7 +68,7 @@ component-front sums text hold =
     let within = designator-within sums.is_time rest size hold.1.1.1.0 in
     ((run-digits text, sign-first rest (is_decimal_mark (slice_index rest 0)) refl), parted text (run_length text 0) size within)
 
--- a text that begins with an item: its answer is that behind the item
+-- a text that begins with an item: its answer is that after the item
 after-item : (sums : Sums) (item : Item) (text rest : List ℕ) (answer : Result UnsignedDuration ParseError)
     → text ≡ item_text item ++ rest → IsItem item → AllHold (item_table sums item)
     → IsAnswerFrom (with_item item sums) rest answer → IsAnswerFrom sums text answer
@@ -92,7 +92,7 @@ pub answer-behind : (sums : Sums) (text : List ℕ) (answer : Result UnsignedDur
     → IsAnswerFrom (with_item (item_at text) sums) (drop (item_length text) text) answer → IsAnswerFrom sums text answer
 answer-behind sums text answer = front-item sums text answer (slice_index text 0 == capital_t) refl
 
--- the same of a number at a place and a designator behind it that has a unit
+-- the same of a number at a place and a designator after it that has a unit
 pub answer-behind-plain : (sums next : Sums) (body : List ℕ) (place end number designator : ℕ) (unit : DurationUnit)
     (answer : Result UnsignedDuration ParseError)
     → sums.fraction ≡ false → number ≡ run_value body place → end ≡ place + run_length body place → designator ≡ slice_index body end

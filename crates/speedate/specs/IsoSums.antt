@@ -33,7 +33,7 @@ sums_parts sums = record {
   microsecond = sums.microsecond;
 }
 
--- a text behind sums goes on as a rest behind other sums: what answers the rest answers the text
+-- a text after sums goes on as a rest after other sums: what answers the rest answers the text
 abbrev pub GoesOn : Sums → List ℕ → Sums → List ℕ → Type 0
 GoesOn sums text next rest =
     (answer : Result UnsignedDuration ParseError) → IsAnswerFrom next rest answer → IsAnswerFrom sums text answer

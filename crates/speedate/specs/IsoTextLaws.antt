@@ -47,7 +47,7 @@ digits_test = record {
 digits_model : IsNumeralModel AreDigits digits_value
 digits_model = numerals_by_weight AreDigits digits_test digits_value (record { empty = refl; more = λ c cs range. refl })
 
--- one more digit in front of two fractions of one worth
+-- one more digit before two fractions of one worth
 more-worth : (value kept whole few few_more many many_more : ℕ) → few_more ≡ 10 * few → many_more ≡ 10 * many → kept * many ≡ whole * few
     → (value * few + kept) * many_more ≡ (value * many + whole) * few_more
 more-worth value kept whole few few_more many many_more few_is many_is same = rw (few_is, many_is) (grind (arith, same))
@@ -106,7 +106,7 @@ second-microseconds digits microsecond all same =
     ap (λ z. unsigned_abs z - 1000000 * fraction_seconds (unit capital_s 0 1) digits) exact
     ∙ ap (λ (n : ℕ). microsecond - 1000000 * n) (second-seconds digits all) ∙ omega arith
 
--- a text leads from sums to others: it is good items behind the first that add up to the second
+-- a text leads from sums to others: it is good items after the first that add up to the second
 abbrev pub Leads : Sums → List ℕ → Sums → Type 0
 Leads before text after =
     (items : List Item) × (flat_map item_text items ≡ text) × AreGood before items × (with_items items before ≡ after)
@@ -147,7 +147,7 @@ clock_sums order next some day second microsecond = record {
   microsecond = microsecond;
 }
 
--- the units that may come behind so many of a unit, of which nothing is printed for none
+-- the units that may come after so many of a unit, of which nothing is printed for none
 abbrev units_left : IsoOrder → Bool → ℕ → Bool → List DurationUnit → List DurationUnit
 units_left order is_time designator none next = if none then next else units_behind order is_time designator next
 
@@ -297,11 +297,11 @@ seconds-of order next some false number microsecond day second seconds other sma
     amount-leads order next (unit capital_s 0 1) true some number day second day seconds microsecond (short_fraction_text microsecond) adds
     (fraction-of microsecond (microsecond == 0) refl small)
 
--- there are years or days exactly if there are days
+-- there are years or days if and only if there are days
 days-some : (day : ℕ) → (if day % 365 == 0 then (if day / 365 == 0 then false else true) else true) ≡ not (day == 0)
 days-some day = grind (arith, nat_tests)
 
--- what may come behind years, and behind years and days
+-- what may come after years, and after years and days
 abbrev years_left : IsoOrder → ℕ → List DurationUnit
 years_left order day = units_left order false capital_y (day / 365 == 0) (units false)
 
@@ -344,12 +344,12 @@ days-leads order day few =
     (counted-leads order (units false) (unit capital_y 365 0) false false (day / 365) 0 0 years 0 years_add)
     (counted-leads order (years_left order day) (unit capital_d 1 0) false _ (day % 365) years 0 day 0 days_add))
 
--- there are hours, minutes or seconds where there is something behind the days
+-- there are hours, minutes or seconds where there is something after the days
 hours-some : (second microsecond : ℕ) (some : Bool) → ((second == 0) && (microsecond == 0)) ≡ false
     → (if (second % 60 == 0) && (microsecond == 0) then (if second / 60 % 60 == 0 then (if second / 3600 == 0 then some else true) else true) else true) ≡ true
 hours-some second microsecond some other = grind (arith, nat_tests)
 
--- what may come behind hours, behind minutes, and behind seconds
+-- what may come after hours, after minutes, and after seconds
 abbrev hours_left : IsoOrder → Bool → List DurationUnit
 hours_left order none = units_left order true capital_h none (units true)
 
@@ -441,7 +441,7 @@ whole-numbers order numbers whole =
     let microsecond_is = sym (eqb-true numbers.microsecond 0 tests.1) in
     λ i. record { day = numbers.day; second = second_is i; microsecond = microsecond_is i }
 
--- what is printed behind the `P` is answered by the duration
+-- what is printed after the `P` is answered by the duration
 rest-answer : (order : IsoOrder) (numbers : DurationNumbers) (whole none : Bool) → IsDuration numbers → is_whole_days numbers ≡ whole
     → (numbers.day == 0) ≡ none
     → IsIsoAnswer order (days_text numbers ++ (if whole then (if none then codes "T0S" else []) else capital_t ∷ hours_text numbers)) (Ok (length_of numbers))
@@ -460,7 +460,7 @@ rest-answer order numbers false none valid other is =
     (leads-append _ _ _ (capital_t ∷ []) _ (designator-leads order (days_left order numbers.day) _ numbers.day 0) (hours-leads order numbers _ valid other)))
     refl refl
 
--- a `P` with a sign or without one stands for what is behind it
+-- a `P` with a sign or without one stands for what is after it
 start-answer : (order : IsoOrder) (behavior : MicrosecondsPrecisionOverflowBehavior) (positive : Bool) (text : List ℕ)
     → duration_answer order behavior (start_text positive ++ text) ≡ result_and_then (signed_form positive) (iso_form order text)
 unfolding unsigned_answer

@@ -85,23 +85,23 @@ impl Duration {
     /// `P1Y2DT3H4M5.5S`: components in any order on their side of the `T`, the last one with a
     /// fraction of any number of digits, which is taken to its nearest microsecond; a year has 365
     /// days and a month 30. The other forms are this library's own: hours, minutes and seconds as a
-    /// clock shows them, `24:01:03.5`, or days with or without such a clock behind them,
+    /// clock shows them, `24:01:03.5`, or days with or without such a clock after them,
     /// `2 days, 10:20`. It has days where a `d` or `D` stands anywhere in it, or where it has fewer
     /// than five bytes. The faults, in the order in which they are looked for:
     ///
     /// - `TooShort` where nothing follows the sign;
-    /// - behind a `P`, at the first item that has one: `DurationTRepeated` for a second `T`;
+    /// - after a `P`, at the first item that has one: `DurationTRepeated` for a second `T`;
     ///   `DurationInvalidNumber` where no digit comes first; `DurationValueTooLarge` where the number
-    ///   is over 4,294,967,295; `DurationInvalidFraction` behind a component with a fraction;
-    ///   `DurationInvalidDateUnit` or `DurationInvalidTimeUnit` for another designator than a unit's of its side;
+    ///   is over 4,294,967,295; `DurationInvalidFraction` after a component with a fraction;
+    ///   `DurationInvalidDateUnit` or `DurationInvalidTimeUnit` for what is no designator of its side;
     ///   `DurationValueTooLarge` where the days or the seconds so far are over 4,294,967,295; and
     ///   `TooShort` where all items are good and none is a component;
     /// - of days: `DurationInvalidNumber` where no digit comes first, `DurationValueTooLarge` where
     ///   their number is over 4,294,967,295, `DurationInvalidDays` where no `d`, `day` or `days`
-    ///   follows it, all small or all in capitals but for the `d`; then those of a clock behind
+    ///   follows it, all small or all in capitals but for the `d`; then those of a clock after
     ///   them, and `DurationHourValueTooLarge` where that has 24 hours or more;
     /// - of a clock: `TooShort` where it has less than five bytes; `InvalidCharHour` where it has no
-    ///   `:`, or something else than digits in front of it, and `DurationHourValueTooLarge` where
+    ///   `:`, or something else than digits before it, and `DurationHourValueTooLarge` where
     ///   that has over ten bytes or is over 2,400,000,000; `SecondFractionTooLong` where more than
     ///   12 bytes follow the `:`, and `TooShort` where less than two do; those of a time of day
     ///   from its minute on; and `ExtraCharacters` where something follows;
@@ -114,8 +114,8 @@ impl Duration {
         Self::parse_bytes(text.as_bytes())
     }
 
-    /// Reads a duration from the bytes of a text, as [`Duration::parse_str`] does: a second that is
-    /// not positive from `b"-00:00:01"`. The bytes need not be text.
+    /// Reads a duration from the bytes of a text, as [`Duration::parse_str`] does: a negative
+    /// second from `b"-00:00:01"`. The bytes need not be text.
     #[inline(always)]
     pub fn parse_bytes(bytes: &[u8]) -> Result<Self, ParseError>
         ensures answer { result_map parts result ≡ duration_answer order.Lax behavior.Error bytes.now }
@@ -131,16 +131,17 @@ impl Duration {
     /// Reads a duration from the bytes of a text, as [`Duration::parse_str`] does, but for the
     /// digits of a clock's second past the sixth and for the order of components. With the behavior
     /// `Truncate` those digits are dropped, so that `b"00:00:01.1234567"` is a second and 123,456
-    /// microseconds; to an ISO 8601 duration it does not matter. With the order `Strict` there is one fault more, `DurationUnitOrder` behind a
-    /// `P`: a component whose unit does not come later than that of the component before it on its side
-    /// of the `T`, in the order `Y`, `M`, `W`, `D` and behind the `T` `H`, `M`, `S`, as in `b"P1D1Y"`.
-    /// It is looked for behind the fault of a designator that is no unit and in front of sums that are
-    /// too large. What `Strict` accepts has the value that `Lax` gives it, and days and clocks are
-    /// read alike in both. The offset of the configuration does not matter.
+    /// microseconds; to an ISO 8601 duration it does not matter. With the order `Strict` there is
+    /// one fault more, `DurationUnitOrder` after a `P`: a component whose unit does not come later
+    /// than that of the component before it on its side of the `T`, in the order `Y`, `M`, `W`, `D`
+    /// and after the `T` `H`, `M`, `S`, as in `b"P1D1Y"`. It is looked for after the fault of a
+    /// designator that is no unit and before sums that are too large. What `Strict` accepts has the
+    /// value that `Lax` gives it, and days and clocks are read alike in both. The offset of the
+    /// configuration does not matter.
     ///
     /// With the order `Lax` two neighbouring components of an ISO 8601 duration on one side of its
-    /// `T`, both without a decimal mark, can be exchanged: `b"P1DT2H3M"` and `b"P1DT3M2H"` have one
-    /// answer.
+    /// `T`, with no decimal mark in them or before them, can be exchanged: `b"P1DT2H3M"` and
+    /// `b"P1DT3M2H"` have one answer.
     #[inline(always)]
     pub fn parse_bytes_with_config(bytes: &[u8], config: &TimeConfig) -> Result<Self, ParseError>
         ensures answer { result_map parts result ≡ duration_answer config.now.iso_order config.now.microseconds_precision_overflow_behavior bytes.now }
@@ -192,7 +193,7 @@ impl Duration {
         Self::new(positive, day, second, microsecond)
     }
 
-    /// The whole seconds with the sign: -86,401 for a day and a second that are not positive.
+    /// The whole seconds with the sign: -86,401 for a negative day and second.
     #[inline]
     pub fn signed_total_seconds(&self) -> i64
         ensures second { result ≡ signed_seconds (parts self.now) }
@@ -200,8 +201,7 @@ impl Duration {
         with_sign(!self.positive, self.seconds())
     }
 
-    /// The milliseconds with the sign, cut toward zero: -1,001 for 1.0019 seconds that are not
-    /// positive.
+    /// The milliseconds with the sign, cut toward zero: -1,001 for -1.0019 seconds.
     #[inline]
     pub fn signed_total_ms(&self) -> i64
         ensures millisecond { result ≡ signed_milliseconds (parts self.now) }
@@ -210,8 +210,8 @@ impl Duration {
         with_sign(!self.positive, milliseconds)
     }
 
-    /// The microseconds of a second with the sign: -1,000 for a second and 1,000 microseconds that
-    /// are not positive.
+    /// The microseconds of a second with the sign: -1,000 for a negative second and
+    /// 1,000 microseconds.
     #[inline]
     pub fn signed_microseconds(&self) -> i32
         ensures microsecond { result ≡ signed_microsecond (parts self.now) }

@@ -104,7 +104,7 @@ pub(super) fn is_day_letter(byte: u8) -> bool
     byte == b'd' || byte == b'D'
 }
 
-/// The place of that letter, where the number of the days ends at `end`: behind one space if there
+/// The place of that letter, where the number of the days ends at `end`: after one space if there
 /// is one.
 #[inline(always)]
 fn letter_place(bytes: &[u8], end: usize) -> usize

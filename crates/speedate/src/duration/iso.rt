@@ -39,7 +39,7 @@ struct DurationUnit {
 impl DurationUnit {
     ghost use Rattle.speedate.specs.IsoSums.{unit_parts, IsUnitOf};
 
-    /// The unit of a designator, before the `T` or behind it.
+    /// The unit of a designator, before the `T` or after it.
     #[inline(always)]
     fn of_designator(designator: u8, is_time: bool) -> Option<Self>
         ensures unit { option_map unit_parts result ≡ unit_in (units is_time) designator }
@@ -159,7 +159,7 @@ impl Sums {
         sums.with_rest(body, end)
     }
 
-    /// The sums of the plain components at the front of a text, of those behind a `T` that follows
+    /// The sums of the plain components at the front of a text, of those after a `T` that follows
     /// them, and where these end.
     #[inline(always)]
     fn of_plain(body: &[u8], order: IsoOrder) -> (Self, usize)
@@ -183,7 +183,7 @@ impl Sums {
         days.begin_time().with_plain(body, end + 1)
     }
 
-    /// The sums behind the `T`.
+    /// The sums after the `T`.
     #[inline(always)]
     fn begin_time(self) -> Self
         ensures sums { sums_parts result ≡ with_item TimeDesignator (sums_parts self) }
@@ -245,7 +245,7 @@ impl Sums {
         self.passed <= unit.place
     }
 
-    /// How many units of this side may no longer come behind one of them.
+    /// How many units of this side may no longer come after one of them.
     #[inline(always)]
     fn passed_by(&self, unit: &DurationUnit) -> usize
         requires unit { IsUnitOf self.now.is_time unit.now }
