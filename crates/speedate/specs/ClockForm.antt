@@ -10,7 +10,7 @@ use Rattle.speedate_base.specs.DigitRuns.{run_length, run_value}
 use Rattle.speedate_base.specs.Refusal.{refuses_digits}
 use Rattle.speedate_base.specs.Requirement.{Requirement, ◌else_fault◌, ◌implies◌, meets, result_and_then}
 use Rattle.speedate_civil.specs.ClockText.{Clock, minute_front}
-use Rattle.speedate.specs.DurationNumbers.{DurationNumbers}
+use Rattle.speedate.specs.DurationNumbers.{UnsignedDuration}
 
 -- how many bytes stand before the first `:`, or in all where there is none
 abbrev pub hours_length : List ℕ → ℕ
@@ -47,24 +47,23 @@ abbrev pub end_table : List ℕ → Clock → List Requirement
 end_table rest clock = ((clock.size == length rest) else_fault fault.ExtraCharacters) ∷ []
 
 -- so many hours, and the minute, second and microsecond of a clock
-abbrev pub clock_numbers : Bool → ℕ → Clock → DurationNumbers
-clock_numbers positive hours clock = record {
-  positive = positive;
+abbrev pub clock_numbers : ℕ → Clock → UnsignedDuration
+clock_numbers hours clock = record {
   day = hours / 24;
   second = 3600 * (hours % 24) + 60 * clock.minute + clock.second;
   microsecond = clock.microsecond;
 }
 
 -- the duration of so many hours and of a clock that takes the whole rest
-abbrev pub whole_clock : Bool → ℕ → List ℕ → Clock → Result DurationNumbers ParseError
-whole_clock positive hours rest clock = meets (end_table rest clock) (Ok (clock_numbers positive hours clock))
+abbrev pub whole_clock : ℕ → List ℕ → Clock → Result UnsignedDuration ParseError
+whole_clock hours rest clock = meets (end_table rest clock) (Ok (clock_numbers hours clock))
 
 -- the duration of so many hours and of the clock that follows them
-abbrev pub after_hours : MicrosecondsPrecisionOverflowBehavior → Bool → ℕ → List ℕ → Result DurationNumbers ParseError
-after_hours behavior positive hours rest =
-    meets (hours_range behavior hours rest) (result_and_then (whole_clock positive hours rest) (minute_front behavior rest))
+abbrev pub after_hours : MicrosecondsPrecisionOverflowBehavior → ℕ → List ℕ → Result UnsignedDuration ParseError
+after_hours behavior hours rest =
+    meets (hours_range behavior hours rest) (result_and_then (whole_clock hours rest) (minute_front behavior rest))
 
 -- the duration that a text is in this form, or the text's fault
-unfoldable pub clock_form : MicrosecondsPrecisionOverflowBehavior → Bool → List ℕ → Result DurationNumbers ParseError
-clock_form behavior positive text =
-    meets (hours_digits text) (after_hours behavior positive (run_value text 0) (behind_hours text))
+unfoldable pub clock_form : MicrosecondsPrecisionOverflowBehavior → List ℕ → Result UnsignedDuration ParseError
+clock_form behavior text =
+    meets (hours_digits text) (after_hours behavior (run_value text 0) (behind_hours text))

@@ -55,10 +55,10 @@ has_hours-run text true ends =
     last-two _ (nat_le (hours_length text) 10) _ within same ∙ ap (λ (n : ℕ). nat_le n 10) run.1
 
 -- a number of hours that does not fit 64 bits is refused like the largest that does
-pub after_hours-saturated : (behavior : MicrosecondsPrecisionOverflowBehavior) (positive : Bool) (hours : ℕ) (rest : List ℕ)
-    → after_hours behavior positive (min hours (2 ^ 64 - 1)) rest ≡ after_hours behavior positive hours rest
-after_hours-saturated behavior positive hours rest = elim (cases_lt hours (2 ^ 64)) [
-  | inl fits ↦ let same : min hours (2 ^ 64 - 1) ≡ hours = omega (arith, fits) in ap (λ (n : ℕ). after_hours behavior positive n rest) same
+pub after_hours-saturated : (behavior : MicrosecondsPrecisionOverflowBehavior) (hours : ℕ) (rest : List ℕ)
+    → after_hours behavior (min hours (2 ^ 64 - 1)) rest ≡ after_hours behavior hours rest
+after_hours-saturated behavior hours rest = elim (cases_lt hours (2 ^ 64)) [
+  | inl fits ↦ let same : min hours (2 ^ 64 - 1) ≡ hours = omega (arith, fits) in ap (λ (n : ℕ). after_hours behavior n rest) same
   | inr past ↦
       let one : nat_le (min hours (2 ^ 64 - 1)) 2400000000 ≡ false = grind (arith, nat_tests, past) in
       let two : nat_le hours 2400000000 ≡ false = grind (arith, nat_tests, past) in

@@ -7,13 +7,13 @@ use Rattle.speedate_base.specs.Ascii.{space, comma, capital_a, capital_d, small_
 use Rattle.speedate_base.specs.DigitRuns.{run_length, run_value}
 use Rattle.speedate_base.specs.Requirement.{Requirement, ◌else_fault◌, meets, result_map, result_and_then}
 use Rattle.speedate.specs.ClockForm.{clock_form}
-use Rattle.speedate.specs.DurationNumbers.{DurationNumbers}
+use Rattle.speedate.specs.DurationNumbers.{UnsignedDuration}
 
 -- the letter of a day
 abbrev pub is_day_letter : ℕ → Bool
 is_day_letter byte = (byte == small_d) || (byte == capital_d)
 
--- where it stands: behind the number of the days, and one space if there is one
+-- where it stands: after the number of the days, and one space if there is one
 abbrev pub letter_place : List ℕ → ℕ
 letter_place text =
     let end = run_length text 0 in
@@ -61,29 +61,29 @@ days_table text =
     ∷ ((nat_lt 0 (ending_length (behind_letter text)) || not (begins_ending (behind_letter text))) else_fault fault.DurationInvalidDays)
     ∷ []
 
--- what the clock behind them has to meet: it has fewer than 24 hours
-abbrev pub day_table : DurationNumbers → List Requirement
+-- what the clock after them has to meet: it has fewer than 24 hours
+abbrev pub day_table : UnsignedDuration → List Requirement
 day_table clock = ((clock.day == 0) else_fault fault.DurationHourValueTooLarge) ∷ []
 
 -- the duration of a clock of fewer than 24 hours
-abbrev pub under_a_day : DurationNumbers → Result DurationNumbers ParseError
+abbrev pub under_a_day : UnsignedDuration → Result UnsignedDuration ParseError
 under_a_day clock = meets (day_table clock) (Ok clock)
 
 -- the duration of what follows the days: of nothing, or of such a clock
-abbrev pub rest_answer : MicrosecondsPrecisionOverflowBehavior → Bool → List ℕ → Result DurationNumbers ParseError
-rest_answer behavior positive rest =
-    if length rest == 0 then Ok (record { positive = positive; day = 0; second = 0; microsecond = 0 })
-    else result_and_then under_a_day (clock_form behavior positive rest)
+abbrev pub rest_answer : MicrosecondsPrecisionOverflowBehavior → List ℕ → Result UnsignedDuration ParseError
+rest_answer behavior rest =
+    if length rest == 0 then Ok (record { day = 0; second = 0; microsecond = 0 })
+    else result_and_then under_a_day (clock_form behavior rest)
 
--- the numbers of days and of a clock behind them
-abbrev pub with_days : ℕ → DurationNumbers → DurationNumbers
+-- the numbers of days and of a clock after them
+abbrev pub with_days : ℕ → UnsignedDuration → UnsignedDuration
 with_days days clock = record clock { day = days }
 
 -- the numbers of so many days and of what follows them
-abbrev pub after_days : MicrosecondsPrecisionOverflowBehavior → Bool → ℕ → List ℕ → Result DurationNumbers ParseError
-after_days behavior positive days rest = result_map (with_days days) (rest_answer behavior positive rest)
+abbrev pub after_days : MicrosecondsPrecisionOverflowBehavior → ℕ → List ℕ → Result UnsignedDuration ParseError
+after_days behavior days rest = result_map (with_days days) (rest_answer behavior rest)
 
 -- the numbers that a text says in this form, the days of any size, or the text's fault
-unfoldable pub day_form : MicrosecondsPrecisionOverflowBehavior → Bool → List ℕ → Result DurationNumbers ParseError
-day_form behavior positive text =
-    meets (days_table text) (after_days behavior positive (run_value text 0) (drop (days_length text) text))
+unfoldable pub day_form : MicrosecondsPrecisionOverflowBehavior → List ℕ → Result UnsignedDuration ParseError
+day_form behavior text =
+    meets (days_table text) (after_days behavior (run_value text 0) (drop (days_length text) text))

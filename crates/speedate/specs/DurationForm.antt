@@ -11,7 +11,7 @@ use Rattle.speedate_base.specs.Requirement.{result_and_then}
 use Rattle.speedate.specs.ClockForm.{clock_form}
 use Rattle.speedate.specs.DayForm.{is_day_letter, day_form}
 use Rattle.speedate.specs.IsoForm.{IsIsoAnswer}
-use Rattle.speedate.specs.DurationNumbers.{DurationNumbers, normal_form}
+use Rattle.speedate.specs.DurationNumbers.{DurationNumbers, UnsignedDuration, signed_form}
 
 -- the letter of a day stands anywhere in a text
 abbrev pub has_day_letter : List ℕ → Bool
@@ -21,23 +21,24 @@ has_day_letter text = list_any is_day_letter text
 abbrev pub has_days : List ℕ → Bool
 has_days text = nat_lt (length text) 5 || has_day_letter text
 
--- the numbers that a text says as days or as a clock, or the text's fault
-unfoldable pub form_answer : MicrosecondsPrecisionOverflowBehavior → Bool → List ℕ → Result DurationNumbers ParseError
-form_answer behavior positive text =
+-- the length that a text says as days or as a clock, or the text's fault
+unfoldable pub form_answer : MicrosecondsPrecisionOverflowBehavior → List ℕ → Result UnsignedDuration ParseError
+form_answer behavior text =
     if length text == 0 then Err fault.TooShort
-    else (if has_days text then day_form behavior positive text else clock_form behavior positive text)
+    else (if has_days text then day_form behavior text else clock_form behavior text)
 
 -- the answer to a text without a sign: as ISO 8601 has durations where it begins with `P`
-abbrev pub IsFormAnswer : IsoOrder → MicrosecondsPrecisionOverflowBehavior → Bool → List ℕ → Result DurationNumbers ParseError → Type 0
-IsFormAnswer order behavior positive text answer =
-    MatchBool (slice_index text 0 == capital_p) (IsIsoAnswer order positive (drop 1 text) answer) (answer ≡ form_answer behavior positive text)
+abbrev pub IsFormAnswer : IsoOrder → MicrosecondsPrecisionOverflowBehavior → List ℕ → Result UnsignedDuration ParseError → Type 0
+IsFormAnswer order behavior text answer =
+    MatchBool (slice_index text 0 == capital_p) (IsIsoAnswer order (drop 1 text) answer) (answer ≡ form_answer behavior text)
 
--- its answer in normal form, whose faults come last
-abbrev pub IsNormalAnswer : IsoOrder → MicrosecondsPrecisionOverflowBehavior → Bool → List ℕ → Result DurationNumbers ParseError → Type 0
-IsNormalAnswer order behavior positive text answer =
-    (form : Result DurationNumbers ParseError) × IsFormAnswer order behavior positive text form × (answer ≡ result_and_then normal_form form)
-
--- the answer to a text: the duration that it is, or its fault
+-- the answer to a text: the duration that it is, or its fault. The sign comes last, and with it the normal form
 abbrev pub IsDurationAnswer : IsoOrder → MicrosecondsPrecisionOverflowBehavior → List ℕ → Result DurationNumbers ParseError → Type 0
 IsDurationAnswer order behavior text answer =
-    IsNormalAnswer order behavior (not (has_minus text)) (drop (sign_length text) text) answer
+    (form : Result UnsignedDuration ParseError) × IsFormAnswer order behavior (drop (sign_length text) text) form
+    × (answer ≡ result_and_then (signed_form (not (has_minus text))) form)
+
+-- an answer is the grammar's: the relation allows it, and allows no other
+pub record IsGrammarAnswer (order : IsoOrder) (behavior : MicrosecondsPrecisionOverflowBehavior) (text : List ℕ) (answer : Result DurationNumbers ParseError) : Type 0 where
+  pub is_allowed : IsDurationAnswer order behavior text answer
+  pub is_only : (other : Result DurationNumbers ParseError) → IsDurationAnswer order behavior text other → other ≡ answer

@@ -13,6 +13,19 @@ pub record DurationNumbers : Type 0 where
   pub second : ℕ
   pub microsecond : ℕ
 
+-- a length of time without a sign: days, seconds and microseconds, of any size
+pub record UnsignedDuration : Type 0 where
+  pub day : ℕ
+  pub second : ℕ
+  pub microsecond : ℕ
+
+-- a duration's, and the duration that it is with a sign
+abbrev pub length_of : DurationNumbers → UnsignedDuration
+length_of numbers = record { day = numbers.day; second = numbers.second; microsecond = numbers.microsecond }
+
+abbrev pub duration_of : Bool → UnsignedDuration → DurationNumbers
+duration_of positive length = record { positive = positive; day = length.day; second = length.second; microsecond = length.microsecond }
+
 -- its numbers are in their ranges
 pub record IsDuration (numbers : DurationNumbers) : Type 0 where
   pub day : numbers.day ≤ 999999999
@@ -53,6 +66,10 @@ normal_table numbers =
 -- the normal form: the numbers in their ranges that have the same length, or the fault
 abbrev pub normal_form : DurationNumbers → Result DurationNumbers ParseError
 normal_form numbers = meets (normal_table numbers) (Ok (of_length numbers.positive (length_microseconds numbers)))
+
+-- the normal form of a length with a sign
+abbrev pub signed_form : Bool → UnsignedDuration → Result DurationNumbers ParseError
+signed_form positive length = normal_form (duration_of positive length)
 
 -- the length in whole seconds with the sign
 abbrev pub signed_seconds : DurationNumbers → ℤ

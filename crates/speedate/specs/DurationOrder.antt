@@ -11,13 +11,13 @@ size_order =
     then_cmp (on (λ numbers. numbers.day) nat_cmp)
     (then_cmp (on (λ numbers. numbers.second) nat_cmp) (on (λ numbers. numbers.microsecond) nat_cmp))
 
--- what is not positive comes before what is, and the larger of two that are not positive before the smaller
+-- what is negative comes before what is positive, and the larger of two that are negative before the smaller
 abbrev pub signed_order : Bool → Bool → Ordering → Ordering → Ordering
 signed_order true true order turned = order
 signed_order false false order turned = turned
 signed_order false true order turned = ordering.Less
 signed_order true false order turned = ordering.Greater
 
--- the order of durations: so that of no length that is not positive comes before the positive one
+-- the order of durations: so the negative one of no length comes before the positive one
 abbrev pub duration_order : DurationNumbers → DurationNumbers → Ordering
 duration_order first second = signed_order first.positive second.positive (size_order first second) (size_order second first)

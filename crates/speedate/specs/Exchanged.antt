@@ -1,37 +1,46 @@
--- ISO 8601 durations that are one but for the order of two neighbouring quantities of one side.
-use Rattle.std.specs.Prelude.{◌≡◌, ℕ, Bool, true, false, List, ◌∷◌, ◌++◌, length, nat_lt}
+-- ISO 8601 durations that are one but for the order of two neighbouring components of one side.
+use Rattle.std.specs.Prelude.{◌≡◌, ℕ, Bool, true, false, List, [], ◌∷◌, ◌++◌, length, nat_lt}
 use Rattle.std.specs.List.{flat_map}
 use Rattle.std.specs.Option.{is_some}
 use Rattle.speedate_base.specs.declared.config.IsoOrder.TheVariants as order
 use Rattle.speedate_base.specs.Ascii.{capital_p}
 use Rattle.speedate_base.specs.Numbers.{IsSign}
-use Rattle.speedate.specs.IsoForm.{units, unit_in, Quantity, Item, Amount, item_text, IsItem, Sums, no_sums, with_items, AreGood}
+use Rattle.speedate.specs.IsoForm.{units, unit_in, ComponentText, Item, Component, item_text, IsItem, TimeDesignator, Sums, no_sums, with_item, with_items}
 
--- a quantity has a fraction, if only its sign
-abbrev pub has_fraction : Quantity → Bool
-has_fraction quantity = nat_lt 0 (length quantity.fraction)
+-- a component has a fraction, if only its decimal mark
+abbrev pub has_fraction : ComponentText → Bool
+has_fraction component = nat_lt 0 (length component.fraction)
 
--- a quantity without a fraction that can be refused for its size alone, where quantities may come in any order
-abbrev pub IsPlain : Sums → Quantity → Type 0
-IsPlain sums quantity =
-    IsItem (Amount quantity) × (nat_lt 0 (length quantity.number) ≡ true) × (has_fraction quantity ≡ false) × (sums.fraction ≡ false)
-    × (is_some (unit_in (units sums.mark) quantity.letter) ≡ true)
+-- an item is whole: a `T`, or a component that has digits and the designator of a unit of its side
+abbrev pub IsWhole : Sums → Item → Type 0
+IsWhole sums TimeDesignator = Unit {0}
+IsWhole sums (Component component) =
+    IsItem (Component component) × (nat_lt 0 (length component.number) ≡ true) × (is_some (unit_in (units sums.is_time) component.designator) ≡ true)
 
--- the text of a duration that has two quantities, one next to the other, behind items and in front of a rest
-abbrev pub pair_text : List ℕ → List Item → Quantity → Quantity → List ℕ → List ℕ
+-- each of a list of items is, whether it meets its table or not
+abbrev pub AreWhole : Sums → List Item → Type 0
+AreWhole sums [] = Unit {0}
+AreWhole sums (item ∷ items) = IsWhole sums item × AreWhole (with_item item sums) items
+
+-- a component can be refused for its size alone, where components may come in any order: no decimal mark is in it or before it
+abbrev pub IsPlain : Sums → ComponentText → Type 0
+IsPlain sums component = IsWhole sums (Component component) × (has_fraction component ≡ false) × (sums.fraction ≡ false)
+
+-- the text of a duration that has two components, one next to the other, after items and before a rest
+abbrev pub pair_text : List ℕ → List Item → ComponentText → ComponentText → List ℕ → List ℕ
 pair_text sign items first second rest =
-    sign ++ capital_p ∷ (flat_map item_text items ++ (item_text (Amount first) ++ item_text (Amount second) ++ rest))
+    sign ++ capital_p ∷ (flat_map item_text items ++ (item_text (Component first) ++ (item_text (Component second) ++ rest)))
 
--- two texts are one but for the order of two neighbouring quantities of one side, which have no fraction sign
+-- two texts are one but for the order of two neighbouring components of one side, which have no decimal mark
 pub record AreExchanged (one two : List ℕ) : Type 0 where
   pub negative : Bool
   pub sign : List ℕ
   pub items : List Item
-  pub first : Quantity
-  pub second : Quantity
+  pub first : ComponentText
+  pub second : ComponentText
   pub rest : List ℕ
   pub is_sign : IsSign negative sign
-  pub are_good : AreGood (no_sums order.Lax) items
+  pub are_whole : AreWhole (no_sums order.Lax) items
   pub is_plain_first : IsPlain (with_items items (no_sums order.Lax)) first
   pub is_plain_second : IsPlain (with_items items (no_sums order.Lax)) second
   pub is_one : one ≡ pair_text sign items first second rest

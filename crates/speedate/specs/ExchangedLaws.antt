@@ -1,69 +1,221 @@
--- In the lax order the answer to a text of a duration does not depend on the order of two neighbouring quantities of one side.
-use Rattle.std.specs.Prelude.{◌≡◌, ℕ, Bool, true, false, not, List, ◌∷◌, ◌++◌, drop, Result, refl}
+-- In the lax order the answer to a text of a duration does not depend on the order of two neighbouring components of one side.
+use Rattle.std.specs.Prelude.{◌≡◌, ℕ, ◌+◌, ◌≤◌, Bool, true, false, not, ◌&&◌, ◌||◌, List, [], ◌∷◌, ◌++◌, length, nat_le, if◌then◌else◌, Option, Some, None, Result, Err, refl}
+use Rattle.std.specs.Option.{is_some}
 use Rattle.std.specs.List.{flat_map}
-use Rattle.std.proofs.Common.{sym, subst, inl, inr}
+use Rattle.std.proofs.Common.{arith, ap, ap₂, sym, ◌∙◌, append_assoc}
+use Rattle.std.proofs.Math.Bool.{or_assoc, or_comm}
+use Rattle.std.proofs.Math.Nat.{add_right_comm}
+use Rattle.std.proofs.lemmas.Bool.{and_from, and_parts, or_from}
+use Rattle.std.proofs.lemmas.Bool.Decides.{nat_tests}
 use Rattle.speedate_base.specs.declared.config.IsoOrder.{IsoOrder}
 use Rattle.speedate_base.specs.declared.config.IsoOrder.TheVariants as order
 use Rattle.speedate_base.specs.declared.config.MicrosecondsPrecisionOverflowBehavior.{MicrosecondsPrecisionOverflowBehavior}
 use Rattle.speedate_base.specs.declared.faults.ParseError.{ParseError}
-use Rattle.speedate_base.specs.Ascii.{capital_p}
-use Rattle.speedate_base.specs.Numbers.{has_minus, sign_length, IsSign}
-use Rattle.speedate.specs.DurationNumbers.{DurationNumbers}
-use Rattle.speedate.specs.IsoForm.{Quantity, Item, Amount, item_text, no_sums, with_items, AreGood}
-use Rattle.speedate.specs.IsoFormLaws.{answer-exchanged_behind}
-use Rattle.speedate.specs.DurationForm.{IsNormalAnswer, IsDurationAnswer}
-use Rattle.speedate.specs.Exchanged.{IsPlain, pair_text, AreExchanged}
+use Rattle.speedate_base.specs.declared.faults.ParseError.TheVariants as fault
+use Rattle.speedate_base.specs.DigitRuns.{digits_value}
+use Rattle.speedate_base.specs.Requirement.{meets, result_and_then}
+use Rattle.speedate.specs.DurationAnswer.{iso_answer, duration_answer}
+use Rattle.speedate.specs.DurationAnswerLaws.{iso_answer-item, duration_answer-iso}
+use Rattle.speedate.specs.DurationNumbers.{UnsignedDuration, signed_form}
+use Rattle.speedate.specs.Exchanged.{has_fraction, IsWhole, AreWhole, IsPlain, AreExchanged}
+use Rattle.speedate.specs.IsoForm.{DurationUnit, units, unit_in, ComponentText, Item, TimeDesignator, Component, item_text, IsItem, item_at, item_table, Sums, no_sums, units_behind, with_component, with_item, with_items}
+use Rattle.speedate.specs.IsoFormLaws.{item_at-amount}
 
 abbrev Answer : Type 0
-Answer = Result DurationNumbers ParseError
+Answer = Result UnsignedDuration ParseError
 
--- a sign in front of a `P` is the sign of the text
-sign-minus : (negative : Bool) (sign body : List ℕ) → IsSign negative sign → has_minus (sign ++ capital_p ∷ body) ≡ negative
-sign-minus true sign body is = rw is refl
-sign-minus false sign body (inl none) = rw none refl
-sign-minus false sign body (inr plus) = rw plus refl
+-- what is one item by its bytes is read as it, whatever follows
+whole-item : (sums : Sums) (item : Item) → IsWhole sums item → IsItem item
+whole-item sums TimeDesignator whole = tt
+whole-item sums (Component component) whole = whole.0
 
--- and the `P` stands behind it
-sign-behind : (negative : Bool) (sign body : List ℕ) → IsSign negative sign
-    → drop (sign_length (sign ++ capital_p ∷ body)) (sign ++ capital_p ∷ body) ≡ capital_p ∷ body
-sign-behind true sign body is = rw is refl
-sign-behind false sign body (inl none) = rw none refl
-sign-behind false sign body (inr plus) = rw plus refl
+item_at-whole : (sums : Sums) (item : Item) (rest : List ℕ) → IsWhole sums item → item_at (item_text item ++ rest) ≡ item
+item_at-whole sums TimeDesignator rest whole = refl
+item_at-whole sums (Component component) rest whole = item_at-amount sums.is_time component rest whole.0 whole.1 whole.2
 
--- so the answer to the text is that to what begins with the `P`
-without-sign : (order : IsoOrder) (behavior : MicrosecondsPrecisionOverflowBehavior) (negative : Bool) (sign body : List ℕ) (answer : Answer) → IsSign negative sign
-    → IsDurationAnswer order behavior (sign ++ capital_p ∷ body) answer → IsNormalAnswer order behavior (not negative) (capital_p ∷ body) answer
-without-sign order behavior negative sign body answer is there =
-    let text = sign ++ capital_p ∷ body in
-    subst (λ (minus : Bool). IsNormalAnswer order behavior (not minus) (capital_p ∷ body) answer) (sign-minus negative sign body is)
-    (subst (λ (behind : List ℕ). IsNormalAnswer order behavior (not (has_minus text)) behind answer) (sign-behind negative sign body is) there)
+-- sums after which any unit may come
+abbrev IsFree : Sums → Type 0
+IsFree sums = (sums.order ≡ order.Lax) × (sums.next_units ≡ units sums.is_time)
 
-pub with-sign : (order : IsoOrder) (behavior : MicrosecondsPrecisionOverflowBehavior) (negative : Bool) (sign body : List ℕ) (answer : Answer) → IsSign negative sign
-    → IsNormalAnswer order behavior (not negative) (capital_p ∷ body) answer → IsDurationAnswer order behavior (sign ++ capital_p ∷ body) answer
-with-sign order behavior negative sign body answer is there =
-    let text = sign ++ capital_p ∷ body in
-    subst (λ (behind : List ℕ). IsNormalAnswer order behavior (not (has_minus text)) behind answer) (sym (sign-behind negative sign body is))
-    (subst (λ (minus : Bool). IsNormalAnswer order behavior (not minus) (capital_p ∷ body) answer) (sym (sign-minus negative sign body is)) there)
+-- in the lax order those after an item are such sums again
+amount-free : (unit : Option DurationUnit) (component : ComponentText) (sums : Sums) → IsFree sums → IsFree (with_component unit component sums)
+amount-free None component sums free = free
+amount-free (Some unit) component sums free = (free.0, ap (λ (order : IsoOrder). units_behind order sums.is_time unit.designator sums.next_units) free.0)
 
--- the answer to a text with two such quantities is the answer to it with the quantities in the other order
-pair-exchanged : (behavior : MicrosecondsPrecisionOverflowBehavior) (negative : Bool) (sign : List ℕ) (items : List Item) (first second : Quantity)
-    (rest : List ℕ) (answer : Answer) → IsSign negative sign → AreGood (no_sums order.Lax) items → IsPlain (with_items items (no_sums order.Lax)) first
-    → IsPlain (with_items items (no_sums order.Lax)) second → IsDurationAnswer order.Lax behavior (pair_text sign items first second rest) answer
-    → IsDurationAnswer order.Lax behavior (pair_text sign items second first rest) answer
-pair-exchanged behavior negative sign items first second rest answer is good one two there =
-    let body = flat_map item_text items ++ (item_text (Amount first) ++ item_text (Amount second) ++ rest) in
-    let turned = flat_map item_text items ++ (item_text (Amount second) ++ item_text (Amount first) ++ rest) in
-    let normal = without-sign order.Lax behavior negative sign body answer is there in
-    let moved = answer-exchanged_behind (not negative) (no_sums order.Lax) items first second rest normal.0 (refl, refl) good one two normal.1 in
-    with-sign order.Lax behavior negative sign turned answer is (normal.0, moved, normal.2)
+item-free : (item : Item) (sums : Sums) → IsFree sums → IsFree (with_item item sums)
+item-free TimeDesignator sums free = (free.0, refl)
+item-free (Component component) sums free = amount-free (unit_in (units sums.is_time) component.designator) component sums free
+
+-- so after sums of the lax order each unit of the side may come
+free-comes : (sums : Sums) (designator : ℕ) → IsFree sums → is_some (unit_in (units sums.is_time) designator) ≡ true → is_some (unit_in sums.next_units designator) ≡ true
+free-comes sums designator free has = ap (λ (next : List DurationUnit). is_some (unit_in next designator)) free.1 ∙ has
+
+-- whether its number and the sums with it are counted in 32 bits
+abbrev fits : Sums → ComponentText → Bool
+fits sums component =
+    nat_le (digits_value component.number) 4294967295
+    && (nat_le (with_item (Component component) sums).day 4294967295 && nat_le (with_item (Component component) sums).second 4294967295)
+
+-- two rows of one fault are one row
+two-rows : {A : Type 0} (number sums : Bool) (fault : ParseError) (next : Result A ParseError)
+    → (if number then (if sums then next else Err fault) else Err fault) ≡ (if number && sums then next else Err fault)
+two-rows true sums fault next = refl
+two-rows false sums fault next = refl
+
+-- the table of a component that can be refused for its size alone is that test
+plain-table : {A : Type 0} (sums : Sums) (component : ComponentText) (next : Result A ParseError) → IsFree sums → IsPlain sums component
+    → meets (item_table sums (Component component)) next ≡ (if fits sums component then next else Err fault.DurationValueTooLarge)
+plain-table sums component next free plain =
+    rw (plain.0.1, plain.2, plain.0.2, free-comes sums component.designator free plain.0.2)
+    (two-rows (nat_le (digits_value component.number) 4294967295) _ fault.DurationValueTooLarge next)
+
+-- a component leaves the side as it is
+amount-side : (unit : Option DurationUnit) (component : ComponentText) (sums : Sums) → (with_component unit component sums).is_time ≡ sums.is_time
+amount-side None component sums = refl
+amount-side (Some unit) component sums = refl
+
+-- without a fraction it brings none
+amount-fraction : (unit : Option DurationUnit) (component : ComponentText) (sums : Sums) → has_fraction component ≡ false → sums.fraction ≡ false
+    → (with_component unit component sums).fraction ≡ false
+amount-fraction None component sums none whole = whole
+amount-fraction (Some unit) component sums none whole = or_from sums.fraction (has_fraction component) whole none
+
+-- and it takes nothing from the sums
+amount-grows : (unit : Option DurationUnit) (component : ComponentText) (sums : Sums)
+    → (sums.day ≤ (with_component unit component sums).day) × (sums.second ≤ (with_component unit component sums).second)
+amount-grows None component sums = (omega arith, omega arith)
+amount-grows (Some unit) component sums = (omega arith, omega arith)
+
+-- how sums of two components are exchanged, field by field
+or-swap : (a b c : Bool) → (a || b || c) ≡ (a || c || b)
+or-swap a b c = or_assoc a b c ∙ ap (λ (test : Bool). a || test) (or_comm b c) ∙ sym (or_assoc a c b)
+
+add-swap : (a b c d e : ℕ) → a + b + c + d + e ≡ a + d + e + b + c
+add-swap a b c d e = omega arith
+
+-- whatever their units are
+amounts-swap : (one two : Option DurationUnit) (first second : ComponentText) (sums : Sums) → IsFree sums
+    → with_component two second (with_component one first sums) ≡ with_component one first (with_component two second sums)
+amounts-swap None two first second sums free = refl
+amounts-swap (Some one) None first second sums free = refl
+amounts-swap (Some one) (Some two) first second sums free =
+    let behind = λ (unit : DurationUnit) (next : List DurationUnit). ap (λ (order : IsoOrder). units_behind order sums.is_time unit.designator next) free.0 in
+    let both = behind two (units_behind sums.order sums.is_time one.designator sums.next_units) ∙ sym (behind one (units_behind sums.order sums.is_time two.designator sums.next_units)) in
+    let fractions = or-swap sums.fraction (has_fraction first) (has_fraction second) in
+    let days = add-swap sums.day _ _ _ _ in
+    let seconds = add-swap sums.second _ _ _ _ in
+    let microseconds = add_right_comm sums.microsecond _ _ in
+    λ i. record {
+      order = sums.order;
+      next_units = both i;
+      is_time = sums.is_time;
+      fraction = fractions i;
+      some = true;
+      day = days i;
+      second = seconds i;
+      microsecond = microseconds i;
+    }
+
+-- the unit of the second does not depend on the first
+with_amount-next : (first second : ComponentText) (sums : Sums) → with_item (Component second) (with_item (Component first) sums)
+    ≡ with_component (unit_in (units sums.is_time) second.designator) second (with_component (unit_in (units sums.is_time) first.designator) first sums)
+with_amount-next first second sums =
+    let next = with_item (Component first) sums in
+    ap (λ (is_time : Bool). with_component (unit_in (units is_time) second.designator) second next) (amount-side (unit_in (units sums.is_time) first.designator) first sums)
+
+-- so the sums of two components do not depend on their order
+amounts-exchanged : (first second : ComponentText) (sums : Sums) → IsFree sums
+    → with_item (Component second) (with_item (Component first) sums) ≡ with_item (Component first) (with_item (Component second) sums)
+amounts-exchanged first second sums free =
+    with_amount-next first second sums ∙ amounts-swap (unit_in (units sums.is_time) first.designator) (unit_in (units sums.is_time) second.designator) first second sums free
+    ∙ sym (with_amount-next second first sums)
+
+-- a component after another one can still be refused for its size alone
+plain-next : (sums : Sums) (first second : ComponentText) → IsPlain sums first → IsPlain sums second → IsPlain (with_item (Component first) sums) second
+plain-next sums first second one two =
+    let unit = unit_in (units sums.is_time) first.designator in
+    let has = ap (λ (is_time : Bool). is_some (unit_in (units is_time) second.designator)) (amount-side unit first sums) ∙ two.0.2 in
+    ((two.0.0, two.0.1, has), two.1, amount-fraction unit first sums one.1 one.2)
+
+-- where both fit in one order, they fit in the other
+fits-both : (sums : Sums) (first second : ComponentText) → IsFree sums → (fits sums first && fits (with_item (Component first) sums) second) ≡ true
+    → (fits sums second && fits (with_item (Component second) sums) first) ≡ true
+fits-both sums first second free both =
+    let front = with_item (Component second) sums in
+    let tests = and_parts (fits sums first) _ both in
+    let one = and_parts (nat_le (digits_value first.number) 4294967295) _ tests.0 in
+    let two = and_parts (nat_le (digits_value second.number) 4294967295) _ tests.1 in
+    let total = and_parts (nat_le (with_item (Component second) (with_item (Component first) sums)).day 4294967295) _ two.1 in
+    let day = ap (λ (sums : Sums). nat_le sums.day 4294967295) (sym (amounts-exchanged first second sums free)) ∙ total.0 in
+    let second_sum = ap (λ (sums : Sums). nat_le sums.second 4294967295) (sym (amounts-exchanged first second sums free)) ∙ total.1 in
+    let grows = amount-grows (unit_in (units front.is_time) first.designator) first front in
+    let few_days : nat_le front.day 4294967295 ≡ true = grind (arith, nat_tests, grows.0, day) in
+    let few_seconds : nat_le front.second 4294967295 ≡ true = grind (arith, nat_tests, grows.1, second_sum) in
+    and_from _ _ (and_from _ _ two.0 (and_from _ _ few_days few_seconds)) (and_from _ _ one.0 (and_from _ _ day second_sum))
+
+same-test : (one two : Bool) → (one ≡ true → two ≡ true) → (two ≡ true → one ≡ true) → one ≡ two
+same-test true two there back = sym (there refl)
+same-test false true there back = back refl
+same-test false false there back = refl
+
+fits-exchanged : (sums : Sums) (first second : ComponentText) → IsFree sums
+    → (fits sums first && fits (with_item (Component first) sums) second) ≡ (fits sums second && fits (with_item (Component second) sums) first)
+fits-exchanged sums first second free = same-test _ _ (fits-both sums first second free) (fits-both sums second first free)
+
+-- the answer to a text after sums
+abbrev answer_from : Sums → List ℕ → Answer
+answer_from sums text = iso_answer (length text) sums text
+
+-- the answer to two components and what follows: that after them where both fit
+pair-answer : (sums : Sums) (first second : ComponentText) (rest : List ℕ) → IsFree sums → IsPlain sums first → IsPlain sums second
+    → answer_from sums (item_text (Component first) ++ (item_text (Component second) ++ rest))
+    ≡ (if fits sums first && fits (with_item (Component first) sums) second
+    then answer_from (with_item (Component second) (with_item (Component first) sums)) rest else Err fault.DurationValueTooLarge)
+pair-answer sums first second rest free one two =
+    let next = with_item (Component first) sums in
+    let last = answer_from (with_item (Component second) next) rest in
+    let plain = plain-next sums first second one two in
+    let behind = iso_answer-item next (Component second) rest plain.0.0 (item_at-whole next (Component second) rest plain.0)
+    ∙ plain-table next second last (item-free (Component first) sums free) plain in
+    iso_answer-item sums (Component first) (item_text (Component second) ++ rest) one.0.0 (item_at-whole sums (Component first) (item_text (Component second) ++ rest) one.0)
+    ∙ plain-table sums first _ free one ∙ ap (λ (next : Answer). if fits sums first then next else Err fault.DurationValueTooLarge) behind
+    ∙ two-rows (fits sums first) (fits next second) fault.DurationValueTooLarge last
+
+-- it does not depend on their order
+pair-exchanged : (sums : Sums) (first second : ComponentText) (rest : List ℕ) → IsFree sums → IsPlain sums first → IsPlain sums second
+    → answer_from sums (item_text (Component first) ++ (item_text (Component second) ++ rest))
+    ≡ answer_from sums (item_text (Component second) ++ (item_text (Component first) ++ rest))
+pair-exchanged sums first second rest free one two =
+    pair-answer sums first second rest free one two
+    ∙ ap₂ (λ (test : Bool) (sums : Sums). if test then answer_from sums rest else Err fault.DurationValueTooLarge)
+    (fits-exchanged sums first second free) (amounts-exchanged first second sums free)
+    ∙ sym (pair-answer sums second first rest free two one)
+
+-- nor where they stand after items, whether these are refused or not
+behind-exchanged : (sums : Sums) (items : List Item) (first second : ComponentText) (rest : List ℕ) → IsFree sums → AreWhole sums items
+    → IsPlain (with_items items sums) first → IsPlain (with_items items sums) second
+    → answer_from sums (flat_map item_text items ++ (item_text (Component first) ++ (item_text (Component second) ++ rest)))
+    ≡ answer_from sums (flat_map item_text items ++ (item_text (Component second) ++ (item_text (Component first) ++ rest)))
+behind-exchanged sums [] first second rest free whole one two = pair-exchanged sums first second rest free one two
+behind-exchanged sums (item ∷ items) first second rest free whole one two =
+    let read = λ (text : List ℕ). ap (answer_from sums) (append_assoc (item_text item) (flat_map item_text items) text)
+    ∙ iso_answer-item sums item (flat_map item_text items ++ text) (whole-item sums item whole.0) (item_at-whole sums item (flat_map item_text items ++ text) whole.0) in
+    read (item_text (Component first) ++ (item_text (Component second) ++ rest))
+    ∙ ap (meets (item_table sums item)) (behind-exchanged (with_item item sums) items first second rest (item-free item sums free) whole.1 one two)
+    ∙ sym (read (item_text (Component second) ++ (item_text (Component first) ++ rest)))
 
 -- texts that are one but for that order have one answer
-pub duration_answer-exchanged : (asked : IsoOrder) (behavior : MicrosecondsPrecisionOverflowBehavior) (one two : List ℕ) (answer : Answer)
-    → asked ≡ order.Lax → IsDurationAnswer asked behavior one answer → AreExchanged one two → IsDurationAnswer asked behavior two answer
-duration_answer-exchanged asked behavior one two answer lax there are =
-    let from = subst (λ (text : List ℕ). IsDurationAnswer order.Lax behavior text answer) are.is_one
-    (subst (λ (asked : IsoOrder). IsDurationAnswer asked behavior one answer) lax there) in
-    subst (λ (asked : IsoOrder). IsDurationAnswer asked behavior two answer) (sym lax)
-    (subst (λ (text : List ℕ). IsDurationAnswer order.Lax behavior text answer) (sym are.is_two)
-    (pair-exchanged behavior are.negative are.sign are.items are.first are.second are.rest answer are.is_sign are.are_good are.is_plain_first
-    are.is_plain_second from))
+pub duration_answer-exchanged : (asked : IsoOrder) (behavior : MicrosecondsPrecisionOverflowBehavior) (one two : List ℕ)
+    → asked ≡ order.Lax → AreExchanged one two → duration_answer asked behavior one ≡ duration_answer asked behavior two
+duration_answer-exchanged asked behavior one two lax are =
+    let items = flat_map item_text are.items in
+    let first = item_text (Component are.first) in
+    let second = item_text (Component are.second) in
+    let body : List ℕ = items ++ (first ++ (second ++ are.rest)) in
+    let exchanged : List ℕ = items ++ (second ++ (first ++ are.rest)) in
+    let same = behind-exchanged (no_sums order.Lax) are.items are.first are.second are.rest (refl, refl) are.are_whole are.is_plain_first are.is_plain_second in
+    let read = λ (text : List ℕ). duration_answer order.Lax behavior text in
+    rw lax
+    (ap read are.is_one ∙ duration_answer-iso order.Lax behavior are.negative are.sign body are.is_sign
+    ∙ ap (result_and_then (signed_form (not are.negative))) same
+    ∙ sym (ap read are.is_two ∙ duration_answer-iso order.Lax behavior are.negative are.sign exchanged are.is_sign))

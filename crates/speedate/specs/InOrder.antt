@@ -1,29 +1,34 @@
--- Quantities of an ISO 8601 duration that come in the order of the standard: years, months, weeks and days, and behind the `T`
+-- Components of an ISO 8601 duration that come in the order of the standard: years, months, weeks and days, and after the `T`
 -- hours, minutes and seconds, each at most once (ISO 8601 5.5.2.2, of which weeks beside others are not a form).
-use Rattle.std.specs.Prelude.{◌≡◌, ◌⊎◌, ℕ, Bool, true, ◌&&◌, List, [], ◌∷◌, ◌++◌, drop, slice_index, ◌==◌, Option, Some, None, Result, Err}
+use Rattle.std.specs.Prelude.{◌≡◌, ◌⊎◌, ℕ, Bool, true, false, ◌&&◌, List, [], ◌∷◌, ◌++◌, drop, slice_index, ◌==◌, if◌then◌else◌, Result, Ok, Err}
 use Rattle.std.specs.List.{flat_map}
+use Rattle.std.specs.Option.{is_some}
+use Rattle.speedate_base.specs.declared.config.IsoOrder.{IsoOrder}
 use Rattle.speedate_base.specs.declared.config.IsoOrder.TheVariants as order
+use Rattle.speedate_base.specs.declared.config.MicrosecondsPrecisionOverflowBehavior.{MicrosecondsPrecisionOverflowBehavior}
 use Rattle.speedate_base.specs.declared.faults.ParseError.{ParseError}
 use Rattle.speedate_base.specs.declared.faults.ParseError.TheVariants as fault
 use Rattle.speedate_base.specs.Ascii.{capital_p}
 use Rattle.speedate_base.specs.Numbers.{sign_length, IsSign}
+use Rattle.speedate.specs.DurationAnswer.{duration_answer}
 use Rattle.speedate.specs.DurationNumbers.{DurationNumbers}
-use Rattle.speedate.specs.IsoForm.{DurationUnit, units, unit_in, unit_seconds, is_smaller, no_limit, Item, Mark, Amount, item_text, no_sums, with_items, AreGood}
+use Rattle.speedate.specs.IsoForm.{DurationUnit, units, unit_in, units_after, Item, TimeDesignator, Component, item_text, no_sums, with_items, AreGood}
 
--- the seconds of a unit, which are the next one's limit
-abbrev pub seconds_of : Option DurationUnit → ℕ
-seconds_of None = no_limit
-seconds_of (Some unit) = unit_seconds unit
+-- the unit of each component is among those that may still come, and a `T` begins anew
+abbrev pub are_in_order : List DurationUnit → List Item → Bool
+are_in_order next [] = true
+are_in_order next (TimeDesignator ∷ items) = are_in_order (units true) items
+are_in_order next (Component component ∷ items) =
+    is_some (unit_in next component.designator) && are_in_order (units_after component.designator next) items
 
--- each unit is smaller than the one before it, and a `T` begins anew
-abbrev pub are_in_order : Bool → ℕ → List Item → Bool
-are_in_order mark limit [] = true
-are_in_order mark limit (Mark ∷ items) = are_in_order true no_limit items
-are_in_order mark limit (Amount quantity ∷ items) =
-    let unit = unit_in (units mark) quantity.letter in
-    is_smaller limit unit && are_in_order mark (seconds_of unit) items
+-- designators are some of others, in their order, and each at most as often as there
+abbrev pub are_some_of : List ℕ → List ℕ → Bool
+are_some_of [] others = true
+are_some_of (designator ∷ designators) [] = false
+are_some_of (designator ∷ designators) (other ∷ others) =
+    if designator == other then are_some_of designators others else are_some_of (designator ∷ designators) others
 
--- a text is a duration of good items, a quantity among them
+-- a text is a duration of good items, a component among them
 pub record IsMadeOf (text : List ℕ) (items : List Item) : Type 0 where
   pub negative : Bool
   pub sign : List ℕ
@@ -32,10 +37,20 @@ pub record IsMadeOf (text : List ℕ) (items : List Item) : Type 0 where
   pub some : (with_items items (no_sums order.Lax)).some ≡ true
   pub is_text : text ≡ sign ++ capital_p ∷ flat_map item_text items
 
--- an answer is the lax one, or it is that of a quantity out of order
-abbrev pub IsLaxOrRefused : Result DurationNumbers ParseError → Result DurationNumbers ParseError → Type 0
+-- an answer is the lax one, or it is that of a component out of order
+abbrev pub IsLaxOrRefused : {A : Type 0} → Result A ParseError → Result A ParseError → Type 0
 IsLaxOrRefused lax answer = (answer ≡ lax) ⊎ (answer ≡ Err fault.DurationUnitOrder)
 
--- a text is an ISO 8601 duration, and neither days nor a clock: behind its sign it begins with `P`
+-- a text is an ISO 8601 duration, and neither days nor a clock: after its sign it begins with `P`
 abbrev pub is_iso : List ℕ → Bool
 is_iso text = slice_index (drop (sign_length text) text) 0 == capital_p
+
+-- an answer to a text in the order that is asked for, beside the one in the lax order: it is that one, or the refusal of a
+-- component out of order; an ISO 8601 duration that the lax order reads is made of good items; the strict order refuses such
+-- a text if and only if they are not in order; and it is not asked of a clock and of days
+pub record IsAnswerInOrder (asked : IsoOrder) (behavior : MicrosecondsPrecisionOverflowBehavior) (text : List ℕ) (answer : Result DurationNumbers ParseError) : Type 0 where
+  pub lax : IsLaxOrRefused (duration_answer order.Lax behavior text) answer
+  pub items : (numbers : DurationNumbers) → is_iso text ≡ true → duration_answer order.Lax behavior text ≡ Ok numbers → (items : List Item) × IsMadeOf text items
+  pub strict : (items : List Item) → asked ≡ order.Strict → IsMadeOf text items
+      → answer ≡ (if are_in_order (units false) items then duration_answer order.Lax behavior text else Err fault.DurationUnitOrder)
+  pub other_forms : is_iso text ≡ false → answer ≡ duration_answer order.Lax behavior text

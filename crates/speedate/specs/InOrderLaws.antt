@@ -1,10 +1,9 @@
 -- Where the order of the standard is asked for, a duration is what the lax order makes of it, or is refused for its order.
-use Rattle.std.specs.Prelude.{◌≡◌, MatchBool, ℕ, zero, suc, ◌<◌, Bool, true, false, not, ◌&&◌, List, [], ◌∷◌, ◌++◌, length, take, drop, slice_index, nat_lt, ◌==◌, if◌then◌else◌, Option, Some, None, Result, Ok, Err, refl}
+use Rattle.std.specs.Prelude.{◌≡◌, ℕ, zero, suc, ◌<◌, Bool, true, false, not, ◌&&◌, List, [], ◌∷◌, ◌++◌, map, length, take, drop, slice_index, nat_lt, ◌==◌, if◌then◌else◌, Option, Some, None, Result, Ok, Err, refl}
 use Rattle.std.specs.List.{flat_map}
 use Rattle.std.specs.Option.{is_some}
 use Rattle.std.proofs.Common.{arith, ap, sym, ◌∙◌, subst, inl, inr}
 use Rattle.std.proofs.lemmas.Bool.{eqb-true, false≢true}
-use Rattle.std.proofs.lemmas.Bool.Decides.{nat_tests}
 use Rattle.std.proofs.lemmas.List.{append-nil, length-append, take-append-drop}
 use Rattle.speedate_base.specs.declared.config.IsoOrder.{IsoOrder}
 use Rattle.speedate_base.specs.declared.config.IsoOrder.TheVariants as order
@@ -15,267 +14,279 @@ use Rattle.speedate_base.specs.Ascii.{capital_p}
 use Rattle.speedate_base.specs.Numbers.{has_minus, sign_length}
 use Rattle.speedate_base.specs.NumberLaws.{sign-of_text}
 use Rattle.speedate_base.specs.Requirement.{meets, AllHold, result_and_then}
-use Rattle.speedate.specs.DurationNumbers.{DurationNumbers, normal_form}
-use Rattle.speedate.specs.DurationForm.{form_answer, IsDurationAnswer}
-use Rattle.speedate.specs.DurationAnswer.{iso_answer, unsigned_answer, duration_answer}
-use Rattle.speedate.specs.DurationAnswerLaws.{duration_answer-is}
-use Rattle.speedate.specs.ExchangedLaws.{with-sign}
-use Rattle.speedate.specs.InOrder.{IsLaxOrRefused, seconds_of, are_in_order, IsMadeOf, is_iso}
-use Rattle.speedate.specs.IsoForm.{DurationUnit, units, unit_in, Quantity, Item, Mark, Amount, item_text, IsItem, item_at, item_length, item_table, is_smaller, are_counted, Sums, no_limit, no_sums, with_quantity, with_item, with_items, AreGood, sums_numbers, Ends, IsAnswerFrom, IsIsoAnswer}
-use Rattle.speedate.specs.IsoFormLaws.{item_at-text, answer-with, duration_answer-only}
+use Rattle.speedate.specs.DurationNumbers.{DurationNumbers, UnsignedDuration, signed_form}
+use Rattle.speedate.specs.DurationForm.{form_answer}
+use Rattle.speedate.specs.DurationAnswer.{iso_answer, iso_form, unsigned_answer, duration_answer}
+use Rattle.speedate.specs.DurationAnswerLaws.{iso_form-is, iso_form-only, duration_answer-iso}
+use Rattle.speedate.specs.InOrder.{IsLaxOrRefused, IsAnswerInOrder, are_in_order, are_some_of, IsMadeOf, is_iso}
+use Rattle.speedate.specs.IsoForm.{DurationUnit, units, unit_in, ComponentText, Item, TimeDesignator, Component, item_text, IsItem, item_at, item_length, item_table, units_after, are_counted, Sums, no_sums, with_component, with_item, with_items, AreGood, sums_length, Ends, IsAnswerFrom}
+use Rattle.speedate.specs.IsoFormLaws.{item_at-text, answer-with}
 use Rattle.speedate.specs.IsoFrontLaws.{answer-refused}
 
 abbrev Answer : Type 0
-Answer = Result DurationNumbers ParseError
+Answer = Result UnsignedDuration ParseError
 
--- sums where any unit may come next, and where one has to be smaller than a limit
+-- sums after which any unit of the side may come, and those after which only some may
 abbrev as_lax : Sums → Sums
-as_lax sums = record sums { order = order.Lax; limit = no_limit }
+as_lax sums = record sums { order = order.Lax; next_units = units sums.is_time }
 
-abbrev as_strict : ℕ → Sums → Sums
-as_strict limit sums = record sums { order = order.Strict; limit = limit }
-
--- every unit is smaller than no limit
-never-refused : (mark : Bool) (letter : ℕ) → is_smaller no_limit (unit_in (units mark) letter) ≡ true
-never-refused true letter = grind (arith, nat_tests)
-never-refused false letter = grind (arith, nat_tests)
+abbrev as_strict : List DurationUnit → Sums → Sums
+as_strict next sums = record sums { order = order.Strict; next_units = next }
 
 -- an item adds the same to both
-quantity-lax : (unit : Option DurationUnit) (quantity : Quantity) (sums : Sums)
-    → as_lax (with_quantity unit quantity sums) ≡ with_quantity unit quantity (as_lax sums)
-quantity-lax None quantity sums = refl
-quantity-lax (Some unit) quantity sums = refl
+component-lax : (unit : Option DurationUnit) (component : ComponentText) (sums : Sums)
+    → as_lax (with_component unit component sums) ≡ with_component unit component (as_lax sums)
+component-lax None component sums = refl
+component-lax (Some unit) component sums = refl
 
 item-lax : (item : Item) (sums : Sums) → as_lax (with_item item sums) ≡ with_item item (as_lax sums)
-item-lax Mark sums = refl
-item-lax (Amount quantity) sums = quantity-lax (unit_in (units sums.mark) quantity.letter) quantity sums
+item-lax TimeDesignator sums = refl
+item-lax (Component component) sums = component-lax (unit_in (units sums.is_time) component.designator) component sums
 
--- a row that both tables have, and the row of the order, which the lax one passes
+-- a row that both tables have, and the two rows of the designator, of which the lax one passes both or the first refuses
 row-both : (test : Bool) (fault : ParseError) (lax answer : Answer) → IsLaxOrRefused lax answer
     → IsLaxOrRefused (if test then lax else Err fault) (if test then answer else Err fault)
 row-both true fault lax answer both = both
 row-both false fault lax answer both = inl refl
 
-row-order : (test : Bool) (lax answer : Answer) → IsLaxOrRefused lax answer → IsLaxOrRefused lax (if test then answer else Err fault.DurationUnitOrder)
-row-order true lax answer both = both
-row-order false lax answer both = inr refl
+rows-unit : (has comes : Bool) (unknown : ParseError) (lax answer : Answer) → IsLaxOrRefused lax answer
+    → IsLaxOrRefused (if has then (if has then lax else Err fault.DurationUnitOrder) else Err unknown)
+    (if has then (if comes then answer else Err fault.DurationUnitOrder) else Err unknown)
+rows-unit true true unknown lax answer both = both
+rows-unit true false unknown lax answer both = inr refl
+rows-unit false comes unknown lax answer both = inl refl
 
 -- so the table of an item lets both through, refuses both alike, or refuses for the order
 table-both : (sums : Sums) (item : Item) (lax answer : Answer) → IsLaxOrRefused lax answer
     → IsLaxOrRefused (meets (item_table (as_lax sums) item) lax) (meets (item_table sums item) answer)
-table-both sums Mark lax answer both = row-both (not sums.mark) _ lax answer both
-table-both sums (Amount quantity) lax answer both =
-    let unit = unit_in (units sums.mark) quantity.letter in
-    let counted = ap are_counted (item-lax (Amount quantity) sums) in
-    rw (never-refused sums.mark quantity.letter, sym counted)
-    (row-both (nat_lt 0 (length quantity.number)) _ _ _
+table-both sums TimeDesignator lax answer both = row-both (not sums.is_time) _ lax answer both
+table-both sums (Component component) lax answer both =
+    let counted = ap are_counted (item-lax (Component component) sums) in
+    rw (sym counted)
+    (row-both (nat_lt 0 (length component.number)) _ _ _
     (row-both _ _ _ _
     (row-both (not sums.fraction) _ _ _
-    (row-both (is_some unit) _ _ _
-    (row-order (is_smaller sums.limit unit) _ _
-    (row-both (are_counted (with_item (Amount quantity) sums)) _ lax answer both))))))
+    (rows-unit (is_some (unit_in (units sums.is_time) component.designator)) (is_some (unit_in sums.next_units component.designator)) _ _ _
+    (row-both (are_counted (with_item (Component component) sums)) _ lax answer both)))))
 
--- behind any items
-iso-both : (most : ℕ) (positive : Bool) (sums : Sums) (text : List ℕ)
-    → IsLaxOrRefused (iso_answer most positive (as_lax sums) text) (iso_answer most positive sums text)
+-- after any items
+iso-both : (most : ℕ) (sums : Sums) (text : List ℕ)
+    → IsLaxOrRefused (iso_answer most (as_lax sums) text) (iso_answer most sums text)
 unfolding iso_answer
-iso-both most positive sums [] = inl refl
-iso-both zero positive sums (byte ∷ rest) = inl refl
-iso-both (suc most) positive sums (byte ∷ rest) =
+iso-both most sums [] = inl refl
+iso-both zero sums (byte ∷ rest) = inl refl
+iso-both (suc most) sums (byte ∷ rest) =
     let text = byte ∷ rest in
     let item = item_at text in
     let behind = drop (item_length text) text in
     table-both sums item _ _
-    (subst (λ (next : Sums). IsLaxOrRefused (iso_answer most positive next behind) (iso_answer most positive (with_item item sums) behind))
-    (item-lax item sums) (iso-both most positive (with_item item sums) behind))
+    (subst (λ (next : Sums). IsLaxOrRefused (iso_answer most next behind) (iso_answer most (with_item item sums) behind))
+    (item-lax item sums) (iso-both most (with_item item sums) behind))
 
-unsigned-both : (asked : IsoOrder) (behavior : MicrosecondsPrecisionOverflowBehavior) (positive : Bool) (text : List ℕ) (iso : Bool)
-    → IsLaxOrRefused (if iso then iso_answer (length text) positive (no_sums order.Lax) (drop 1 text) else form_answer behavior positive text)
-    (if iso then iso_answer (length text) positive (no_sums asked) (drop 1 text) else form_answer behavior positive text)
-unsigned-both asked behavior positive text true = iso-both (length text) positive (no_sums asked) (drop 1 text)
-unsigned-both asked behavior positive text false = inl refl
+both-signed : (positive : Bool) (lax answer : Answer) → IsLaxOrRefused lax answer
+    → IsLaxOrRefused (result_and_then (signed_form positive) lax) (result_and_then (signed_form positive) answer)
+both-signed positive lax answer (inl same) = inl (ap (result_and_then (signed_form positive)) same)
+both-signed positive lax answer (inr refused) = inr (ap (result_and_then (signed_form positive)) refused)
 
--- and in normal form, whose faults are of sums that both have
-normal-both : (lax answer : Answer) → IsLaxOrRefused lax answer → IsLaxOrRefused (result_and_then normal_form lax) (result_and_then normal_form answer)
-normal-both lax answer (inl same) = inl (ap (result_and_then normal_form) same)
-normal-both lax answer (inr refused) = inr (ap (result_and_then normal_form) refused)
+unsigned-both : (asked : IsoOrder) (behavior : MicrosecondsPrecisionOverflowBehavior) (text : List ℕ) (iso : Bool)
+    → IsLaxOrRefused (if iso then iso_form order.Lax (drop 1 text) else form_answer behavior text)
+    (if iso then iso_form asked (drop 1 text) else form_answer behavior text)
+unsigned-both asked behavior text true = iso-both (length (drop 1 text)) (no_sums asked) (drop 1 text)
+unsigned-both asked behavior text false = inl refl
 
+-- so the answer in any order is the lax one, or the text is refused for its order
 duration-both : (asked : IsoOrder) (behavior : MicrosecondsPrecisionOverflowBehavior) (text : List ℕ)
     → IsLaxOrRefused (duration_answer order.Lax behavior text) (duration_answer asked behavior text)
 unfolding unsigned_answer
 duration-both asked behavior text =
     let rest = drop (sign_length text) text in
-    normal-both _ _ (unsigned-both asked behavior (not (has_minus text)) rest (slice_index rest 0 == capital_p))
+    both-signed (not (has_minus text)) _ _ (unsigned-both asked behavior rest (slice_index rest 0 == capital_p))
 
--- whatever order is asked for, the answer to a text is the lax one, or the text is refused for its order
-pub answer-lax_or_refused : (asked : IsoOrder) (behavior : MicrosecondsPrecisionOverflowBehavior) (text : List ℕ) (lax answer : Answer)
-    → IsDurationAnswer order.Lax behavior text lax → IsDurationAnswer asked behavior text answer → IsLaxOrRefused lax answer
-answer-lax_or_refused asked behavior text lax answer one two =
-    let lax_is = duration_answer-only order.Lax behavior text _ lax (duration_answer-is order.Lax behavior text) one in
-    let answer_is = duration_answer-only asked behavior text _ answer (duration_answer-is asked behavior text) two in
-    subst (λ (lax : Answer). IsLaxOrRefused lax answer) lax_is
-    (subst (λ (answer : Answer). IsLaxOrRefused (duration_answer order.Lax behavior text) answer) answer_is (duration-both asked behavior text))
+-- the unit of a designator has that designator
+found-designator : (test : Bool) (one : DurationUnit) (other : Option DurationUnit) (designator : ℕ) (unit : DurationUnit) → (designator == one.designator) ≡ test
+    → (other ≡ Some unit → unit.designator ≡ designator) → (if test then Some one else other) ≡ Some unit → unit.designator ≡ designator
+found-designator true one other designator unit test behind same =
+    let is : one ≡ unit = cc in
+    sym (eqb-true designator one.designator test ∙ ap (λ (unit : DurationUnit). unit.designator) is)
+found-designator false one other designator unit test behind same = behind same
 
--- a quantity with a unit adds to the sums with a limit what it adds to the others, and its unit is the next limit
-quantity-strict : (unit : Option DurationUnit) (quantity : Quantity) (limit : ℕ) (sums : Sums) → is_some unit ≡ true
-    → as_strict (seconds_of unit) (with_quantity unit quantity sums) ≡ with_quantity unit quantity (as_strict limit sums)
-quantity-strict None quantity limit sums has = absurd (false≢true has)
-quantity-strict (Some unit) quantity limit sums has = refl
+unit-designator : (units : List DurationUnit) (designator : ℕ) (unit : DurationUnit) → unit_in units designator ≡ Some unit → unit.designator ≡ designator
+unit-designator [] designator unit same = absurd (cc)
+unit-designator (one ∷ units) designator unit same =
+    found-designator (designator == one.designator) one (unit_in units designator) designator unit refl (unit-designator units designator unit) same
 
-quantity-mark : (unit : Option DurationUnit) (quantity : Quantity) (sums : Sums) → (with_quantity unit quantity sums).mark ≡ sums.mark
-quantity-mark None quantity sums = refl
-quantity-mark (Some unit) quantity sums = refl
+-- a component with a unit adds to the sums of the strict order what it adds to the others, and leaves what follows its unit
+component-strict : (unit : Option DurationUnit) (component : ComponentText) (next : List DurationUnit) (sums : Sums) → unit_in (units sums.is_time) component.designator ≡ unit
+    → is_some unit ≡ true → as_strict (units_after component.designator next) (with_component unit component sums) ≡ with_component unit component (as_strict next sums)
+component-strict None component next sums is has = absurd (false≢true has)
+component-strict (Some unit) component next sums is has =
+    let designator = sym (unit-designator (units sums.is_time) component.designator unit is) in
+    let after = with_component (Some unit) component sums in
+    ap (λ (designator : ℕ). as_strict (units_after designator next) after) designator
 
 -- what good items add up to
-abbrev made : Bool → Sums → Answer
-made positive sums = if sums.some then Ok (sums_numbers positive sums) else Err fault.TooShort
+abbrev lax_end : Sums → Answer
+lax_end sums = if sums.some then Ok (sums_length sums) else Err fault.TooShort
 
-abbrev strict_made : Bool → Bool → Sums → Answer
-strict_made in_order positive sums = if in_order then made positive sums else Err fault.DurationUnitOrder
+abbrev strict_end : Bool → Sums → Answer
+strict_end in_order sums = if in_order then lax_end sums else Err fault.DurationUnitOrder
 
 -- an item out of order refuses the text
-out_of_order : (positive : Bool) (limit : ℕ) (sums : Sums) (quantity : Quantity) (rest : List ℕ) → IsItem (Amount quantity)
-    → AllHold (item_table sums (Amount quantity)) → is_smaller limit (unit_in (units sums.mark) quantity.letter) ≡ false
-    → IsAnswerFrom positive (as_strict limit sums) (item_text (Amount quantity) ++ rest) (Err fault.DurationUnitOrder)
-out_of_order positive limit sums quantity rest is all late =
-    let text = item_text (Amount quantity) ++ rest in
-    let there = item_at-text sums (Amount quantity) rest is all in
+out_of_order : (next : List DurationUnit) (sums : Sums) (component : ComponentText) (rest : List ℕ) → IsItem (Component component)
+    → AllHold (item_table sums (Component component)) → is_some (unit_in next component.designator) ≡ false
+    → IsAnswerFrom (as_strict next sums) (item_text (Component component) ++ rest) (Err fault.DurationUnitOrder)
+out_of_order next sums component rest is all late =
+    let text = item_text (Component component) ++ rest in
+    let there = item_at-text sums (Component component) rest is all in
     let read : Result ℕ ParseError = Ok 0 in
-    let refused : Err fault.DurationUnitOrder ≡ meets (item_table (as_strict limit sums) (Amount quantity)) read =
+    let refused : Err fault.DurationUnitOrder ≡ meets (item_table (as_strict next sums) (Component component)) read =
     rw (all.0, all.1.0, all.1.1.0, all.1.1.1.0, late) refl in
-    let digits = quantity.number ++ quantity.fraction in
-    let some : 0 < length text = rw (length-append (item_text (Amount quantity)) rest, length-append digits (quantity.letter ∷ [])) (omega arith) in
-    answer-refused positive (as_strict limit sums) text fault.DurationUnitOrder 0 some
-    (subst (λ (item : Item). Err fault.DurationUnitOrder ≡ meets (item_table (as_strict limit sums) item) read) (sym there) refused)
+    let digits = component.number ++ component.fraction in
+    let some : 0 < length text = rw (length-append (item_text (Component component)) rest, length-append digits (component.designator ∷ [])) (omega arith) in
+    answer-refused (as_strict next sums) text fault.DurationUnitOrder 0 some
+    (subst (λ (item : Item). Err fault.DurationUnitOrder ≡ meets (item_table (as_strict next sums) item) read) (sym there) refused)
 
 -- one in order goes on
-amount-strict : (positive : Bool) (limit : ℕ) (sums : Sums) (quantity : Quantity) (rest : List ℕ) (in_order smaller : Bool) (after : Sums)
-    → IsItem (Amount quantity) → AllHold (item_table sums (Amount quantity))
-    → is_smaller limit (unit_in (units sums.mark) quantity.letter) ≡ smaller
-    → IsAnswerFrom positive (as_strict (seconds_of (unit_in (units sums.mark) quantity.letter)) (with_item (Amount quantity) sums)) rest
-    (strict_made in_order positive after)
-    → IsAnswerFrom positive (as_strict limit sums) (item_text (Amount quantity) ++ rest) (strict_made (smaller && in_order) positive after)
-amount-strict positive limit sums quantity rest in_order false after is all late behind = out_of_order positive limit sums quantity rest is all late
-amount-strict positive limit sums quantity rest in_order true after is all smaller behind =
-    let unit = unit_in (units sums.mark) quantity.letter in
-    let same = quantity-strict unit quantity limit sums all.1.1.1.0 in
+amount-strict : (next : List DurationUnit) (sums : Sums) (component : ComponentText) (rest : List ℕ) (in_order comes : Bool) (after : Sums)
+    → IsItem (Component component) → AllHold (item_table sums (Component component))
+    → is_some (unit_in next component.designator) ≡ comes
+    → IsAnswerFrom (as_strict (units_after component.designator next) (with_item (Component component) sums)) rest
+    (strict_end in_order after)
+    → IsAnswerFrom (as_strict next sums) (item_text (Component component) ++ rest) (strict_end (comes && in_order) after)
+amount-strict next sums component rest in_order false after is all late behind = out_of_order next sums component rest is all late
+amount-strict next sums component rest in_order true after is all comes behind =
+    let unit = unit_in (units sums.is_time) component.designator in
+    let same = component-strict unit component next sums refl all.1.1.1.0 in
     let counted = sym (ap are_counted same) ∙ all.1.1.1.1.1.0 in
-    let hold : AllHold (item_table (as_strict limit sums) (Amount quantity)) =
-    (all.0, (all.1.0, (all.1.1.0, (all.1.1.1.0, (smaller, (counted, tt)))))) in
-    answer-with positive (as_strict limit sums) (Amount quantity) rest (strict_made in_order positive after) is hold
-    (subst (λ (next : Sums). IsAnswerFrom positive next rest (strict_made in_order positive after)) same behind)
+    let hold : AllHold (item_table (as_strict next sums) (Component component)) =
+    (all.0, (all.1.0, (all.1.1.0, (all.1.1.1.0, (comes, (counted, tt)))))) in
+    answer-with (as_strict next sums) (Component component) rest (strict_end in_order after) is hold
+    (subst (λ (next : Sums). IsAnswerFrom next rest (strict_end in_order after)) same behind)
 
--- so good items are refused exactly if they are not in order
-items-strict : (positive : Bool) (limit : ℕ) (sums : Sums) (items : List Item) → AreGood sums items
-    → IsAnswerFrom positive (as_strict limit sums) (flat_map item_text items)
-    (strict_made (are_in_order sums.mark limit items) positive (with_items items sums))
-items-strict positive limit sums [] good = ([], [], refl, tt, refl)
-items-strict positive limit sums (Mark ∷ items) good =
-    answer-with positive (as_strict limit sums) Mark (flat_map item_text items) _ tt good.1
-    (items-strict positive no_limit (with_item Mark sums) items good.2)
-items-strict positive limit sums (Amount quantity ∷ items) good =
-    let unit = unit_in (units sums.mark) quantity.letter in
-    let next = with_item (Amount quantity) sums in
-    let behind = items-strict positive (seconds_of unit) next items good.2 in
-    amount-strict positive limit sums quantity (flat_map item_text items) (are_in_order sums.mark (seconds_of unit) items) _
-    (with_items items next) good.0 good.1 refl
-    (subst (λ (mark : Bool). IsAnswerFrom positive (as_strict (seconds_of unit) next) (flat_map item_text items)
-    (strict_made (are_in_order mark (seconds_of unit) items) positive (with_items items next)))
-    (quantity-mark unit quantity sums) behind)
+-- so good items are refused if and only if they are not in order
+items-strict : (next : List DurationUnit) (sums : Sums) (items : List Item) → AreGood sums items
+    → IsAnswerFrom (as_strict next sums) (flat_map item_text items)
+    (strict_end (are_in_order next items) (with_items items sums))
+items-strict next sums [] good = ([], [], refl, tt, refl)
+items-strict next sums (TimeDesignator ∷ items) good =
+    answer-with (as_strict next sums) TimeDesignator (flat_map item_text items) _ tt good.1 (items-strict (units true) (with_item TimeDesignator sums) items good.2)
+items-strict next sums (Component component ∷ items) good =
+    let after = units_after component.designator next in
+    amount-strict next sums component (flat_map item_text items) (are_in_order after items) _ (with_items items (with_item (Component component) sums))
+    good.0 good.1 refl (items-strict after (with_item (Component component) sums) items good.2)
 
--- a text of good items has this answer in each order
-abbrev made_answer : (negative in_order : Bool) → Sums → Answer
-made_answer negative in_order sums =
-    result_and_then normal_form (if in_order then Ok (sums_numbers (not negative) sums) else Err fault.DurationUnitOrder)
+-- after a `P`, in each order
+items-in_strict : (items : List Item) → AreGood (no_sums order.Lax) items
+    → iso_form order.Strict (flat_map item_text items) ≡ strict_end (are_in_order (units false) items) (with_items items (no_sums order.Lax))
+items-in_strict items good =
+    sym (iso_form-only order.Strict (flat_map item_text items) _ (items-strict (units false) (no_sums order.Lax) items good))
 
-made-strict : (behavior : MicrosecondsPrecisionOverflowBehavior) (text : List ℕ) (items : List Item) (is : IsMadeOf text items)
-    → IsDurationAnswer order.Strict behavior text (made_answer is.negative (are_in_order false no_limit items) (with_items items (no_sums order.Lax)))
-made-strict behavior text items is =
-    let sums = with_items items (no_sums order.Lax) in
-    let in_order = are_in_order false no_limit items in
-    let from = items-strict (not is.negative) no_limit (no_sums order.Lax) items is.are_good in
-    let form = subst (λ (some : Bool). IsAnswerFrom (not is.negative) (no_sums order.Strict) (flat_map item_text items)
-    (if in_order then (if some then Ok (sums_numbers (not is.negative) sums) else Err fault.TooShort) else Err fault.DurationUnitOrder)) is.some from in
-    subst (λ (text : List ℕ). IsDurationAnswer order.Strict behavior text (made_answer is.negative in_order sums)) (sym is.is_text)
-    (with-sign order.Strict behavior is.negative is.sign (flat_map item_text items) _ is.is_sign (_, form, refl))
+items-in_lax : (items : List Item) → AreGood (no_sums order.Lax) items
+    → iso_form order.Lax (flat_map item_text items) ≡ lax_end (with_items items (no_sums order.Lax))
+items-in_lax items good =
+    sym (iso_form-only order.Lax (flat_map item_text items) _ (items, [], sym (append-nil (flat_map item_text items)), good, refl))
 
-made-lax : (behavior : MicrosecondsPrecisionOverflowBehavior) (text : List ℕ) (items : List Item) (is : IsMadeOf text items)
-    → IsDurationAnswer order.Lax behavior text (made_answer is.negative true (with_items items (no_sums order.Lax)))
-made-lax behavior text items is =
-    let sums = with_items items (no_sums order.Lax) in
-    let numbers : Answer = Ok (sums_numbers (not is.negative) sums) in
-    let form : IsAnswerFrom (not is.negative) (no_sums order.Lax) (flat_map item_text items) numbers =
-    (items, [], sym (append-nil (flat_map item_text items)), is.are_good, rw is.some refl) in
-    subst (λ (text : List ℕ). IsDurationAnswer order.Lax behavior text (made_answer is.negative true sums)) (sym is.is_text)
-    (with-sign order.Lax behavior is.negative is.sign (flat_map item_text items) _ is.is_sign (numbers, form, refl))
+chosen : (positive in_order : Bool) (lax : Answer)
+    → result_and_then (signed_form positive) (if in_order then lax else Err fault.DurationUnitOrder)
+    ≡ (if in_order then result_and_then (signed_form positive) lax else Err fault.DurationUnitOrder)
+chosen positive true lax = refl
+chosen positive false lax = refl
 
-chosen : (negative in_order : Bool) (sums : Sums)
-    → made_answer negative in_order sums ≡ (if in_order then made_answer negative true sums else Err fault.DurationUnitOrder)
-chosen negative true sums = refl
-chosen negative false sums = refl
-
--- so a text of good items is refused for its order exactly if they are not in order, and otherwise has the lax answer
-pub answer-in_order : (asked : IsoOrder) (behavior : MicrosecondsPrecisionOverflowBehavior) (text : List ℕ) (items : List Item) (lax answer : Answer)
-    → asked ≡ order.Strict → IsMadeOf text items → IsDurationAnswer order.Lax behavior text lax → IsDurationAnswer asked behavior text answer
-    → answer ≡ (if are_in_order false no_limit items then lax else Err fault.DurationUnitOrder)
-answer-in_order asked behavior text items lax answer strict is one two =
-    let in_order = are_in_order false no_limit items in
-    let there = subst (λ (asked : IsoOrder). IsDurationAnswer asked behavior text answer) strict two in
-    let lax_is = duration_answer-only order.Lax behavior text _ lax (made-lax behavior text items is) one in
-    duration_answer-only order.Strict behavior text answer _ there (made-strict behavior text items is)
-    ∙ chosen is.negative in_order (with_items items (no_sums order.Lax))
-    ∙ ap (λ (lax : Answer). if in_order then lax else Err fault.DurationUnitOrder) lax_is
+-- so a text of good items is refused for its order if and only if they are not in order, and otherwise has the lax answer
+answer-strict : (asked : IsoOrder) (behavior : MicrosecondsPrecisionOverflowBehavior) (text : List ℕ) (items : List Item)
+    → asked ≡ order.Strict → IsMadeOf text items
+    → duration_answer asked behavior text ≡ (if are_in_order (units false) items then duration_answer order.Lax behavior text else Err fault.DurationUnitOrder)
+answer-strict asked behavior text items strict is =
+    let in_order = are_in_order (units false) items in
+    let body = flat_map item_text items in
+    let step = result_and_then (signed_form (not is.negative)) in
+    let read = λ (order : IsoOrder). ap (duration_answer order behavior) is.is_text ∙ duration_answer-iso order behavior is.negative is.sign body is.is_sign in
+    let lax = read order.Lax ∙ ap step (items-in_lax items is.are_good) in
+    ap (λ (asked : IsoOrder). duration_answer asked behavior text) strict ∙ read order.Strict ∙ ap step (items-in_strict items is.are_good)
+    ∙ chosen (not is.negative) in_order (lax_end (with_items items (no_sums order.Lax)))
+    ∙ ap (λ (lax : Result DurationNumbers ParseError). if in_order then lax else Err fault.DurationUnitOrder) (sym lax)
 
 -- a clock and days are not asked for an order
-other-form : (A B C : Type 0) (iso : Bool) → iso ≡ false → MatchBool iso A C → MatchBool iso B C
-other-form A B C true other there = absurd (false≢true (sym other))
-other-form A B C false other there = there
+answer-no_iso : (asked : IsoOrder) (behavior : MicrosecondsPrecisionOverflowBehavior) (text : List ℕ) → is_iso text ≡ false
+    → duration_answer asked behavior text ≡ duration_answer order.Lax behavior text
+unfolding unsigned_answer
+answer-no_iso asked behavior text other = rw other refl
 
-pub answer-no_iso : (asked : IsoOrder) (behavior : MicrosecondsPrecisionOverflowBehavior) (text : List ℕ) (answer : Answer) → is_iso text ≡ false
-    → IsDurationAnswer asked behavior text answer → IsDurationAnswer order.Lax behavior text answer
-answer-no_iso asked behavior text answer other there =
-    let form = form_answer behavior (not (has_minus text)) (drop (sign_length text) text) in
-    (there.0, other-form _ _ (there.0 ≡ form) (is_iso text) other there.1, there.2)
-
--- an ISO 8601 duration begins with a `P` behind its sign
+-- an ISO 8601 duration begins with a `P` after its sign
 first-byte : (text : List ℕ) → (slice_index text 0 == capital_p) ≡ true → text ≡ capital_p ∷ drop 1 text
 first-byte [] is = absurd (false≢true is)
 first-byte (byte ∷ text) is = ap (λ (byte : ℕ). byte ∷ text) (eqb-true byte capital_p is)
 
-iso-form : (A C : Type 0) (iso : Bool) → iso ≡ true → MatchBool iso A C → A
-iso-form A C true is there = there
-iso-form A C false is there = absurd (false≢true is)
-
--- one that is read has nothing behind its good items, and a quantity among them
+-- one that is read has nothing after its good items, and a component among them
 some-read : (positive some : Bool) (sums : Sums) (numbers : DurationNumbers)
-    → Ok numbers ≡ result_and_then normal_form (if some then Ok (sums_numbers positive sums) else Err fault.TooShort) → some ≡ true
+    → Ok numbers ≡ result_and_then (signed_form positive) (if some then Ok (sums_length sums) else Err fault.TooShort) → some ≡ true
 some-read positive true sums numbers same = refl
 some-read positive false sums numbers same = absurd (cc)
 
-ends-read : (positive : Bool) (sums : Sums) (rest : List ℕ) (form : Answer) (numbers : DurationNumbers) → Ends positive sums rest form
-    → Ok numbers ≡ result_and_then normal_form form → (rest ≡ []) × (sums.some ≡ true)
-ends-read positive sums [] form numbers ends same = (refl, some-read positive sums.some sums numbers (same ∙ ap (result_and_then normal_form) ends))
+ends-read : (positive : Bool) (sums : Sums) (rest : List ℕ) (form : Answer) (numbers : DurationNumbers) → Ends sums rest form
+    → Ok numbers ≡ result_and_then (signed_form positive) form → (rest ≡ []) × (sums.some ≡ true)
+ends-read positive sums [] form numbers ends same =
+    (refl, some-read positive sums.some sums numbers (same ∙ ap (result_and_then (signed_form positive)) ends))
 ends-read positive sums (byte ∷ rest) form numbers ends same =
-    let refused = same ∙ ap (result_and_then normal_form) ends.2 in
+    let refused = same ∙ ap (result_and_then (signed_form positive)) ends.2 in
     absurd (cc)
 
 -- so an ISO 8601 duration that the lax order reads is made of good items
-pub answer-made : (behavior : MicrosecondsPrecisionOverflowBehavior) (text : List ℕ) (numbers : DurationNumbers) → is_iso text ≡ true
-    → IsDurationAnswer order.Lax behavior text (Ok numbers) → (items : List Item) × IsMadeOf text items
-answer-made behavior text numbers iso there =
-    let length = sign_length text in
-    let rest = drop length text in
-    let form = form_answer behavior (not (has_minus text)) rest in
-    let from = iso-form (IsIsoAnswer order.Lax (not (has_minus text)) (drop 1 rest) there.0) (there.0 ≡ form) (is_iso text) iso there.1 in
-    let ended = ends-read (not (has_minus text)) (with_items from.0 (no_sums order.Lax)) from.1 there.0 numbers from.4 there.2 in
-    let body = from.2 ∙ ap (λ (end : List ℕ). flat_map item_text from.0 ++ end) ended.0 ∙ append-nil (flat_map item_text from.0) in
-    let made : IsMadeOf text from.0 = record {
+answer-items : (behavior : MicrosecondsPrecisionOverflowBehavior) (text : List ℕ) (numbers : DurationNumbers) → is_iso text ≡ true
+    → duration_answer order.Lax behavior text ≡ Ok numbers → (items : List Item) × IsMadeOf text items
+answer-items behavior text numbers iso same =
+    let sign : List ℕ = take (sign_length text) text in
+    let rest = drop (sign_length text) text in
+    let body : List ℕ = drop 1 rest in
+    let is_sign = sign-of_text text in
+    let begins : text ≡ sign ++ capital_p ∷ body = sym (take-append-drop (sign_length text) text) ∙ ap (λ (rest : List ℕ). sign ++ rest) (first-byte rest iso) in
+    let read = sym same ∙ ap (duration_answer order.Lax behavior) begins ∙ duration_answer-iso order.Lax behavior (has_minus text) sign body is_sign in
+    let from = iso_form-is order.Lax body in
+    let ended = ends-read (not (has_minus text)) (with_items from.0 (no_sums order.Lax)) from.1 (iso_form order.Lax body) numbers from.4 read in
+    let is_body = from.2 ∙ ap (λ (end : List ℕ). flat_map item_text from.0 ++ end) ended.0 ∙ append-nil (flat_map item_text from.0) in
+    let is_made : IsMadeOf text from.0 = record {
       negative = has_minus text;
-      sign = take length text;
-      is_sign = sign-of_text text;
+      sign = sign;
+      is_sign = is_sign;
       are_good = from.3;
       some = ended.1;
-      is_text = sym (take-append-drop length text)
-          ∙ ap (λ (behind : List ℕ). take length text ++ behind) (first-byte rest iso ∙ ap (λ (body : List ℕ). capital_p ∷ body) body);
+      is_text = begins ∙ ap (λ (body : List ℕ). sign ++ capital_p ∷ body) is_body;
     } in
-    (from.0, made)
+    (from.0, is_made)
+
+-- the designators of components, and of units
+abbrev pub designators : List ComponentText → List ℕ
+designators components = map (λ (component : ComponentText). component.designator) components
+
+abbrev pub unit_designators : List DurationUnit → List ℕ
+unit_designators units = map (λ (unit : DurationUnit). unit.designator) units
+
+first-designator : (test : Bool) (unit : DurationUnit) (next : List DurationUnit) (component : ComponentText) (components : List ComponentText) (rest : List Item) (last : Bool)
+    → are_in_order next (map Component components ++ rest) ≡ (are_some_of (designators components) (unit_designators next) && last)
+    → are_in_order next (map Component (component ∷ components) ++ rest) ≡ (are_some_of (designators (component ∷ components)) (unit_designators next) && last)
+    → (is_some (if test then Some unit else unit_in next component.designator)
+    && are_in_order (if test then next else units_after component.designator next) (map Component components ++ rest))
+    ≡ ((if test then are_some_of (designators components) (unit_designators next) else are_some_of (designators (component ∷ components)) (unit_designators next)) && last)
+first-designator true unit next component components rest last here behind = here
+first-designator false unit next component components rest last here behind = behind
+
+-- components of one side, before nothing or a `T`, are in order if and only if their designators are some of those of the
+-- side, in the order of the table, each at most once
+pub are_in_order-designators : (next : List DurationUnit) (components : List ComponentText) (rest : List Item) (last : Bool)
+    → ((next : List DurationUnit) → are_in_order next rest ≡ last)
+    → are_in_order next (map Component components ++ rest) ≡ (are_some_of (designators components) (unit_designators next) && last)
+are_in_order-designators next [] rest last ends = ends next
+are_in_order-designators [] (component ∷ components) rest last ends = refl
+are_in_order-designators (unit ∷ next) (component ∷ components) rest last ends =
+    first-designator (component.designator == unit.designator) unit next component components rest last (are_in_order-designators next components rest last ends)
+    (are_in_order-designators next (component ∷ components) rest last ends)
+
+-- the answer in the order that is asked for
+pub duration_answer-in_order : (asked : IsoOrder) (behavior : MicrosecondsPrecisionOverflowBehavior) (text : List ℕ)
+    → IsAnswerInOrder asked behavior text (duration_answer asked behavior text)
+duration_answer-in_order asked behavior text = record {
+  lax = duration-both asked behavior text;
+  items = answer-items behavior text;
+  strict = answer-strict asked behavior text;
+  other_forms = answer-no_iso asked behavior text;
+}

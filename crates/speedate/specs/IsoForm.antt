@@ -1,5 +1,5 @@
--- ISO 8601 durations behind their `P`: years, months, weeks and days, and behind a `T` hours, minutes and seconds.
--- Departs from it: quantities may come in any order on their side and more than once, unless a configuration asks for the
+-- ISO 8601 durations after their `P`: years, months, weeks and days, and after a `T` hours, minutes and seconds.
+-- Departs from it: components may come in any order on their side and more than once, unless a configuration asks for the
 -- order of the standard, and weeks beside others; the last
 -- one may have a fraction whatever its unit; a `T` may come last; a year has 365 days and a month 30; a sign may come
 -- before the `P`.
@@ -16,100 +16,101 @@ use Rattle.speedate_base.specs.DigitRuns.{run_length, digits_value}
 use Rattle.speedate_base.specs.Nearest.{nearest}
 use Rattle.speedate_base.specs.Offset.{seconds_per_day}
 use Rattle.speedate_base.specs.Requirement.{Requirement, ◌else_fault◌, meets, AllHold}
-use Rattle.speedate.specs.DurationNumbers.{DurationNumbers}
+use Rattle.speedate.specs.DurationNumbers.{UnsignedDuration}
 
--- a unit by its letter, and what one of it is: whole days, or seconds
+-- a unit by its designator, and what one of it is: whole days, or seconds
 pub record DurationUnit : Type 0 where
-  pub letter : ℕ
+  pub designator : ℕ
   pub day : ℕ
   pub second : ℕ
 
 abbrev pub unit : ℕ → ℕ → ℕ → DurationUnit
-unit letter day second = record { letter = letter; day = day; second = second }
+unit designator day second = record { designator = designator; day = day; second = second }
 
--- the units before the `T`, and those behind it
+-- the units before the `T`, and those after it, in the order of the standard
 abbrev pub units : Bool → List DurationUnit
 units false = unit capital_y 365 0 ∷ unit capital_m 30 0 ∷ unit capital_w 7 0 ∷ unit capital_d 1 0 ∷ []
 units true = unit capital_h 0 3600 ∷ unit capital_m 0 60 ∷ unit capital_s 0 1 ∷ []
 
--- the unit of a letter, if the letter has one
+-- the unit of a designator, if the designator has one
 abbrev pub unit_in : List DurationUnit → ℕ → Option DurationUnit
-unit_in [] letter = None
-unit_in (unit ∷ units) letter = if letter == unit.letter then Some unit else unit_in units letter
+unit_in [] designator = None
+unit_in (unit ∷ units) designator = if designator == unit.designator then Some unit else unit_in units designator
 
--- a quantity: the digits of its number, its fraction, which is a sign and digits or nothing, and the letter of its unit
-pub record Quantity : Type 0 where
+-- the units that follow the one of a designator
+abbrev pub units_after : ℕ → List DurationUnit → List DurationUnit
+units_after designator [] = []
+units_after designator (unit ∷ units) = if designator == unit.designator then units else units_after designator units
+
+-- a component: the digits of its number, its fraction, which is a decimal mark and digits or nothing, and the designator of its unit
+pub record ComponentText : Type 0 where
   pub number : List ℕ
   pub fraction : List ℕ
-  pub letter : ℕ
+  pub designator : ℕ
 
--- an item: a `T`, or a quantity
+-- an item: a `T`, or a component
 pub data Item : Type 0 where
-  Mark : Item
-  Amount : Quantity → Item
+  TimeDesignator : Item
+  Component : ComponentText → Item
 
 -- its text
 abbrev pub item_text : Item → List ℕ
-item_text Mark = capital_t ∷ []
-item_text (Amount quantity) = quantity.number ++ quantity.fraction ++ quantity.letter ∷ []
+item_text TimeDesignator = capital_t ∷ []
+item_text (Component component) = component.number ++ component.fraction ++ component.designator ∷ []
 
--- the sign of a fraction
-abbrev pub is_point : ℕ → Bool
-is_point byte = (byte == full_stop) || (byte == comma)
+-- a decimal mark
+abbrev pub is_decimal_mark : ℕ → Bool
+is_decimal_mark byte = (byte == full_stop) || (byte == comma)
 
--- a fraction is nothing, or a sign and digits, possibly none
+-- a fraction is nothing, or a decimal mark and digits, possibly none
 abbrev pub IsFraction : List ℕ → Type 0
 IsFraction [] = Unit {0}
-IsFraction (sign ∷ digits) = IsTrue (is_point sign) × IsTrue (list_all is_ascii_digit digits)
+IsFraction (mark ∷ digits) = IsTrue (is_decimal_mark mark) × IsTrue (list_all is_ascii_digit digits)
 
 -- the bytes of an item are what they are called
 abbrev pub IsItem : Item → Type 0
-IsItem Mark = Unit {0}
-IsItem (Amount quantity) = IsTrue (list_all is_ascii_digit quantity.number) × IsFraction quantity.fraction
+IsItem TimeDesignator = Unit {0}
+IsItem (Component component) = IsTrue (list_all is_ascii_digit component.number) × IsFraction component.fraction
 
 -- how many bytes the fraction has that stands at the front of a text
 abbrev pub fraction_length : List ℕ → ℕ
-fraction_length text = if is_point (slice_index text 0) then 1 + run_length text 1 else 0
+fraction_length text = if is_decimal_mark (slice_index text 0) then 1 + run_length text 1 else 0
 
--- the item that begins a text, whole or cut short: behind the end of the text its letter is 0
-abbrev pub quantity_at : List ℕ → Quantity
-quantity_at text =
+-- the item that begins a text, whole or cut short: after the end of the text its designator is 0
+abbrev pub component_at : List ℕ → ComponentText
+component_at text =
     let rest = drop (run_length text 0) text in
     record {
       number = take (run_length text 0) text;
       fraction = take (fraction_length rest) rest;
-      letter = slice_index rest (fraction_length rest);
+      designator = slice_index rest (fraction_length rest);
     }
 
 abbrev pub item_at : List ℕ → Item
-item_at text = if slice_index text 0 == capital_t then Mark else Amount (quantity_at text)
+item_at text = if slice_index text 0 == capital_t then TimeDesignator else Component (component_at text)
 
 -- how many bytes such an item has
-abbrev pub quantity_length : List ℕ → ℕ
-quantity_length text = run_length text 0 + fraction_length (drop (run_length text 0) text) + 1
+abbrev pub component_length : List ℕ → ℕ
+component_length text = run_length text 0 + fraction_length (drop (run_length text 0) text) + 1
 
 abbrev pub item_length : List ℕ → ℕ
-item_length text = if slice_index text 0 == capital_t then 1 else quantity_length text
+item_length text = if slice_index text 0 == capital_t then 1 else component_length text
 
--- what the items so far add up to: whether there was a `T`, a fraction, a quantity; days, seconds and microseconds. And the
--- order in which quantities have to come, with the seconds than which the next one's unit has to have fewer
+-- what the items so far add up to: whether there was a `T`, a fraction, a component; days, seconds and microseconds. And the
+-- order in which components have to come, with the units that may still come on this side
 pub record Sums : Type 0 where
   pub order : IsoOrder
-  pub limit : ℕ
-  pub mark : Bool
+  pub next_units : List DurationUnit
+  pub is_time : Bool
   pub fraction : Bool
   pub some : Bool
   pub day : ℕ
   pub second : ℕ
   pub microsecond : ℕ
 
--- more seconds than a unit has
-abbrev pub no_limit : ℕ
-no_limit = 31536001
-
 -- of no items
 abbrev pub no_sums : IsoOrder → Sums
-no_sums order = record { order = order; limit = no_limit; mark = false; fraction = false; some = false; day = 0; second = 0; microsecond = 0 }
+no_sums order = record { order = order; next_units = units false; is_time = false; fraction = false; some = false; day = 0; second = 0; microsecond = 0 }
 
 -- the seconds of one of a unit
 abbrev pub unit_seconds : DurationUnit → ℕ
@@ -125,10 +126,10 @@ fraction_microseconds unit digits =
     unsigned_abs (nearest (pos (digits_value digits * (1000000 * unit_seconds unit))) (10 ^ length digits))
     - 1000000 * fraction_seconds unit digits
 
--- in the strict order the next unit on a side is smaller than the last one, in the lax one it may be any
-abbrev pub next_limit : IsoOrder → DurationUnit → ℕ
-next_limit order.Lax unit = no_limit
-next_limit order.Strict unit = unit_seconds unit
+-- after the unit of a designator the strict order leaves what follows it, the lax one the whole side
+abbrev pub units_behind : IsoOrder → Bool → ℕ → List DurationUnit → List DurationUnit
+units_behind order.Lax is_time designator next = units is_time
+units_behind order.Strict is_time designator next = units_after designator next
 
 -- the sums with so many of a unit, and with a fraction of it
 abbrev pub with_amount : DurationUnit → ℕ → List ℕ → Sums → Sums
@@ -136,8 +137,8 @@ with_amount unit number fraction sums =
     let digits = drop 1 fraction in
     record {
       order = sums.order;
-      limit = next_limit sums.order unit;
-      mark = sums.mark;
+      next_units = units_behind sums.order sums.is_time unit.designator sums.next_units;
+      is_time = sums.is_time;
       fraction = sums.fraction || nat_lt 0 (length fraction);
       some = true;
       day = sums.day + number * unit.day + fraction_seconds unit digits / seconds_per_day;
@@ -149,63 +150,58 @@ with_amount unit number fraction sums =
 abbrev pub are_counted : Sums → Bool
 are_counted sums = nat_le sums.day 4294967295 && nat_le sums.second 4294967295
 
--- the sums with an item; a quantity whose letter has no unit adds nothing
-abbrev pub with_quantity : Option DurationUnit → Quantity → Sums → Sums
-with_quantity None quantity sums = sums
-with_quantity (Some unit) quantity sums = with_amount unit (digits_value quantity.number) quantity.fraction sums
+-- the sums with an item; a component whose designator has no unit adds nothing
+abbrev pub with_component : Option DurationUnit → ComponentText → Sums → Sums
+with_component None component sums = sums
+with_component (Some unit) component sums = with_amount unit (digits_value component.number) component.fraction sums
 
 abbrev pub with_item : Item → Sums → Sums
-with_item Mark sums = record sums { mark = true; limit = no_limit }
-with_item (Amount quantity) sums = with_quantity (unit_in (units sums.mark) quantity.letter) quantity sums
+with_item TimeDesignator sums = record sums { is_time = true; next_units = units true }
+with_item (Component component) sums = with_component (unit_in (units sums.is_time) component.designator) component sums
 
--- the fault of a letter that is no unit of its side
+-- the fault of a designator that is no unit of its side
 abbrev pub unit_fault : Bool → ParseError
 unit_fault false = fault.DurationInvalidDateUnit
 unit_fault true = fault.DurationInvalidTimeUnit
 
--- a unit has fewer seconds than a limit
-abbrev pub is_smaller : ℕ → Option DurationUnit → Bool
-is_smaller limit None = true
-is_smaller limit (Some unit) = nat_lt (unit_seconds unit) limit
-
--- what an item has to meet behind others: at most one `T`; a number; at most one fraction, and nothing behind it; a unit
--- of its side; its place in the order; and sums that are counted in 32 bits
+-- what an item has to meet after others: at most one `T`; a number; at most one fraction, and nothing after it; a unit
+-- of its side, and one that may still come; and sums that are counted in 32 bits
 abbrev pub item_table : Sums → Item → List Requirement
-item_table sums Mark = (not sums.mark else_fault fault.DurationTRepeated) ∷ []
-item_table sums (Amount quantity) =
-    (nat_lt 0 (length quantity.number) else_fault fault.DurationInvalidNumber)
-    ∷ (nat_le (digits_value quantity.number) 4294967295 else_fault fault.DurationValueTooLarge)
+item_table sums TimeDesignator = (not sums.is_time else_fault fault.DurationTRepeated) ∷ []
+item_table sums (Component component) =
+    (nat_lt 0 (length component.number) else_fault fault.DurationInvalidNumber)
+    ∷ (nat_le (digits_value component.number) 4294967295 else_fault fault.DurationValueTooLarge)
     ∷ (not sums.fraction else_fault fault.DurationInvalidFraction)
-    ∷ (is_some (unit_in (units sums.mark) quantity.letter) else_fault unit_fault sums.mark)
-    ∷ (is_smaller sums.limit (unit_in (units sums.mark) quantity.letter) else_fault fault.DurationUnitOrder)
-    ∷ (are_counted (with_item (Amount quantity) sums) else_fault fault.DurationValueTooLarge)
+    ∷ (is_some (unit_in (units sums.is_time) component.designator) else_fault unit_fault sums.is_time)
+    ∷ (is_some (unit_in sums.next_units component.designator) else_fault fault.DurationUnitOrder)
+    ∷ (are_counted (with_item (Component component) sums) else_fault fault.DurationValueTooLarge)
     ∷ []
 
--- the sums of a list of items behind others
+-- the sums of a list of items after others
 abbrev pub with_items : List Item → Sums → Sums
 with_items [] sums = sums
 with_items (item ∷ items) sums = with_items items (with_item item sums)
 
--- each of a list of items is one, and meets the table behind those before it
+-- each of a list of items is one, and meets the table after those before it
 abbrev pub AreGood : Sums → List Item → Type 0
 AreGood sums [] = Unit {0}
 AreGood sums (item ∷ items) = IsItem item × AllHold (item_table sums item) × AreGood (with_item item sums) items
 
--- the numbers of a duration by its sums
-abbrev pub sums_numbers : Bool → Sums → DurationNumbers
-sums_numbers positive sums = record { positive = positive; day = sums.day; second = sums.second; microsecond = sums.microsecond }
+-- the length that they are
+abbrev pub sums_length : Sums → UnsignedDuration
+sums_length sums = record { day = sums.day; second = sums.second; microsecond = sums.microsecond }
 
--- how good items end: with nothing behind them, and then with a quantity among them or not; or with what has a fault
-abbrev pub Ends : Bool → Sums → List ℕ → Result DurationNumbers ParseError → Type 0
-Ends positive sums [] answer = answer ≡ (if sums.some then Ok (sums_numbers positive sums) else Err fault.TooShort)
-Ends positive sums (byte ∷ rest) answer =
-    (fault : ParseError) × (meets (item_table sums (item_at (byte ∷ rest))) (Ok (sums_numbers positive sums)) ≡ Err fault) × (answer ≡ Err fault)
+-- how good items end: with nothing after them, and then with a component among them or not; or with what has a fault
+abbrev pub Ends : Sums → List ℕ → Result UnsignedDuration ParseError → Type 0
+Ends sums [] answer = answer ≡ (if sums.some then Ok (sums_length sums) else Err fault.TooShort)
+Ends sums (byte ∷ rest) answer =
+    (fault : ParseError) × (meets (item_table sums (item_at (byte ∷ rest))) (Ok (sums_length sums)) ≡ Err fault) × (answer ≡ Err fault)
 
--- the answer to a text behind items: it is good items and an end
-abbrev pub IsAnswerFrom : Bool → Sums → List ℕ → Result DurationNumbers ParseError → Type 0
-IsAnswerFrom positive sums text answer =
-    (items : List Item) × (rest : List ℕ) × (text ≡ flat_map item_text items ++ rest) × AreGood sums items × Ends positive (with_items items sums) rest answer
+-- the answer to a text after items: it is good items and an end
+abbrev pub IsAnswerFrom : Sums → List ℕ → Result UnsignedDuration ParseError → Type 0
+IsAnswerFrom sums text answer =
+    (items : List Item) × (rest : List ℕ) × (text ≡ flat_map item_text items ++ rest) × AreGood sums items × Ends (with_items items sums) rest answer
 
 -- the answer to what follows a `P`
-abbrev pub IsIsoAnswer : IsoOrder → Bool → List ℕ → Result DurationNumbers ParseError → Type 0
-IsIsoAnswer order positive text answer = IsAnswerFrom positive (no_sums order) text answer
+abbrev pub IsIsoAnswer : IsoOrder → List ℕ → Result UnsignedDuration ParseError → Type 0
+IsIsoAnswer order text answer = IsAnswerFrom (no_sums order) text answer

@@ -1,5 +1,5 @@
--- What stands at the front of a text as an item, and how the answer to a text goes on behind it.
-use Rattle.std.specs.Prelude.{◌≡◌, ℕ, suc, ◌+◌, ◌<◌, Bool, true, false, List, [], ◌∷◌, ◌++◌, length, take, drop, slice_index, if◌then◌else◌, ◌≤◌, ◌==◌, nat_lt, not, Option, Some, Result, Ok, Err, refl}
+-- What stands at the front of a text as an item, and how the answer to a text goes on after it.
+use Rattle.std.specs.Prelude.{◌≡◌, ℕ, suc, ◌+◌, ◌<◌, Bool, true, false, List, [], ◌∷◌, ◌++◌, length, take, drop, slice_index, if◌then◌else◌, ◌≤◌, ◌==◌, not, Option, Some, Result, Ok, Err, refl}
 use Rattle.std.specs.Char.{is_ascii_digit}
 use Rattle.std.specs.List.{list_all}
 use Rattle.std.specs.Option.{is_some}
@@ -14,35 +14,35 @@ use Rattle.speedate_base.specs.DigitRuns.{run_length, run_value}
 use Rattle.speedate_base.specs.NumberLaws.{run-digits}
 use Rattle.speedate_base.specs.Requirement.{meets, AllHold}
 use Rattle.speedate_base.specs.RequirementLaws.{meets-next}
-use Rattle.speedate.specs.DurationNumbers.{DurationNumbers}
+use Rattle.speedate.specs.DurationNumbers.{UnsignedDuration}
 use Rattle.speedate.specs.IsoFormLaws.{answer-with}
-use Rattle.speedate.specs.IsoForm.{DurationUnit, Quantity, Item, Amount, Mark, Sums, IsItem, quantity_at, quantity_length, item_at, item_length, item_text, item_table, unit_seconds, is_smaller, with_amount, with_quantity, with_item, are_counted, Ends, IsAnswerFrom, sums_numbers, units, unit_in, is_point, fraction_length, IsFraction}
+use Rattle.speedate.specs.IsoForm.{DurationUnit, ComponentText, Item, Component, TimeDesignator, Sums, IsItem, component_at, component_length, item_at, item_length, item_text, item_table, with_amount, with_component, with_item, are_counted, Ends, IsAnswerFrom, sums_length, units, unit_in, is_decimal_mark, fraction_length, IsFraction}
 
--- behind the sign of a fraction stand digits
-digits-behind : (text : List ℕ) (point : Bool) → list_all is_ascii_digit (drop 1 (take (if point then 1 + run_length text 1 else 0) text)) ≡ true
+-- after a decimal mark stand digits
+digits-behind : (text : List ℕ) (has_mark : Bool) → list_all is_ascii_digit (drop 1 (take (if has_mark then 1 + run_length text 1 else 0) text)) ≡ true
 digits-behind text true = ap (list_all is_ascii_digit) (drop-take 1 (run_length text 1) text) ∙ run-digits (drop 1 text)
 digits-behind text false = refl
 
 pub fraction-digits : (text : List ℕ) → list_all is_ascii_digit (drop 1 (take (fraction_length text) text)) ≡ true
-fraction-digits text = digits-behind text (is_point (slice_index text 0))
+fraction-digits text = digits-behind text (is_decimal_mark (slice_index text 0))
 
 -- what has the length of a fraction is one
-sign-first : (text : List ℕ) (point : Bool) → is_point (slice_index text 0) ≡ point → IsFraction (take (if point then 1 + run_length text 1 else 0) text)
+sign-first : (text : List ℕ) (has_mark : Bool) → is_decimal_mark (slice_index text 0) ≡ has_mark → IsFraction (take (if has_mark then 1 + run_length text 1 else 0) text)
 sign-first text false same = tt
 sign-first [] true same = absurd (false≢true same)
-sign-first (sign ∷ text) true same =
-    let more : 1 + run_length (sign ∷ text) 1 ≡ suc (run_length text 0) = omega arith in
-    subst (λ (n : ℕ). IsFraction (take n (sign ∷ text))) (sym more) (same, run-digits text)
+sign-first (mark ∷ text) true same =
+    let more : 1 + run_length (mark ∷ text) 1 ≡ suc (run_length text 0) = omega arith in
+    subst (λ (n : ℕ). IsFraction (take n (mark ∷ text))) (sym more) (same, run-digits text)
 
-no-unit : (mark : Bool) → is_some (unit_in (units mark) 0) ≡ false
+no-unit : (is_time : Bool) → is_some (unit_in (units is_time) 0) ≡ false
 no-unit true = refl
 no-unit false = refl
 
--- a letter with a unit stands within its text
-letter-within : (mark : Bool) (text : List ℕ) (place : ℕ) → is_some (unit_in (units mark) (slice_index text place)) ≡ true → place < length text
-letter-within mark text place some = elim (cases_lt place (length text)) [
+-- a designator with a unit stands within its text
+designator-within : (is_time : Bool) (text : List ℕ) (place : ℕ) → is_some (unit_in (units is_time) (slice_index text place)) ≡ true → place < length text
+designator-within is_time text place some = elim (cases_lt place (length text)) [
   | inl within ↦ within
-  | inr past ↦ absurd (false≢true (sym (no-unit mark) ∙ sym (ap (λ (letter : ℕ). is_some (unit_in (units mark) letter)) (get_or_past text place 0 past)) ∙ some))
+  | inr past ↦ absurd (false≢true (sym (no-unit is_time) ∙ sym (ap (λ (designator : ℕ). is_some (unit_in (units is_time) designator)) (get_or_past text place 0 past)) ∙ some))
 ]
 
 -- a text by its parts
@@ -57,67 +57,67 @@ parted text n m within =
     simp append_assoc (sym (take-append-drop n text) ∙ ap (λ (end : List ℕ). take n text ++ end) (sym (take-append-drop m rest) ∙ cut))
 
 -- what begins a text as an item and meets the table is an item, and the text is its text and the rest
-whole-mark : (text : List ℕ) → 0 < length text → slice_index text 0 ≡ capital_t → text ≡ capital_t ∷ drop 1 text
-whole-mark text some is = drop_more text 0 0 some ∙ ap (λ (byte : ℕ). byte ∷ drop 1 text) is
+whole-designator : (text : List ℕ) → 0 < length text → slice_index text 0 ≡ capital_t → text ≡ capital_t ∷ drop 1 text
+whole-designator text some is = drop_more text 0 0 some ∙ ap (λ (byte : ℕ). byte ∷ drop 1 text) is
 
-pub quantity-front : (sums : Sums) (text : List ℕ) → AllHold (item_table sums (Amount (quantity_at text)))
-    → IsItem (Amount (quantity_at text)) × (text ≡ item_text (Amount (quantity_at text)) ++ drop (quantity_length text) text)
-quantity-front sums text hold =
+pub component-front : (sums : Sums) (text : List ℕ) → AllHold (item_table sums (Component (component_at text)))
+    → IsItem (Component (component_at text)) × (text ≡ item_text (Component (component_at text)) ++ drop (component_length text) text)
+component-front sums text hold =
     let rest = drop (run_length text 0) text in
     let size = fraction_length rest in
-    let within = letter-within sums.mark rest size hold.1.1.1.0 in
-    ((run-digits text, sign-first rest (is_point (slice_index rest 0)) refl), parted text (run_length text 0) size within)
+    let within = designator-within sums.is_time rest size hold.1.1.1.0 in
+    ((run-digits text, sign-first rest (is_decimal_mark (slice_index rest 0)) refl), parted text (run_length text 0) size within)
 
--- a text that begins with an item: its answer is that behind the item
-after-item : (positive : Bool) (sums : Sums) (item : Item) (text rest : List ℕ) (answer : Result DurationNumbers ParseError)
+-- a text that begins with an item: its answer is that after the item
+after-item : (sums : Sums) (item : Item) (text rest : List ℕ) (answer : Result UnsignedDuration ParseError)
     → text ≡ item_text item ++ rest → IsItem item → AllHold (item_table sums item)
-    → IsAnswerFrom positive (with_item item sums) rest answer → IsAnswerFrom positive sums text answer
-after-item positive sums item text rest answer same is hold behind =
-    subst (λ (text : List ℕ). IsAnswerFrom positive sums text answer) (sym same) (answer-with positive sums item rest answer is hold behind)
+    → IsAnswerFrom (with_item item sums) rest answer → IsAnswerFrom sums text answer
+after-item sums item text rest answer same is hold behind =
+    subst (λ (text : List ℕ). IsAnswerFrom sums text answer) (sym same) (answer-with sums item rest answer is hold behind)
 
-front-item : (positive : Bool) (sums : Sums) (text : List ℕ) (answer : Result DurationNumbers ParseError) (mark : Bool)
-    → (slice_index text 0 == capital_t) ≡ mark → 0 < length text
-    → AllHold (item_table sums (if mark then Mark else Amount (quantity_at text)))
-    → IsAnswerFrom positive (with_item (if mark then Mark else Amount (quantity_at text)) sums) (drop (if mark then 1 else quantity_length text) text) answer
-    → IsAnswerFrom positive sums text answer
-front-item positive sums text answer true same some hold behind =
-    after-item positive sums Mark text (drop 1 text) answer (whole-mark text some (eqb-true (slice_index text 0) capital_t same)) tt hold behind
-front-item positive sums text answer false same some hold behind =
-    let front = quantity-front sums text hold in
-    after-item positive sums (Amount (quantity_at text)) text (drop (quantity_length text) text) answer front.1 front.0 hold behind
+front-item : (sums : Sums) (text : List ℕ) (answer : Result UnsignedDuration ParseError) (is_time : Bool)
+    → (slice_index text 0 == capital_t) ≡ is_time → 0 < length text
+    → AllHold (item_table sums (if is_time then TimeDesignator else Component (component_at text)))
+    → IsAnswerFrom (with_item (if is_time then TimeDesignator else Component (component_at text)) sums) (drop (if is_time then 1 else component_length text) text) answer
+    → IsAnswerFrom sums text answer
+front-item sums text answer true same some hold behind =
+    after-item sums TimeDesignator text (drop 1 text) answer (whole-designator text some (eqb-true (slice_index text 0) capital_t same)) tt hold behind
+front-item sums text answer false same some hold behind =
+    let front = component-front sums text hold in
+    after-item sums (Component (component_at text)) text (drop (component_length text) text) answer front.1 front.0 hold behind
 
 -- where the item at the front of a text meets the table, the answer is that of what follows it
-pub answer-behind : (positive : Bool) (sums : Sums) (text : List ℕ) (answer : Result DurationNumbers ParseError)
+pub answer-behind : (sums : Sums) (text : List ℕ) (answer : Result UnsignedDuration ParseError)
     → 0 < length text → AllHold (item_table sums (item_at text))
-    → IsAnswerFrom positive (with_item (item_at text) sums) (drop (item_length text) text) answer → IsAnswerFrom positive sums text answer
-answer-behind positive sums text answer = front-item positive sums text answer (slice_index text 0 == capital_t) refl
+    → IsAnswerFrom (with_item (item_at text) sums) (drop (item_length text) text) answer → IsAnswerFrom sums text answer
+answer-behind sums text answer = front-item sums text answer (slice_index text 0 == capital_t) refl
 
--- the same of a number at a place and a letter behind it that has a unit
-pub answer-behind-plain : (positive : Bool) (sums next : Sums) (body : List ℕ) (place end number letter : ℕ) (unit : DurationUnit)
-    (answer : Result DurationNumbers ParseError)
-    → sums.fraction ≡ false → number ≡ run_value body place → end ≡ place + run_length body place → letter ≡ slice_index body end
-    → Some unit ≡ unit_in (units sums.mark) letter → next ≡ with_amount unit number [] sums
-    → place < end → number ≤ 4294967295 → nat_lt (unit_seconds unit) sums.limit ≡ true → are_counted (with_amount unit number [] sums) ≡ true
-    → IsAnswerFrom positive next (drop (end + 1) body) answer → IsAnswerFrom positive sums (drop place body) answer
-answer-behind-plain positive sums next body place end number letter unit answer none spelled ended read is added some small smaller counted behind =
+-- the same of a number at a place and a designator after it that has a unit
+pub answer-behind-plain : (sums next : Sums) (body : List ℕ) (place end number designator : ℕ) (unit : DurationUnit)
+    (answer : Result UnsignedDuration ParseError)
+    → sums.fraction ≡ false → number ≡ run_value body place → end ≡ place + run_length body place → designator ≡ slice_index body end
+    → Some unit ≡ unit_in (units sums.is_time) designator → next ≡ with_amount unit number [] sums
+    → place < end → number ≤ 4294967295 → is_some (unit_in sums.next_units designator) ≡ true → are_counted (with_amount unit number [] sums) ≡ true
+    → IsAnswerFrom next (drop (end + 1) body) answer → IsAnswerFrom sums (drop place body) answer
+answer-behind-plain sums next body place end number designator unit answer none spelled ended read is added some small may_come counted behind =
     let text : List ℕ = drop place body in
     let count = run_length body place in
-    let quantity : Quantity = record { number = take count text; fraction = []; letter = slice_index (drop count text) 0 } in
+    let component : ComponentText = record { number = take count text; fraction = []; designator = slice_index (drop count text) 0 } in
     let there : place + (count + 0) ≡ end = omega (arith, ended) in
     let first = get_or-drop count text 0 0 ∙ get_or-drop place body (count + 0) 0 ∙ ap (λ (n : ℕ). slice_index body n) there in
-    let has : unit_in (units sums.mark) quantity.letter ≡ Some unit = ap (unit_in (units sums.mark)) (first ∙ sym read) ∙ sym is in
-    let same : with_item (Amount quantity) sums ≡ next = ap (λ (unit : Option DurationUnit). with_quantity unit quantity sums) has
+    let has : unit_in (units sums.is_time) component.designator ≡ Some unit = ap (unit_in (units sums.is_time)) (first ∙ sym read) ∙ sym is in
+    let same : with_item (Component component) sums ≡ next = ap (λ (unit : Option DurationUnit). with_component unit component sums) has
     ∙ ap (λ (n : ℕ). with_amount unit n [] sums) (sym spelled) ∙ sym added in
-    let within = letter-within sums.mark (drop count text) 0 (ap is_some has) in
+    let within = designator-within sums.is_time (drop count text) 0 (ap is_some has) in
     let whole = parted text count 0 within in
     let long : length (take count text) ≡ count = length-take-le count text (prefix_len-le-length is_ascii_digit text) in
-    let ordered = ap (is_smaller sums.limit) has ∙ smaller in
-    let all : AllHold (item_table sums (Amount quantity)) = (grind (arith, nat_tests, some, ended, long), (grind (arith, nat_tests, small, spelled), (ap not none, (ap is_some has, (ordered, (ap are_counted (same ∙ added) ∙ counted, tt)))))) in
+    let ordered = ap (λ (designator : ℕ). is_some (unit_in sums.next_units designator)) (first ∙ sym read) ∙ may_come in
+    let all : AllHold (item_table sums (Component component)) = (grind (arith, nat_tests, some, ended, long), (grind (arith, nat_tests, small, spelled), (ap not none, (ap is_some has, (ordered, (ap are_counted (same ∙ added) ∙ counted, tt)))))) in
     let last : place + (count + 0 + 1) ≡ end + 1 = omega (arith, ended) in
     let rest = ap (λ (n : ℕ). drop n body) (sym last) ∙ sym (drop-drop (count + 0 + 1) place body) in
-    after-item positive sums (Amount quantity) text (drop (count + 0 + 1) text) answer whole (run-digits text, tt) all
-    (subst (λ (sums : Sums). IsAnswerFrom positive sums (drop (count + 0 + 1) text) answer) (sym same)
-    (subst (λ (rest : List ℕ). IsAnswerFrom positive next rest answer) rest behind))
+    after-item sums (Component component) text (drop (count + 0 + 1) text) answer whole (run-digits text, tt) all
+    (subst (λ (sums : Sums). IsAnswerFrom sums (drop (count + 0 + 1) text) answer) (sym same)
+    (subst (λ (rest : List ℕ). IsAnswerFrom next rest answer) rest behind))
 
 -- a text that begins with a `T` is not empty
 first-within : (text : List ℕ) → slice_index text 0 ≡ capital_t → 0 < length text
@@ -125,26 +125,26 @@ first-within [] is = absurd (cc)
 first-within (byte ∷ text) is = omega arith
 
 -- and of a `T` at a place
-pub answer-behind-mark : (positive : Bool) (sums next : Sums) (body : List ℕ) (place : ℕ) (answer : Result DurationNumbers ParseError)
-    → sums.mark ≡ false → slice_index body place ≡ capital_t → next ≡ with_item Mark sums
-    → IsAnswerFrom positive next (drop (place + 1) body) answer → IsAnswerFrom positive sums (drop place body) answer
-answer-behind-mark positive sums next body place answer none is added behind =
+pub answer-behind-designator : (sums next : Sums) (body : List ℕ) (place : ℕ) (answer : Result UnsignedDuration ParseError)
+    → sums.is_time ≡ false → slice_index body place ≡ capital_t → next ≡ with_item TimeDesignator sums
+    → IsAnswerFrom next (drop (place + 1) body) answer → IsAnswerFrom sums (drop place body) answer
+answer-behind-designator sums next body place answer none is added behind =
     let text : List ℕ = drop place body in
     let first : slice_index text 0 ≡ capital_t = get_or-drop place body 0 0 ∙ ap (λ (n : ℕ). slice_index body n) (omega arith) ∙ is in
     let rest = sym (drop-drop 1 place body) in
     let some : 0 < length text = first-within text first in
-    after-item positive sums Mark text (drop 1 text) answer (whole-mark text some first) tt (ap not none, tt)
-    (subst (λ (sums : Sums). IsAnswerFrom positive sums (drop 1 text) answer) added
-    (subst (λ (rest : List ℕ). IsAnswerFrom positive next rest answer) rest behind))
+    after-item sums TimeDesignator text (drop 1 text) answer (whole-designator text some first) tt (ap not none, tt)
+    (subst (λ (sums : Sums). IsAnswerFrom sums (drop 1 text) answer) added
+    (subst (λ (rest : List ℕ). IsAnswerFrom next rest answer) rest behind))
 
-ends-refused : (positive : Bool) (sums : Sums) (text : List ℕ) (fault : ParseError) → 0 < length text
-    → meets (item_table sums (item_at text)) (Ok (sums_numbers positive sums)) ≡ Err fault → Ends positive sums text (Err fault)
-ends-refused positive sums [] fault some refused = absurd (lt_irrefl 0 some)
-ends-refused positive sums (byte ∷ rest) fault some refused = (fault, refused, refl)
+ends-refused : (sums : Sums) (text : List ℕ) (fault : ParseError) → 0 < length text
+    → meets (item_table sums (item_at text)) (Ok (sums_length sums)) ≡ Err fault → Ends sums text (Err fault)
+ends-refused sums [] fault some refused = absurd (lt_irrefl 0 some)
+ends-refused sums (byte ∷ rest) fault some refused = (fault, refused, refl)
 
 -- where that item does not meet the table, the answer is its fault
-pub answer-refused : {A : Type 0} (positive : Bool) (sums : Sums) (text : List ℕ) (fault : ParseError) (value : A) → 0 < length text
-    → Err fault ≡ meets (item_table sums (item_at text)) (Ok value) → IsAnswerFrom positive sums text (Err fault)
-answer-refused positive sums text fault value some refused =
-    let numbers : Result DurationNumbers ParseError = Ok (sums_numbers positive sums) in
-    ([], text, refl, tt, ends-refused positive sums text fault some (sym (meets-next (item_table sums (item_at text)) value (Err fault) numbers refused)))
+pub answer-refused : {A : Type 0} (sums : Sums) (text : List ℕ) (fault : ParseError) (value : A) → 0 < length text
+    → Err fault ≡ meets (item_table sums (item_at text)) (Ok value) → IsAnswerFrom sums text (Err fault)
+answer-refused sums text fault value some refused =
+    let numbers : Result UnsignedDuration ParseError = Ok (sums_length sums) in
+    ([], text, refl, tt, ends-refused sums text fault some (sym (meets-next (item_table sums (item_at text)) value (Err fault) numbers refused)))

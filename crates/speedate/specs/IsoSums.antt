@@ -1,21 +1,31 @@
 -- What contracts see of a unit and of the sums of items.
-use Rattle.std.specs.Prelude.{Bool, List, ℕ, Result}
+use Rattle.std.specs.Prelude.{Bool, ◌≡◌, ◌∷◌, [], ◌==◌, if◌then◌else◌, drop, zero, suc, Some, List, ℕ, Result}
 use Rattle.speedate_base.specs.declared.faults.ParseError.{ParseError}
 use Rattle.speedate.specs.declared.duration.iso.DurationUnit.{DurationUnit as StructDurationUnit}
 use Rattle.speedate.specs.declared.duration.iso.Sums.{Sums as StructSums}
-use Rattle.speedate.specs.DurationNumbers.{DurationNumbers}
-use Rattle.speedate.specs.IsoForm.{DurationUnit, Sums, IsAnswerFrom}
+use Rattle.speedate.specs.DurationNumbers.{UnsignedDuration}
+use Rattle.speedate.specs.IsoForm.{DurationUnit, units, unit_in, Sums, IsAnswerFrom}
 
--- a unit by its letter and its worth
+-- a unit by its designator and its worth
 abbrev pub unit_parts : StructDurationUnit → DurationUnit
-unit_parts unit = record { letter = unit.letter; day = unit.day; second = unit.second }
+unit_parts unit = record { designator = unit.designator; day = unit.day; second = unit.second }
+
+-- how many units a list has before the one of a designator
+abbrev pub unit_place : ℕ → List DurationUnit → ℕ
+unit_place designator [] = zero
+unit_place designator (unit ∷ units) = if designator == unit.designator then zero else suc (unit_place designator units)
+
+-- a unit is one of a side, at its place
+pub record IsUnitOf (is_time : Bool) (unit : StructDurationUnit) : Type 0 where
+  pub is_unit : unit_in (units is_time) unit.designator ≡ Some (unit_parts unit)
+  pub is_place : unit.place ≡ unit_place unit.designator (units is_time)
 
 -- sums by their numbers
 abbrev pub sums_parts : StructSums → Sums
 sums_parts sums = record {
   order = sums.order;
-  limit = sums.limit;
-  mark = sums.mark;
+  next_units = drop sums.passed (units sums.is_time);
+  is_time = sums.is_time;
   fraction = sums.fraction;
   some = sums.some;
   day = sums.day;
@@ -23,7 +33,7 @@ sums_parts sums = record {
   microsecond = sums.microsecond;
 }
 
--- a text behind sums goes on as a rest behind other sums: what answers the rest answers the text
+-- a text after sums goes on as a rest after other sums: what answers the rest answers the text
 abbrev pub GoesOn : Sums → List ℕ → Sums → List ℕ → Type 0
 GoesOn sums text next rest =
-    (positive : Bool) (answer : Result DurationNumbers ParseError) → IsAnswerFrom positive next rest answer → IsAnswerFrom positive sums text answer
+    (answer : Result UnsignedDuration ParseError) → IsAnswerFrom next rest answer → IsAnswerFrom sums text answer

@@ -1,5 +1,5 @@
 -- The text by which a duration is printed is read as the duration.
-use Rattle.std.specs.Prelude.{◌≡◌, ℕ, ◌+◌, ◌-◌, ◌*◌, ◌/◌, ◌%◌, ◌^◌, ◌<◌, ◌≤◌, Bool, true, false, not, ◌&&◌, ◌==◌, nat_lt, nat_le, if◌then◌else◌, List, [], ◌∷◌, ◌++◌, length, drop, Some, pos, unsigned_abs, Result, Ok, codes, refl}
+use Rattle.std.specs.Prelude.{◌≡◌, ℕ, ◌+◌, ◌-◌, ◌*◌, ◌/◌, ◌%◌, ◌^◌, ◌<◌, ◌≤◌, Bool, true, false, not, ◌&&◌, ◌==◌, nat_lt, nat_le, if◌then◌else◌, List, [], ◌∷◌, ◌++◌, length, drop, Some, pos, unsigned_abs, Ok, codes, refl}
 use Rattle.std.specs.Char.{is_ascii_digit}
 use Rattle.std.specs.Fmt.{decimal}
 use Rattle.std.specs.List.{list_all, flat_map}
@@ -16,7 +16,6 @@ use Rattle.speedate_base.specs.declared.config.IsoOrder.{IsoOrder}
 use Rattle.speedate_base.specs.declared.config.IsoOrder.TheVariants as order
 use Rattle.speedate_base.specs.declared.config.MicrosecondsPrecisionOverflowBehavior.{MicrosecondsPrecisionOverflowBehavior}
 use Rattle.speedate_base.specs.declared.config.MicrosecondsPrecisionOverflowBehavior.TheVariants as behavior
-use Rattle.speedate_base.specs.declared.faults.ParseError.{ParseError}
 use Rattle.speedate_base.specs.Ascii.{digit_zero, full_stop, capital_d, capital_h, capital_m, capital_s, capital_t, capital_y}
 use Rattle.speedate_base.specs.Digits.{digit_value, six_digit_text}
 use Rattle.speedate_base.specs.DigitLaws.{six_digits-printed}
@@ -24,14 +23,15 @@ use Rattle.speedate_base.specs.DigitRuns.{digits_value}
 use Rattle.speedate_base.specs.DigitRunLaws.{digits_value-lt}
 use Rattle.speedate_base.specs.Nearest.{nearest}
 use Rattle.speedate_base.specs.NearestLaws.{nearest-exact, scale-some}
-use Rattle.speedate_base.specs.Numbers.{has_minus, sign_length}
+use Rattle.speedate_base.specs.Requirement.{result_and_then}
 use Rattle.speedate_base.specs.Offset.{seconds_per_day}
-use Rattle.speedate.specs.DurationForm.{IsFormAnswer, IsDurationAnswer}
+use Rattle.speedate_base.specs.TextLaws.{text-distinct}
+use Rattle.speedate.specs.DurationAnswer.{iso_form, unsigned_answer, duration_answer}
+use Rattle.speedate.specs.DurationAnswerLaws.{iso_form-only}
 use Rattle.speedate.specs.DurationLaws.{normal_form-same}
-use Rattle.speedate.specs.DurationNumbers.{DurationNumbers, IsDuration}
+use Rattle.speedate.specs.DurationNumbers.{DurationNumbers, IsDuration, length_of, signed_form}
 use Rattle.speedate.specs.DurationText.{counted_text, kept_digit, without_last_zeros, short_fraction_text, hours_text, days_text, start_text, rest_text, is_whole_days, duration_text}
-use Rattle.speedate.specs.IsoFormLaws.{duration_answer-only}
-use Rattle.speedate.specs.IsoForm.{DurationUnit, unit, units, unit_in, Quantity, Item, Mark, Amount, item_text, IsFraction, Sums, no_limit, no_sums, next_limit, is_smaller, unit_seconds, fraction_seconds, fraction_microseconds, with_quantity, with_item, with_items, AreGood, Ends, sums_numbers, IsIsoAnswer}
+use Rattle.speedate.specs.IsoForm.{DurationUnit, unit, units, unit_in, ComponentText, Item, TimeDesignator, Component, item_text, IsFraction, Sums, no_sums, units_behind, unit_seconds, fraction_seconds, fraction_microseconds, with_component, with_item, with_items, AreGood, Ends, sums_length, IsIsoAnswer}
 
 -- a number without leading zeros is digits that spell it
 abbrev AreDigits : List ℕ → Type 0
@@ -47,7 +47,7 @@ digits_test = record {
 digits_model : IsNumeralModel AreDigits digits_value
 digits_model = numerals_by_weight AreDigits digits_test digits_value (record { empty = refl; more = λ c cs range. refl })
 
--- one more digit in front of two fractions of one worth
+-- one more digit before two fractions of one worth
 more-worth : (value kept whole few few_more many many_more : ℕ) → few_more ≡ 10 * few → many_more ≡ 10 * many → kept * many ≡ whole * few
     → (value * few + kept) * many_more ≡ (value * many + whole) * few_more
 more-worth value kept whole few few_more many many_more few_is many_is same = rw (few_is, many_is) (grind (arith, same))
@@ -106,7 +106,7 @@ second-microseconds digits microsecond all same =
     ap (λ z. unsigned_abs z - 1000000 * fraction_seconds (unit capital_s 0 1) digits) exact
     ∙ ap (λ (n : ℕ). microsecond - 1000000 * n) (second-seconds digits all) ∙ omega arith
 
--- a text leads from sums to others: it is good items behind the first that add up to the second
+-- a text leads from sums to others: it is good items after the first that add up to the second
 abbrev pub Leads : Sums → List ℕ → Sums → Type 0
 Leads before text after =
     (items : List Item) × (flat_map item_text items ≡ text) × AreGood before items × (with_items items before ≡ after)
@@ -130,16 +130,16 @@ leads-append before between after text more first second = (
 )
 
 -- sums with no fraction so far
-abbrev whole_sums : IsoOrder → ℕ → Bool → Bool → ℕ → ℕ → Sums
-whole_sums order limit mark some day second =
-    record { order = order; limit = limit; mark = mark; fraction = false; some = some; day = day; second = second; microsecond = 0 }
+abbrev whole_sums : IsoOrder → List DurationUnit → Bool → Bool → ℕ → ℕ → Sums
+whole_sums order next is_time some day second =
+    record { order = order; next_units = next; is_time = is_time; fraction = false; some = some; day = day; second = second; microsecond = 0 }
 
 -- sums whose last item is printed seconds
-abbrev clock_sums : IsoOrder → ℕ → Bool → ℕ → ℕ → ℕ → Sums
-clock_sums order limit some day second microsecond = record {
+abbrev clock_sums : IsoOrder → List DurationUnit → Bool → ℕ → ℕ → ℕ → Sums
+clock_sums order next some day second microsecond = record {
   order = order;
-  limit = limit;
-  mark = true;
+  next_units = next;
+  is_time = true;
   fraction = nat_lt 0 (length (short_fraction_text microsecond));
   some = some;
   day = day;
@@ -147,21 +147,14 @@ clock_sums order limit some day second microsecond = record {
   microsecond = microsecond;
 }
 
--- what the next unit has to be smaller than behind so many of a unit, of which nothing is printed for none
-abbrev counted_limit : IsoOrder → DurationUnit → Bool → ℕ → ℕ
-counted_limit order unit none limit = if none then limit else next_limit order unit
-
--- a smaller unit can follow, whatever the order
-still-smaller : (order : IsoOrder) (unit : DurationUnit) (none : Bool) (limit small : ℕ) → small < no_limit → small < unit_seconds unit → small < limit
-    → small < counted_limit order unit none limit
-still-smaller order unit true limit small never less under = under
-still-smaller order.Lax unit false limit small never less under = never
-still-smaller order.Strict unit false limit small never less under = less
+-- the units that may come after so many of a unit, of which nothing is printed for none
+abbrev units_left : IsoOrder → Bool → ℕ → Bool → List DurationUnit → List DurationUnit
+units_left order is_time designator none next = if none then next else units_behind order is_time designator next
 
 -- so many of a unit of one side, which may come next, bring days and seconds to others, all of which fit
-record Adds (unit : DurationUnit) (limit : ℕ) (mark : Bool) (number day second days seconds : ℕ) : Type 0 where
-  found : unit_in (units mark) unit.letter ≡ Some unit
-  smaller : unit_seconds unit < limit
+record Adds (unit : DurationUnit) (next : List DurationUnit) (is_time : Bool) (number day second days seconds : ℕ) : Type 0 where
+  found : unit_in (units is_time) unit.designator ≡ Some unit
+  comes : is_some (unit_in next unit.designator) ≡ true
   day_sum : day + number * unit.day ≡ days
   second_sum : second + number * unit.second ≡ seconds
   few : number ≤ 4294967295
@@ -177,22 +170,22 @@ no-fraction : (unit : DurationUnit) → IsMicroseconds unit [] 0
 no-fraction unit = (tt, no-seconds unit, no-microseconds unit)
 
 -- a number, its fraction and its unit lead to the sums with so many of the unit
-amount-leads : (order : IsoOrder) (limit : ℕ) (unit : DurationUnit) (mark some : Bool) (number day second days seconds microsecond : ℕ) (fraction : List ℕ)
-    → Adds unit limit mark number day second days seconds → IsMicroseconds unit fraction microsecond
-    → Leads (whole_sums order limit mark some day second) (decimal number ++ fraction ++ unit.letter ∷ [])
+amount-leads : (order : IsoOrder) (next : List DurationUnit) (unit : DurationUnit) (is_time some : Bool) (number day second days seconds microsecond : ℕ) (fraction : List ℕ)
+    → Adds unit next is_time number day second days seconds → IsMicroseconds unit fraction microsecond
+    → Leads (whole_sums order next is_time some day second) (decimal number ++ fraction ++ unit.designator ∷ [])
     (record {
       order = order;
-      limit = next_limit order unit;
-      mark = mark;
+      next_units = units_behind order is_time unit.designator next;
+      is_time = is_time;
       fraction = nat_lt 0 (length fraction);
       some = true;
       day = days;
       second = seconds;
       microsecond = microsecond;
     })
-amount-leads order limit unit mark some number day second days seconds microsecond fraction adds means =
-    let sums = whole_sums order limit mark some day second in
-    let quantity : Quantity = record { number = decimal number; fraction = fraction; letter = unit.letter } in
+amount-leads order next unit is_time some number day second days seconds microsecond fraction adds means =
+    let sums = whole_sums order next is_time some day second in
+    let component : ComponentText = record { number = decimal number; fraction = fraction; designator = unit.designator } in
     let small : number < 2 ^ 64 = omega (arith, adds.few) in
     let spelled = digits_value-decimal digits_model number small in
     let fits : digits_value (decimal number) ≤ 4294967295 = omega (arith, spelled, adds.few) in
@@ -201,11 +194,11 @@ amount-leads order limit unit mark some number day second days seconds microseco
     let second_is : second + digits_value (decimal number) * unit.second + fraction_seconds unit (drop 1 fraction) % seconds_per_day ≡ seconds =
     rw (spelled, means.1, adds.second_sum) (omega arith) in
     let microsecond_is : 0 + fraction_microseconds unit (drop 1 fraction) ≡ microsecond = omega (arith, means.2) in
-    let sum = ap (λ one. with_quantity one quantity sums) adds.found
+    let sum = ap (λ one. with_component one component sums) adds.found
     ∙ (λ i. record {
       order = order;
-      limit = next_limit order unit;
-      mark = mark;
+      next_units = units_behind order is_time unit.designator next;
+      is_time = is_time;
       fraction = nat_lt 0 (length fraction);
       some = true;
       day = day_is i;
@@ -214,70 +207,69 @@ amount-leads order limit unit mark some number day second days seconds microseco
     }) in
     let sum_fits = ap (λ (sums : Sums). nat_le sums.day 4294967295 && nat_le sums.second 4294967295) sum
     ∙ and_from _ _ (le-leb days 4294967295 adds.few_days) (le-leb seconds 4294967295 adds.few_seconds) in
-    let smaller = ap (is_smaller limit) adds.found ∙ lt-ltb (unit_seconds unit) limit adds.smaller in
     let some_digits = lt-ltb 0 (length (decimal number)) (decimal_nonempty number small) in (
-      Amount quantity ∷ [],
-      append-nil (item_text (Amount quantity)),
+      Component component ∷ [],
+      append-nil (item_text (Component component)),
       (
         (digits_decimal digits_model number small, means.0),
-        (some_digits, (le-leb _ 4294967295 fits, (refl, (ap is_some adds.found, (smaller, (sum_fits, tt)))))),
+        (some_digits, (le-leb _ 4294967295 fits, (refl, (ap is_some adds.found, (adds.comes, (sum_fits, tt)))))),
         tt,
       ),
       sum,
     )
 
 -- so do a number and its unit
-whole-leads : (order : IsoOrder) (limit : ℕ) (unit : DurationUnit) (mark some : Bool) (number day second days seconds : ℕ)
-    → Adds unit limit mark number day second days seconds
-    → Leads (whole_sums order limit mark some day second) (decimal number ++ unit.letter ∷ [])
-    (whole_sums order (next_limit order unit) mark true days seconds)
-whole-leads order limit unit mark some number day second days seconds adds =
-    let after = whole_sums order (next_limit order unit) mark true days seconds in
-    subst (λ (digits : List ℕ). Leads (whole_sums order limit mark some day second) (digits ++ unit.letter ∷ []) after) (append-nil (decimal number))
-    (amount-leads order limit unit mark some number day second days seconds 0 [] adds (no-fraction unit))
+whole-leads : (order : IsoOrder) (next : List DurationUnit) (unit : DurationUnit) (is_time some : Bool) (number day second days seconds : ℕ)
+    → Adds unit next is_time number day second days seconds
+    → Leads (whole_sums order next is_time some day second) (decimal number ++ unit.designator ∷ [])
+    (whole_sums order (units_behind order is_time unit.designator next) is_time true days seconds)
+whole-leads order next unit is_time some number day second days seconds adds =
+    let after = whole_sums order (units_behind order is_time unit.designator next) is_time true days seconds in
+    subst (λ (digits : List ℕ). Leads (whole_sums order next is_time some day second) (digits ++ unit.designator ∷ []) after) (append-nil (decimal number))
+    (amount-leads order next unit is_time some number day second days seconds 0 [] adds (no-fraction unit))
 
 -- and where there is nothing for none
-counted-of : (order : IsoOrder) (limit : ℕ) (unit : DurationUnit) (mark some none : Bool) (number day second days seconds : ℕ)
-    → (number == 0) ≡ none → Adds unit limit mark number day second days seconds
-    → Leads (whole_sums order limit mark some day second) (if none then [] else decimal number ++ unit.letter ∷ [])
-    (whole_sums order (counted_limit order unit none limit) mark (if none then some else true) days seconds)
-counted-of order limit unit mark some true number day second days seconds none adds =
+counted-of : (order : IsoOrder) (next : List DurationUnit) (unit : DurationUnit) (is_time some none : Bool) (number day second days seconds : ℕ)
+    → (number == 0) ≡ none → Adds unit next is_time number day second days seconds
+    → Leads (whole_sums order next is_time some day second) (if none then [] else decimal number ++ unit.designator ∷ [])
+    (whole_sums order (units_left order is_time unit.designator none next) is_time (if none then some else true) days seconds)
+counted-of order next unit is_time some true number day second days seconds none adds =
     let zero_is = eqb-true number 0 none in
     let day_is : day ≡ days = grind (arith, zero_is, adds.day_sum) in
     let second_is : second ≡ seconds = grind (arith, zero_is, adds.second_sum) in
-    ([], refl, tt, λ i. whole_sums order limit mark some (day_is i) (second_is i))
-counted-of order limit unit mark some false number day second days seconds other adds =
-    whole-leads order limit unit mark some number day second days seconds adds
+    ([], refl, tt, λ i. whole_sums order next is_time some (day_is i) (second_is i))
+counted-of order next unit is_time some false number day second days seconds other adds =
+    whole-leads order next unit is_time some number day second days seconds adds
 
-counted-leads : (order : IsoOrder) (limit : ℕ) (unit : DurationUnit) (mark some : Bool) (number day second days seconds : ℕ)
-    → Adds unit limit mark number day second days seconds
-    → Leads (whole_sums order limit mark some day second) (counted_text number unit.letter)
-    (whole_sums order (counted_limit order unit (number == 0) limit) mark (if number == 0 then some else true) days seconds)
-counted-leads order limit unit mark some number day second days seconds =
-    counted-of order limit unit mark some (number == 0) number day second days seconds refl
+counted-leads : (order : IsoOrder) (next : List DurationUnit) (unit : DurationUnit) (is_time some : Bool) (number day second days seconds : ℕ)
+    → Adds unit next is_time number day second days seconds
+    → Leads (whole_sums order next is_time some day second) (counted_text number unit.designator)
+    (whole_sums order (units_left order is_time unit.designator (number == 0) next) is_time (if number == 0 then some else true) days seconds)
+counted-leads order next unit is_time some number day second days seconds =
+    counted-of order next unit is_time some (number == 0) number day second days seconds refl
 
 -- a `T` leads to the other side
-mark-leads : (order : IsoOrder) (limit : ℕ) (some : Bool) (day second : ℕ)
-    → Leads (whole_sums order limit false some day second) (capital_t ∷ []) (whole_sums order no_limit true some day second)
-mark-leads order limit some day second = (Mark ∷ [], refl, (tt, (refl, tt), tt), refl)
+designator-leads : (order : IsoOrder) (next : List DurationUnit) (some : Bool) (day second : ℕ)
+    → Leads (whole_sums order next false some day second) (capital_t ∷ []) (whole_sums order (units true) true some day second)
+designator-leads order next some day second = (TimeDesignator ∷ [], refl, (tt, (refl, tt), tt), refl)
 
 -- no seconds at all
-zero-leads : (order : IsoOrder) (limit : ℕ) (some : Bool) (day : ℕ) → day ≤ 4294967295
-    → Leads (whole_sums order limit false some day 0) (codes "T0S") (whole_sums order (next_limit order (unit capital_s 0 1)) true true day 0)
-zero-leads order limit some day few =
-    let after = whole_sums order (next_limit order (unit capital_s 0 1)) true true day 0 in
-    let adds : Adds (unit capital_s 0 1) no_limit true 0 day 0 day 0 = record {
+zero-leads : (order : IsoOrder) (next : List DurationUnit) (some : Bool) (day : ℕ) → day ≤ 4294967295
+    → Leads (whole_sums order next false some day 0) (codes "T0S") (whole_sums order (units_behind order true capital_s (units true)) true true day 0)
+zero-leads order next some day few =
+    let after = whole_sums order (units_behind order true capital_s (units true)) true true day 0 in
+    let adds : Adds (unit capital_s 0 1) (units true) true 0 day 0 day 0 = record {
       found = refl;
-      smaller = lit< tt;
+      comes = refl;
       day_sum = omega arith;
       second_sum = refl;
       few = omega arith;
       few_days = few;
       few_seconds = omega arith;
     } in
-    subst (λ (digits : List ℕ). Leads (whole_sums order limit false some day 0) (capital_t ∷ digits ++ capital_s ∷ []) after) (decimal_digit 0 (lit< tt))
-    (leads-append _ _ _ (capital_t ∷ []) _ (mark-leads order limit some day 0)
-    (whole-leads order no_limit (unit capital_s 0 1) true some 0 day 0 day 0 adds))
+    subst (λ (digits : List ℕ). Leads (whole_sums order next false some day 0) (capital_t ∷ digits ++ capital_s ∷ []) after) (decimal_digit 0 (lit< tt))
+    (leads-append _ _ _ (capital_t ∷ []) _ (designator-leads order next some day 0)
+    (whole-leads order (units true) (unit capital_s 0 1) true some 0 day 0 day 0 adds))
 
 -- the printed fraction of a second is its microseconds
 fraction-of : (microsecond : ℕ) (none : Bool) → (microsecond == 0) ≡ none → microsecond < 1000000
@@ -292,93 +284,110 @@ fraction-of microsecond false other small =
     ((refl, all), second-seconds digits all, second-microseconds digits microsecond all worth)
 
 -- seconds with their fraction lead to what they add up to
-seconds-of : (order : IsoOrder) (limit : ℕ) (some none : Bool) (number microsecond day second seconds : ℕ) → ((number == 0) && (microsecond == 0)) ≡ none
-    → microsecond < 1000000 → Adds (unit capital_s 0 1) limit true number day second day seconds
-    → Leads (whole_sums order limit true some day second) (if none then [] else decimal number ++ short_fraction_text microsecond ++ capital_s ∷ [])
-    (clock_sums order (counted_limit order (unit capital_s 0 1) none limit) (if none then some else true) day seconds microsecond)
-seconds-of order limit some true number microsecond day second seconds none small adds =
+seconds-of : (order : IsoOrder) (next : List DurationUnit) (some none : Bool) (number microsecond day second seconds : ℕ) → ((number == 0) && (microsecond == 0)) ≡ none
+    → microsecond < 1000000 → Adds (unit capital_s 0 1) next true number day second day seconds
+    → Leads (whole_sums order next true some day second) (if none then [] else decimal number ++ short_fraction_text microsecond ++ capital_s ∷ [])
+    (clock_sums order (units_left order true capital_s none next) (if none then some else true) day seconds microsecond)
+seconds-of order next some true number microsecond day second seconds none small adds =
     let tests = and_parts (number == 0) (microsecond == 0) none in
     let second_is : second ≡ seconds = omega (arith, eqb-true number 0 tests.0, adds.second_sum) in
     let microsecond_is = sym (eqb-true microsecond 0 tests.1) in
-    ([], refl, tt, λ i. clock_sums order limit some day (second_is i) (microsecond_is i))
-seconds-of order limit some false number microsecond day second seconds other small adds =
-    amount-leads order limit (unit capital_s 0 1) true some number day second day seconds microsecond (short_fraction_text microsecond) adds
+    ([], refl, tt, λ i. clock_sums order next some day (second_is i) (microsecond_is i))
+seconds-of order next some false number microsecond day second seconds other small adds =
+    amount-leads order next (unit capital_s 0 1) true some number day second day seconds microsecond (short_fraction_text microsecond) adds
     (fraction-of microsecond (microsecond == 0) refl small)
 
--- there are years or days exactly if there are days
+-- there are years or days if and only if there are days
 days-some : (day : ℕ) → (if day % 365 == 0 then (if day / 365 == 0 then false else true) else true) ≡ not (day == 0)
 days-some day = grind (arith, nat_tests)
 
--- what comes behind years, and behind years and days, has to be smaller than this
-abbrev years_limit : IsoOrder → ℕ → ℕ
-years_limit order day = counted_limit order (unit capital_y 365 0) (day / 365 == 0) no_limit
+-- what may come after years, and after years and days
+abbrev years_left : IsoOrder → ℕ → List DurationUnit
+years_left order day = units_left order false capital_y (day / 365 == 0) (units false)
 
-abbrev days_limit : IsoOrder → ℕ → ℕ
-days_limit order day = counted_limit order (unit capital_d 1 0) (day % 365 == 0) (years_limit order day)
+abbrev days_left : IsoOrder → ℕ → List DurationUnit
+days_left order day = units_left order false capital_d (day % 365 == 0) (years_left order day)
+
+days-come : (order : IsoOrder) (none : Bool) → is_some (unit_in (units_left order false capital_y none (units false)) capital_d) ≡ true
+days-come order true = refl
+days-come order.Lax false = refl
+days-come order.Strict false = refl
 
 -- years and days lead to the days
 days-leads : (order : IsoOrder) (day : ℕ) → day ≤ 999999999
     → Leads (no_sums order) (counted_text (day / 365) capital_y ++ counted_text (day % 365) capital_d)
-    (whole_sums order (days_limit order day) false (not (day == 0)) day 0)
+    (whole_sums order (days_left order day) false (not (day == 0)) day 0)
 days-leads order day few =
     let text = counted_text (day / 365) capital_y ++ counted_text (day % 365) capital_d in
     let years = day / 365 * 365 in
     let few_years : day / 365 ≤ 4294967295 = omega (arith, few) in
-    let years_add : Adds (unit capital_y 365 0) no_limit false (day / 365) 0 0 years 0 = record {
+    let years_add : Adds (unit capital_y 365 0) (units false) false (day / 365) 0 0 years 0 = record {
       found = refl;
-      smaller = lit< tt;
+      comes = refl;
       day_sum = omega arith;
       second_sum = omega arith;
       few = few_years;
       few_days = omega (arith, few);
       few_seconds = omega arith;
     } in
-    let days_add : Adds (unit capital_d 1 0) (years_limit order day) false (day % 365) years 0 day 0 = record {
+    let days_add : Adds (unit capital_d 1 0) (years_left order day) false (day % 365) years 0 day 0 = record {
       found = refl;
-      smaller = still-smaller order (unit capital_y 365 0) (day / 365 == 0) no_limit 86400 (lit< tt) (lit< tt) (lit< tt);
+      comes = days-come order (day / 365 == 0);
       day_sum = omega arith;
       second_sum = omega arith;
       few = omega arith;
       few_days = omega (arith, few);
       few_seconds = omega arith;
     } in
-    subst (λ (some : Bool). Leads (no_sums order) text (whole_sums order (days_limit order day) false some day 0)) (days-some day)
+    subst (λ (some : Bool). Leads (no_sums order) text (whole_sums order (days_left order day) false some day 0)) (days-some day)
     (leads-append (no_sums order) _ _ _ _
-    (counted-leads order no_limit (unit capital_y 365 0) false false (day / 365) 0 0 years 0 years_add)
-    (counted-leads order (years_limit order day) (unit capital_d 1 0) false _ (day % 365) years 0 day 0 days_add))
+    (counted-leads order (units false) (unit capital_y 365 0) false false (day / 365) 0 0 years 0 years_add)
+    (counted-leads order (years_left order day) (unit capital_d 1 0) false _ (day % 365) years 0 day 0 days_add))
 
--- there are hours, minutes or seconds where there is something behind the days
+-- there are hours, minutes or seconds where there is something after the days
 hours-some : (second microsecond : ℕ) (some : Bool) → ((second == 0) && (microsecond == 0)) ≡ false
     → (if (second % 60 == 0) && (microsecond == 0) then (if second / 60 % 60 == 0 then (if second / 3600 == 0 then some else true) else true) else true) ≡ true
 hours-some second microsecond some other = grind (arith, nat_tests)
 
--- what comes behind hours, behind minutes, and behind seconds has to be smaller than this
-abbrev hours_limit : IsoOrder → ℕ → ℕ
-hours_limit order second = counted_limit order (unit capital_h 0 3600) (second / 3600 == 0) no_limit
+-- what may come after hours, after minutes, and after seconds
+abbrev hours_left : IsoOrder → Bool → List DurationUnit
+hours_left order none = units_left order true capital_h none (units true)
 
-abbrev minutes_limit : IsoOrder → ℕ → ℕ
-minutes_limit order second = counted_limit order (unit capital_m 0 60) (second / 60 % 60 == 0) (hours_limit order second)
+abbrev minutes_left : IsoOrder → Bool → Bool → List DurationUnit
+minutes_left order none no_minutes = units_left order true capital_m no_minutes (hours_left order none)
 
-abbrev seconds_limit : IsoOrder → ℕ → ℕ → ℕ
-seconds_limit order second microsecond =
-    counted_limit order (unit capital_s 0 1) ((second % 60 == 0) && (microsecond == 0)) (minutes_limit order second)
+abbrev seconds_left : IsoOrder → ℕ → ℕ → List DurationUnit
+seconds_left order second microsecond =
+    units_left order true capital_s ((second % 60 == 0) && (microsecond == 0)) (minutes_left order (second / 3600 == 0) (second / 60 % 60 == 0))
+
+minutes-come : (order : IsoOrder) (none : Bool) → is_some (unit_in (hours_left order none) capital_m) ≡ true
+minutes-come order true = refl
+minutes-come order.Lax false = refl
+minutes-come order.Strict false = refl
+
+seconds-come : (order : IsoOrder) (none no_minutes : Bool) → is_some (unit_in (minutes_left order none no_minutes) capital_s) ≡ true
+seconds-come order true true = refl
+seconds-come order.Lax none false = refl
+seconds-come order.Lax false true = refl
+seconds-come order.Strict true false = refl
+seconds-come order.Strict false true = refl
+seconds-come order.Strict false false = refl
 
 -- hours, minutes and seconds lead to the seconds and microseconds
 hours-leads : (order : IsoOrder) (numbers : DurationNumbers) (some : Bool) → IsDuration numbers → is_whole_days numbers ≡ false
-    → Leads (whole_sums order no_limit true some numbers.day 0) (hours_text numbers)
-    (clock_sums order (seconds_limit order numbers.second numbers.microsecond) true numbers.day numbers.second numbers.microsecond)
+    → Leads (whole_sums order (units true) true some numbers.day 0) (hours_text numbers)
+    (clock_sums order (seconds_left order numbers.second numbers.microsecond) true numbers.day numbers.second numbers.microsecond)
 hours-leads order numbers some valid other =
     let day = numbers.day in
     let hours = numbers.second / 3600 * 3600 in
     let minutes = hours + numbers.second / 60 % 60 * 60 in
     let few : day ≤ 4294967295 = omega (arith, valid.day) in
     let few_hours : numbers.second / 3600 ≤ 4294967295 = omega (arith, valid.second) in
-    let under_hours = hours_limit order numbers.second in
-    let under_minutes = minutes_limit order numbers.second in
-    let behind_hours = λ (small : ℕ). still-smaller order (unit capital_h 0 3600) (numbers.second / 3600 == 0) no_limit small in
-    let hours_add : Adds (unit capital_h 0 3600) no_limit true (numbers.second / 3600) day 0 day hours = record {
+    let under_hours = hours_left order (numbers.second / 3600 == 0) in
+    let under_minutes = minutes_left order (numbers.second / 3600 == 0) (numbers.second / 60 % 60 == 0) in
+    let hours_add : Adds (unit capital_h 0 3600) (units true) true (numbers.second / 3600) day 0 day hours = record {
       found = refl;
-      smaller = lit< tt;
+      comes = refl;
       day_sum = omega arith;
       second_sum = omega arith;
       few = few_hours;
@@ -387,7 +396,7 @@ hours-leads order numbers some valid other =
     } in
     let minutes_add : Adds (unit capital_m 0 60) under_hours true (numbers.second / 60 % 60) day hours day minutes = record {
       found = refl;
-      smaller = behind_hours 60 (lit< tt) (lit< tt) (lit< tt);
+      comes = minutes-come order (numbers.second / 3600 == 0);
       day_sum = omega arith;
       second_sum = omega arith;
       few = omega arith;
@@ -396,51 +405,50 @@ hours-leads order numbers some valid other =
     } in
     let seconds_add : Adds (unit capital_s 0 1) under_minutes true (numbers.second % 60) day minutes day numbers.second = record {
       found = refl;
-      smaller = still-smaller order (unit capital_m 0 60) (numbers.second / 60 % 60 == 0) under_hours 1 (lit< tt) (lit< tt)
-          (behind_hours 1 (lit< tt) (lit< tt) (lit< tt));
+      comes = seconds-come order (numbers.second / 3600 == 0) (numbers.second / 60 % 60 == 0);
       day_sum = omega arith;
       second_sum = omega arith;
       few = omega arith;
       few_days = few;
       few_seconds = omega (arith, valid.second);
     } in
-    let after = λ (last : Bool). clock_sums order (seconds_limit order numbers.second numbers.microsecond) last day numbers.second numbers.microsecond in
-    subst (λ (last : Bool). Leads (whole_sums order no_limit true some day 0) (hours_text numbers) (after last))
+    let after = λ (last : Bool). clock_sums order (seconds_left order numbers.second numbers.microsecond) last day numbers.second numbers.microsecond in
+    subst (λ (last : Bool). Leads (whole_sums order (units true) true some day 0) (hours_text numbers) (after last))
     (hours-some numbers.second numbers.microsecond some other)
     (leads-append _ _ _ _ _
     (leads-append _ _ _ _ _
-    (counted-leads order no_limit (unit capital_h 0 3600) true some (numbers.second / 3600) day 0 day hours hours_add)
+    (counted-leads order (units true) (unit capital_h 0 3600) true some (numbers.second / 3600) day 0 day hours hours_add)
     (counted-leads order under_hours (unit capital_m 0 60) true _ (numbers.second / 60 % 60) day hours day minutes minutes_add))
     (seconds-of order under_minutes _ _ (numbers.second % 60) numbers.microsecond day minutes numbers.second refl valid.microsecond seconds_add))
 
 -- a text that leads from no sums to those of a duration is answered by it
 leads-answer : (order : IsoOrder) (numbers : DurationNumbers) (text : List ℕ) (after : Sums) → Leads (no_sums order) text after → after.some ≡ true
-    → sums_numbers numbers.positive after ≡ numbers → IsIsoAnswer order numbers.positive text (Ok numbers)
+    → sums_length after ≡ length_of numbers → IsIsoAnswer order text (Ok (length_of numbers))
 leads-answer order numbers text after leads some same = (
   leads.0,
   [],
   sym (append-nil (flat_map item_text leads.0) ∙ leads.1),
   leads.2,
-  subst (λ (sums : Sums). Ends numbers.positive sums [] (Ok numbers)) (sym leads.3) (rw some (ap Ok (sym same))),
+  subst (λ (sums : Sums). Ends sums [] (Ok (length_of numbers))) (sym leads.3) (rw some (ap Ok (sym same))),
 )
 
 -- the sums of whole days
 whole-numbers : (order : IsoOrder) (numbers : DurationNumbers) → is_whole_days numbers ≡ true
-    → sums_numbers numbers.positive (whole_sums order no_limit true true numbers.day 0) ≡ numbers
+    → sums_length (whole_sums order [] true true numbers.day 0) ≡ length_of numbers
 whole-numbers order numbers whole =
     let tests = and_parts (numbers.second == 0) (numbers.microsecond == 0) whole in
     let second_is = sym (eqb-true numbers.second 0 tests.0) in
     let microsecond_is = sym (eqb-true numbers.microsecond 0 tests.1) in
-    λ i. record { positive = numbers.positive; day = numbers.day; second = second_is i; microsecond = microsecond_is i }
+    λ i. record { day = numbers.day; second = second_is i; microsecond = microsecond_is i }
 
--- what is printed behind the `P` is answered by the duration
+-- what is printed after the `P` is answered by the duration
 rest-answer : (order : IsoOrder) (numbers : DurationNumbers) (whole none : Bool) → IsDuration numbers → is_whole_days numbers ≡ whole
     → (numbers.day == 0) ≡ none
-    → IsIsoAnswer order numbers.positive (days_text numbers ++ (if whole then (if none then codes "T0S" else []) else capital_t ∷ hours_text numbers)) (Ok numbers)
+    → IsIsoAnswer order (days_text numbers ++ (if whole then (if none then codes "T0S" else []) else capital_t ∷ hours_text numbers)) (Ok (length_of numbers))
 rest-answer order numbers true true valid whole none =
     leads-answer order numbers _ _
     (leads-append (no_sums order) _ _ _ _ (days-leads order numbers.day valid.day)
-    (zero-leads order (days_limit order numbers.day) _ numbers.day (omega (arith, valid.day))))
+    (zero-leads order (days_left order numbers.day) _ numbers.day (omega (arith, valid.day))))
     refl (whole-numbers order numbers whole)
 rest-answer order numbers true false valid whole some =
     leads-answer order numbers _ _
@@ -449,31 +457,28 @@ rest-answer order numbers true false valid whole some =
 rest-answer order numbers false none valid other is =
     leads-answer order numbers _ _
     (leads-append (no_sums order) _ _ _ _ (days-leads order numbers.day valid.day)
-    (leads-append _ _ _ (capital_t ∷ []) _ (mark-leads order (days_limit order numbers.day) _ numbers.day 0) (hours-leads order numbers _ valid other)))
+    (leads-append _ _ _ (capital_t ∷ []) _ (designator-leads order (days_left order numbers.day) _ numbers.day 0) (hours-leads order numbers _ valid other)))
     refl refl
 
--- a `P` with a sign or without one stands for what is behind it
+-- a `P` with a sign or without one stands for what is after it
 start-answer : (order : IsoOrder) (behavior : MicrosecondsPrecisionOverflowBehavior) (positive : Bool) (text : List ℕ)
-    (answer : Result DurationNumbers ParseError) → IsIsoAnswer order positive text answer
-    → let printed = start_text positive ++ text in IsFormAnswer order behavior (not (has_minus printed)) (drop (sign_length printed) printed) answer
-start-answer order behavior true text answer is = is
-start-answer order behavior false text answer is = is
+    → duration_answer order behavior (start_text positive ++ text) ≡ result_and_then (signed_form positive) (iso_form order text)
+unfolding unsigned_answer
+start-answer order behavior true text = refl
+start-answer order behavior false text = refl
 
 -- the printed text of a duration is answered by it, also where the order of the standard is asked for
 pub duration_text-reads : (order : IsoOrder) (behavior : MicrosecondsPrecisionOverflowBehavior) (numbers : DurationNumbers) → IsDuration numbers
-    → IsDurationAnswer order behavior (duration_text numbers) (Ok numbers)
+    → duration_answer order behavior (duration_text numbers) ≡ Ok numbers
 duration_text-reads order behavior numbers valid =
-    let reads = rest-answer order numbers (is_whole_days numbers) (numbers.day == 0) valid refl refl in
     let text = days_text numbers ++ rest_text numbers in
-    subst (λ (printed : List ℕ). IsDurationAnswer order behavior printed (Ok numbers))
-    (sym (append_assoc (start_text numbers.positive) (days_text numbers) (rest_text numbers)))
-    (Ok numbers, start-answer order behavior numbers.positive text (Ok numbers) reads, sym (normal_form-same numbers valid))
+    let reads = iso_form-only order text _ (rest-answer order numbers (is_whole_days numbers) (numbers.day == 0) valid refl refl) in
+    ap (duration_answer order behavior) (append_assoc (start_text numbers.positive) (days_text numbers) (rest_text numbers))
+    ∙ start-answer order behavior numbers.positive text ∙ ap (result_and_then (signed_form numbers.positive)) (sym reads)
+    ∙ normal_form-same numbers valid
 
 -- so two durations with one text are one duration
 pub duration_text-distinct : (first second : DurationNumbers) → IsDuration first → IsDuration second → duration_text first ≡ duration_text second → first ≡ second
-duration_text-distinct first second one two same =
-    let reads = duration_text-reads order.Lax behavior.Error first one in
-    let other = subst (λ (text : List ℕ). IsDurationAnswer order.Lax behavior.Error text (Ok second)) (sym same)
-    (duration_text-reads order.Lax behavior.Error second two) in
-    let joined = duration_answer-only order.Lax behavior.Error (duration_text first) (Ok first) (Ok second) reads other in
-    cc
+duration_text-distinct first second one two =
+    text-distinct duration_text (duration_answer order.Lax behavior.Error) first second
+    (duration_text-reads order.Lax behavior.Error first one) (duration_text-reads order.Lax behavior.Error second two)

@@ -1,27 +1,26 @@
 //! Durations: days, seconds and microseconds, with a sign.
 
-ghost use Rattle.std.specs.Prelude.{◌≡◌, ℕ, ◌<◌, ◌≤◌, IfOk, List, Bool, false, if◌then◌else◌, true, Result, Ok, Err};
-ghost use Rattle.speedate_base.specs.declared.faults.ParseError.{ParseError};
-ghost use Rattle.speedate_base.specs.Requirement.{result_map, result_and_then};
-ghost use Rattle.speedate.specs.DurationForm.{has_day_letter, has_days, form_answer, IsNormalAnswer, IsDurationAnswer};
+ghost use Rattle.std.specs.Prelude.{◌≡◌, ℕ, ◌<◌, ◌≤◌, IfOk, List};
+ghost use Rattle.speedate_base.specs.Requirement.{result_map};
+ghost use Rattle.speedate.specs.DurationAnswer.{duration_answer};
+ghost use Rattle.speedate.specs.DurationForm.{IsGrammarAnswer};
 ghost use Rattle.speedate.specs.Exchanged.{AreExchanged};
-ghost use Rattle.speedate.specs.InOrder.{IsLaxOrRefused, IsMadeOf, are_in_order, is_iso};
-ghost use Rattle.speedate.specs.IsoForm.{Item, IsIsoAnswer, no_limit};
-ghost use Rattle.speedate.specs.DurationNumbers.{DurationNumbers, length_seconds, length_microseconds, normal_form, signed_seconds, signed_microsecond, signed_milliseconds};
+ghost use Rattle.speedate.specs.InOrder.{IsAnswerInOrder};
+ghost use Rattle.speedate.specs.DurationNumbers.{length_seconds, length_microseconds, normal_form, signed_form, signed_seconds, signed_microsecond, signed_milliseconds};
 
 mod clock;
 mod days;
 mod iso;
 mod order;
 mod text;
+mod unsigned;
 
-use days::is_day_letter;
-use iso::Sums;
 use speedate_base::config::{IsoOrder, MicrosecondsPrecisionOverflowBehavior, TimeConfig};
 use speedate_base::faults::ParseError;
-use speedate_base::numbers::{byte_at, digit_run, sign, with_sign};
+use speedate_base::numbers::{sign, with_sign};
 use speedate_base::util::SECONDS_PER_DAY;
 use std::str::FromStr;
+use unsigned::UnsignedDuration;
 
 /// A length of time: days of 86,400 seconds, seconds of a day, and microseconds of a second, with a
 /// sign. A length of nothing may have either sign.
@@ -45,8 +44,7 @@ pub struct Duration {
 impl Duration {
     ghost use Rattle.speedate_base.specs.declared.config.IsoOrder.TheVariants as order;
     ghost use Rattle.speedate_base.specs.declared.config.MicrosecondsPrecisionOverflowBehavior.TheVariants as behavior;
-    ghost use Rattle.speedate_base.specs.declared.faults.ParseError.TheVariants as fault;
-    ghost use Rattle.speedate.specs.Duration.{parts};
+    ghost use Rattle.speedate.specs.Duration.{parts, unsigned_parts};
 
     /// The duration of so many days, seconds and microseconds, of any size, brought into their
     /// ranges: 2 days, 101 seconds and 123 microseconds for 1 day, 86,500 seconds and 1,000,123
@@ -84,44 +82,44 @@ impl Duration {
     /// seconds for `"1 day, 1:00:42"`, or the text's one fault.
     ///
     /// One `+` or `-` may come first. What follows is an ISO 8601 duration where it begins with `P`,
-    /// `P1Y2DT3H4M5.5S`: quantities in any order on their side of the `T`, the last one with a
+    /// `P1Y2DT3H4M5.5S`: components in any order on their side of the `T`, the last one with a
     /// fraction of any number of digits, which is taken to its nearest microsecond; a year has 365
     /// days and a month 30. The other forms are this library's own: hours, minutes and seconds as a
-    /// clock shows them, `24:01:03.5`, or days with or without such a clock behind them,
+    /// clock shows them, `24:01:03.5`, or days with or without such a clock after them,
     /// `2 days, 10:20`. It has days where a `d` or `D` stands anywhere in it, or where it has fewer
     /// than five bytes. The faults, in the order in which they are looked for:
     ///
     /// - `TooShort` where nothing follows the sign;
-    /// - behind a `P`, at the first item that has one: `DurationTRepeated` for a second `T`;
+    /// - after a `P`, at the first item that has one: `DurationTRepeated` for a second `T`;
     ///   `DurationInvalidNumber` where no digit comes first; `DurationValueTooLarge` where the number
-    ///   is over 4,294,967,295; `DurationInvalidFraction` behind a quantity with a fraction;
-    ///   `DurationInvalidDateUnit` or `DurationInvalidTimeUnit` for another letter than a unit's;
+    ///   is over 4,294,967,295; `DurationInvalidFraction` after a component with a fraction;
+    ///   `DurationInvalidDateUnit` or `DurationInvalidTimeUnit` for what is no designator of its side;
     ///   `DurationValueTooLarge` where the days or the seconds so far are over 4,294,967,295; and
-    ///   `TooShort` where all items are good and none is a quantity;
+    ///   `TooShort` where all items are good and none is a component;
     /// - of days: `DurationInvalidNumber` where no digit comes first, `DurationValueTooLarge` where
     ///   their number is over 4,294,967,295, `DurationInvalidDays` where no `d`, `day` or `days`
-    ///   follows it, all small or all in capitals but for the `d`; then those of a clock behind
+    ///   follows it, all small or all in capitals but for the `d`; then those of a clock after
     ///   them, and `DurationHourValueTooLarge` where that has 24 hours or more;
     /// - of a clock: `TooShort` where it has less than five bytes; `InvalidCharHour` where it has no
-    ///   `:`, or something else than digits in front of it, and `DurationHourValueTooLarge` where
+    ///   `:`, or something else than digits before it, and `DurationHourValueTooLarge` where
     ///   that has over ten bytes or is over 2,400,000,000; `SecondFractionTooLong` where more than
     ///   12 bytes follow the `:`, and `TooShort` where less than two do; those of a time of day
     ///   from its minute on; and `ExtraCharacters` where something follows;
     /// - `DurationValueTooLarge` and `DurationDaysTooLarge` as [`Duration::new`] has them, last.
     #[inline(always)]
     pub fn parse_str(text: &str) -> Result<Self, ParseError>
-        ensures answer { IsDurationAnswer order.Lax behavior.Error text.now (result_map parts result) }
-        ensures only { (other : Result DurationNumbers ParseError) → IsDurationAnswer order.Lax behavior.Error text.now other → other ≡ result_map parts result }
+        ensures answer { result_map parts result ≡ duration_answer order.Lax behavior.Error text.now }
+        ensures grammar { IsGrammarAnswer order.Lax behavior.Error text.now (result_map parts result) }
     {
         Self::parse_bytes(text.as_bytes())
     }
 
-    /// Reads a duration from the bytes of a text, as [`Duration::parse_str`] does: a second that is
-    /// not positive from `b"-00:00:01"`. The bytes need not be text.
+    /// Reads a duration from the bytes of a text, as [`Duration::parse_str`] does: a negative
+    /// second from `b"-00:00:01"`. The bytes need not be text.
     #[inline(always)]
     pub fn parse_bytes(bytes: &[u8]) -> Result<Self, ParseError>
-        ensures answer { IsDurationAnswer order.Lax behavior.Error bytes.now (result_map parts result) }
-        ensures only { (other : Result DurationNumbers ParseError) → IsDurationAnswer order.Lax behavior.Error bytes.now other → other ≡ result_map parts result }
+        ensures answer { result_map parts result ≡ duration_answer order.Lax behavior.Error bytes.now }
+        ensures grammar { IsGrammarAnswer order.Lax behavior.Error bytes.now (result_map parts result) }
     {
         Self::parse(
             bytes,
@@ -131,31 +129,26 @@ impl Duration {
     }
 
     /// Reads a duration from the bytes of a text, as [`Duration::parse_str`] does, but for the
-    /// digits of a clock's second past the sixth and for the order of quantities. With the behavior
+    /// digits of a clock's second past the sixth and for the order of components. With the behavior
     /// `Truncate` those digits are dropped, so that `b"00:00:01.1234567"` is a second and 123,456
-    /// microseconds; to an ISO 8601 duration it does not matter. With the order `Strict` there is one
-    /// fault more, `DurationUnitOrder` after a `P`: a quantity whose unit does not come later than
-    /// that of the quantity before it on its side of the `T`, in the order `Y`, `M`, `W`, `D` and
-    /// after the `T` `H`, `M`, `S`, as in `b"P1D1Y"`. It is looked for after the fault of a letter
-    /// that is no unit and before sums that are too large. What `Strict` accepts has the value that
-    /// `Lax` gives it, and days and clocks are read alike in both. The offset of the configuration
-    /// does not matter.
+    /// microseconds; to an ISO 8601 duration it does not matter. With the order `Strict` there is
+    /// one fault more, `DurationUnitOrder` after a `P`: a component whose unit does not come later
+    /// than that of the component before it on its side of the `T`, in the order `Y`, `M`, `W`, `D`
+    /// and after the `T` `H`, `M`, `S`, as in `b"P1D1Y"`. It is looked for after the fault of a
+    /// designator that is no unit and before sums that are too large. What `Strict` accepts has the
+    /// value that `Lax` gives it, and days and clocks are read alike in both. The offset of the
+    /// configuration does not matter.
     ///
-    /// With the order `Lax` two neighbouring quantities of an ISO 8601 duration on one side of its
-    /// `T`, both without a fraction sign, can be exchanged: `b"P1DT2H3M"` and `b"P1DT3M2H"` have one
-    /// answer.
+    /// With the order `Lax` two neighbouring components of an ISO 8601 duration on one side of its
+    /// `T`, with no decimal mark in them or before them, can be exchanged: `b"P1DT2H3M"` and
+    /// `b"P1DT3M2H"` have one answer.
     #[inline(always)]
     pub fn parse_bytes_with_config(bytes: &[u8], config: &TimeConfig) -> Result<Self, ParseError>
-        ensures answer { IsDurationAnswer config.now.iso_order config.now.microseconds_precision_overflow_behavior bytes.now (result_map parts result) }
-        ensures only { (other : Result DurationNumbers ParseError) → IsDurationAnswer config.now.iso_order config.now.microseconds_precision_overflow_behavior bytes.now other → other ≡ result_map parts result }
-        ensures lax { (lax : Result DurationNumbers ParseError) → IsDurationAnswer order.Lax config.now.microseconds_precision_overflow_behavior bytes.now lax → IsLaxOrRefused lax (result_map parts result) }
-        ensures in_order { (items : List Item) (lax : Result DurationNumbers ParseError) → config.now.iso_order ≡ order.Strict → IsMadeOf bytes.now items
-            → IsDurationAnswer order.Lax config.now.microseconds_precision_overflow_behavior bytes.now lax
-            → result_map parts result ≡ (if are_in_order false no_limit items then lax else Err fault.DurationUnitOrder) }
-        ensures made { (numbers : DurationNumbers) → is_iso bytes.now ≡ true → IsDurationAnswer order.Lax config.now.microseconds_precision_overflow_behavior bytes.now (Ok numbers)
-            → (items : List Item) × IsMadeOf bytes.now items }
-        ensures other_forms { is_iso bytes.now ≡ false → IsDurationAnswer order.Lax config.now.microseconds_precision_overflow_behavior bytes.now (result_map parts result) }
-        ensures exchanged { (other : List ℕ) → config.now.iso_order ≡ order.Lax → AreExchanged bytes.now other → IsDurationAnswer config.now.iso_order config.now.microseconds_precision_overflow_behavior other (result_map parts result) }
+        ensures answer { result_map parts result ≡ duration_answer config.now.iso_order config.now.microseconds_precision_overflow_behavior bytes.now }
+        ensures grammar { IsGrammarAnswer config.now.iso_order config.now.microseconds_precision_overflow_behavior bytes.now (result_map parts result) }
+        ensures order { IsAnswerInOrder config.now.iso_order config.now.microseconds_precision_overflow_behavior bytes.now (result_map parts result) }
+        ensures exchanged { (other : List ℕ) → config.now.iso_order ≡ order.Lax → AreExchanged bytes.now other
+            → result_map parts result ≡ duration_answer config.now.iso_order config.now.microseconds_precision_overflow_behavior other }
     {
         Self::parse(
             bytes,
@@ -171,59 +164,36 @@ impl Duration {
         order: IsoOrder,
         behavior: MicrosecondsPrecisionOverflowBehavior,
     ) -> Result<Self, ParseError>
-        ensures answer { IsDurationAnswer order behavior bytes.now (result_map parts result) }
-        ensures only { (other : Result DurationNumbers ParseError) → IsDurationAnswer order behavior bytes.now other → other ≡ result_map parts result }
+        ensures answer { result_map parts result ≡ duration_answer order behavior bytes.now }
+        ensures grammar { IsGrammarAnswer order behavior bytes.now (result_map parts result) }
     {
         let (negative, length) = sign(bytes);
-        Self::unsigned(&bytes[length..], !negative, order, behavior)
+        let size = UnsignedDuration::parse(&bytes[length..], order, behavior)?;
+        Self::signed(!negative, size)
     }
 
-    /// Reads a duration whose sign was read, in the form that its text has.
+    /// Puts the sign on a length, and brings it into its normal form. A clock's length has it.
     #[inline(always)]
-    fn unsigned(
-        bytes: &[u8],
-        positive: bool,
-        order: IsoOrder,
-        behavior: MicrosecondsPrecisionOverflowBehavior,
-    ) -> Result<Self, ParseError>
-        ensures answer { IsNormalAnswer order behavior positive bytes.now (result_map parts result) }
+    fn signed(positive: bool, size: UnsignedDuration) -> Result<Self, ParseError>
+        ensures answer { result_map parts result ≡ signed_form positive (unsigned_parts size) }
     {
-        if byte_at(bytes, 0) == b'P' {
-            return Self::from_iso(&bytes[1..], positive, order);
+        let UnsignedDuration {
+            day,
+            second,
+            microsecond,
+        } = size;
+        if day <= 999_999_999 && second < SECONDS_PER_DAY && microsecond < 1_000_000 {
+            return Ok(Duration {
+                positive,
+                day,
+                second,
+                microsecond,
+            });
         }
-        Self::days_or_clock(bytes, positive, behavior)
+        Self::new(positive, day, second, microsecond)
     }
 
-    /// Reads what follows the `P` of a duration.
-    #[inline(always)]
-    fn from_iso(body: &[u8], positive: bool, order: IsoOrder) -> Result<Self, ParseError>
-        ensures answer { (form : Result DurationNumbers ParseError) × IsIsoAnswer order positive body.now form × (result_map parts result ≡ result_and_then normal_form form) }
-    {
-        let sums = Sums::read(body, order)?;
-        Self::new(positive, sums.day, sums.second, sums.microsecond)
-    }
-
-    /// Reads a duration of days, or one that a clock shows.
-    #[tactic(auto, using(crate::proofs::DurationFacts::normal_form_answered), unfolding(crate::specs::DurationForm::form_answer))]
-    #[inline(always)]
-    fn days_or_clock(
-        bytes: &[u8],
-        positive: bool,
-        behavior: MicrosecondsPrecisionOverflowBehavior,
-    ) -> Result<Self, ParseError>
-        ensures answer { result_map parts result ≡ result_and_then normal_form (form_answer behavior positive bytes.now) }
-    {
-        if bytes.is_empty() {
-            return Err(ParseError::TooShort);
-        }
-        let number = digit_run(bytes, 0);
-        if has_days(bytes) {
-            return Self::from_days(bytes, number, positive, behavior);
-        }
-        Self::from_clock(bytes, number, positive, behavior)
-    }
-
-    /// The whole seconds with the sign: -86,401 for a day and a second that are not positive.
+    /// The whole seconds with the sign: -86,401 for a negative day and second.
     #[inline]
     pub fn signed_total_seconds(&self) -> i64
         ensures second { result ≡ signed_seconds (parts self.now) }
@@ -231,8 +201,7 @@ impl Duration {
         with_sign(!self.positive, self.seconds())
     }
 
-    /// The milliseconds with the sign, cut toward zero: -1,001 for 1.0019 seconds that are not
-    /// positive.
+    /// The milliseconds with the sign, cut toward zero: -1,001 for -1.0019 seconds.
     #[inline]
     pub fn signed_total_ms(&self) -> i64
         ensures millisecond { result ≡ signed_milliseconds (parts self.now) }
@@ -241,8 +210,8 @@ impl Duration {
         with_sign(!self.positive, milliseconds)
     }
 
-    /// The microseconds of a second with the sign: -1,000 for a second and 1,000 microseconds that
-    /// are not positive.
+    /// The microseconds of a second with the sign: -1,000 for a negative second and
+    /// 1,000 microseconds.
     #[inline]
     pub fn signed_microseconds(&self) -> i32
         ensures microsecond { result ≡ signed_microsecond (parts self.now) }
@@ -271,31 +240,15 @@ impl FromStr for Duration {
     ghost use Rattle.speedate_base.specs.declared.config.MicrosecondsPrecisionOverflowBehavior.TheVariants as behavior;
     ghost use Rattle.speedate.specs.Duration.{parts};
 
-    ghost from_str_gives = { λ text result. IsDurationAnswer order.Lax behavior.Error text (result_map parts result) };
+    ghost from_str_gives = { λ text result. result_map parts result ≡ duration_answer order.Lax behavior.Error text };
 
     /// Reads a duration from a text, as [`Duration::parse_str`] does: `"PT90M".parse()` gives an hour
     /// and a half.
     #[inline]
     fn from_str(text: &str) -> Result<Self, ParseError>
-        ensures answer { IsDurationAnswer order.Lax behavior.Error text.now (result_map parts result) }
+        ensures answer { result_map parts result ≡ duration_answer order.Lax behavior.Error text.now }
+        ensures grammar { IsGrammarAnswer order.Lax behavior.Error text.now (result_map parts result) }
     {
         Self::parse_str(text)
     }
-}
-
-/// Whether a text has days: the letter of a day stands anywhere in it, or it is too short for a
-/// clock.
-#[inline]
-fn has_days(bytes: &[u8]) -> bool
-    ensures { result ≡ has_days bytes.now }
-{
-    bytes.len() < 5 || has_day_letter(bytes)
-}
-
-/// Whether the letter of a day stands anywhere.
-#[inline]
-fn has_day_letter(bytes: &[u8]) -> bool
-    ensures { result ≡ has_day_letter bytes.now }
-{
-    bytes.iter().any(|&byte| is_day_letter(byte))
 }

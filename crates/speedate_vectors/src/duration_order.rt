@@ -1,4 +1,4 @@
-//! The order of the quantities of ISO 8601 durations: texts in both orders.
+//! The order of the components of ISO 8601 durations: texts in both orders.
 
 use crate::duration_texts::expect_read;
 use speedate::{Duration, IsoOrder, MicrosecondsPrecisionOverflowBehavior, TimeConfig};
@@ -10,7 +10,7 @@ const ERROR: MicrosecondsPrecisionOverflowBehavior = MicrosecondsPrecisionOverfl
 const TRUNCATE: MicrosecondsPrecisionOverflowBehavior =
     MicrosecondsPrecisionOverflowBehavior::Truncate;
 
-/// The fault of a quantity out of order.
+/// The fault of a component out of order.
 const REFUSED: &str = "duration_unit_order";
 
 fn config(order: IsoOrder, behavior: MicrosecondsPrecisionOverflowBehavior) -> TimeConfig {
@@ -52,7 +52,7 @@ fn the_lax_order_is_the_one_without_a_configuration(rt: HostRuntime) {
 }
 
 #[test]
-fn quantities_in_order(rt: HostRuntime) {
+fn components_in_order(rt: HostRuntime) {
     expect_alike(
         &rt,
         &[
@@ -90,7 +90,7 @@ fn quantities_in_order(rt: HostRuntime) {
 }
 
 #[test]
-fn quantities_out_of_order(rt: HostRuntime) {
+fn components_out_of_order(rt: HostRuntime) {
     expect_refused(
         &rt,
         &[
@@ -124,7 +124,7 @@ fn quantities_out_of_order(rt: HostRuntime) {
 }
 
 #[test]
-fn quantities_more_than_once(rt: HostRuntime) {
+fn components_more_than_once(rt: HostRuntime) {
     expect_refused(
         &rt,
         &[

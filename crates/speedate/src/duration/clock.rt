@@ -7,7 +7,7 @@ ghost use Rattle.speedate_base.specs.Requirement.{meets, result_map, result_and_
 ghost use Rattle.speedate_civil.specs.ClockText.{minute_front};
 ghost use Rattle.speedate.specs.ClockForm.{hours_length, behind_hours, has_hours, hours_digits, whole_clock, after_hours, clock_form};
 
-use super::Duration;
+use super::unsigned::UnsignedDuration;
 use speedate_base::config::{MicrosecondsPrecisionOverflowBehavior, takes_digits};
 use speedate_base::faults::ParseError;
 use speedate_base::numbers::{DigitRun, byte_at};
@@ -22,8 +22,8 @@ const HOURS_MAX: u64 = 2_400_000_000;
 /// How many bytes follow the hours at most where digits are refused, as in `01:03.123456`.
 const REST_LENGTH_MAX: usize = 12;
 
-impl Duration {
-    ghost use Rattle.speedate.specs.Duration.{parts};
+impl UnsignedDuration {
+    ghost use Rattle.speedate.specs.Duration.{unsigned_parts};
 
     /// Reads a duration as a clock shows it, whose hours are the digits at its front: a day, an hour
     /// and three seconds from `b"25:00:03"`.
@@ -32,15 +32,14 @@ impl Duration {
     pub(super) fn from_clock(
         bytes: &[u8],
         hours: DigitRun,
-        positive: bool,
         behavior: MicrosecondsPrecisionOverflowBehavior,
     ) -> Result<Self, ParseError>
         requires len { hours.length ≡ run_length bytes.now 0 }
         requires value { hours.value ≡ min (run_value bytes.now 0) (2 ^ 64 - 1) }
-        ensures answer { result_map parts result ≡ clock_form behavior positive bytes.now }
+        ensures answer { result_map unsigned_parts result ≡ clock_form behavior bytes.now }
     {
         let end = hours_end(bytes, hours.length)?;
-        Self::after_hours(&bytes[end + 1..], hours.value, positive, behavior)
+        Self::after_hours(&bytes[end + 1..], hours.value, behavior)
     }
 
     /// Reads what follows the hours of a clock, from its minute on.
@@ -48,10 +47,9 @@ impl Duration {
     fn after_hours(
         rest: &[u8],
         hours: u64,
-        positive: bool,
         behavior: MicrosecondsPrecisionOverflowBehavior,
     ) -> Result<Self, ParseError>
-        ensures answer { result_map parts result ≡ after_hours behavior positive hours rest.now }
+        ensures answer { result_map unsigned_parts result ≡ after_hours behavior hours rest.now }
     {
         if hours > HOURS_MAX {
             return Err(ParseError::DurationHourValueTooLarge);
@@ -62,7 +60,7 @@ impl Duration {
         if rest.len() < 2 {
             return Err(ParseError::TooShort);
         }
-        Self::whole_clock(rest, hours as u32, positive, behavior)
+        Self::whole_clock(rest, hours as u32, behavior)
     }
 
     /// Reads the minute and the second of a clock, which are all of `rest`.
@@ -70,19 +68,17 @@ impl Duration {
     fn whole_clock(
         rest: &[u8],
         hours: u32,
-        positive: bool,
         behavior: MicrosecondsPrecisionOverflowBehavior,
     ) -> Result<Self, ParseError>
         requires { hours ≤ 2400000000 }
-        ensures answer { result_map parts result
-            ≡ result_and_then (whole_clock positive hours rest.now) (minute_front behavior rest.now) }
+        ensures answer { result_map unsigned_parts result
+            ≡ result_and_then (whole_clock hours rest.now) (minute_front behavior rest.now) }
     {
         let clock = PureTime::parse_from_minute(rest, 0, behavior)?;
         if clock.size != rest.len() {
             return Err(ParseError::ExtraCharacters);
         }
-        Ok(Duration {
-            positive,
+        Ok(UnsignedDuration {
             day: hours / 24,
             second: 3600 * (hours % 24) + 60 * u32::from(clock.minute) + u32::from(clock.second),
             microsecond: clock.microsecond,

@@ -5,15 +5,13 @@ ghost use Rattle.speedate_base.specs.Requirement.{meets, result_map};
 ghost use Rattle.speedate_base.specs.DigitRuns.{run_length, run_value};
 ghost use Rattle.speedate.specs.DayForm.{is_day_letter, letter_place, ending_length, begins_ending, gap_length, days_length, days_table, after_days, rest_answer, day_form};
 
-use super::Duration;
+use super::unsigned::UnsignedDuration;
 use speedate_base::config::MicrosecondsPrecisionOverflowBehavior;
 use speedate_base::faults::ParseError;
 use speedate_base::numbers::{DigitRun, byte_at, digit_run};
 
-impl Duration {
-    ghost use Rattle.speedate_base.specs.Requirement.{result_and_then};
-    ghost use Rattle.speedate.specs.Duration.{parts};
-    ghost use Rattle.speedate.specs.DurationNumbers.{normal_form};
+impl UnsignedDuration {
+    ghost use Rattle.speedate.specs.Duration.{unsigned_parts};
 
     /// Reads a duration whose days, the digits at its front, come first: a day and ten hours from
     /// `b"1 day, 10:00"`.
@@ -22,15 +20,14 @@ impl Duration {
     pub(super) fn from_days(
         bytes: &[u8],
         days: DigitRun,
-        positive: bool,
         behavior: MicrosecondsPrecisionOverflowBehavior,
     ) -> Result<Self, ParseError>
         requires len { days.length ≡ run_length bytes.now 0 }
         requires value { days.value ≡ min (run_value bytes.now 0) (2 ^ 64 - 1) }
-        ensures answer { result_map parts result ≡ result_and_then normal_form (day_form behavior positive bytes.now) }
+        ensures answer { result_map unsigned_parts result ≡ day_form behavior bytes.now }
     {
         let (count, length) = days_at_front(bytes, days)?;
-        Self::after_days(&bytes[length..], count, positive, behavior)
+        Self::after_days(&bytes[length..], count, behavior)
     }
 
     /// Reads what follows the days, and joins it to them.
@@ -38,33 +35,30 @@ impl Duration {
     fn after_days(
         rest: &[u8],
         days: u32,
-        positive: bool,
         behavior: MicrosecondsPrecisionOverflowBehavior,
     ) -> Result<Self, ParseError>
-        ensures answer { result_map parts result ≡ result_and_then normal_form (after_days behavior positive days rest.now) }
+        ensures answer { result_map unsigned_parts result ≡ after_days behavior days rest.now }
     {
-        let clock = Self::from_rest(rest, positive, behavior)?;
-        Self::new(clock.positive, days, clock.second, clock.microsecond)
+        let clock = Self::from_rest(rest, behavior)?;
+        Ok(UnsignedDuration { day: days, ..clock })
     }
 
     /// Reads what follows the days: nothing, or a clock of fewer than 24 hours.
     #[inline(always)]
     fn from_rest(
         bytes: &[u8],
-        positive: bool,
         behavior: MicrosecondsPrecisionOverflowBehavior,
     ) -> Result<Self, ParseError>
-        ensures answer { result_map parts result ≡ rest_answer behavior positive bytes.now }
+        ensures answer { result_map unsigned_parts result ≡ rest_answer behavior bytes.now }
     {
         if bytes.is_empty() {
-            return Ok(Duration {
-                positive,
+            return Ok(UnsignedDuration {
                 day: 0,
                 second: 0,
                 microsecond: 0,
             });
         }
-        let clock = Self::from_clock(bytes, digit_run(bytes, 0), positive, behavior)?;
+        let clock = Self::from_clock(bytes, digit_run(bytes, 0), behavior)?;
         if clock.day != 0 {
             return Err(ParseError::DurationHourValueTooLarge);
         }
@@ -110,7 +104,7 @@ pub(super) fn is_day_letter(byte: u8) -> bool
     byte == b'd' || byte == b'D'
 }
 
-/// The place of that letter, where the number of the days ends at `end`: behind one space if there
+/// The place of that letter, where the number of the days ends at `end`: after one space if there
 /// is one.
 #[inline(always)]
 fn letter_place(bytes: &[u8], end: usize) -> usize

@@ -1,15 +1,15 @@
 //! The form of a duration that ISO 8601 has.
 
-ghost use Rattle.std.specs.Prelude.{◌≡◌, ◌+◌, ◌*◌, ◌<◌, ◌≤◌, length, take, drop, slice_index, nat_lt, IsTrue, Bool, true, false, Ok, Err, IfOk, IfSome, [], if◌then◌else◌};
+ghost use Rattle.std.specs.Prelude.{◌≡◌, ◌+◌, ◌*◌, ◌<◌, ◌≤◌, length, take, drop, slice_index, IsTrue, Bool, true, false, Ok, Err, IfOk, IfSome, [], if◌then◌else◌};
 ghost use Rattle.std.specs.Char.{is_ascii_digit};
 ghost use Rattle.std.specs.List.{list_all};
 ghost use Rattle.speedate_base.specs.DigitRuns.{run_length, run_value, digits_value};
-ghost use Rattle.std.specs.Option.{option_map};
+ghost use Rattle.std.specs.Option.{option_map, is_some};
 ghost use Rattle.speedate_base.specs.declared.faults.ParseError.TheVariants as fault;
 ghost use Rattle.speedate_base.specs.Requirement.{meets, result_map};
-ghost use Rattle.speedate.specs.IsoForm.{Amount, Mark, units, unit_in, is_point, fraction_length, unit_seconds, next_limit, fraction_seconds, fraction_microseconds, quantity_at, quantity_length, item_at, item_length, are_counted, with_amount, with_item, item_table, sums_numbers, unit_fault, no_sums, IsAnswerFrom, IsIsoAnswer};
+ghost use Rattle.speedate.specs.IsoForm.{Component, TimeDesignator, units, unit_in, is_decimal_mark, fraction_length, unit_seconds, units_behind, fraction_seconds, fraction_microseconds, component_at, component_length, item_at, item_length, are_counted, with_amount, with_item, item_table, sums_length, unit_fault, no_sums, IsAnswerFrom};
 
-use super::Duration;
+use super::unsigned::UnsignedDuration;
 use speedate_base::config::IsoOrder;
 use speedate_base::faults::ParseError;
 use speedate_base::numbers::{byte_at, digit_run, run_end};
@@ -22,40 +22,43 @@ const SHORT_LENGTH: usize = 6;
 /// How many digits of a fraction of a second are whole microseconds.
 const MICROSECOND_LENGTH: usize = 6;
 
-/// More seconds than a unit has.
-const NO_LIMIT: u32 = 31_536_001;
-
-/// A unit of time: its letter, and what one of it is, whole days or seconds.
+/// A unit of time: its designator, its place among the units of its side, and what one of it is, whole
+/// days or seconds.
 #[derive(Clone, Copy)]
 struct DurationUnit {
-    letter: u8,
+    designator: u8,
+    place: usize,
     day: u32,
     second: u32,
+    ghost place_small: { place ≤ 3 },
     ghost day_small: { day ≤ 365 },
     ghost second_small: { second ≤ 3600 },
     ghost one_small: { 86400 * day + second ≤ 31536000 },
 }
 
 impl DurationUnit {
-    ghost use Rattle.speedate.specs.IsoSums.{unit_parts};
+    ghost use Rattle.speedate.specs.IsoSums.{unit_parts, IsUnitOf};
 
-    /// The unit of a letter, before the `T` or behind it.
+    /// The unit of a designator, before the `T` or after it.
     #[inline(always)]
-    fn of_letter(letter: u8, behind_mark: bool) -> Option<Self>
-        ensures unit { option_map unit_parts result ≡ unit_in (units behind_mark) letter }
+    fn of_designator(designator: u8, is_time: bool) -> Option<Self>
+        ensures unit { option_map unit_parts result ≡ unit_in (units is_time) designator }
+        ensures side { IfSome result (λ unit. IsUnitOf is_time unit) }
+        ensures designator { IfSome result (λ unit. unit.designator ≡ designator) }
     {
-        let (day, second) = match (behind_mark, letter) {
-            (false, b'Y') => (365, 0),
-            (false, b'M') => (30, 0),
-            (false, b'W') => (7, 0),
-            (false, b'D') => (1, 0),
-            (true, b'H') => (0, 3600),
-            (true, b'M') => (0, 60),
-            (true, b'S') => (0, 1),
+        let (place, day, second) = match (is_time, designator) {
+            (false, b'Y') => (0, 365, 0),
+            (false, b'M') => (1, 30, 0),
+            (false, b'W') => (2, 7, 0),
+            (false, b'D') => (3, 1, 0),
+            (true, b'H') => (0, 0, 3600),
+            (true, b'M') => (1, 0, 60),
+            (true, b'S') => (2, 0, 1),
             _ => return None,
         };
         Some(DurationUnit {
-            letter,
+            designator,
+            place,
             day,
             second,
         })
@@ -107,17 +110,6 @@ impl DurationUnit {
         (whole as u32, ((twice + 1) / 2 - 1_000_000 * whole) as u32)
     }
 
-    /// The seconds than which the unit behind this one has to have fewer.
-    #[inline(always)]
-    fn next_limit(&self, order: IsoOrder) -> u32
-        ensures limit { result ≡ next_limit order (unit_parts self.now) }
-    {
-        match order {
-            IsoOrder::Lax => NO_LIMIT,
-            IsoOrder::Strict => self.seconds() as u32,
-        }
-    }
-
     /// The seconds of one of this unit.
     #[inline(always)]
     fn seconds(&self) -> u64
@@ -131,41 +123,43 @@ impl DurationUnit {
 /// What the items of a duration add up to.
 #[derive(Clone, Copy)]
 pub(super) struct Sums {
-    /// The order in which quantities have to come.
+    /// The order in which components have to come.
     order: IsoOrder,
-    /// The seconds than which the next unit has to have fewer.
-    limit: u32,
+    /// How many units of this side may no longer come: those from here on may.
+    passed: usize,
     /// Whether there was a `T`.
-    mark: bool,
-    /// Whether a quantity had a fraction.
+    is_time: bool,
+    /// Whether a component had a fraction.
     fraction: bool,
-    /// Whether there was a quantity.
+    /// Whether there was a component.
     some: bool,
     /// The days.
-    pub(super) day: u32,
+    day: u32,
     /// The seconds.
-    pub(super) second: u32,
+    second: u32,
     /// The microseconds, up to a whole second.
-    pub(super) microsecond: u32,
+    microsecond: u32,
     ghost microsecond_small: { microsecond ≤ (if fraction then 1000000 else 0) },
 }
 
 impl Sums {
-    ghost use Rattle.speedate.specs.IsoSums.{unit_parts, sums_parts, GoesOn};
+    ghost use Rattle.speedate.specs.Duration.{unsigned_parts};
+    ghost use Rattle.speedate.specs.DurationAnswer.{iso_form};
+    ghost use Rattle.speedate.specs.IsoSums.{unit_parts, IsUnitOf, sums_parts, GoesOn};
 
     /// Reads all items of a duration, and adds them up.
     ///
-    /// Most texts are plain quantities, a `T`, and plain quantities again. These are read straight on;
+    /// Most texts are plain components, a `T`, and plain components again. These are read straight on;
     /// what is left where they end is read item by item, with all that may be wrong in it.
     #[inline(always)]
-    pub(super) fn read(body: &[u8], order: IsoOrder) -> Result<Self, ParseError>
-        ensures answer { (positive : Bool) → IsIsoAnswer order positive body.now (result_map (λ sums. sums_numbers positive (sums_parts sums)) result) }
+    pub(super) fn read(body: &[u8], order: IsoOrder) -> Result<UnsignedDuration, ParseError>
+        ensures answer { result_map unsigned_parts result ≡ iso_form order body.now }
     {
         let (sums, end) = Self::of_plain(body, order);
         sums.with_rest(body, end)
     }
 
-    /// The sums of the plain quantities at the front of a text, of those behind a `T` that follows
+    /// The sums of the plain components at the front of a text, of those after a `T` that follows
     /// them, and where these end.
     #[inline(always)]
     fn of_plain(body: &[u8], order: IsoOrder) -> (Self, usize)
@@ -174,8 +168,8 @@ impl Sums {
     {
         let none = Sums {
             order,
-            limit: NO_LIMIT,
-            mark: false,
+            passed: 0,
+            is_time: false,
             fraction: false,
             some: false,
             day: 0,
@@ -186,27 +180,27 @@ impl Sums {
         if byte_at(body, end) != b'T' {
             return (days, end);
         }
-        days.behind_mark().with_plain(body, end + 1)
+        days.begin_time().with_plain(body, end + 1)
     }
 
-    /// The sums behind the `T`.
+    /// The sums after the `T`.
     #[inline(always)]
-    fn behind_mark(self) -> Self
-        ensures sums { sums_parts result ≡ with_item Mark (sums_parts self) }
+    fn begin_time(self) -> Self
+        ensures sums { sums_parts result ≡ with_item TimeDesignator (sums_parts self) }
     {
         let mut sums = self;
-        sums.mark = true;
-        sums.limit = NO_LIMIT;
+        sums.is_time = true;
+        sums.passed = 0;
         sums
     }
 
-    /// The sums with the plain quantities from a place on, as many as there are, and where they end.
+    /// The sums with the plain components from a place on, as many as there are, and where they end.
     #[inline(always)]
     fn with_plain(self, body: &[u8], start: usize) -> (Self, usize)
         requires none { self.fraction ≡ false }
         requires start { start ≤ length body.now }
         ensures goes_on { GoesOn (sums_parts self) (drop start body.now) (sums_parts result.0) (drop result.1 body.now) }
-        ensures mark { result.0.mark ≡ self.mark }
+        ensures side { result.0.is_time ≡ self.is_time }
         ensures none { result.0.fraction ≡ false }
         ensures within { result.1 ≤ length body.now }
     {
@@ -219,21 +213,21 @@ impl Sums {
         (sums, place)
     }
 
-    /// The sums with the plain quantity at a place, and where it ends: a number of few digits, and
-    /// the letter of its unit. `None` where no such stands there, where the unit is out of order, or
+    /// The sums with the plain component at a place, and where it ends: a number of few digits, and
+    /// the designator of its unit. `None` where no such stands there, where the unit is out of order, or
     /// where the sums grow too large.
     #[inline(always)]
     fn with_next(self, body: &[u8], place: usize) -> Option<(Self, usize)>
         requires none { self.fraction ≡ false }
         requires place { place ≤ length body.now }
         ensures goes_on { IfSome result (λ next. GoesOn (sums_parts self) (drop place body.now) (sums_parts next.0) (drop next.1 body.now)) }
-        ensures mark { IfSome result (λ next. next.0.mark ≡ self.mark) }
+        ensures side { IfSome result (λ next. next.0.is_time ≡ self.is_time) }
         ensures none { IfSome result (λ next. next.0.fraction ≡ false) }
         ensures some { IfSome result (λ next. place < next.1) }
         ensures within { IfSome result (λ next. next.1 ≤ length body.now) }
     {
         let (number, end) = short_number(body, place)?;
-        let unit = DurationUnit::of_letter(byte_at(body, end), self.mark)?;
+        let unit = DurationUnit::of_designator(byte_at(body, end), self.is_time)?;
         if !self.takes(&unit) {
             return None;
         }
@@ -241,26 +235,44 @@ impl Sums {
         Some((sums, end + 1))
     }
 
-    /// Whether a unit has its place in the order.
+    /// Whether a unit of this side may still come.
     #[inline(always)]
     fn takes(&self, unit: &DurationUnit) -> bool
-        ensures taken { result ≡ nat_lt (unit_seconds (unit_parts unit.now)) self.now.limit }
+        requires { IsUnitOf self.now.is_time unit.now }
+        ensures taken { result ≡ is_some (unit_in (sums_parts self.now).next_units unit.now.designator) }
+        ensures place { IsTrue result → self.now.passed ≤ unit.now.place }
     {
-        unit.seconds() < u64::from(self.limit)
+        self.passed <= unit.place
+    }
+
+    /// How many units of this side may no longer come after one of them.
+    #[inline(always)]
+    fn passed_by(&self, unit: &DurationUnit) -> usize
+        requires unit { IsUnitOf self.now.is_time unit.now }
+        requires place { self.now.passed ≤ unit.now.place }
+        ensures units { drop result (units self.now.is_time)
+            ≡ units_behind self.now.order self.now.is_time unit.now.designator (sums_parts self.now).next_units }
+    {
+        match self.order {
+            IsoOrder::Lax => 0,
+            IsoOrder::Strict => unit.place + 1,
+        }
     }
 
     /// The sums with so many of a unit, or `None` where they are not counted in 32 bits.
     #[inline(always)]
     fn with_whole(self, number: u32, unit: &DurationUnit) -> Option<Self>
         requires none { self.fraction ≡ false }
+        requires unit { IsUnitOf self.is_time unit.now }
+        requires place { self.passed ≤ unit.now.place }
         requires short { number < 1000000 }
         ensures sums { IfSome result (λ sums. sums_parts sums ≡ with_amount (unit_parts unit.now) number [] (sums_parts self)) }
         ensures counted { IfSome result (λ _. IsTrue (are_counted (with_amount (unit_parts unit.now) number [] (sums_parts self)))) }
     {
         Some(Sums {
             order: self.order,
-            limit: unit.next_limit(self.order),
-            mark: self.mark,
+            passed: self.passed_by(unit),
+            is_time: self.is_time,
             fraction: false,
             some: true,
             day: self.day.checked_add(number * unit.day)?,
@@ -271,25 +283,29 @@ impl Sums {
 
     /// Reads the items from a place on one by one, and adds them.
     #[inline(always)]
-    fn with_rest(self, body: &[u8], start: usize) -> Result<Self, ParseError>
+    fn with_rest(self, body: &[u8], start: usize) -> Result<UnsignedDuration, ParseError>
         requires start { start ≤ length body.now }
-        ensures answer { (positive : Bool) → IsAnswerFrom positive (sums_parts self) (drop start body.now) (result_map (λ sums. sums_numbers positive (sums_parts sums)) result) }
+        ensures answer { IsAnswerFrom (sums_parts self) (drop start body.now) (result_map unsigned_parts result) }
     {
         let mut sums = self;
         let mut place = start;
         while place < body.len() {
             place += sums.take_item(&body[place..])?;
         }
-        sums.ended()
+        sums.length()
     }
 
-    /// The sums of all items, where a quantity is among them.
+    /// The length that all items add up to, where a component is among them.
     #[inline(always)]
-    fn ended(self) -> Result<Self, ParseError>
-        ensures answer { result ≡ (if self.some then Ok self else Err fault.TooShort) }
+    fn length(self) -> Result<UnsignedDuration, ParseError>
+        ensures answer { result_map unsigned_parts result ≡ (if self.some then Ok (sums_length (sums_parts self)) else Err fault.TooShort) }
     {
         if self.some {
-            Ok(self)
+            Ok(UnsignedDuration {
+                day: self.day,
+                second: self.second,
+                microsecond: self.microsecond,
+            })
         } else {
             Err(ParseError::TooShort)
         }
@@ -305,20 +321,20 @@ impl Sums {
         ensures within { IfOk result (λ size. size ≤ length text.now) }
     {
         if text[0] == b'T' {
-            if self.mark {
+            if self.is_time {
                 return Err(ParseError::DurationTRepeated);
             }
-            *self = self.behind_mark();
+            *self = self.begin_time();
             return Ok(1);
         }
-        self.take_quantity(text)
+        self.take_component(text)
     }
 
-    /// Reads the quantity that begins a text, and adds it. Answers how many bytes it has.
+    /// Reads the component that begins a text, and adds it. Answers how many bytes it has.
     #[inline(always)]
-    fn take_quantity(&mut self, text: &[u8]) -> Result<usize, ParseError>
-        ensures answer { result ≡ meets (item_table (sums_parts self.old) (Amount (quantity_at text.now))) (Ok (quantity_length text.now)) }
-        ensures sums { IfOk result (λ _. sums_parts self.new ≡ with_item (Amount (quantity_at text.now)) (sums_parts self.old)) }
+    fn take_component(&mut self, text: &[u8]) -> Result<usize, ParseError>
+        ensures answer { result ≡ meets (item_table (sums_parts self.old) (Component (component_at text.now))) (Ok (component_length text.now)) }
+        ensures sums { IfOk result (λ _. sums_parts self.new ≡ with_item (Component (component_at text.now)) (sums_parts self.old)) }
         ensures some { IfOk result (λ size. 0 < size) }
         ensures within { IfOk result (λ size. size ≤ length text.now) }
     {
@@ -334,8 +350,10 @@ impl Sums {
         }
         let rest = &text[number.length..];
         let size = fraction_length(rest);
-        let letter = byte_at(rest, size);
-        let unit = DurationUnit::of_letter(letter, self.mark).ok_or(unit_fault(self.mark))?;
+        let designator = byte_at(rest, size);
+        let unit = DurationUnit::of_designator(designator, self.is_time).ok_or(unit_fault(
+            self.is_time,
+        ))?;
         if !self.takes(&unit) {
             return Err(ParseError::DurationUnitOrder);
         }
@@ -343,10 +361,12 @@ impl Sums {
         Ok(number.length + size + 1)
     }
 
-    /// Adds so many of a unit, and a fraction of it, which is nothing or a sign and digits.
+    /// Adds so many of a unit, and a fraction of it, which is nothing or a decimal mark and digits.
     #[inline(always)]
     fn add(&mut self, number: u32, unit: &DurationUnit, fraction: &[u8]) -> Result<(), ParseError>
         requires none { self.old.fraction ≡ false }
+        requires unit { IsUnitOf self.old.is_time unit.now }
+        requires place { self.old.passed ≤ unit.now.place }
         requires digits { IsTrue (list_all is_ascii_digit (drop 1 fraction.now)) }
         ensures counted { result ≡ (if are_counted (with_amount (unit_parts unit.now) number fraction.now (sums_parts self.old))
             then Ok tt else Err fault.DurationValueTooLarge) }
@@ -368,8 +388,8 @@ impl Sums {
         }
         *self = Sums {
             order: self.order,
-            limit: unit.next_limit(self.order),
-            mark: self.mark,
+            passed: self.passed_by(unit),
+            is_time: self.is_time,
             fraction: !fraction.is_empty(),
             some: true,
             day: day as u32,
@@ -390,22 +410,14 @@ fn short_number(text: &[u8], place: usize) -> Option<(u32, usize)>
     ensures small { IfSome result (λ number. number.0 < 1000000) }
     ensures some { IfSome result (λ number. place < number.1) }
 {
-    let mut value = 0;
-    let mut end = place;
-    while byte_at(text, end).is_ascii_digit() {
-        if end - place == SHORT_LENGTH {
-            return None;
-        }
-        value = 10 * value + u32::from(byte_at(text, end) - b'0');
-        end += 1;
-    }
-    if end == place {
+    let number = digit_run(text, place);
+    if number.length == 0 || number.length > SHORT_LENGTH {
         return None;
     }
-    Some((value, end))
+    Some((number.value as u32, place + number.length))
 }
 
-/// How many bytes the fraction has that stands at the front of a text: its sign and digits.
+/// How many bytes the fraction has that stands at the front of a text: its decimal mark and digits.
 #[inline(always)]
 fn fraction_length(text: &[u8]) -> usize
     ensures len { result ≡ fraction_length text.now }
@@ -418,20 +430,20 @@ fn fraction_length(text: &[u8]) -> usize
     }
 }
 
-/// Whether the sign of a fraction stands at the front of a text.
+/// Whether a decimal mark stands at the front of a text.
 #[inline(always)]
 fn begins_fraction(text: &[u8]) -> bool
-    ensures point { result ≡ is_point (slice_index text.now 0) }
+    ensures mark { result ≡ is_decimal_mark (slice_index text.now 0) }
     ensures some { IsTrue result → 0 < length text.now }
 {
     matches!(text, [b'.' | b',', ..])
 }
 
-/// The fault of a letter that is no unit before the `T`, or behind it.
-fn unit_fault(behind_mark: bool) -> ParseError
-    ensures { result ≡ unit_fault behind_mark }
+/// The fault of a designator that is none of its side.
+fn unit_fault(is_time: bool) -> ParseError
+    ensures { result ≡ unit_fault is_time }
 {
-    if behind_mark {
+    if is_time {
         ParseError::DurationInvalidTimeUnit
     } else {
         ParseError::DurationInvalidDateUnit

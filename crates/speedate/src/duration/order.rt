@@ -34,9 +34,9 @@ impl Ord for Duration {
 
     ghost matches_eq = { Prim.search (comparing, rules) };
 
-    /// Which of two durations is the smaller one: one that is not positive before one that is, the
-    /// shorter of two positive ones, and the longer of two others. Nothing that is not positive is
-    /// before nothing that is: -PT2S, -PT1S, -PT0S, PT0S and PT1S are in order.
+    /// Which of two durations is the smaller one: a negative one before a positive one, the shorter
+    /// of two positive ones, and the longer of two negative ones. A negative duration of nothing is
+    /// before the positive one: -PT2S, -PT1S, -PT0S, PT0S and PT1S are in order.
     #[inline]
     fn cmp(&self, other: &Duration) -> Ordering
         ensures order { result ≡ duration_order (parts self.now) (parts other.now) }

@@ -125,12 +125,10 @@ fn start_text(positive: bool) -> &'static [u8]
 
 impl Duration {
     ghost use Rattle.speedate_base.specs.declared.config.TimeConfig.{TimeConfig};
-    ghost use Rattle.speedate_base.specs.declared.faults.ParseError.{ParseError};
     ghost use Rattle.speedate_base.specs.Requirement.{result_map};
-    ghost use Rattle.speedate.specs.DurationNumbers.{DurationNumbers};
     ghost use Rattle.speedate.specs.declared.duration.Duration.{Duration};
     ghost use Rattle.speedate.specs.Duration.{parts};
-    ghost use Rattle.speedate.specs.DurationForm.{IsDurationAnswer};
+    ghost use Rattle.speedate.specs.DurationAnswer.{duration_answer};
 
     /// The canonical text: a sign where the duration is not positive, `P`, and the years of 365 days,
     /// the days, and behind a `T` the hours, minutes and seconds that are not 0, as
@@ -139,10 +137,11 @@ impl Duration {
     #[inline]
     pub fn to_text(&self) -> ArrayString<TEXT_MAX>
         ensures text { result.bytes ≡ duration_text (parts self.now) }
-        ensures reads_back { (config : TimeConfig) → IsDurationAnswer config.iso_order config.microseconds_precision_overflow_behavior result.bytes (Ok (parts self.now)) }
-        ensures canonical { (config : TimeConfig) (answer : Result DurationNumbers ParseError)
-            → IsDurationAnswer config.iso_order config.microseconds_precision_overflow_behavior result.bytes answer
-            → result_map duration_text answer ≡ Ok result.bytes }
+        ensures reads_back { (config : TimeConfig)
+            → duration_answer config.iso_order config.microseconds_precision_overflow_behavior result.bytes ≡ Ok (parts self.now) }
+        ensures canonical { (config : TimeConfig)
+            → result_map duration_text (duration_answer config.iso_order config.microseconds_precision_overflow_behavior result.bytes)
+            ≡ Ok result.bytes }
         ensures distinct { (other : Duration)
             → (result.bytes ≡ duration_text (parts other)) ↔ (parts self.now ≡ parts other) }
     {

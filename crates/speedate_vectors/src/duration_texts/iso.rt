@@ -7,7 +7,7 @@ use std::process::Abort;
 use std::test::Fail;
 
 #[test]
-fn reads_quantities(rt: HostRuntime) {
+fn reads_components(rt: HostRuntime) {
     expect_each(
         &rt,
         &[
@@ -134,7 +134,7 @@ fn refuses_items_behind_others(rt: HostRuntime) {
     expect_each(
         &rt,
         &[
-            // behind a quantity
+            // behind a component
             ("P1DT1MT1S", "duration_t_repeated"),
             ("P1DTT", "duration_t_repeated"),
             ("P1DD", "duration_invalid_number"),
@@ -191,7 +191,7 @@ fn refuses_sums(rt: HostRuntime) {
 }
 
 #[test]
-fn quantities_change_places(rt: HostRuntime) {
+fn components_change_places(rt: HostRuntime) {
     for (first, second) in [
         ("P1Y2M", "P2M1Y"),
         ("P1Y2M3D", "P3D2M1Y"),

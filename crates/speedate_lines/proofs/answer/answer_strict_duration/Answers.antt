@@ -1,26 +1,24 @@
-use Rattle.std.proofs.Common.{◌≡◌, ◌∙◌, sym, ℕ, List}
+use Rattle.std.proofs.Common.{◌≡◌, ◌∙◌, ℕ, List, refl}
 use Rattle.speedate.specs.declared.IsoOrder.{IsoOrder}
 use Rattle.speedate.specs.declared.IsoOrder.TheVariants as order
 use Rattle.speedate.specs.declared.MicrosecondsPrecisionOverflowBehavior.{MicrosecondsPrecisionOverflowBehavior}
 use Rattle.speedate.specs.declared.MicrosecondsPrecisionOverflowBehavior.TheVariants as behavior
 use Rattle.speedate.specs.DurationAnswer.{duration_answer}
-use Rattle.speedate.specs.DurationAnswerLaws.{duration_answer-is}
-use Rattle.speedate.specs.DurationForm.{IsDurationAnswer}
 use Rattle.speedate.specs.DurationText.{duration_text}
 use Rattle.speedate_lines.proofs.AnswerLemmas.{reply-printed, reply-refused}
 use Rattle.speedate_lines.proofs.answer.answer_strict_duration.Goals as goal
 
 -- the answer of a configuration that asks for the order is the one of the kind
 strict-is : (asked : IsoOrder) (taken : MicrosecondsPrecisionOverflowBehavior) (text : List ℕ) → asked ≡ order.Strict → taken ≡ behavior.Error
-    → IsDurationAnswer asked taken text (duration_answer order.Strict behavior.Error text)
-strict-is asked taken text strict error = rw (strict, error) (duration_answer-is order.Strict behavior.Error text)
+    → duration_answer asked taken text ≡ duration_answer order.Strict behavior.Error text
+strict-is asked taken text strict error = rw (strict, error) refl
 
 pub returns-in-Ok : goal.returns-in-Ok
 returns-in-Ok c =
-    let same = c.in-Ok.ensures.only _ (strict-is _ _ c.args.text.now c.strict_config.ensures.order c.strict_config.ensures.behavior) in
-    record { answered = reply-printed duration_text _ _ _ _ _ c.accept.ensures.answered (c.deref.ensures.0 ∙ c.to_text.ensures.text) (sym same) }
+    let same = strict-is _ _ c.args.text.now c.strict_config.ensures.order c.strict_config.ensures.behavior in
+    record { answered = reply-printed duration_text _ _ _ _ _ c.accept.ensures.answered (c.deref.ensures.0 ∙ c.to_text.ensures.text) (c.in-Ok.ensures.answer ∙ same) }
 
 pub returns-in-Err : goal.returns-in-Err
 returns-in-Err c =
-    let same = c.in-Err.ensures.only _ (strict-is _ _ c.args.text.now c.strict_config.ensures.order c.strict_config.ensures.behavior) in
-    record { answered = reply-refused duration_text _ _ _ _ _ c.refuse.ensures.answered c.name.ensures.name (sym same) }
+    let same = strict-is _ _ c.args.text.now c.strict_config.ensures.order c.strict_config.ensures.behavior in
+    record { answered = reply-refused duration_text _ _ _ _ _ c.refuse.ensures.answered c.name.ensures.name (c.in-Err.ensures.answer ∙ same) }

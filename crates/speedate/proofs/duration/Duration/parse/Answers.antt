@@ -1,25 +1,28 @@
-use Rattle.std.proofs.Common.{◌≡◌, ◌∙◌, ap, subst, Bool, ℕ, List, Result, drop}
+use Rattle.std.proofs.Common.{◌∙◌, ap, ap₂, Bool, ℕ, Result, drop}
 use Rattle.std.specs.Prelude.{not}
 use Rattle.std.proofs.lemmas.List.{take_rest}
-use Rattle.speedate_base.specs.declared.config.IsoOrder.{IsoOrder}
-use Rattle.speedate_base.specs.declared.config.MicrosecondsPrecisionOverflowBehavior.{MicrosecondsPrecisionOverflowBehavior}
+use Rattle.std.proofs.lemmas.Result.{err_from_is_err_and}
 use Rattle.speedate_base.specs.declared.faults.ParseError.{ParseError}
-use Rattle.speedate_base.specs.Numbers.{has_minus, sign_length}
-use Rattle.speedate.specs.DurationForm.{IsNormalAnswer, IsDurationAnswer}
-use Rattle.speedate.specs.DurationNumbers.{DurationNumbers}
-use Rattle.speedate.specs.IsoFormLaws.{duration_answer-only}
+use Rattle.speedate_base.specs.Numbers.{has_minus}
+use Rattle.speedate_base.specs.Requirement.{result_and_then}
+use Rattle.speedate.specs.DurationAnswer.{unsigned_answer}
+use Rattle.speedate.specs.DurationAnswerLaws.{duration_answer-grammar}
+use Rattle.speedate.specs.DurationNumbers.{UnsignedDuration, signed_form}
 use Rattle.speedate.proofs.duration.Duration.parse.Goals as goal
 
--- the answer behind a sign is that to the text
-signed : (order : IsoOrder) (behavior : MicrosecondsPrecisionOverflowBehavior) (text rest : List ℕ) (negative : Bool) (answer : Result DurationNumbers ParseError)
-    → negative ≡ has_minus text → rest ≡ drop (sign_length text) text → IsNormalAnswer order behavior (not negative) rest answer
-    → IsDurationAnswer order behavior text answer
-signed order behavior text rest negative answer sign behind is =
-    subst (λ (minus : Bool). IsNormalAnswer order behavior (not minus) (drop (sign_length text) text) answer) sign
-    (subst (λ (behind : List ℕ). IsNormalAnswer order behavior (not negative) behind answer) behind is)
-
-pub returns-clause-only : goal.returns-clause-only
-returns-clause-only c other is =
+pub returns-in_err-size : goal.returns-in_err-size
+returns-in_err-size c =
     let text = c.args.bytes.now in
     let rest = take_rest text _ ∙ ap (λ (n : ℕ). drop n text) c.sign-negative.ensures.len in
-    duration_answer-only c.args.order c.args.behavior text other _ is (signed c.args.order c.args.behavior text _ _ _ c.sign-negative.ensures.negative rest c.unsigned.ensures.answer)
+    let same = ap (result_and_then (signed_form (not (has_minus text)))) (c.in_err-size.ensures.answer ∙ ap (unsigned_answer c.args.order c.args.behavior) rest) in
+    let p = err_from_is_err_and c.from_residual.result c.from_residual.ensures.1 in
+    rw (p.1, p.2) (record { answer = same; grammar = duration_answer-grammar c.args.order c.args.behavior text _ same })
+
+pub returns : goal.returns
+returns c =
+    let text = c.args.bytes.now in
+    let rest = take_rest text _ ∙ ap (λ (n : ℕ). drop n text) c.sign-negative.ensures.len in
+    let read = c.in_ok-size.ensures.answer ∙ ap (unsigned_answer c.args.order c.args.behavior) rest in
+    let same = c.signed.ensures.answer
+    ∙ ap₂ (λ (negative : Bool) (form : Result UnsignedDuration ParseError). result_and_then (signed_form (not negative)) form) c.sign-negative.ensures.negative read in
+    record { answer = same; grammar = duration_answer-grammar c.args.order c.args.behavior text _ same }

@@ -1,11 +1,10 @@
-use Rattle.std.proofs.Common.{◌≡◌, ◌∙◌, ap, sym, subst, ◌++◌, ℕ, List, [], Ok, length, append_assoc, lit<, arith}
+use Rattle.std.proofs.Common.{◌≡◌, ◌∙◌, ap, sym, subst, ◌++◌, ℕ, List, [], length, append_assoc, lit<, arith}
 use Rattle.std.specs.Str.{IsAscii}
 use Rattle.speedate_base.specs.TextLaws.{text-canonical}
 use Rattle.speedate.specs.Duration.{parts}
 use Rattle.speedate.specs.DurationTextLaws.{start-length, years-length, days-length, duration_text-IsAscii}
-use Rattle.speedate.specs.DurationForm.{IsDurationAnswer}
+use Rattle.speedate.specs.DurationAnswer.{duration_answer}
 use Rattle.speedate.specs.DurationText.{duration_text}
-use Rattle.speedate.specs.IsoFormLaws.{duration_answer-only}
 use Rattle.speedate.specs.IsoTextLaws.{duration_text-reads, duration_text-distinct}
 use Rattle.speedate.proofs.DurationFacts.{is_duration}
 use Rattle.speedate.proofs.duration.Duration.to_text.Goals as goal
@@ -56,17 +55,13 @@ returns-clause-reads_back c config =
     let behavior = config.microseconds_precision_overflow_behavior in
     let bytes = c.ascii_text.ensures.bytes ∙ c.deref.ensures.0 ∙ joined _ _ _ _ _ _ _ _ _ _ c.new-bytes.ensures c.push.ensures.bytes c.start_text.ensures
     c.push_counted.ensures.text c.push_counted-2.ensures.text c.push_rest.ensures.text in
-    subst (λ (text : List ℕ). IsDurationAnswer config.iso_order behavior text (Ok (parts duration))) (sym bytes)
-    (duration_text-reads config.iso_order behavior (parts duration) (is_duration duration))
+    ap (duration_answer config.iso_order behavior) bytes ∙ duration_text-reads config.iso_order behavior (parts duration) (is_duration duration)
 
 pub returns-clause-canonical : goal.returns-clause-canonical
-returns-clause-canonical c config answer is =
-    let duration = c.args.self.now in
-    let behavior = config.microseconds_precision_overflow_behavior in
+returns-clause-canonical c config =
     let bytes = c.ascii_text.ensures.bytes ∙ c.deref.ensures.0 ∙ joined _ _ _ _ _ _ _ _ _ _ c.new-bytes.ensures c.push.ensures.bytes c.start_text.ensures
     c.push_counted.ensures.text c.push_counted-2.ensures.text c.push_rest.ensures.text in
-    text-canonical duration_text (parts duration) _ answer bytes
-    (duration_answer-only config.iso_order behavior c.ascii_text.result.bytes answer (Ok (parts duration)) is (returns-clause-reads_back c config))
+    text-canonical duration_text (parts c.args.self.now) _ _ bytes (returns-clause-reads_back c config)
 
 pub returns-clause-distinct : goal.returns-clause-distinct
 returns-clause-distinct c other =

@@ -1,90 +1,37 @@
-use Rattle.std.proofs.Common.{◌≡◌, ◌∙◌, ap, sym, lit<, ℕ, ◌+◌, ◌-◌, ◌^◌, ◌<◌, ◌≤◌, true, false, List, length, take, drop, get_or, arith}
+use Rattle.std.proofs.Common.{◌≡◌, ℕ, ◌-◌, ◌^◌, ◌<◌, ◌≤◌, min, List, drop, lit<, arith}
 use Rattle.std.specs.Char.{is_ascii_digit}
-use Rattle.std.specs.List.{list_all}
-use Rattle.std.proofs.lemmas.List.{get_or-drop, length-drop}
+use Rattle.std.proofs.lemmas.List.Sums.{prefix_len-le-length}
 use Rattle.std.proofs.Math.Nat.{pow-le-pow_right}
-use Rattle.speedate_base.specs.DigitRuns.{digits_value, run_length}
-use Rattle.speedate_base.specs.DigitRunLaws.{digit-within, digits_value-front-lt, digits_value-front-more, all_digits-more, run_length-ended}
+use Rattle.speedate_base.specs.DigitRuns.{run_length, run_value}
+use Rattle.speedate_base.specs.DigitRunLaws.{digits_value-front-lt}
+use Rattle.speedate_base.specs.NumberLaws.{run-digits}
 use Rattle.speedate.proofs.duration.iso.short_number.Goals as goal
 
 -- six digits spell less than a million
-small : (digits : List ℕ) (count : ℕ) → count ≤ length digits → count ≤ 6 → list_all is_ascii_digit (take count digits) ≡ true
-    → digits_value (take count digits) < 1000000
-small digits count within few all =
-    let power : 10 ^ count ≤ 10 ^ 6 = pow-le-pow_right {n = 10} (lit< tt) few in
-    omega (arith, power, digits_value-front-lt digits count within all)
+small : (text : List ℕ) (place : ℕ) → run_length text place ≤ 6 → run_value text place < 1000000
+small text place few =
+    let rest = drop place text in
+    let power : 10 ^ run_length text place ≤ 10 ^ 6 = pow-le-pow_right {n = 10} (lit< tt) few in
+    omega (arith, power, digits_value-front-lt rest (run_length text place) (prefix_len-le-length is_ascii_digit rest) (run-digits rest))
 
--- a byte of a text, and of what the text has from a place on
-byte-behind : (text : List ℕ) (place end : ℕ) → place ≤ end → get_or (drop place text) (end - place) 0 ≡ get_or text end 0
-byte-behind text place end from =
-    let there : place + (end - place) ≡ end = omega (arith, from) in
-    get_or-drop place text (end - place) 0 ∙ ap (λ (n : ℕ). get_or text n 0) there
+-- so they are counted
+counted : (text : List ℕ) (place length value : ℕ) → length ≡ run_length text place → value ≡ min (run_value text place) (2 ^ 64 - 1) → length ≤ 6
+    → (value ≡ run_value text place) × (value < 1000000)
+counted text place length value ended is few =
+    let under = small text place (omega (arith, ended, few)) in
+    (omega (arith, is, under), omega (arith, is, under))
 
-value-small : (text : List ℕ) (place end value : ℕ) → place ≤ end → end ≤ length text → end - place ≤ 6
-    → list_all is_ascii_digit (take (end - place) (drop place text)) ≡ true → value ≡ digits_value (take (end - place) (drop place text)) → value < 1000000
-value-small text place end value from within few all is =
-    let count : end - place ≤ length (drop place text) = omega (arith, length-drop place text, from, within) in
-    omega (arith, is, small (drop place text) (end - place) count few all)
-
-pub overflow_mul-value : goal.overflow_mul-value
-overflow_mul-value c =
-    let before = c.loop-place.invariant in
-    omega (arith, value-small c.args.text.now c.args.place c.loop-place.end c.loop-place.value before.from before.within before.few before.digits before.value)
-
-pub overflow_add-value : goal.overflow_add-value
-overflow_add-value c =
-    let before = c.loop-place.invariant in
-    omega (arith, c.from.ensures, c.byte_at-in-loop-place.type_inv, value-small c.args.text.now c.args.place c.loop-place.end c.loop-place.value before.from before.within before.few before.digits before.value)
-
-pub loop-place-preserved : goal.loop-place-preserved
-loop-place-preserved c =
-    let text = c.args.text.now in
-    let rest = drop c.args.place text in
-    let end = c.loop-place.end in
-    let count = end - c.args.place in
-    let before = c.loop-place.invariant in
-    let behind = byte-behind text c.args.place end before.from in
-    let digit = ap is_ascii_digit (behind ∙ sym c.byte_at.ensures.byte) ∙ sym c.is_ascii_digit.ensures.value ∙ c.loop-place-test.true in
-    let within = digit-within rest count digit in
-    let next : end + 1 - c.args.place ≡ count + 1 = omega (arith, before.from) in
-    record {
-      from = omega (arith, before.from);
-      within = omega (arith, within, length-drop c.args.place text, before.from, before.within);
-      few = omega (arith, before.few, c.if-end-place-eq-SHORT_LENGTH.false);
-      digits = ap (λ (n : ℕ). list_all is_ascii_digit (take n rest)) next ∙ all_digits-more rest count before.digits digit;
-      value = omega (
-        arith,
-        before.value,
-        c.from.ensures,
-        c.byte_at-in-loop-place.ensures.byte,
-        behind,
-        digits_value-front-more rest count within,
-        ap (λ (n : ℕ). digits_value (take n rest)) next,
-      );
-    }
-
--- the run of digits that ends where the loop does
-ended : (text : List ℕ) (place end : ℕ) → place ≤ end → end ≤ length text → list_all is_ascii_digit (take (end - place) (drop place text)) ≡ true
-    → is_ascii_digit (get_or text end 0) ≡ false → run_length text place ≡ end - place
-ended text place end from within all other =
-    let count : end - place ≤ length (drop place text) = omega (arith, length-drop place text, from, within) in
-    run_length-ended (drop place text) (end - place) count all (λ _. ap is_ascii_digit (byte-behind text place end from) ∙ other)
+pub overflow_cast-result : goal.overflow_cast-result
+overflow_cast-result c =
+    let number = c.digit_run-number.ensures in
+    omega (arith, (counted c.args.text.now c.args.place _ _ number.length number.value c.if-number-gt-SHORT_LENGTH.false).1)
 
 pub returns-clause-value : goal.returns-clause-value
 returns-clause-value c =
-    let text = c.args.text.now in
-    let before = c.loop-place.invariant in
-    let other = ap is_ascii_digit (sym c.byte_at.ensures.byte) ∙ sym c.is_ascii_digit.ensures.value ∙ c.loop-place-test.false in
-    before.value ∙ ap (λ (n : ℕ). digits_value (take n (drop c.args.place text))) (sym (ended text c.args.place c.loop-place.end before.from before.within before.digits other))
-
-pub returns-clause-end : goal.returns-clause-end
-returns-clause-end c =
-    let text = c.args.text.now in
-    let before = c.loop-place.invariant in
-    let other = ap is_ascii_digit (sym c.byte_at.ensures.byte) ∙ sym c.is_ascii_digit.ensures.value ∙ c.loop-place-test.false in
-    omega (arith, before.from, ended text c.args.place c.loop-place.end before.from before.within before.digits other)
+    let number = c.digit_run-number.ensures in
+    (counted c.args.text.now c.args.place _ _ number.length number.value c.if-number-gt-SHORT_LENGTH.false).0
 
 pub returns-clause-small : goal.returns-clause-small
 returns-clause-small c =
-    let before = c.loop-place.invariant in
-    value-small c.args.text.now c.args.place c.loop-place.end c.loop-place.value before.from before.within before.few before.digits before.value
+    let number = c.digit_run-number.ensures in
+    (counted c.args.text.now c.args.place _ _ number.length number.value c.if-number-gt-SHORT_LENGTH.false).1

@@ -5,7 +5,7 @@ use Rattle.speedate.proofs.duration.iso.Sums.with_plain.Given as goal
 abbrev pub invariant-loop-next : goal.invariant-loop-next
 invariant-loop-next l = record {
   within : l.place ≤ length l.body;
-  mark : l.sums.mark ≡ l.fn.self.mark;
+  is_time : l.sums.is_time ≡ l.fn.self.is_time;
   none : l.sums.fraction ≡ false;
   goes_on : GoesOn (sums_parts l.fn.self) (drop l.start l.body) (sums_parts l.sums) (drop l.place l.body);
 }

@@ -1,11 +1,11 @@
-use Rattle.std.proofs.Common.{◌≡◌, ◌∙◌, sym, ap, subst, arith, Bool, ℕ, ◌+◌, ◌<◌, List, Result, Ok, Err, length, drop}
+use Rattle.std.proofs.Common.{◌≡◌, ◌∙◌, sym, ap, subst, arith, ℕ, ◌+◌, ◌<◌, List, Result, Ok, Err, length, drop}
 use Rattle.std.proofs.lemmas.List.{take_rest, length-drop, drop-drop}
 use Rattle.std.proofs.lemmas.Result.{err_from_is_err_and}
 use Rattle.speedate_base.specs.declared.faults.ParseError.{ParseError}
 use Rattle.speedate_base.specs.Requirement.{meets}
 use Rattle.speedate_base.specs.RequirementLaws.{meets-value}
 use Rattle.speedate.specs.IsoFrontLaws.{answer-behind, answer-refused}
-use Rattle.speedate.specs.DurationNumbers.{DurationNumbers}
+use Rattle.speedate.specs.DurationNumbers.{UnsignedDuration}
 use Rattle.speedate.specs.IsoForm.{Sums, item_at, item_length, item_table, with_item, IsAnswerFrom}
 use Rattle.speedate.specs.IsoSums.{sums_parts}
 use Rattle.speedate.proofs.duration.iso.Sums.with_rest.Goals as goal
@@ -24,20 +24,19 @@ returns-in_err-place c =
     let refused = c.in_err-place.ensures.answer ∙ ap (front sums) (take_rest body place) in
     let p = err_from_is_err_and c.from_residual.result c.from_residual.ensures.1 in
     rw (p.1, p.2) (record {
-      answer = λ positive.
-          c.loop-place.invariant.goes_on positive (Err _) (answer-refused positive sums text _ (item_length text) some refused);
+      answer = c.loop-place.invariant.goes_on (Err _) (answer-refused sums text _ (item_length text) some refused);
     })
 
 -- what follows an item, from its place on
-behind : (positive : Bool) (sums next : Sums) (body text : List ℕ) (place size : ℕ) (answer : Result DurationNumbers ParseError)
+behind : (sums next : Sums) (body text : List ℕ) (place size : ℕ) (answer : Result UnsignedDuration ParseError)
     → text ≡ drop place body → size ≡ item_length text → next ≡ with_item (item_at text) sums
-    → IsAnswerFrom positive next (drop (place + size) body) answer
-    → IsAnswerFrom positive (with_item (item_at (drop place body)) sums) (drop (item_length (drop place body)) (drop place body)) answer
-behind positive sums next body text place size answer same sized added answered =
+    → IsAnswerFrom next (drop (place + size) body) answer
+    → IsAnswerFrom (with_item (item_at (drop place body)) sums) (drop (item_length (drop place body)) (drop place body)) answer
+behind sums next body text place size answer same sized added answered =
     let item = added ∙ ap (λ (text : List ℕ). with_item (item_at text) sums) same in
     let rest = sym (drop-drop size place body) ∙ ap (λ (n : ℕ). drop n (drop place body)) (sized ∙ ap item_length same) in
-    subst (λ (next : Sums). IsAnswerFrom positive next (drop (item_length (drop place body)) (drop place body)) answer) item
-    (subst (λ (rest : List ℕ). IsAnswerFrom positive next rest answer) rest answered)
+    subst (λ (next : Sums). IsAnswerFrom next (drop (item_length (drop place body)) (drop place body)) answer) item
+    (subst (λ (rest : List ℕ). IsAnswerFrom next rest answer) rest answered)
 
 pub loop-place-preserved : goal.loop-place-preserved
 loop-place-preserved c =
@@ -50,6 +49,6 @@ loop-place-preserved c =
     let sized = sym held.1 ∙ ap item_length (sym (take_rest body place)) in
     record {
       within = omega (arith, c.in_ok-place.ensures.within, length-drop place body, ap length (take_rest body place), c.loop-place.invariant.within);
-      goes_on = λ positive answer answered. c.loop-place.invariant.goes_on positive answer
-          (answer-behind positive sums text answer some held.0 (behind positive sums _ body _ place _ answer (take_rest body place) sized c.in_ok-place.ensures.sums answered));
+      goes_on = λ answer answered. c.loop-place.invariant.goes_on answer
+          (answer-behind sums text answer some held.0 (behind sums _ body _ place _ answer (take_rest body place) sized c.in_ok-place.ensures.sums answered));
     }

@@ -1,0 +1,75 @@
+//! Durations without their sign, and which form a text has.
+
+ghost use Rattle.std.specs.Prelude.{◌≡◌};
+ghost use Rattle.speedate_base.specs.Requirement.{result_map};
+ghost use Rattle.speedate.specs.Duration.{unsigned_parts};
+ghost use Rattle.speedate.specs.DurationAnswer.{unsigned_answer};
+ghost use Rattle.speedate.specs.DurationForm.{has_day_letter, has_days, form_answer};
+
+use super::days::is_day_letter;
+use super::iso::Sums;
+use speedate_base::config::{IsoOrder, MicrosecondsPrecisionOverflowBehavior};
+use speedate_base::faults::ParseError;
+use speedate_base::numbers::{byte_at, digit_run};
+
+/// A length of time as a text says it: days, seconds and microseconds, of any size.
+#[derive(Clone, Copy)]
+pub(super) struct UnsignedDuration {
+    pub(super) day: u32,
+    pub(super) second: u32,
+    pub(super) microsecond: u32,
+}
+
+impl UnsignedDuration {
+    /// Reads a duration whose sign was read, in the form that its text has.
+    #[tactic(auto, unfolding(crate::specs::DurationAnswer::unsigned_answer))]
+    #[inline(always)]
+    pub(super) fn parse(
+        bytes: &[u8],
+        order: IsoOrder,
+        behavior: MicrosecondsPrecisionOverflowBehavior,
+    ) -> Result<Self, ParseError>
+        ensures answer { result_map unsigned_parts result ≡ unsigned_answer order behavior bytes.now }
+    {
+        if byte_at(bytes, 0) == b'P' {
+            return Sums::read(&bytes[1..], order);
+        }
+        Self::days_or_clock(bytes, behavior)
+    }
+
+    /// Reads a duration of days, or one that a clock shows.
+    #[tactic(auto, unfolding(crate::specs::DurationForm::form_answer))]
+    #[inline(always)]
+    fn days_or_clock(
+        bytes: &[u8],
+        behavior: MicrosecondsPrecisionOverflowBehavior,
+    ) -> Result<Self, ParseError>
+        ensures answer { result_map unsigned_parts result ≡ form_answer behavior bytes.now }
+    {
+        if bytes.is_empty() {
+            return Err(ParseError::TooShort);
+        }
+        let number = digit_run(bytes, 0);
+        if has_days(bytes) {
+            return Self::from_days(bytes, number, behavior);
+        }
+        Self::from_clock(bytes, number, behavior)
+    }
+}
+
+/// Whether a text has days: the letter of a day stands anywhere in it, or it is too short for a
+/// clock.
+#[inline]
+fn has_days(bytes: &[u8]) -> bool
+    ensures { result ≡ has_days bytes.now }
+{
+    bytes.len() < 5 || has_day_letter(bytes)
+}
+
+/// Whether the letter of a day stands anywhere.
+#[inline]
+fn has_day_letter(bytes: &[u8]) -> bool
+    ensures { result ≡ has_day_letter bytes.now }
+{
+    bytes.iter().any(|&byte| is_day_letter(byte))
+}
