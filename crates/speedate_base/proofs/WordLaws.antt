@@ -1,10 +1,10 @@
 -- Eight bytes as one number of 64 bits.
 use Rattle.std.specs.Prelude.{◌≡◌, ℕ, zero, suc, ◌+◌, ◌-◌, ◌*◌, ◌/◌, ◌%◌, ◌^◌, ◌<◌, ◌≤◌, List, [], ◌∷◌, length, bit_and}
 use Rattle.std.specs.Int.{w64, from_le_bytes, to_le_bytes}
-use Rattle.std.proofs.Common.{arith, refl, ap, sym, ◌∙◌, get_or}
+use Rattle.std.proofs.Common.{arith, refl, ap, ap₂, sym, ◌∙◌, get_or}
 use Rattle.std.proofs.lemmas.Nat.{and_mask, le_bytes_8, mod-pow-add}
 use Rattle.std.proofs.Math.Nat.{zero-mod}
-use lib.Lanes.{Each1}
+use lib.Lanes.{Each1, digits_l}
 use Rattle.speedate_base.proofs.PatternLaws.{by_eight}
 
 -- bytes as one number in base 256, the first byte lowest
@@ -67,3 +67,22 @@ pub masked-word : (count : ℕ) (bytes : List ℕ) → 1 ≤ count → count ≤
     → bit_and (word bytes) (18446744073709551615 / 2 ^ (64 - 8 * count)) ≡ word (front_bytes count bytes)
 masked-word count bytes some few small =
     ap (bit_and (word bytes)) (mask-is count some few) ∙ and_mask (word bytes) (8 * count) ∙ word-front count bytes small
+
+-- a number as its eight lanes
+abbrev pub lanes_of : ℕ → List ℕ
+lanes_of number = digits_l 256 8 (number + 0)
+
+-- the lanes of a number that is made of bytes are those bytes
+spread : (bytes : List ℕ) → Each1 (λ (byte : ℕ). byte < 256) bytes → digits_l 256 (length bytes) (word bytes) ≡ bytes
+spread [] small = refl
+spread (byte ∷ bytes) small =
+    let below : byte < 256 = small.0 in
+    let first : (byte + 256 * word bytes) % 256 ≡ byte = omega arith in
+    let rest : (byte + 256 * word bytes) / 256 ≡ word bytes = omega arith in
+    ap₂ (λ (b : ℕ) (number : ℕ). b ∷ digits_l 256 (length bytes) number) first rest ∙ ap (λ (others : List ℕ). byte ∷ others) (spread bytes small.1)
+
+pub bytes_are : (number a b c d e f g h : ℕ) → a < 256 → b < 256 → c < 256 → d < 256 → e < 256 → f < 256 → g < 256 → h < 256
+    → number ≡ word (a ∷ b ∷ c ∷ d ∷ e ∷ f ∷ g ∷ h ∷ []) → lanes_of number ≡ a ∷ b ∷ c ∷ d ∷ e ∷ f ∷ g ∷ h ∷ []
+bytes_are number a b c d e f g h sa sb sc sd se sf sg sh is =
+    let whole : number + 0 ≡ word (a ∷ b ∷ c ∷ d ∷ e ∷ f ∷ g ∷ h ∷ []) = omega (arith, is) in
+    ap (digits_l 256 8) whole ∙ spread (a ∷ b ∷ c ∷ d ∷ e ∷ f ∷ g ∷ h ∷ []) (sa, (sb, (sc, (sd, (se, (sf, (sg, (sh, tt))))))))

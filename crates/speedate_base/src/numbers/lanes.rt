@@ -1,6 +1,6 @@
 //! Texts of a fixed form, eight bytes at a time.
 
-ghost use Rattle.std.specs.Prelude.{◌≡◌, ℕ, ◌-◌, ◌<◌, ◌≤◌, IsTrue, length, drop, slice_index};
+ghost use Rattle.std.specs.Prelude.{◌≡◌, ℕ, ◌+◌, ◌-◌, ◌*◌, ◌^◌, ◌<◌, ◌≤◌, IsTrue, length, drop, slice_index};
 ghost use Rattle.std.specs.Char.{is_ascii_digit};
 ghost use Rattle.std.specs.List.{list_all, prefix_len};
 ghost use Rattle.speedate_base.specs.DigitRuns.{digits_value};
@@ -38,24 +38,34 @@ fn last_bytes(bytes: &[u8], left: usize) -> u8x8
 {
     let word = u64::from_le_bytes(u8x8::from_slice(bytes).to_array());
     // Two shifts, since one of 64 bits is none.
-    u8x8::from_array((word >> 8 >> (8 * (LANES - 1 - left))).to_le_bytes())
+    u64x1::splat(word >> 8 >> (8 * (LANES - 1 - left))).to_le_bytes()
 }
 
 /// Less than eight bytes, and 0 after them.
 #[inline(always)]
 fn short_bytes(bytes: &[u8]) -> u8x8
+    requires few { length bytes.now < LANES }
     ensures bytes { result ≡ eight_at bytes.now 0 }
 {
-    u8x8::from_array([
-        byte_at(bytes, 0),
-        byte_at(bytes, 1),
-        byte_at(bytes, 2),
-        byte_at(bytes, 3),
-        byte_at(bytes, 4),
-        byte_at(bytes, 5),
-        byte_at(bytes, 6),
-        byte_at(bytes, 7),
-    ])
+    if bytes.len() < 4 {
+        let [a, b, c] = [byte_at(bytes, 0), byte_at(bytes, 1), byte_at(bytes, 2)];
+        return u8x8::from_array([a, b, c, 0, 0, 0, 0, 0]);
+    }
+    // The last four bytes may be among the first four: what they share is moved out.
+    let shared = 8 * (LANES - bytes.len());
+    let word = four_bytes(bytes) + (four_bytes(&bytes[bytes.len() - 4..]) >> shared) * (1 << 32);
+    u64x1::splat(word).to_le_bytes()
+}
+
+/// The first four bytes as one number, the first one lowest.
+#[inline(always)]
+fn four_bytes(bytes: &[u8]) -> u64
+    requires { 4 ≤ length bytes.now }
+    ensures value { result ≡ slice_index bytes.now 0 + 256 * slice_index bytes.now 1
+        + 65536 * slice_index bytes.now 2 + 16777216 * slice_index bytes.now 3 }
+    ensures small { result < 2 ^ 32 }
+{
+    u64::from(u32::from_le_bytes([bytes[0], bytes[1], bytes[2], bytes[3]]))
 }
 
 /// How many of eight bytes, from the first on, are as a pattern has them. In a pattern `0` stands

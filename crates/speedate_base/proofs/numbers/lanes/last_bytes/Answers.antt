@@ -1,20 +1,14 @@
-use Rattle.std.proofs.Common.{◌≡◌, ◌∙◌, ap, refl, ℕ, zero, suc, ◌-◌, ◌*◌, ◌/◌, ◌^◌, ◌<◌, List, [], ◌∷◌, length, drop, get_or, arith, Fits, w8, w64}
-use Rattle.std.specs.Int.{from_le_bytes, to_le_bytes}
+use Rattle.std.proofs.Common.{◌≡◌, ◌∙◌, ap, ℕ, zero, suc, ◌-◌, ◌*◌, ◌/◌, ◌^◌, ◌<◌, List, [], ◌∷◌, length, drop, get_or, arith, Fits, w8, w64}
+use Rattle.std.specs.Int.{from_le_bytes}
 use Rattle.std.proofs.lemmas.List.{take_all}
 use Rattle.speedate_base.specs.Pattern.{eight_at}
 use Rattle.speedate_base.proofs.PatternLaws.{by_eight}
-use Rattle.speedate_base.proofs.WordLaws.{word, from_le_bytes-word, to_le_bytes-word}
+use Rattle.speedate_base.proofs.WordLaws.{word, from_le_bytes-word, lanes_of, bytes_are}
 use Rattle.speedate_base.proofs.numbers.lanes.last_bytes.Goals as goal
-
--- the bytes of a number that is made of eight
-bytes_are : (number a b c d e f g h : ℕ) → a < 256 → b < 256 → c < 256 → d < 256 → e < 256 → f < 256 → g < 256 → h < 256
-    → number ≡ word (a ∷ b ∷ c ∷ d ∷ e ∷ f ∷ g ∷ h ∷ []) → to_le_bytes w64 number ≡ a ∷ b ∷ c ∷ d ∷ e ∷ f ∷ g ∷ h ∷ []
-bytes_are number a b c d e f g h sa sb sc sd se sf sg sh is =
-    ap (to_le_bytes w64) is ∙ to_le_bytes-word (a ∷ b ∷ c ∷ d ∷ e ∷ f ∷ g ∷ h ∷ []) refl (sa, (sb, (sc, (sd, (se, (sf, (sg, (sh, tt))))))))
 
 -- the number of eight bytes, moved down by all but the last ones
 moved : (left a b c d e f g h : ℕ) → left < 8 → a < 256 → b < 256 → c < 256 → d < 256 → e < 256 → f < 256 → g < 256 → h < 256
-    → to_le_bytes w64 (word (a ∷ b ∷ c ∷ d ∷ e ∷ f ∷ g ∷ h ∷ []) / 256 / 2 ^ (8 * (7 - left)))
+    → lanes_of (word (a ∷ b ∷ c ∷ d ∷ e ∷ f ∷ g ∷ h ∷ []) / 256 / 2 ^ (8 * (7 - left)))
     ≡ eight_at (drop (8 - left) (a ∷ b ∷ c ∷ d ∷ e ∷ f ∷ g ∷ h ∷ [])) 0
 moved zero a b c d e f g h few sa sb sc sd se sf sg sh = bytes_are _ 0 0 0 0 0 0 0 0 (omega arith) (omega arith) (omega arith) (omega arith) (omega arith) (omega arith) (omega arith) (omega arith) (omega arith)
 moved (suc zero) a b c d e f g h few sa sb sc sd se sf sg sh = bytes_are _ h 0 0 0 0 0 0 0 sh (omega arith) (omega arith) (omega arith) (omega arith) (omega arith) (omega arith) (omega arith) (omega arith)
@@ -27,9 +21,9 @@ moved (suc (suc (suc (suc (suc (suc (suc zero))))))) a b c d e f g h few sa sb s
 moved (suc (suc (suc (suc (suc (suc (suc (suc more)))))))) a b c d e f g h few sa sb sc sd se sf sg sh = absurd (omega arith)
 
 eight_moved : (bytes : List ℕ) → length bytes ≡ 8 → ((i : ℕ) → Fits w8 (get_or bytes i 0)) → (left : ℕ) → left < 8
-    → to_le_bytes w64 (word bytes / 256 / 2 ^ (8 * (7 - left))) ≡ eight_at (drop (8 - left) bytes) 0
+    → lanes_of (word bytes / 256 / 2 ^ (8 * (7 - left))) ≡ eight_at (drop (8 - left) bytes) 0
 eight_moved = by_eight (λ (bytes : List ℕ). ((i : ℕ) → Fits w8 (get_or bytes i 0)) → (left : ℕ) → left < 8
-    → to_le_bytes w64 (word bytes / 256 / 2 ^ (8 * (7 - left))) ≡ eight_at (drop (8 - left) bytes) 0)
+    → lanes_of (word bytes / 256 / 2 ^ (8 * (7 - left))) ≡ eight_at (drop (8 - left) bytes) 0)
     (λ a b c d e f g h small left few. moved left a b c d e f g h few (small 0).fits (small 1).fits (small 2).fits (small 3).fits
     (small 4).fits (small 5).fits (small 6).fits (small 7).fits)
 
@@ -39,6 +33,6 @@ returns c =
     let all = take_all 8 bytes (omega arith) in
     let number = c.from_le_bytes-word.ensures ∙ ap (from_le_bytes w64) all ∙ from_le_bytes-word bytes c.requires.long in
     record {
-      bytes = c.to_le_bytes.ensures ∙ ap (λ (n : ℕ). to_le_bytes w64 (n / 256 / 2 ^ (8 * (7 - c.args.left)))) number
+      bytes = ap (λ (n : ℕ). lanes_of (n / 256 / 2 ^ (8 * (7 - c.args.left)))) number
           ∙ eight_moved bytes c.requires.long c.type_inv.bytes c.args.left c.requires.few;
     }
