@@ -172,25 +172,12 @@ impl Duration {
         Self::signed(!negative, size)
     }
 
-    /// Puts the sign on a length, and brings it into its normal form. A clock's length has it.
+    /// Puts the sign on a length, and brings it into its normal form.
     #[inline(always)]
     fn signed(positive: bool, size: UnsignedDuration) -> Result<Self, ParseError>
         ensures answer { result_map parts result ≡ signed_form positive (unsigned_parts size) }
     {
-        let UnsignedDuration {
-            day,
-            second,
-            microsecond,
-        } = size;
-        if day <= 999_999_999 && second < SECONDS_PER_DAY && microsecond < 1_000_000 {
-            return Ok(Duration {
-                positive,
-                day,
-                second,
-                microsecond,
-            });
-        }
-        Self::new(positive, day, second, microsecond)
+        Self::new(positive, size.day, size.second, size.microsecond)
     }
 
     /// The whole seconds with the sign: -86,401 for a negative day and second.

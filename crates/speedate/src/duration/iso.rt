@@ -27,7 +27,7 @@ const MICROSECOND_LENGTH: usize = 6;
 #[derive(Clone, Copy)]
 struct DurationUnit {
     designator: u8,
-    place: usize,
+    place: u32,
     day: u32,
     second: u32,
     ghost place_small: { place ≤ 3 },
@@ -126,7 +126,7 @@ pub(super) struct Sums {
     /// The order in which components have to come.
     order: IsoOrder,
     /// How many units of this side may no longer come: those from here on may.
-    passed: usize,
+    passed: u32,
     /// Whether there was a `T`.
     is_time: bool,
     /// Whether a component had a fraction.
@@ -247,7 +247,7 @@ impl Sums {
 
     /// How many units of this side may no longer come after one of them.
     #[inline(always)]
-    fn passed_by(&self, unit: &DurationUnit) -> usize
+    fn passed_by(&self, unit: &DurationUnit) -> u32
         requires unit { IsUnitOf self.now.is_time unit.now }
         requires place { self.now.passed ≤ unit.now.place }
         ensures units { drop result (units self.now.is_time)
