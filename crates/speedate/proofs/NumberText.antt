@@ -1,47 +1,35 @@
--- A number in digits, from the last one to the first.
-use Rattle.std.specs.Prelude.{◌≡◌, ℕ, zero, suc, ◌+◌, ◌-◌, ◌*◌, ◌/◌, ◌%◌, ◌^◌, ◌<◌, ◌≤◌, List, [], ◌∷◌, ◌++◌, refl}
+-- A number in digits, from the last two to the first.
+use Rattle.std.specs.Prelude.{◌≡◌, ℕ, ◌+◌, ◌/◌, ◌%◌, ◌^◌, ◌<◌, ◌≤◌, List, [], ◌∷◌, ◌++◌}
 use Rattle.std.specs.Fmt.{decimal}
-use Rattle.std.proofs.Common.{arith, ap, sym, ◌∙◌, append_assoc}
+use Rattle.std.proofs.Common.{arith, ap, ◌∙◌, append_assoc}
 use Rattle.std.proofs.lemmas.Fmt.{decimal_digit, decimal_step}
-use Rattle.std.proofs.lemmas.Nat.{pow-add}
-use Rattle.std.proofs.Math.Nat.{mul-le-mul_right}
+use Rattle.speedate_base.specs.Digits.{two_digit_text}
 
--- the digits in front of some that were taken
-abbrev pub in_front : ℕ → List ℕ
-in_front zero = []
-in_front (suc rest) = decimal (suc rest)
+-- a number of two digits
+pub decimal-two : (number : ℕ) → 10 ≤ number → number < 100 → decimal number ≡ two_digit_text number
+decimal-two number long small =
+    decimal_step number long (omega arith)
+    ∙ ap (λ (front : List ℕ). front ++ (48 + number % 10) ∷ []) (decimal_digit (number / 10) (omega arith))
 
-by-front : (front number : ℕ) → number / 10 ≡ front → number < 2 ^ 32 → decimal number ≡ in_front front ++ (48 + number % 10) ∷ []
-by-front zero number is small =
-    let last : number % 10 ≡ number = omega (arith, is) in
-    decimal_digit number (omega (arith, is)) ∙ ap (λ (n : ℕ). (48 + n) ∷ []) (sym last)
-by-front (suc front) number is small =
-    decimal_step number (omega (arith, is)) (omega (arith, small)) ∙ ap (λ (n : ℕ). decimal n ++ (48 + number % 10) ∷ []) is
+two-more : (front : List ℕ) (tens ones : ℕ) → (front ++ tens ∷ []) ++ ones ∷ [] ≡ front ++ tens ∷ ones ∷ []
+two-more front tens ones = simp append_assoc
 
--- a number is the digits in front of its last one, and that
-pub last-digit : (number : ℕ) → number < 2 ^ 32 → decimal number ≡ in_front (number / 10) ++ (48 + number % 10) ∷ []
-last-digit number small = by-front (number / 10) number refl small
+-- a longer one is the digits in front of its last two, and those
+pub decimal-pair : (number : ℕ) → 100 ≤ number → number < 2 ^ 32 → decimal number ≡ decimal (number / 100) ++ two_digit_text (number % 100)
+decimal-pair number long small =
+    let front : number / 10 / 10 ≡ number / 100 = omega arith in
+    let tens : number / 10 % 10 ≡ number % 100 / 10 = omega arith in
+    let ones : number % 10 ≡ number % 100 % 10 = omega arith in
+    decimal_step number (omega arith) (omega arith)
+    ∙ ap (λ (digits : List ℕ). digits ++ (48 + number % 10) ∷ []) (decimal_step (number / 10) (omega arith) (omega arith))
+    ∙ two-more (decimal (number / 10 / 10)) (48 + number / 10 % 10) (48 + number % 10)
+    ∙ (λ i. decimal (front i) ++ (48 + tens i) ∷ (48 + ones i) ∷ [])
 
--- one more digit is taken
-pub digit-taken : (whole : List ℕ) (rest : ℕ) (taken : List ℕ) → 0 < rest → rest < 2 ^ 32 → whole ≡ in_front rest ++ taken
-    → whole ≡ in_front (rest / 10) ++ (48 + rest % 10) ∷ taken
-digit-taken whole zero taken some small is = absurd (omega arith)
-digit-taken whole (suc rest) taken some small is =
-    is ∙ ap (λ (front : List ℕ). front ++ taken) (last-digit (suc rest) small) ∙ simp append_assoc
-
--- the digits that are taken are no more than ten
-pub room-left : (number rest place : ℕ) → place ≤ 9 → rest * 10 ^ (10 - place) ≤ number → number < 2 ^ 32 → 0 < rest → 0 < place
-room-left number rest zero few within small some =
-    let product = mul-le-mul_right (10 ^ 10) some in
-    absurd (omega (arith, product))
-room-left number rest (suc place) few within small some = omega arith
-
-pub tenth : (number rest place : ℕ) → 0 < place → place ≤ 9 → rest * 10 ^ (10 - place) ≤ number → rest / 10 * 10 ^ (10 - (place - 1)) ≤ number
-tenth number rest place some few within =
-    let more : 10 - (place - 1) ≡ (10 - place) + 1 = omega arith in
-    let power : 10 ^ (10 - (place - 1)) ≡ 10 ^ (10 - place) * 10 = ap (λ (n : ℕ). 10 ^ n) more ∙ pow-add 10 (10 - place) 1 in
-    let scale = 10 ^ (10 - place) in
-    let front : rest / 10 * 10 ≤ rest = omega arith in
-    let product = mul-le-mul_right scale front in
-    let spread : rest / 10 * (scale * 10) ≡ rest / 10 * 10 * scale = grind arith in
-    omega (arith, ap (λ (n : ℕ). rest / 10 * n) power, spread, product, within)
+-- and of five digits or more, those in front of its last four, and those
+pub decimal-pairs : (number : ℕ) → 10000 ≤ number → number < 2 ^ 32
+    → decimal number ≡ (decimal (number / 10000) ++ two_digit_text (number / 100 % 100)) ++ two_digit_text (number % 100)
+decimal-pairs number long small =
+    let front : number / 100 / 100 ≡ number / 10000 = omega arith in
+    decimal-pair number (omega arith) small
+    ∙ ap (λ (digits : List ℕ). digits ++ two_digit_text (number % 100)) (decimal-pair (number / 100) (omega arith) (omega arith)
+    ∙ ap (λ (n : ℕ). decimal n ++ two_digit_text (number / 100 % 100)) front)

@@ -86,7 +86,7 @@ counted-IsAscii number unit fits small =
     (IsAscii-append (decimal number) (unit ∷ []) (IsAscii-decimal number (omega (arith, fits))) (IsAscii-cons unit [] small IsAscii-nil))
 
 -- a fraction
-fraction-length : (microsecond : ℕ) → length (short_fraction_text microsecond) ≤ 7
+pub fraction-length : (microsecond : ℕ) → length (short_fraction_text microsecond) ≤ 7
 fraction-length microsecond =
     chosen-length (microsecond == 0) (full_stop ∷ without_last_zeros (six_digit_text microsecond)) 7
     (omega (arith, without-length (six_digit_text microsecond)))

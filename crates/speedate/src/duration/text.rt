@@ -1,14 +1,14 @@
 //! The text of a duration.
 
-ghost use Rattle.std.specs.Prelude.{◌≡◌, ◌≢◌, ◌+◌, ◌++◌, ◌<◌, ◌≤◌, ◌↔◌, length, take, drop, Some, Result, Ok};
+ghost use Rattle.std.specs.Prelude.{◌≡◌, ◌≢◌, ◌+◌, ◌++◌, ◌<◌, ◌≤◌, ◌↔◌, length, Some, Result, Ok};
 ghost use Rattle.std.specs.Fmt.{decimal};
-ghost use Rattle.arrayvec.specs.ArrayVec.{array_vec_len};
-ghost use Rattle.speedate_base.specs.Digits.{six_digit_text};
-ghost use Rattle.speedate.specs.DurationText.{counted_text, without_last_zeros, short_fraction_text, seconds_text, hours_text, start_text, rest_text, duration_text};
+ghost use Rattle.arrayvec.specs.ArrayString.{array_string_len};
+ghost use Rattle.speedate_base.specs.Digits.{two_digit_text, six_digit_text};
+ghost use Rattle.speedate.specs.DurationText.{counted_text, without_last_zeros, short_fraction_text, seconds_text, start_text, rest_text, duration_text};
 
 use super::Duration;
-use arrayvec::{ArrayString, ArrayVec};
-use speedate_civil::text::{ascii_text, push, six_digit_text};
+use arrayvec::ArrayString;
+use speedate_civil::text::two_digit_text;
 use std::fmt;
 
 /// How many bytes the longest text of a duration has: `-P2739725Y364DT23H59M59.999999S`.
@@ -17,110 +17,144 @@ const TEXT_MAX: usize = 31;
 /// The days of a year.
 const DAYS_PER_YEAR: u32 = 365;
 
-/// Appends a number in digits, without leading zeros: `b"120"` for 120.
-fn push_number<const LENGTH: usize>(number: u32, bytes: &mut ArrayVec<u8, LENGTH>)
-    requires room { array_vec_len bytes.old + length (decimal number) ≤ LENGTH }
-    ensures text { bytes.new.items ≡ bytes.old.items ++ decimal number }
-    ensures len { array_vec_len bytes.new ≡ array_vec_len bytes.old + length (decimal number) }
+/// Appends a number of at most eight digits, without leading zeros: `120` for 120.
+#[inline(always)]
+fn push_number<const LENGTH: usize>(number: u32, text: &mut ArrayString<LENGTH>)
+    requires few { number < 100000000 }
+    requires room { array_string_len text.old + length (decimal number) ≤ LENGTH }
+    ensures text { text.new.bytes ≡ text.old.bytes ++ decimal number }
 {
-    let (digits, place) = digits_of(number);
-    push(&digits[place..], bytes);
+    if number < 10_000 {
+        push_up_to_four_digits(number, text);
+    } else {
+        push_up_to_four_digits(number / 10_000, text);
+        text.push_str(two_digit_text((number / 100 % 100) as u8));
+        text.push_str(two_digit_text((number % 100) as u8));
+    }
 }
 
-/// The digits of a number, at the end of ten bytes, and the place of the first.
-fn digits_of(number: u32) -> ([u8; 10], usize)
-    ensures digits { drop result.1 result.0 ≡ decimal number }
-    ensures within { result.1 ≤ 10 }
+/// Appends a number of at most four digits, without leading zeros.
+#[inline(always)]
+fn push_up_to_four_digits<const LENGTH: usize>(number: u32, text: &mut ArrayString<LENGTH>)
+    requires few { number < 10000 }
+    requires room { array_string_len text.old + length (decimal number) ≤ LENGTH }
+    ensures text { text.new.bytes ≡ text.old.bytes ++ decimal number }
 {
-    let mut digits = [0; 10];
-    let mut place = 9;
-    digits[place] = b'0' + (number % 10) as u8;
-    let mut rest = number / 10;
-    while rest > 0 {
-        place -= 1;
-        digits[place] = b'0' + (rest % 10) as u8;
-        rest /= 10;
+    if number < 100 {
+        push_up_to_two_digits(number as u8, text);
+    } else {
+        push_up_to_two_digits((number / 100) as u8, text);
+        text.push_str(two_digit_text((number % 100) as u8));
     }
-    (digits, place)
 }
 
-/// Appends a number and its unit, and nothing for 0: `b"7D"` for 7.
-#[inline]
-fn push_counted<const LENGTH: usize>(number: u32, unit: u8, bytes: &mut ArrayVec<u8, LENGTH>)
-    requires room { array_vec_len bytes.old + length (counted_text number unit) ≤ LENGTH }
-    ensures text { bytes.new.items ≡ bytes.old.items ++ counted_text number unit }
-    ensures len { array_vec_len bytes.new ≡ array_vec_len bytes.old + length (counted_text number unit) }
+/// Appends a number of one digit or two, without leading zeros.
+#[inline(always)]
+fn push_up_to_two_digits<const LENGTH: usize>(number: u8, text: &mut ArrayString<LENGTH>)
+    requires few { number < 100 }
+    requires room { array_string_len text.old + length (decimal number) ≤ LENGTH }
+    ensures text { text.new.bytes ≡ text.old.bytes ++ decimal number }
 {
-    if number == 0 {
-        return;
+    if number < 10 {
+        text.push(char::from(b'0' + number));
+    } else {
+        text.push_str(two_digit_text(number));
     }
-    push_number(number, bytes);
-    push(&[unit], bytes);
+}
+
+/// Appends a number and its unit, and nothing for 0: `7D` for 7.
+#[inline(always)]
+fn push_counted<const LENGTH: usize>(number: u32, unit: char, text: &mut ArrayString<LENGTH>)
+    requires few { number < 100000000 }
+    requires ascii { unit < 128 }
+    requires room { array_string_len text.old + length (counted_text number unit) ≤ LENGTH }
+    ensures text { text.new.bytes ≡ text.old.bytes ++ counted_text number unit }
+    ensures len { array_string_len text.new ≡ array_string_len text.old + length (counted_text number unit) }
+{
+    if number != 0 {
+        push_number(number, text);
+        text.push(unit);
+    }
 }
 
 /// Appends a point and the digits of a microsecond but for the zeros at their end, and nothing for
-/// 0: `b".5"` for 500,000.
-#[inline]
-fn push_fraction<const LENGTH: usize>(microsecond: u32, bytes: &mut ArrayVec<u8, LENGTH>)
+/// 0: `.5` for 500,000.
+#[inline(always)]
+fn push_fraction<const LENGTH: usize>(microsecond: u32, text: &mut ArrayString<LENGTH>)
     requires small { microsecond ≤ 999999 }
-    requires room { array_vec_len bytes.old + length (short_fraction_text microsecond) ≤ LENGTH }
-    ensures text { bytes.new.items ≡ bytes.old.items ++ short_fraction_text microsecond }
-    ensures len { array_vec_len bytes.new ≡ array_vec_len bytes.old + length (short_fraction_text microsecond) }
+    requires room { array_string_len text.old + 7 ≤ LENGTH }
+    ensures text { text.new.bytes ≡ text.old.bytes ++ short_fraction_text microsecond }
 {
-    if microsecond == 0 {
-        return;
+    if microsecond != 0 {
+        text.push('.');
+        push_places(microsecond, text);
     }
-    let digits = six_digit_text(microsecond);
-    push(b".", bytes);
-    push(&digits[..shown_length(&digits)], bytes);
 }
 
-/// How many digits there are without the zeros at their end: 4 for `b"120500"`.
-#[inline]
-fn shown_length(digits: &[u8]) -> usize
-    ensures digits { take result digits.now ≡ without_last_zeros digits.now }
-    ensures within { result ≤ length digits.now }
+/// Appends the digits of a microsecond but for the zeros at their end: `120` for 120,000.
+#[inline(always)]
+fn push_places<const LENGTH: usize>(microsecond: u32, text: &mut ArrayString<LENGTH>)
+    requires some { microsecond ≢ 0 }
+    requires small { microsecond ≤ 999999 }
+    requires room { array_string_len text.old + 6 ≤ LENGTH }
+    ensures text { text.new.bytes ≡ text.old.bytes ++ without_last_zeros (six_digit_text microsecond) }
 {
-    let mut count = digits.len();
-    while count > 0 {
-        if digits[count - 1] != b'0' {
-            return count;
-        }
-        count -= 1;
+    let first = (microsecond / 10_000) as u8;
+    let second = (microsecond / 100 % 100) as u8;
+    let third = (microsecond % 100) as u8;
+    if third != 0 {
+        text.push_str(two_digit_text(first));
+        text.push_str(two_digit_text(second));
+        push_last_places(third, text);
+    } else if second != 0 {
+        text.push_str(two_digit_text(first));
+        push_last_places(second, text);
+    } else {
+        push_last_places(first, text);
     }
-    0
 }
 
-/// Appends seconds and microseconds, and nothing for none: `b"7.5S"` for 7 and 500,000.
-#[inline]
+/// Appends the last two digits of a fraction, or the first of them where the other is 0: `07` for 7
+/// and `7` for 70.
+#[inline(always)]
+fn push_last_places<const LENGTH: usize>(number: u8, text: &mut ArrayString<LENGTH>)
+    requires some { number ≢ 0 }
+    requires small { number < 100 }
+    requires room { array_string_len text.old + 2 ≤ LENGTH }
+    ensures text { text.new.bytes ≡ text.old.bytes ++ without_last_zeros (two_digit_text number) }
+{
+    if number % 10 == 0 {
+        text.push(char::from(b'0' + number / 10));
+    } else {
+        text.push_str(two_digit_text(number));
+    }
+}
+
+/// Appends seconds and microseconds, and nothing for none: `7.5S` for 7 and 500,000.
+#[inline(always)]
 fn push_seconds<const LENGTH: usize>(
     second: u32,
     microsecond: u32,
-    bytes: &mut ArrayVec<u8, LENGTH>,
+    text: &mut ArrayString<LENGTH>,
 )
+    requires few { second < 60 }
     requires small { microsecond ≤ 999999 }
-    requires room { array_vec_len bytes.old + length (seconds_text second microsecond) ≤ LENGTH }
-    ensures text { bytes.new.items ≡ bytes.old.items ++ seconds_text second microsecond }
-    ensures len { array_vec_len bytes.new ≡ array_vec_len bytes.old + length (seconds_text second microsecond) }
+    requires room { array_string_len text.old + 10 ≤ LENGTH }
+    ensures text { text.new.bytes ≡ text.old.bytes ++ seconds_text second microsecond }
 {
-    if second == 0 && microsecond == 0 {
-        return;
+    if second != 0 || microsecond != 0 {
+        push_up_to_two_digits(second as u8, text);
+        push_fraction(microsecond, text);
+        text.push('S');
     }
-    push_number(second, bytes);
-    push_fraction(microsecond, bytes);
-    push(b"S", bytes);
 }
 
-/// How the text of a duration begins: `b"-P"` where it is not positive.
-#[inline]
-fn start_text(positive: bool) -> &'static [u8]
+/// How the text of a duration begins: `-P` where it is not positive.
+#[inline(always)]
+fn start_text(positive: bool) -> &'static str
     ensures { result.now ≡ start_text positive }
 {
-    if positive {
-        b"P".as_slice()
-    } else {
-        b"-P".as_slice()
-    }
+    if positive { "P" } else { "-P" }
 }
 
 impl Duration {
@@ -145,30 +179,40 @@ impl Duration {
         ensures distinct { (other : Duration)
             → (result.bytes ≡ duration_text (parts other)) ↔ (parts self.now ≡ parts other) }
     {
-        let mut bytes: ArrayVec<u8, TEXT_MAX> = ArrayVec::new();
-        push(start_text(self.positive), &mut bytes);
-        push_counted(self.day / DAYS_PER_YEAR, b'Y', &mut bytes);
-        push_counted(self.day % DAYS_PER_YEAR, b'D', &mut bytes);
-        self.push_rest(&mut bytes);
-        ascii_text(&bytes)
+        let mut text = ArrayString::new();
+        self.push_onto(&mut text);
+        text
     }
 
-    /// Appends what stands behind the days.
-    #[inline]
-    fn push_rest<const LENGTH: usize>(&self, bytes: &mut ArrayVec<u8, LENGTH>)
-        requires room { array_vec_len bytes.old + 17 ≤ LENGTH }
-        ensures text { bytes.new.items ≡ bytes.old.items ++ rest_text (parts self.now) }
+    /// Appends the canonical text, as [`Duration::to_text`] gives it, for which there must be room for
+    /// 31 bytes: `ok P1DT2H` where it is appended to `ok `.
+    #[inline(always)]
+    pub fn push_onto<const LENGTH: usize>(&self, text: &mut ArrayString<LENGTH>)
+        requires room { array_string_len text.old + TEXT_MAX ≤ LENGTH }
+        ensures text { text.new.bytes ≡ text.old.bytes ++ duration_text (parts self.now) }
+    {
+        text.push_str(start_text(self.positive));
+        push_counted(self.day / DAYS_PER_YEAR, 'Y', text);
+        push_counted(self.day % DAYS_PER_YEAR, 'D', text);
+        self.push_rest(text);
+    }
+
+    /// Appends what follows the days.
+    #[inline(always)]
+    fn push_rest<const LENGTH: usize>(&self, text: &mut ArrayString<LENGTH>)
+        requires room { array_string_len text.old + 17 ≤ LENGTH }
+        ensures text { text.new.bytes ≡ text.old.bytes ++ rest_text (parts self.now) }
     {
         if self.second == 0 && self.microsecond == 0 {
             if self.day == 0 {
-                push(b"T0S", bytes);
+                text.push_str("T0S");
             }
             return;
         }
-        push(b"T", bytes);
-        push_counted(self.second / 3600, b'H', bytes);
-        push_counted(self.second / 60 % 60, b'M', bytes);
-        push_seconds(self.second % 60, self.microsecond, bytes);
+        text.push('T');
+        push_counted(self.second / 3600, 'H', text);
+        push_counted(self.second / 60 % 60, 'M', text);
+        push_seconds(self.second % 60, self.microsecond, text);
     }
 }
 
