@@ -1,5 +1,5 @@
 -- The answer to a line, case by case.
-use Rattle.std.proofs.Common.{◌≡◌, ◌∙◌, ap, sym, ℕ, ◌<◌, ◌≤◌, true, false, List, [], ◌∷◌, ◌++◌, length, take, drop, Result, Ok, Err, refl}
+use Rattle.std.proofs.Common.{◌≡◌, ◌∙◌, ap, sym, ℕ, ◌<◌, ◌≤◌, true, false, List, [], ◌∷◌, ◌++◌, length, append_assoc, take, drop, Result, Ok, Err, refl}
 use Rattle.std.specs.Prelude.{codes, bytes_eq}
 use Rattle.std.proofs.lemmas.Bool.{lt-ltb, le-ltb}
 use Rattle.speedate.specs.declared.ParseError.{ParseError}
@@ -35,12 +35,16 @@ pub answer_by_kind-none : (line : List ℕ) → answer_by_kind [] line ≡ err_a
 unfolding answer_by_kind
 answer_by_kind-none line = refl
 
--- the text of a value that was read is the reply to its text
-pub reply-printed : {A : Type 0} (text : A → List ℕ) (value : A) (read : Result A ParseError) (old new printed : List ℕ)
-    → new ≡ old ++ (ok_answer printed ++ line_feed ∷ []) → printed ≡ text value → Ok value ≡ read
-    → new ≡ old ++ (reply text read ++ line_feed ∷ [])
-reply-printed {A = A} text value read old new printed appended print answered =
-    appended ∙ ap (λ (bytes : List ℕ). old ++ (ok_answer bytes ++ line_feed ∷ [])) print
+grouped : (old front text : List ℕ) → ((old ++ front) ++ text) ++ line_feed ∷ [] ≡ old ++ ((front ++ text) ++ line_feed ∷ [])
+grouped old front text = simp append_assoc
+
+-- the text of a value that was read is the reply to its text, piece by piece
+pub reply-printed : {A : Type 0} (text : A → List ℕ) (value : A) (read : Result A ParseError) (old first second third : List ℕ)
+    → first ≡ old ++ codes "ok " → second ≡ first ++ text value → third ≡ second ++ line_feed ∷ [] → Ok value ≡ read
+    → third ≡ old ++ (reply text read ++ line_feed ∷ [])
+reply-printed {A = A} text value read old first second third one two three answered =
+    three ∙ ap (λ (bytes : List ℕ). bytes ++ line_feed ∷ []) (two ∙ ap (λ (bytes : List ℕ). bytes ++ text value) one)
+    ∙ grouped old (codes "ok ") (text value)
     ∙ ap (λ (result : Result A ParseError). old ++ (reply text result ++ line_feed ∷ [])) answered
 
 -- and the name of a fault is the reply to a text that was refused

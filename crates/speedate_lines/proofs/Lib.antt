@@ -4,3 +4,4 @@ pub mod CarryLemmas
 pub mod BlockLemmas
 pub mod SentLemmas
 pub mod MarkLemmas
+pub mod TextLengths

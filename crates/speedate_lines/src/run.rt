@@ -2,7 +2,7 @@
 
 ghost use Rattle.std.specs.Prelude.{◌≡◌, ◌+◌, ◌^◌, ◌<◌, ◌≤◌, [], length, take, drop, ◌||◌, ◌++◌, true, false, is_err, Err, IfSome, IfOk, OnOk, OnErr};
 ghost use Rattle.std.specs.Io.KnownBytes.{Appends, Keeps, IsAtEnd};
-ghost use Rattle.arrayvec.specs.ArrayVec.{array_vec_len};
+ghost use Rattle.arrayvec.specs.ArrayString.{array_string_len};
 ghost use Rattle.speedate_lines.specs.Lines.{IsOneLine, complete_lines, unfinished_line, last_line, lines};
 ghost use Rattle.speedate_lines.specs.Answer.{answers};
 ghost use Rattle.speedate_lines.specs.Outcome.{EndsBy};
@@ -118,9 +118,9 @@ fn answer_block<W: Write>(
 ) -> Result<usize, Failed>
     requires within { seen ≤ length text.now }
     requires one_line { IsOneLine text.now 0 seen }
-    requires empty { pending.old.items ≡ [] }
+    requires empty { pending.old.bytes ≡ [] }
     ensures failed { output.new.failed ≡ (output.old.failed || is_err result) }
-    ensures empty { OnOk result (pending.new.items ≡ []) }
+    ensures empty { OnOk result (pending.new.bytes ≡ []) }
     ensures start { IfOk result (λ start. start ≤ length text.now) }
     ensures unfinished { IfOk result (λ start. drop start text.now ≡ unfinished_line text.now) }
     ensures answered { OnOk result (Appends (W.contents output.old.inner)
@@ -147,10 +147,10 @@ fn answer_lines<W: Write>(
     ensures failed { output.new.failed ≡ (output.old.failed || is_err result) }
     ensures start { IfOk result (λ start. start ≤ length text.now) }
     ensures unfinished { IfOk result (λ start. drop start text.now ≡ unfinished_line text.now) }
-    ensures answered { OnOk result (AppendsBut pending.new.items (W.contents output.old.inner)
-        (W.contents output.new.inner) (pending.old.items ++ answers (complete_lines text.now))) }
+    ensures answered { OnOk result (AppendsBut pending.new.bytes (W.contents output.old.inner)
+        (W.contents output.new.inner) (pending.old.bytes ++ answers (complete_lines text.now))) }
     ensures beginning { OnErr result (AppendsBeginning (W.contents output.old.inner)
-        (W.contents output.new.inner) (pending.old.items ++ answers (complete_lines text.now))) }
+        (W.contents output.new.inner) (pending.old.bytes ++ answers (complete_lines text.now))) }
     ensures unflushed { KeepsUnflushed output.old output.new }
 {
     let mut start = 0;
@@ -167,11 +167,11 @@ fn answer_lines<W: Write>(
 /// Writes the answers that wait, where there is no room for a further one.
 fn make_room<W: Write>(pending: &mut Pending, output: &mut Watched<W>) -> Result<(), Failed>
     ensures failed { output.new.failed ≡ (output.old.failed || is_err result) }
-    ensures room { OnOk result (array_vec_len pending.new + ANSWER_MAX ≤ PENDING_MAX) }
-    ensures sent { OnOk result (AppendsBut pending.new.items (W.contents output.old.inner)
-        (W.contents output.new.inner) pending.old.items) }
+    ensures room { OnOk result (array_string_len pending.new + ANSWER_MAX ≤ PENDING_MAX) }
+    ensures sent { OnOk result (AppendsBut pending.new.bytes (W.contents output.old.inner)
+        (W.contents output.new.inner) pending.old.bytes) }
     ensures beginning { OnErr result (AppendsBeginning (W.contents output.old.inner)
-        (W.contents output.new.inner) pending.old.items) }
+        (W.contents output.new.inner) pending.old.bytes) }
     ensures unflushed { KeepsUnflushed output.old output.new }
 {
     if pending.remaining_capacity() < ANSWER_MAX {
@@ -183,14 +183,14 @@ fn make_room<W: Write>(pending: &mut Pending, output: &mut Watched<W>) -> Result
 /// Writes all answers that wait.
 fn send<W: Write>(pending: &mut Pending, output: &mut Watched<W>) -> Result<(), Failed>
     ensures failed { output.new.failed ≡ (output.old.failed || is_err result) }
-    ensures empty { OnOk result (pending.new.items ≡ []) }
+    ensures empty { OnOk result (pending.new.bytes ≡ []) }
     ensures sent { OnOk result (Appends (W.contents output.old.inner)
-        (W.contents output.new.inner) pending.old.items) }
+        (W.contents output.new.inner) pending.old.bytes) }
     ensures beginning { OnErr result (AppendsBeginning (W.contents output.old.inner)
-        (W.contents output.new.inner) pending.old.items) }
+        (W.contents output.new.inner) pending.old.bytes) }
     ensures unflushed { KeepsUnflushed output.old output.new }
 {
-    write_all(pending.as_slice(), output)?;
+    write_all(pending.as_str().as_bytes(), output)?;
     pending.clear();
     Ok(())
 }
@@ -231,7 +231,7 @@ fn finish<W: Write>(
     pending: &mut Pending,
     output: &mut Watched<W>,
 ) -> Result<(), Failed>
-    requires { pending.old.items ≡ [] }
+    requires { pending.old.bytes ≡ [] }
     ensures failed { output.new.failed ≡ (output.old.failed || is_err result) }
     ensures answered { OnOk result (Appends (W.contents output.old.inner)
         (W.contents output.new.inner) (answers (last_line last.now))) }

@@ -1,10 +1,15 @@
-use Rattle.std.proofs.Common.{◌≡◌, ◌∙◌, ℕ, List, refl}
+use Rattle.std.proofs.Common.{◌≡◌, ◌∙◌, ap, ℕ, ◌+◌, ◌≤◌, List, length, length-append, lit<, refl, arith}
 use Rattle.speedate.specs.declared.IsoOrder.{IsoOrder}
 use Rattle.speedate.specs.declared.IsoOrder.TheVariants as order
 use Rattle.speedate.specs.declared.MicrosecondsPrecisionOverflowBehavior.{MicrosecondsPrecisionOverflowBehavior}
 use Rattle.speedate.specs.declared.MicrosecondsPrecisionOverflowBehavior.TheVariants as behavior
+use Rattle.speedate.specs.Ascii.{line_feed}
+use Rattle.speedate.specs.Duration.{parts}
 use Rattle.speedate.specs.DurationAnswer.{duration_answer}
 use Rattle.speedate.specs.DurationText.{duration_text}
+use Rattle.std.proofs.Math.Utf8.{encode}
+use Rattle.std.proofs.lemmas.Str.{encode_ascii}
+use Rattle.speedate_lines.proofs.TextLengths.{duration-length}
 use Rattle.speedate_lines.proofs.AnswerLemmas.{reply-printed, reply-refused}
 use Rattle.speedate_lines.proofs.answer.answer_strict_duration.Goals as goal
 
@@ -13,10 +18,17 @@ strict-is : (asked : IsoOrder) (taken : MicrosecondsPrecisionOverflowBehavior) (
     → duration_answer asked taken text ≡ duration_answer order.Strict behavior.Error text
 strict-is asked taken text strict error = rw (strict, error) refl
 
+pub push-requires : goal.push-requires
+push-requires c =
+    let value = c.in-Ok.duration in
+    let room : length c.push_onto.new.text.bytes + length (encode line_feed) ≤ 65536 =
+    omega (arith, ap length (encode_ascii line_feed (lit< tt)), c.requires, c.push_str.ensures.len, ap length c.push_onto.ensures.text, length-append c.push_str.new.self.bytes (duration_text (parts value)), duration-length value) in
+    (lit< tt, room)
+
 pub returns-in-Ok : goal.returns-in-Ok
 returns-in-Ok c =
     let same = strict-is _ _ c.args.text.now c.strict_config.ensures.order c.strict_config.ensures.behavior in
-    record { answered = reply-printed duration_text _ _ _ _ _ c.accept.ensures.answered (c.deref.ensures.0 ∙ c.to_text.ensures.text) (c.in-Ok.ensures.answer ∙ same) }
+    record { answered = reply-printed duration_text _ _ _ _ _ _ c.push_str.ensures.bytes c.push_onto.ensures.text (c.push.ensures.ascii (lit< tt)) (c.in-Ok.ensures.answer ∙ same) }
 
 pub returns-in-Err : goal.returns-in-Err
 returns-in-Err c =

@@ -12,7 +12,7 @@ loop-end-init g c = record {
   ordered = omega arith;
   within = c.requires.within;
   one_line = c.requires.one_line;
-  answered = ([], AppendsBut-same (AppendsBut-all _ _) refl (append-nil c.args.pending.now.items), refl);
+  answered = ([], AppendsBut-same (AppendsBut-all _ _) refl (append-nil c.args.pending.now.bytes), refl);
   failed = refl;
   unflushed = λ flushed. flushed;
   rest = refl;
@@ -35,7 +35,7 @@ loop-end-preserved g c =
       one_line = λ k after below same. absurd (omega arith);
       answered = (
         done ++ new,
-        AppendsBut-same sent c.answer_line.ensures.answered (sym (append_assoc c.args.pending.now.items done new)),
+        AppendsBut-same sent c.answer_line.ensures.answered (sym (append_assoc c.args.pending.now.bytes done new)),
         before.answered.2
             ∙ ap (λ (all : Pieces). done ++ answers all.complete) here
             ∙ sym (append_assoc done new (answers (complete_lines next))),
@@ -57,13 +57,13 @@ returns-clause-answered g c =
     let done = before.answered.0 in
     let here = pieces-rest c.args.text.now c.loop-end.start c.loop-end.searched before.one_line c.in_default.ensures.found in
     let all = before.answered.2 ∙ ap (λ (left : Pieces). done ++ answers left.complete) here ∙ append-nil done in
-    AppendsBut-same before.answered.1 refl (ap (λ (bytes : List ℕ). c.args.pending.now.items ++ bytes) all)
+    AppendsBut-same before.answered.1 refl (ap (λ (bytes : List ℕ). c.args.pending.now.bytes ++ bytes) all)
 
 pub returns-in_err-make_room-clause-beginning : goal.returns-in_err-make_room-clause-beginning
 returns-in_err-make_room-clause-beginning g c =
     let before = c.loop-end.invariant in
     let done = before.answered.0 in
-    let waiting : List ℕ = c.args.pending.now.items in
+    let waiting : List ℕ = c.args.pending.now.bytes in
     let others : List ℕ = answers (complete_lines (drop c.loop-end.start c.args.text.now)) in
     let part = AppendsBeginning-more others (AppendsBeginning-left before.answered.1 c.in_err-make_room.ensures.beginning) in
     on_err c.from_residual.result

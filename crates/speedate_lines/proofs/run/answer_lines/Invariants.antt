@@ -12,8 +12,8 @@ invariant-loop-end g l = record {
   within : l.searched ≤ length l.text;
   one_line : IsOneLine l.text l.start l.searched;
   answered : (done : List ℕ)
-      × AppendsBut l.pending.items (g.W.Write.contents l.initial.output.inner) (g.W.Write.contents l.output.inner)
-      (l.initial.pending.items ++ done)
+      × AppendsBut l.pending.bytes (g.W.Write.contents l.initial.output.inner) (g.W.Write.contents l.output.inner)
+      (l.initial.pending.bytes ++ done)
       × (answers (complete_lines l.text) ≡ done ++ answers (complete_lines (drop l.start l.text)));
   failed : l.output.failed ≡ l.initial.output.failed;
   unflushed : KeepsUnflushed l.initial.output l.output;

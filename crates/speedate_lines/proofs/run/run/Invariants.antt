@@ -9,7 +9,7 @@ use Rattle.speedate_lines.proofs.run.run.Given as goal
 -- the complete lines of what has been read are answered, and the front of the block is the kept part of its unfinished line
 abbrev pub invariant-loop-filled : goal.invariant-loop-filled
 invariant-loop-filled g l = record {
-  empty : l.pending.items ≡ [];
+  empty : l.pending.bytes ≡ [];
   input_failed : l.input.failed ≡ l.initial.input.failed;
   output_failed : l.output.failed ≡ l.initial.output.failed;
   unflushed : KeepsUnflushed l.initial.output l.output;
