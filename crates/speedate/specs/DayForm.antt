@@ -1,5 +1,6 @@
 -- A duration as days and a clock, `1 day, 10:20`. This form is the library's own. `text` begins with the days.
-use Rattle.std.specs.Prelude.{ℕ, ◌+◌, Bool, true, not, ◌&&◌, ◌||◌, List, [], ◌∷◌, codes, length, drop, slice_index, nat_le, nat_lt, ◌==◌, if◌then◌else◌, Result, Ok}
+use Rattle.std.specs.Prelude.{ℕ, ◌+◌, Bool, not, ◌&&◌, ◌||◌, List, [], ◌∷◌, codes, length, drop, slice_index, nat_eq, nat_le, nat_lt, ◌==◌, if◌then◌else◌, Result, Ok}
+use Rattle.std.specs.List.{starts_with}
 use Rattle.speedate_base.specs.declared.config.MicrosecondsPrecisionOverflowBehavior.{MicrosecondsPrecisionOverflowBehavior}
 use Rattle.speedate_base.specs.declared.faults.ParseError.{ParseError}
 use Rattle.speedate_base.specs.declared.faults.ParseError.TheVariants as fault
@@ -23,16 +24,11 @@ letter_place text =
 abbrev pub behind_letter : List ℕ → List ℕ
 behind_letter text = drop (letter_place text + 1) text
 
--- the bytes of a word stand at the front of a text
-abbrev pub begins_with : List ℕ → List ℕ → Bool
-begins_with [] text = true
-begins_with (byte ∷ word) text = (slice_index text 0 == byte) && begins_with word (drop 1 text)
-
 -- how many bytes the rest of the word `days` or `day` has, small or in capitals
 abbrev pub ending_length : List ℕ → ℕ
 ending_length text =
-    if begins_with (codes "ays") text || begins_with (codes "AYS") text then 3
-    else (if begins_with (codes "ay") text || begins_with (codes "AY") text then 2 else 0)
+    if starts_with nat_eq text (codes "ays") || starts_with nat_eq text (codes "AYS") then 3
+    else (if starts_with nat_eq text (codes "ay") || starts_with nat_eq text (codes "AY") then 2 else 0)
 
 -- the rest of a word begins a text
 abbrev pub begins_ending : List ℕ → Bool

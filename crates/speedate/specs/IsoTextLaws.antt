@@ -17,7 +17,7 @@ use Rattle.speedate_base.specs.declared.config.IsoOrder.TheVariants as order
 use Rattle.speedate_base.specs.declared.config.MicrosecondsPrecisionOverflowBehavior.{MicrosecondsPrecisionOverflowBehavior}
 use Rattle.speedate_base.specs.declared.config.MicrosecondsPrecisionOverflowBehavior.TheVariants as behavior
 use Rattle.speedate_base.specs.Ascii.{digit_zero, full_stop, capital_d, capital_h, capital_m, capital_s, capital_t, capital_y}
-use Rattle.speedate_base.specs.Digits.{digit_value, six_digit_text}
+use Rattle.speedate_base.specs.Digits.{one_digit_value, six_digit_text}
 use Rattle.speedate_base.specs.DigitLaws.{six_digits-printed}
 use Rattle.speedate_base.specs.DigitRuns.{digits_value}
 use Rattle.speedate_base.specs.DigitRunLaws.{digits_value-lt}
@@ -58,9 +58,9 @@ kept-worth : (digit : ℕ) (test : Bool) (kept digits : List ℕ) → (digit == 
     → digits_value (kept_digit digit kept) * 10 ^ length (digit ∷ digits) ≡ digits_value (digit ∷ digits) * 10 ^ length (kept_digit digit kept)
 kept-worth digit true [] digits is same = rw is (grind (arith, eqb-true digit digit_zero is, same))
 kept-worth digit false [] digits is same =
-    rw is (more-worth (digit_value digit) 0 (digits_value digits) 1 10 (10 ^ length digits) _ refl (pow-succ' 10 (length digits)) same)
+    rw is (more-worth (one_digit_value digit) 0 (digits_value digits) 1 10 (10 ^ length digits) _ refl (pow-succ' 10 (length digits)) same)
 kept-worth digit test (next ∷ kept) digits is same =
-    more-worth (digit_value digit) (digits_value (next ∷ kept)) (digits_value digits) (10 ^ length (next ∷ kept)) _ (10 ^ length digits) _
+    more-worth (one_digit_value digit) (digits_value (next ∷ kept)) (digits_value digits) (10 ^ length (next ∷ kept)) _ (10 ^ length digits) _
     (pow-succ' 10 (length (next ∷ kept))) (pow-succ' 10 (length digits)) same
 
 without-worth : (digits : List ℕ)

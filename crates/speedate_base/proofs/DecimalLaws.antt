@@ -9,7 +9,7 @@ use Rattle.std.proofs.lemmas.Int.{ints}
 use Rattle.std.proofs.Math.Nat.{mul-le-mul_right, pow-le-pow_right}
 use Rattle.speedate_base.specs.declared.faults.ParseError.TheVariants as fault
 use Rattle.speedate_base.specs.DecimalTimestamp.{decimal_digits, decimal_scale, decimal_microsecond, decimal_instant}
-use Rattle.speedate_base.specs.Digits.{digit_value}
+use Rattle.speedate_base.specs.Digits.{one_digit_value}
 use Rattle.speedate_base.specs.DigitRuns.{digits_value}
 use Rattle.speedate_base.specs.DigitRunLaws.{digits_value-append}
 use Rattle.speedate_base.specs.Nearest.{nearest, quotient}
@@ -24,7 +24,7 @@ pub digits_value-some : (digits : List ℕ) (place : ℕ) → list_all is_ascii_
 digits_value-some [] place all within other = absurd (omega arith)
 digits_value-some (digit ∷ digits) zero all within other =
     let parts = and_parts (is_ascii_digit digit) _ all in
-    let more : 1 ≤ digit_value digit = grind (arith, nat_tests, other) in
+    let more : 1 ≤ one_digit_value digit = grind (arith, nat_tests, other) in
     omega (arith, mul-le-mul_right (10 ^ length digits) more, scale-some (length digits))
 digits_value-some (digit ∷ digits) (suc place) all within other =
     let parts = and_parts (is_ascii_digit digit) _ all in
@@ -36,7 +36,7 @@ pub digits_value-large : (digits : List ℕ) → list_all is_ascii_digit digits 
 digits_value-large [] all many other = absurd (omega arith)
 digits_value-large (digit ∷ digits) all many other =
     let parts = and_parts (is_ascii_digit digit) _ all in
-    let more : 1 ≤ digit_value digit = grind (arith, nat_tests, other) in
+    let more : 1 ≤ one_digit_value digit = grind (arith, nat_tests, other) in
     let rest : 11 ≤ length digits = omega arith in
     let power : 10 ^ 11 ≤ 10 ^ length digits = pow-le-pow_right {n = 10} (lit< tt) rest in
     omega (arith, mul-le-mul_right (10 ^ length digits) more, power)

@@ -1,13 +1,11 @@
 -- What is printed in two, four or six digits is digits, is ASCII, and spells the number that was printed.
-use Rattle.std.specs.Prelude.{◌≡◌, ℕ, ◌/◌, ◌%◌, ◌<◌, ◌++◌, true, List, [], ◌∷◌, refl}
+use Rattle.std.specs.Prelude.{◌≡◌, ℕ, ◌/◌, ◌%◌, ◌<◌, ◌++◌, true, List, [], refl}
 use Rattle.std.specs.Char.{is_ascii_digit}
 use Rattle.std.specs.List.{list_all}
-use Rattle.std.specs.Str.{IsAscii}
 use Rattle.std.proofs.Common.{arith}
 use Rattle.std.proofs.lemmas.Bool.{and_from}
 use Rattle.std.proofs.lemmas.Bool.Decides.{nat_tests}
-use Rattle.std.proofs.lemmas.Str.Ascii.{IsAscii-cons}
-use Rattle.speedate_base.specs.Digits.{digit, digit_value, two_digits_at, two_digit_text, two_digit_value, four_digit_text, four_digits_at, four_digit_value, six_digit_text}
+use Rattle.speedate_base.specs.Digits.{digit, one_digit_value, two_digits_at, two_digit_text, two_digit_value, four_digit_text, four_digits_at, four_digit_value, six_digit_text}
 use Rattle.speedate_base.specs.DigitRuns.{fraction_value}
 
 -- a digit is printed as a digit
@@ -15,8 +13,8 @@ pub digit-printed : (n : ℕ) → n < 10 → is_ascii_digit (digit n) ≡ true
 digit-printed n small = grind (arith, nat_tests)
 
 -- and stands for itself
-pub digit_value-printed : (n : ℕ) → digit_value (digit n) ≡ n
-digit_value-printed n = omega arith
+pub one_digit_value-printed : (n : ℕ) → one_digit_value (digit n) ≡ n
+one_digit_value-printed n = omega arith
 
 -- the digits of a number below 100
 pub two_digits-printed : (n : ℕ) → n < 100 → two_digits_at (two_digit_text n) 0 ≡ true
@@ -50,18 +48,3 @@ six_digits-printed n small =
 -- as a fraction of six places they mean the number
 pub fraction_value-printed : (n : ℕ) → fraction_value 6 (six_digit_text n) ≡ n
 fraction_value-printed n = omega arith
-
--- in front of ASCII they are ASCII
-pub two_digit_text-IsAscii : (n : ℕ) (rest : List ℕ) → n < 100 → IsAscii rest → IsAscii (two_digit_text n ++ rest)
-two_digit_text-IsAscii n rest small tail =
-    IsAscii-cons (digit (n / 10)) (digit (n % 10) ∷ rest) (omega arith) (IsAscii-cons (digit (n % 10)) rest (omega arith) tail)
-
-pub four_digit_text-IsAscii : (n : ℕ) (rest : List ℕ) → n < 10000 → IsAscii rest → IsAscii (four_digit_text n ++ rest)
-four_digit_text-IsAscii n rest small tail =
-    two_digit_text-IsAscii (n / 100) (two_digit_text (n % 100) ++ rest) (omega arith)
-    (two_digit_text-IsAscii (n % 100) rest (omega arith) tail)
-
-pub six_digit_text-IsAscii : (n : ℕ) (rest : List ℕ) → n < 1000000 → IsAscii rest → IsAscii (six_digit_text n ++ rest)
-six_digit_text-IsAscii n rest small tail =
-    two_digit_text-IsAscii (n / 10000) (four_digit_text (n % 10000) ++ rest) (omega arith)
-    (four_digit_text-IsAscii (n % 10000) rest (omega arith) tail)

@@ -12,7 +12,7 @@ use Rattle.std.proofs.lemmas.Bool.Decides.{nat_tests}
 use Rattle.std.proofs.lemmas.Nat.{pow-add}
 use Rattle.std.proofs.Math.Seq.{take-add}
 use Rattle.std.proofs.Math.Nat.{mul-le-mul_right, pow-succ', pow-le-pow_right}
-use Rattle.speedate_base.specs.Digits.{digit_value}
+use Rattle.speedate_base.specs.Digits.{one_digit_value}
 use Rattle.speedate_base.specs.DigitRuns.{digits_value, fraction_value}
 
 -- a digit stands within its text
@@ -23,15 +23,15 @@ digit-within bytes place is = elim (cases_lt place (length bytes)) [
 ]
 
 -- a digit stands for nine at most
-pub digit_value-le : (byte : ℕ) → is_ascii_digit byte ≡ true → digit_value byte ≤ 9
-digit_value-le byte is = grind (arith, nat_tests)
+pub one_digit_value-le : (byte : ℕ) → is_ascii_digit byte ≡ true → one_digit_value byte ≤ 9
+one_digit_value-le byte is = grind (arith, nat_tests)
 
 -- so many digits spell less than the power of ten
 pub digits_value-lt : (digits : List ℕ) → list_all is_ascii_digit digits ≡ true → digits_value digits < 10 ^ length digits
 digits_value-lt [] all = omega arith
 digits_value-lt (digit ∷ digits) all =
     let tests = and_parts (is_ascii_digit digit) _ all in
-    let first = digit_value-le digit tests.0 in
+    let first = one_digit_value-le digit tests.0 in
     omega (arith, digits_value-lt digits tests.1, pow-succ' 10 (length digits), mul-le-mul_right (10 ^ length digits) first)
 
 -- few digits fit 64 bits
@@ -59,12 +59,12 @@ pub digits_value-append : (digits more : List ℕ) → digits_value (digits ++ m
 digits_value-append [] more = omega arith
 digits_value-append (first ∷ digits) more =
     let long : length (digits ++ more) ≡ length digits + length more = omega (arith, length-append digits more) in
-    let power = ap (λ (n : ℕ). digit_value first * 10 ^ n) long ∙ ap (λ (p : ℕ). digit_value first * p) (pow-add 10 (length digits) (length more)) in
+    let power = ap (λ (n : ℕ). one_digit_value first * 10 ^ n) long ∙ ap (λ (p : ℕ). one_digit_value first * p) (pow-add 10 (length digits) (length more)) in
     grind (arith, power, digits_value-append digits more)
 
 -- one more digit
 pub digits_value-front-more : (bytes : List ℕ) (count : ℕ) → count < length bytes
-    → digits_value (take (count + 1) bytes) ≡ 10 * digits_value (take count bytes) + digit_value (get_or bytes count 0)
+    → digits_value (take (count + 1) bytes) ≡ 10 * digits_value (take count bytes) + one_digit_value (get_or bytes count 0)
 digits_value-front-more bytes count within =
     let digit = get_or bytes count 0 in
     ap digits_value (take_more bytes count 0 within) ∙ omega (arith, digits_value-append (take count bytes) (digit ∷ []))
@@ -132,4 +132,4 @@ pub fraction_value-take : (places : ℕ) (digits : List ℕ) → fraction_value 
 fraction_value-take zero digits = refl
 fraction_value-take (suc places) [] = refl
 fraction_value-take (suc places) (digit ∷ digits) =
-    ap (λ (value : ℕ). digit_value digit * 10 ^ places + value) (fraction_value-take places digits)
+    ap (λ (value : ℕ). one_digit_value digit * 10 ^ places + value) (fraction_value-take places digits)

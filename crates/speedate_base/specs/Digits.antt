@@ -5,8 +5,8 @@ use Rattle.std.specs.Char.{is_ascii_digit}
 use Rattle.speedate_base.specs.Ascii.{digit_zero}
 
 -- what a digit stands for
-abbrev pub digit_value : ℕ → ℕ
-digit_value byte = byte - digit_zero
+abbrev pub one_digit_value : ℕ → ℕ
+one_digit_value byte = byte - digit_zero
 
 -- both bytes from a place on are digits
 abbrev pub two_digits_at : List ℕ → ℕ → Bool
@@ -15,7 +15,7 @@ two_digits_at text place = is_ascii_digit (slice_index text place) && is_ascii_d
 -- the number that they spell
 abbrev pub two_digit_value : List ℕ → ℕ → ℕ
 two_digit_value text place =
-    10 * digit_value (slice_index text place) + digit_value (slice_index text (place + 1))
+    10 * one_digit_value (slice_index text place) + one_digit_value (slice_index text (place + 1))
 
 -- all four bytes from a place on are digits
 abbrev pub four_digits_at : List ℕ → ℕ → Bool

@@ -1,19 +1,17 @@
 -- A printed clock is read as itself, from its minute on.
 use Rattle.std.specs.Prelude.{◌≡◌, ℕ, ◌+◌, ◌<◌, ◌≤◌, Bool, true, false, ◌||◌, List, [], ◌∷◌, ◌++◌, ◌==◌, slice_index, Ok, refl}
 use Rattle.std.specs.Char.{is_ascii_digit}
-use Rattle.std.specs.Str.{IsAscii}
-use Rattle.std.proofs.Common.{lit<, arith, ◌∙◌, ap, take}
+use Rattle.std.proofs.Common.{arith, ◌∙◌, ap, take}
 use Rattle.std.proofs.lemmas.Bool.{le-leb}
-use Rattle.std.proofs.lemmas.Str.Ascii.{IsAscii-cons}
 use Rattle.speedate_base.specs.declared.config.MicrosecondsPrecisionOverflowBehavior.{MicrosecondsPrecisionOverflowBehavior}
-use Rattle.speedate_base.specs.Ascii.{colon, comma, full_stop}
-use Rattle.speedate_base.specs.Digits.{two_digit_text, six_digit_text}
+use Rattle.speedate_base.specs.Ascii.{comma, full_stop}
+use Rattle.speedate_base.specs.Digits.{six_digit_text}
 use Rattle.speedate_base.specs.DigitRuns.{run_length, run_digits, fraction_value}
-use Rattle.speedate_base.specs.DigitLaws.{two_digits-printed, two_digit_value-printed, six_digits-printed, fraction_value-printed, two_digit_text-IsAscii, six_digit_text-IsAscii}
+use Rattle.speedate_base.specs.DigitLaws.{two_digits-printed, two_digit_value-printed, six_digits-printed, fraction_value-printed}
 use Rattle.speedate_base.specs.Requirement.{◌implies◌}
 use Rattle.speedate_base.specs.DigitRunLaws.{run_length-append}
 use Rattle.speedate_base.specs.Refusal.{refuses_digits}
-use Rattle.speedate_civil.specs.ClockText.{clock_answer, minute_text, fraction_text}
+use Rattle.speedate_civil.specs.ClockText.{clock_answer, minute_text}
 
 -- without a fraction, whatever follows that is no point
 pub clock-whole : (behavior : MicrosecondsPrecisionOverflowBehavior) (minute second : ℕ) (tail : List ℕ)
@@ -48,19 +46,3 @@ clock-fraction behavior minute second microsecond tail small_minute small_second
     let value : fraction_value 6 (run_digits digits 0) ≡ microsecond =
     ap (λ (n : ℕ). fraction_value 6 (take n digits)) long ∙ fraction_value-printed microsecond in
     rw (minute_is, second_is, le-leb minute 59 small_minute, le-leb second 59 small_second, two_digits-printed second (omega arith), value, long, implies-true (refuses_digits behavior)) refl
-
--- it is ASCII in front of ASCII
-pub minute_text-IsAscii : (minute second : ℕ) (tail : List ℕ) → minute ≤ 59 → second ≤ 59 → IsAscii tail → IsAscii (minute_text minute second ++ tail)
-minute_text-IsAscii minute second tail small_minute small_second ascii =
-    let seconds = two_digit_text second ++ tail in
-    two_digit_text-IsAscii minute (colon ∷ seconds) (omega arith)
-    (IsAscii-cons colon seconds (lit< tt) (two_digit_text-IsAscii second tail (omega arith) ascii))
-
-fraction-IsAscii : (microsecond : ℕ) (tail : List ℕ) (none : Bool) → (microsecond == 0) ≡ none → microsecond ≤ 999999 → IsAscii tail
-    → IsAscii (fraction_text microsecond ++ tail)
-fraction-IsAscii microsecond tail true is small ascii = rw is ascii
-fraction-IsAscii microsecond tail false is small ascii =
-    rw is (IsAscii-cons full_stop (six_digit_text microsecond ++ tail) (lit< tt) (six_digit_text-IsAscii microsecond tail (omega arith) ascii))
-
-pub fraction_text-IsAscii : (microsecond : ℕ) (tail : List ℕ) → microsecond ≤ 999999 → IsAscii tail → IsAscii (fraction_text microsecond ++ tail)
-fraction_text-IsAscii microsecond tail small ascii = fraction-IsAscii microsecond tail (microsecond == 0) refl small ascii

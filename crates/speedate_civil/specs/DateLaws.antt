@@ -1,16 +1,12 @@
 -- The text by which a date is printed is read as the date, whatever follows it.
-use Rattle.std.specs.Prelude.{◌≡◌, ℕ, List, [], ◌∷◌, ◌++◌, ◌≤◌, true, refl, length, Result, Ok}
+use Rattle.std.specs.Prelude.{◌≡◌, ℕ, List, [], ◌++◌, ◌≤◌, true, refl, length, Result, Ok}
 use Rattle.std.specs.Int.{is_in_range, IsInRange}
 use Rattle.std.specs.Result.{result_and}
-use Rattle.std.specs.Str.{IsAscii}
-use Rattle.std.proofs.Common.{arith, lit<, ◌∙◌, ap, sym, subst}
+use Rattle.std.proofs.Common.{arith, ◌∙◌, ap, sym, subst}
 use Rattle.std.proofs.lemmas.Bool.{le-leb}
 use Rattle.std.proofs.lemmas.Bool.Decides.{nat_tests}
-use Rattle.std.proofs.lemmas.Str.Ascii.{IsAscii-cons}
 use Rattle.speedate_base.specs.declared.faults.ParseError.{ParseError}
-use Rattle.speedate_base.specs.Ascii.{hyphen}
-use Rattle.speedate_base.specs.Digits.{two_digit_text}
-use Rattle.speedate_base.specs.DigitLaws.{two_digits-printed, four_digits-printed, two_digit_value-printed, four_digit_value-printed, two_digit_text-IsAscii, four_digit_text-IsAscii}
+use Rattle.speedate_base.specs.DigitLaws.{two_digits-printed, four_digits-printed, two_digit_value-printed, four_digit_value-printed}
 use Rattle.speedate_base.specs.Requirement.{meets}
 use Rattle.speedate_base.specs.RequirementLaws.{meets-all, meets-chain}
 use Rattle.speedate_base.specs.TextLaws.{text-distinct}
@@ -79,14 +75,3 @@ date_text-reads date valid =
 pub date_text-distinct : (first second : Ymd) → IsDate first → IsDate second → date_text first ≡ date_text second → first ≡ second
 date_text-distinct first second one two =
     text-distinct date_text date_answer first second (date_text-reads first one) (date_text-reads second two)
-
--- a date is printed in ASCII
-pub date_text-IsAscii : (date : Ymd) (tail : List ℕ) → IsDate date → IsAscii tail → IsAscii (date_text date ++ tail)
-date_text-IsAscii date tail valid ascii =
-    let days : List ℕ = two_digit_text date.day ++ tail in
-    let months : List ℕ = two_digit_text date.month ++ hyphen ∷ days in
-    four_digit_text-IsAscii date.year (hyphen ∷ months) (omega (arith, valid.year))
-    (IsAscii-cons hyphen months (lit< tt)
-    (two_digit_text-IsAscii date.month (hyphen ∷ days) (omega (arith, valid.day.month))
-    (IsAscii-cons hyphen days (lit< tt)
-    (two_digit_text-IsAscii date.day tail (omega (arith, valid.day.day, month_length-small date.year date.month)) ascii))))

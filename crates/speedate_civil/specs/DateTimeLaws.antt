@@ -1,8 +1,6 @@
 -- The text by which a date-time is printed is read as the date-time, where its offset is absent or whole minutes.
 use Rattle.std.specs.Prelude.{◌≡◌, ◌∷◌, Ok}
-use Rattle.std.specs.Str.{IsAscii}
-use Rattle.std.proofs.Common.{lit<, ◌∙◌, ap}
-use Rattle.std.proofs.lemmas.Str.Ascii.{IsAscii-cons}
+use Rattle.std.proofs.Common.{◌∙◌, ap}
 use Rattle.speedate_base.specs.declared.config.MicrosecondsPrecisionOverflowBehavior.{MicrosecondsPrecisionOverflowBehavior}
 use Rattle.speedate_base.specs.declared.config.MicrosecondsPrecisionOverflowBehavior.TheVariants as behavior
 use Rattle.speedate_base.specs.Ascii.{capital_t}
@@ -10,9 +8,9 @@ use Rattle.speedate_base.specs.Offset.{IsWholeMinutes}
 use Rattle.speedate_base.specs.Requirement.{result_map, result_and_then}
 use Rattle.speedate_base.specs.TextLaws.{text-distinct}
 use Rattle.speedate_civil.specs.DateAndTime.{DateAndTime, IsDateAndTime}
-use Rattle.speedate_civil.specs.DateLaws.{date_text-front, date_text-IsAscii}
+use Rattle.speedate_civil.specs.DateLaws.{date_text-front}
 use Rattle.speedate_civil.specs.DateTimeText.{date_and_time, with_time, date_time_answer, date_time_text}
-use Rattle.speedate_civil.specs.TimeLaws.{time_text-reads, time_text-IsAscii}
+use Rattle.speedate_civil.specs.TimeLaws.{time_text-reads}
 use Rattle.speedate_civil.specs.TimeText.{time_text}
 
 pub date_time_text-reads : (behavior : MicrosecondsPrecisionOverflowBehavior) (value : DateAndTime) → IsDateAndTime value → IsWholeMinutes value.time.offset
@@ -29,9 +27,3 @@ pub date_time_text-distinct : (first second : DateAndTime) → IsDateAndTime fir
 date_time_text-distinct first second one two whole_one whole_two =
     text-distinct date_time_text (date_time_answer behavior.Error) first second
     (date_time_text-reads behavior.Error first one whole_one) (date_time_text-reads behavior.Error second two whole_two)
-
--- a date-time is printed in ASCII
-pub date_time_text-IsAscii : (value : DateAndTime) → IsDateAndTime value → IsAscii (date_time_text value)
-date_time_text-IsAscii value valid =
-    date_text-IsAscii value.date (capital_t ∷ time_text value.time) valid.date
-    (IsAscii-cons capital_t (time_text value.time) (lit< tt) (time_text-IsAscii value.time valid.time))

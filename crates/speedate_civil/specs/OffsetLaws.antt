@@ -1,14 +1,11 @@
 -- A printed offset of whole minutes is read as itself.
-use Rattle.std.specs.Prelude.{◌≡◌, ℕ, zero, suc, ◌+◌, ◌*◌, ◌/◌, ◌%◌, ◌<◌, Bool, true, false, ◌||◌, List, [], ◌∷◌, ◌==◌, slice_index, Option, Some, None, ℤ, pos, negsuc, Ok, refl}
+use Rattle.std.specs.Prelude.{◌≡◌, ℕ, zero, suc, ◌+◌, ◌*◌, ◌/◌, ◌%◌, ◌<◌, Bool, true, false, ◌||◌, List, ◌∷◌, ◌==◌, slice_index, Option, Some, None, ℤ, pos, negsuc, Ok, refl}
 use Rattle.std.specs.Char.{is_ascii_digit}
 use Rattle.std.specs.Option.{ForSome}
-use Rattle.std.specs.Str.{IsAscii}
-use Rattle.std.proofs.Common.{lit<, arith}
+use Rattle.std.proofs.Common.{arith}
 use Rattle.std.proofs.lemmas.Bool.{le-leb, lt-ltb, le-ltb, ne_eqb}
-use Rattle.std.proofs.lemmas.Str.Ascii.{IsAscii-nil, IsAscii-cons}
-use Rattle.speedate_base.specs.Ascii.{plus_sign, hyphen, colon, comma, full_stop, capital_z}
-use Rattle.speedate_base.specs.Digits.{two_digit_text}
-use Rattle.speedate_base.specs.DigitLaws.{two_digits-printed, two_digit_value-printed, two_digit_text-IsAscii}
+use Rattle.speedate_base.specs.Ascii.{plus_sign, hyphen, comma, full_stop}
+use Rattle.speedate_base.specs.DigitLaws.{two_digits-printed, two_digit_value-printed}
 use Rattle.speedate_base.specs.Numbers.{with_sign}
 use Rattle.speedate_base.specs.Offset.{IsOffset, IsWholeMinutes, seconds_per_day}
 use Rattle.speedate_civil.specs.OffsetText.{offset_answer, offset_text, offset_size_text, signed_answer}
@@ -48,20 +45,3 @@ offset_text-reads (Some (pos (suc size))) valid whole =
     rw (offset_text-east size) (signed-printed false (suc size) (valid (pos (suc size)) refl) (whole (pos (suc size)) refl))
 offset_text-reads (Some (negsuc size)) valid whole =
     rw (offset_text-west size) (signed-printed true (suc size) (valid (negsuc size) refl) (whole (negsuc size) refl))
-
--- it is ASCII
-offset_size_text-IsAscii : (sign size : ℕ) → sign < 128 → size < seconds_per_day → IsAscii (sign ∷ offset_size_text size)
-offset_size_text-IsAscii sign size small_sign small =
-    let minutes : List ℕ = two_digit_text (size / 60 % 60) in
-    IsAscii-cons sign (offset_size_text size) small_sign
-    (two_digit_text-IsAscii (size / 3600) (colon ∷ minutes) (omega arith)
-    (IsAscii-cons colon minutes (lit< tt)
-    (two_digit_text-IsAscii (size / 60 % 60) [] (omega arith) IsAscii-nil)))
-
-pub offset_text-IsAscii : (offset : Option ℤ) → ForSome offset IsOffset → IsAscii (offset_text offset)
-offset_text-IsAscii None valid = IsAscii-nil
-offset_text-IsAscii (Some (pos zero)) valid = IsAscii-cons capital_z [] (lit< tt) IsAscii-nil
-offset_text-IsAscii (Some (pos (suc size))) valid =
-    rw (offset_text-east size) (offset_size_text-IsAscii plus_sign (suc size) (lit< tt) (valid (pos (suc size)) refl))
-offset_text-IsAscii (Some (negsuc size)) valid =
-    rw (offset_text-west size) (offset_size_text-IsAscii hyphen (suc size) (lit< tt) (valid (negsuc size) refl))

@@ -1,21 +1,19 @@
 -- The text by which a time is printed is read as the time, where its offset is absent or whole minutes.
 use Rattle.std.specs.Prelude.{◌≡◌, ℕ, ◌≤◌, Bool, true, false, List, ◌∷◌, ◌++◌, length, ◌==◌, Ok, refl}
-use Rattle.std.specs.Str.{IsAscii}
-use Rattle.std.proofs.Common.{lit<, arith, ap, sym}
+use Rattle.std.proofs.Common.{arith, ap, sym}
 use Rattle.std.proofs.lemmas.Bool.{le-leb, eqb-true}
-use Rattle.std.proofs.lemmas.Str.Ascii.{IsAscii-cons}
 use Rattle.speedate_base.specs.declared.config.MicrosecondsPrecisionOverflowBehavior.{MicrosecondsPrecisionOverflowBehavior}
 use Rattle.speedate_base.specs.declared.config.MicrosecondsPrecisionOverflowBehavior.TheVariants as behavior
 use Rattle.speedate_base.specs.Ascii.{colon, full_stop}
 use Rattle.speedate_base.specs.Digits.{two_digit_text, six_digit_text}
-use Rattle.speedate_base.specs.DigitLaws.{two_digits-printed, two_digit_value-printed, two_digit_text-IsAscii}
+use Rattle.speedate_base.specs.DigitLaws.{two_digits-printed, two_digit_value-printed}
 use Rattle.speedate_base.specs.Offset.{IsWholeMinutes}
 use Rattle.speedate_base.specs.Requirement.{result_map}
 use Rattle.speedate_base.specs.TextLaws.{text-distinct}
-use Rattle.speedate_civil.specs.ClockText.{Clock, at_hour, clock_answer, time_front, minute_text, fraction_text}
-use Rattle.speedate_civil.specs.ClockLaws.{clock-whole, clock-fraction, minute_text-IsAscii, fraction_text-IsAscii}
+use Rattle.speedate_civil.specs.ClockText.{Clock, at_hour, clock_answer, time_front, minute_text}
+use Rattle.speedate_civil.specs.ClockLaws.{clock-whole, clock-fraction}
 use Rattle.speedate_civil.specs.OffsetText.{offset_text}
-use Rattle.speedate_civil.specs.OffsetLaws.{offset_text-begins, offset_text-reads, offset_text-IsAscii}
+use Rattle.speedate_civil.specs.OffsetLaws.{offset_text-begins, offset_text-reads}
 use Rattle.speedate_civil.specs.TimeOfDay.{TimeOfDay, IsTime}
 use Rattle.speedate_civil.specs.TimeText.{time_answer, time_text}
 
@@ -53,14 +51,3 @@ pub time_text-distinct : (first second : TimeOfDay) → IsTime first → IsTime 
 time_text-distinct first second one two whole_one whole_two =
     text-distinct time_text (time_answer behavior.Error) first second
     (time_text-reads behavior.Error first one whole_one) (time_text-reads behavior.Error second two whole_two)
-
--- a time is printed in ASCII
-pub time_text-IsAscii : (time : TimeOfDay) → IsTime time → IsAscii (time_text time)
-time_text-IsAscii time valid =
-    let tail = fraction_text time.microsecond ++ offset_text time.offset in
-    let minutes = minute_text time.minute time.second ++ tail in
-    two_digit_text-IsAscii time.hour (colon ∷ minutes) (omega (arith, valid.hour))
-    (IsAscii-cons colon minutes (lit< tt)
-    (minute_text-IsAscii time.minute time.second tail valid.minute valid.second
-    (fraction_text-IsAscii time.microsecond (offset_text time.offset) valid.microsecond
-    (offset_text-IsAscii time.offset valid.offset))))

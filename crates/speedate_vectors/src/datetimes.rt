@@ -1,10 +1,10 @@
 //! Date-times from texts and from timestamps, and back.
 
 use crate::shown::{expect_answer, expect_parsed, expect_shown};
-use arrayvec::{ArrayString, ArrayVec};
+use arrayvec::ArrayString;
 use speedate::{
-    Date, DateTime, DateTimeConfig, MicrosecondsPrecisionOverflowBehavior, Time, TimeConfig,
-    TimestampUnit,
+    Date, DateTime, DateTimeConfig, Duration, MicrosecondsPrecisionOverflowBehavior, Time,
+    TimeConfig, TimestampUnit,
 };
 use std::process::Abort;
 use std::test::Fail;
@@ -354,17 +354,27 @@ fn equality_is_by_fields(rt: HostRuntime) {
 }
 
 #[test]
-fn a_text_is_appended_to_what_stands_there(rt: HostRuntime) {
+fn texts_are_appended_to_what_stands_there(rt: HostRuntime) {
     let value = DateTime::parse_str("2020-02-29T12:13:14,5+0130")
         .ok()
         .expect(&rt, "a date-time");
-    let mut bytes: ArrayVec<u8, 40> = ArrayVec::new();
-    bytes.push(b'>');
-    value.push_onto(&mut bytes);
-    assert_eq!(rt;
-        bytes.as_slice(),
-        b">2020-02-29T12:13:14.500000+01:30".as_slice()
-    );
+    let length = Duration::new(false, 1, 2, 3).ok().expect(&rt, "a duration");
+    let mut date = ArrayString::<40>::new();
+    date.push('>');
+    value.date.push_onto(&mut date);
+    assert_eq!(rt; date.as_str(), ">2020-02-29");
+    let mut time = ArrayString::<40>::new();
+    time.push('>');
+    value.time.push_onto(&mut time);
+    assert_eq!(rt; time.as_str(), ">12:13:14.500000+01:30");
+    let mut both = ArrayString::<40>::new();
+    both.push('>');
+    value.push_onto(&mut both);
+    assert_eq!(rt; both.as_str(), ">2020-02-29T12:13:14.500000+01:30");
+    let mut duration = ArrayString::<40>::new();
+    duration.push('>');
+    length.push_onto(&mut duration);
+    assert_eq!(rt; duration.as_str(), ">-P1DT2.000003S");
 }
 
 #[test]

@@ -2,7 +2,7 @@
 
 ghost use Rattle.std.specs.Prelude.{◌≡◌, ◌+◌, ◌≤◌, IfSome, Some, None, length, slice_index, if◌then◌else◌};
 ghost use Rattle.std.specs.Char.{is_ascii_digit};
-ghost use Rattle.speedate_base.specs.Digits.{digit_value, two_digits_at, two_digit_value};
+ghost use Rattle.speedate_base.specs.Digits.{one_digit_value, two_digits_at, two_digit_value};
 
 /// The number that the two digits from `place` on spell, or `None` where a byte of them is no
 /// digit: 7 for `b"07"` at place 0.
@@ -33,7 +33,7 @@ pub fn two_digits_there(bytes: &[u8], place: usize) -> Option<u8>
 /// What a digit stands for, or `None` where the byte is no digit.
 #[inline]
 fn digit(byte: u8) -> Option<u8>
-    ensures value { result ≡ (if is_ascii_digit byte then Some (digit_value byte) else None) }
+    ensures value { result ≡ (if is_ascii_digit byte then Some (one_digit_value byte) else None) }
 {
     if byte.is_ascii_digit() {
         Some(byte - b'0')

@@ -3,7 +3,7 @@ use Rattle.std.specs.Char.{is_ascii_digit}
 use Rattle.std.specs.List.{list_all}
 use Rattle.std.proofs.lemmas.List.{take_all}
 use Rattle.speedate_base.specs.DigitRuns.{digits_value}
-use Rattle.speedate_base.specs.DigitRunLaws.{digit_value-le, digits_value-front-fits, digits_value-front-more, all_digits-more, run_length-ended}
+use Rattle.speedate_base.specs.DigitRunLaws.{one_digit_value-le, digits_value-front-fits, digits_value-front-more, all_digits-more, run_length-ended}
 use Rattle.speedate_base.proofs.BlockLaws.{is-number, is-place}
 use Rattle.speedate_base.proofs.numbers.digits.one_by_one.Goals as goal
 
@@ -24,7 +24,7 @@ pub overflow_add-value : goal.overflow_add-value
 overflow_add-value c =
     let digits = c.args.digits.now in
     let before = c.loop-place.invariant in
-    let digit = digit_value-le (get_or digits c.loop-place.place 0) (sym c.is_ascii_digit.ensures.value ∙ c.if-not-is_ascii_digit.false) in
+    let digit = one_digit_value-le (get_or digits c.loop-place.place 0) (sym c.is_ascii_digit.ensures.value ∙ c.if-not-is_ascii_digit.false) in
     omega (arith, before.value, digit, digits_value-front-fits digits c.loop-place.place (omega arith) (omega (arith, c.requires)) before.digits)
 
 pub loop-place-preserved : goal.loop-place-preserved

@@ -2,7 +2,7 @@ use Rattle.std.proofs.Common.{◌∙◌, ap, sym, ℕ, take, arith}
 use Rattle.std.specs.Char.{is_ascii_digit}
 use Rattle.std.specs.Prelude.{slice_index}
 use Rattle.speedate_base.specs.DigitRuns.{digits_value}
-use Rattle.speedate_base.specs.DigitRunLaws.{digit-within, digit_value-le, digits_value-front-fits, digits_value-front-more, all_digits-more, run_length-ended}
+use Rattle.speedate_base.specs.DigitRunLaws.{digit-within, one_digit_value-le, digits_value-front-fits, digits_value-front-more, all_digits-more, run_length-ended}
 use Rattle.speedate_base.proofs.numbers.digits.run_in_front.Goals as goal
 
 pub returns-then-not-is_ascii_digit : goal.returns-then-not-is_ascii_digit
@@ -27,7 +27,7 @@ pub overflow_add-value : goal.overflow_add-value
 overflow_add-value c =
     let before = c.loop-length.invariant in
     let digit = ap is_ascii_digit (sym c.byte_at-byte.ensures.byte) ∙ sym c.is_ascii_digit.ensures.value ∙ c.if-not-is_ascii_digit.false in
-    omega (arith, before.value, c.byte_at-byte.ensures.byte, digit_value-le (slice_index c.args.bytes.now c.loop-length.length) digit, digits_value-front-fits c.args.bytes.now c.loop-length.length before.within (omega arith) before.digits)
+    omega (arith, before.value, c.byte_at-byte.ensures.byte, one_digit_value-le (slice_index c.args.bytes.now c.loop-length.length) digit, digits_value-front-fits c.args.bytes.now c.loop-length.length before.within (omega arith) before.digits)
 
 pub loop-length-preserved : goal.loop-length-preserved
 loop-length-preserved c =

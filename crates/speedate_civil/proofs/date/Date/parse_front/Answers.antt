@@ -4,7 +4,7 @@ use Rattle.std.specs.Int.{is_in_range}
 use Rattle.std.proofs.lemmas.Bool.{and_from, le-leb}
 use Rattle.std.proofs.lemmas.Bool.Decides.{nat_tests}
 use Rattle.speedate_base.specs.Digits.{four_digits_at, four_digit_value, two_digits_at, two_digit_value}
-use Rattle.speedate_base.specs.DigitRunLaws.{digit_value-le}
+use Rattle.speedate_base.specs.DigitRunLaws.{one_digit_value-le}
 use Rattle.speedate_base.specs.Pattern.{eight_at, fit_length, fit_digits, neighbours}
 use Rattle.speedate_base.specs.RequirementLaws.{meets-all}
 use Rattle.speedate_base.proofs.PatternLaws.{fit_length-all}
@@ -42,10 +42,10 @@ front_is text fits =
       month_is = refl;
       small = omega (
         arith,
-        digit_value-le (slice_index text 0) y1,
-        digit_value-le (slice_index text 1) y2,
-        digit_value-le (slice_index text 2) y3,
-        digit_value-le (slice_index text 3) y4,
+        one_digit_value-le (slice_index text 0) y1,
+        one_digit_value-le (slice_index text 1) y2,
+        one_digit_value-le (slice_index text 2) y3,
+        one_digit_value-le (slice_index text 3) y4,
       );
     }
 
