@@ -1,5 +1,5 @@
 -- A duration as days and a clock, `1 day, 10:20`. This form is the library's own. `text` begins with the days.
-use Rattle.std.specs.Prelude.{ℕ, ◌+◌, Bool, not, ◌&&◌, ◌||◌, List, [], ◌∷◌, codes, length, drop, slice_index, nat_eq, nat_le, nat_lt, ◌==◌, if◌then◌else◌, Result, Ok}
+use Rattle.std.specs.Prelude.{ℕ, ◌+◌, Bool, not, ◌||◌, List, [], ◌∷◌, codes, length, drop, slice_index, nat_eq, nat_le, nat_lt, ◌==◌, if◌then◌else◌, Result, Ok}
 use Rattle.std.specs.List.{starts_with}
 use Rattle.speedate_base.specs.declared.config.MicrosecondsPrecisionOverflowBehavior.{MicrosecondsPrecisionOverflowBehavior}
 use Rattle.speedate_base.specs.declared.faults.ParseError.{ParseError}

@@ -132,11 +132,7 @@ fn push_last_places<const LENGTH: usize>(number: u8, text: &mut ArrayString<LENG
 
 /// Appends seconds and microseconds, and nothing for none: `7.5S` for 7 and 500,000.
 #[inline(always)]
-fn push_seconds<const LENGTH: usize>(
-    second: u32,
-    microsecond: u32,
-    text: &mut ArrayString<LENGTH>,
-)
+fn push_seconds<const LENGTH: usize>(second: u32, microsecond: u32, text: &mut ArrayString<LENGTH>)
     requires few { second < 60 }
     requires small { microsecond ≤ 999999 }
     requires room { array_string_len text.old + 10 ≤ LENGTH }
