@@ -6,7 +6,7 @@ use Rattle.speedate.specs.declared.ParseError.{ParseError}
 use Rattle.speedate.specs.Ascii.{line_feed}
 use Rattle.speedate.specs.Fault.{fault_name}
 use Rattle.speedate_lines.specs.Lines.{longest_line}
-use Rattle.speedate_lines.specs.Answer.{Kind, kinds, front, answer_by_kind, line_answer, reply, ok_answer, err_answer}
+use Rattle.speedate_lines.specs.Answer.{Kind, kinds, front, answer_by_kind, line_answer, reply, err_answer}
 
 pub line_answer-long : (line : List ℕ) → longest_line < length line → line_answer line ≡ err_answer (codes "line_too_long")
 unfolding line_answer

@@ -1,5 +1,5 @@
 -- How long the text of a time and that of a duration are at most.
-use Rattle.std.proofs.Common.{◌≡◌, ℕ, suc, ◌+◌, ◌/◌, ◌%◌, ◌≤◌, Bool, true, false, List, [], ◌∷◌, ◌++◌, length, length-append, arith}
+use Rattle.std.proofs.Common.{◌≡◌, ℕ, ◌/◌, ◌%◌, ◌≤◌, Bool, true, false, List, [], ◌∷◌, ◌++◌, length, length-append, arith}
 use Rattle.std.specs.Prelude.{if◌then◌else◌, ◌==◌, codes, ℤ, Option, Some, None}
 use Rattle.speedate.specs.Ascii.{capital_t, capital_y, capital_d, capital_h, capital_m, full_stop}
 use Rattle.speedate.specs.declared.Time.{Time}
@@ -10,7 +10,6 @@ use Rattle.speedate.specs.TimeText.{clock_text, time_text}
 use Rattle.speedate.specs.Digits.{six_digit_text}
 use Rattle.speedate.specs.ClockText.{fraction_text}
 use Rattle.speedate.specs.OffsetText.{offset_text}
-use Rattle.speedate.specs.DurationNumbers.{DurationNumbers}
 use Rattle.speedate.specs.DurationText.{counted_text, seconds_text, hours_text, days_text, start_text, rest_text, is_whole_days, duration_text}
 use Rattle.speedate.specs.DurationTextLaws.{start-length, years-length, days-length, hours-length, minutes-length, seconds-length}
 

@@ -1,4 +1,4 @@
-use Rattle.std.proofs.Common.{rules, ap, ◌+◌, ◌≤◌, length, length-append, lit<, arith}
+use Rattle.std.proofs.Common.{ap, ◌+◌, ◌≤◌, length, length-append, lit<, arith}
 use Rattle.speedate.specs.TimeText.{time_text}
 use Rattle.speedate.specs.Time.{parts}
 use Rattle.std.proofs.Math.Utf8.{encode}
