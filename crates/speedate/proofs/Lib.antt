@@ -1,2 +1,13 @@
-mod NumberText
-mod DurationFacts
+mod ClockFormLemmas
+mod DurationAnswerLemmas
+mod StandardFacts
+mod DurationLemmas
+pub mod DurationTextLemmas
+mod ExchangedLemmas
+mod InOrderLemmas
+mod IsoFormLemmas
+mod IsoFrontLemmas
+mod IsoPlaceLemmas
+mod IsoTextLemmas
+mod DecimalTextLemmas
+mod DurationValueLemmas

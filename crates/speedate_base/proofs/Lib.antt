@@ -1,5 +1,13 @@
-mod BlockLaws
-pub mod PatternLaws
-mod WordLaws
-mod RoundingLaws
-mod DecimalLaws
+pub mod DigitLemmas
+pub mod DigitRunLemmas
+mod FaultLemmas
+pub mod NearestLemmas
+pub mod NumberLemmas
+pub mod RequirementLemmas
+pub mod TextLemmas
+pub mod TimestampLemmas
+mod BlockLemmas
+pub mod PatternLemmas
+mod WordLemmas
+mod RoundingLemmas
+mod DecimalLemmas

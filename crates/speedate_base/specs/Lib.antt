@@ -18,11 +18,3 @@ pub mod DateConfig
 pub mod TimeConfig
 pub mod DateTimeConfig
 pub mod Choice
-pub mod RequirementLaws
-pub mod TextLaws
-pub mod FaultLaws
-pub mod DigitLaws
-pub mod DigitRunLaws
-pub mod NumberLaws
-pub mod NearestLaws
-pub mod TimestampLaws

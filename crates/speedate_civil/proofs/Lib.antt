@@ -1,5 +1,20 @@
-pub mod DateFacts
-pub mod TimeFacts
-pub mod DateTimeFacts
-pub mod MonthOfDay
-pub mod YearOfDay
+mod CalendarFacts
+mod ClockLemmas
+mod DateLemmas
+mod DateNumberedLemmas
+mod DateOrderLemmas
+mod DateTimeInstantLemmas
+mod DateTimeLemmas
+mod DateTimeTimestampLemmas
+mod DayNumberLemmas
+mod InstantOrderLemmas
+mod NumberTextLemmas
+mod OffsetLemmas
+mod OffsetMoveLemmas
+mod StandardFacts
+mod TimeLemmas
+mod DateValueLemmas
+mod TimeValueLemmas
+mod DateTimeValueLemmas
+mod MonthLemmas
+mod YearLemmas

@@ -1,7 +1,7 @@
-pub mod AnswerLemmas
-pub mod LineLemmas
-pub mod CarryLemmas
-pub mod BlockLemmas
-pub mod SentLemmas
-pub mod MarkLemmas
-pub mod TextLengths
+mod AnswerLemmas
+mod LineLemmas
+mod CarryLemmas
+mod BlockLemmas
+mod SentLemmas
+mod MarkLemmas
+mod TextLengthLemmas

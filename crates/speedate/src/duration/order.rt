@@ -6,7 +6,7 @@ ghost use Rattle.std.specs.Cmp.{po, on_total};
 ghost use Rattle.std.specs.Cmp.Rules.{comparing};
 ghost use Rattle.std.specs.Ordering.{on, as_partial_cmp};
 ghost use Rattle.speedate.specs.Duration.{parts};
-ghost use Rattle.speedate.specs.DurationLaws.{duration_order-total};
+ghost use Rattle.speedate.specs.DurationOrderTotal.{duration_order-total};
 ghost use Rattle.speedate.specs.DurationOrder.{size_order, duration_order};
 
 use super::Duration;

@@ -9,7 +9,7 @@ ghost use Rattle.std.specs.Cmp.Rules.{comparing};
 ghost use Rattle.std.specs.Ordering.{nat_cmp, on, as_partial_cmp};
 ghost use Rattle.speedate_civil.specs.Date.{parts};
 ghost use Rattle.speedate_civil.specs.DateOrder.{date_order};
-ghost use Rattle.speedate_civil.specs.DateOrderLaws.{date_order-total};
+ghost use Rattle.speedate_civil.specs.DateOrderTotal.{date_order-total};
 ghost use Rattle.speedate_civil.specs.DateText.{date_text};
 ghost use Rattle.speedate_civil.specs.DayNumber.{day_number};
 

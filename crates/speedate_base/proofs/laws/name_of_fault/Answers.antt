@@ -1,5 +1,5 @@
 use Rattle.std.proofs.Common.{◌∙◌, sym}
-use Rattle.speedate_base.specs.FaultLaws.{fault_name-distinct}
+use Rattle.speedate_base.proofs.FaultLemmas.{fault_name-distinct}
 use Rattle.speedate_base.proofs.laws.name_of_fault.Goals as goal
 
 pub returns : goal.returns

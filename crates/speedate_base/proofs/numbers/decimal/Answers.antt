@@ -3,7 +3,7 @@ use Rattle.std.proofs.lemmas.List.{length-drop, length-take-le}
 use Rattle.std.specs.List.{list_all}
 use Rattle.std.specs.Char.{is_ascii_digit}
 use Rattle.speedate_base.specs.DigitRuns.{run_length}
-use Rattle.speedate_base.specs.NumberLaws.{run-digits}
+use Rattle.speedate_base.proofs.NumberLemmas.{run-digits}
 use Rattle.speedate_base.proofs.numbers.decimal.Goals as goal
 
 -- a part of some bytes that is a run is made of digits

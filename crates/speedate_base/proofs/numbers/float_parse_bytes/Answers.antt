@@ -3,8 +3,8 @@ use Rattle.std.specs.Prelude.{Option, ℤ}
 use Rattle.std.proofs.lemmas.List.{length-drop, take_rest}
 use Rattle.speedate_base.specs.DigitRuns.{run_length}
 use Rattle.speedate_base.specs.Numbers.{point_place, whole_or, decimal_answer}
-use Rattle.speedate_base.specs.NumberLaws.{number_of-joins, whole_number-none}
-use Rattle.speedate_base.proofs.BlockLaws.{number_or_place, from-place}
+use Rattle.speedate_base.proofs.NumberLemmas.{number_of-joins, whole_number-none}
+use Rattle.speedate_base.proofs.BlockLemmas.{number_or_place, from-place}
 use Rattle.speedate_base.proofs.numbers.float_parse_bytes.Goals as goal
 
 -- the first other byte from a place on stands where the run from there ends

@@ -3,9 +3,9 @@ use Rattle.std.specs.Prelude.{◌↔◌, IsTrue}
 use Rattle.std.specs.Ordering.{is_lt, nat_cmp}
 use Rattle.std.proofs.lemmas.Bool.Decides.{nat_tests}
 use Rattle.speedate_civil.specs.Date.{parts}
-use Rattle.speedate_civil.specs.DateOrderLaws.{date_order-day_number}
+use Rattle.speedate_civil.proofs.DateOrderLemmas.{date_order-day_number}
 use Rattle.speedate_civil.specs.DayNumber.{day_number}
-use Rattle.speedate_civil.proofs.DateFacts.{is_day}
+use Rattle.speedate_civil.proofs.DateValueLemmas.{is_day}
 use Rattle.speedate_civil.proofs.laws.earlier_date.Goals as goal
 
 -- what `<` answers of two numbers

@@ -4,7 +4,7 @@ use Rattle.speedate.specs.Duration.{parts}
 use Rattle.speedate.specs.DurationText.{duration_text}
 use Rattle.std.proofs.Math.Utf8.{encode}
 use Rattle.std.proofs.lemmas.Str.{encode_ascii}
-use Rattle.speedate_lines.proofs.TextLengths.{duration-length}
+use Rattle.speedate_lines.proofs.TextLengthLemmas.{duration-length}
 use Rattle.speedate_lines.proofs.AnswerLemmas.{reply-printed, reply-refused}
 use Rattle.speedate_lines.proofs.answer.answer_duration.Goals as goal
 

@@ -4,7 +4,7 @@ use Rattle.speedate.specs.Time.{parts}
 use Rattle.std.proofs.Math.Utf8.{encode}
 use Rattle.std.proofs.lemmas.Str.{encode_ascii}
 use Rattle.speedate.specs.Ascii.{line_feed}
-use Rattle.speedate_lines.proofs.TextLengths.{time-length}
+use Rattle.speedate_lines.proofs.TextLengthLemmas.{time-length}
 use Rattle.speedate_lines.proofs.AnswerLemmas.{reply-printed}
 use Rattle.speedate_lines.proofs.answer.answer_time.Goals as goal
 

@@ -6,7 +6,7 @@ use Rattle.speedate_base.specs.declared.faults.ParseError.{ParseError}
 use Rattle.speedate_base.specs.Numbers.{has_minus}
 use Rattle.speedate_base.specs.Requirement.{result_and_then}
 use Rattle.speedate.specs.DurationAnswer.{unsigned_answer}
-use Rattle.speedate.specs.DurationAnswerLaws.{duration_answer-grammar}
+use Rattle.speedate.proofs.DurationAnswerLemmas.{duration_answer-grammar}
 use Rattle.speedate.specs.DurationNumbers.{UnsignedDuration, signed_form}
 use Rattle.speedate.proofs.duration.Duration.parse.Goals as goal
 

@@ -1,7 +1,7 @@
 use Rattle.std.proofs.Common.{◌∙◌, sym, subst}
-use Rattle.speedate.specs.ExchangedLaws.{duration_answer-exchanged}
+use Rattle.speedate.proofs.ExchangedLemmas.{duration_answer-exchanged}
 use Rattle.speedate.specs.InOrder.{IsAnswerInOrder}
-use Rattle.speedate.specs.InOrderLaws.{duration_answer-in_order}
+use Rattle.speedate.proofs.InOrderLemmas.{duration_answer-in_order}
 use Rattle.speedate.proofs.duration.Duration.parse_bytes_with_config.Goals as goal
 
 pub returns-clause-order : goal.returns-clause-order

@@ -1,7 +1,7 @@
 use Rattle.std.proofs.Common.{rules, ap, ◌+◌, ◌/◌, ◌%◌, ◌<◌, ◌≤◌, length, arith}
 use Rattle.speedate_base.specs.Ascii.{capital_d, capital_y}
 use Rattle.speedate.specs.DurationText.{counted_text}
-use Rattle.speedate.specs.DurationTextLaws.{start-length, years-length, days-length}
+use Rattle.speedate.proofs.DurationTextLemmas.{start-length, years-length, days-length}
 use Rattle.speedate.proofs.duration.Duration.push_onto.Goals as goal
 
 pub push_counted-requires : goal.push_counted-requires

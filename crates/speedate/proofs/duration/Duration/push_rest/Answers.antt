@@ -1,7 +1,7 @@
 use Rattle.std.proofs.Common.{rules, ap, ◌+◌, ◌/◌, ◌%◌, ◌<◌, ◌≤◌, [], ◌∷◌, length, length-append, lit<, arith}
 use Rattle.speedate_base.specs.Ascii.{capital_h, capital_m, capital_t}
 use Rattle.speedate.specs.DurationText.{counted_text}
-use Rattle.speedate.specs.DurationTextLaws.{hours-length, minutes-length}
+use Rattle.speedate.proofs.DurationTextLemmas.{hours-length, minutes-length}
 use Rattle.speedate.proofs.duration.Duration.push_rest.Goals as goal
 
 pub push_counted-requires : goal.push_counted-requires

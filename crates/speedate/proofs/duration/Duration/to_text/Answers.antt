@@ -1,10 +1,10 @@
 use Rattle.std.proofs.Common.{◌≡◌, ◌∙◌, ap, sym, ◌++◌, ℕ, List, []}
-use Rattle.speedate_base.specs.TextLaws.{text-canonical}
+use Rattle.speedate_base.proofs.TextLemmas.{text-canonical}
 use Rattle.speedate.specs.Duration.{parts}
 use Rattle.speedate.specs.DurationAnswer.{duration_answer}
 use Rattle.speedate.specs.DurationText.{duration_text}
-use Rattle.speedate.specs.IsoTextLaws.{duration_text-reads, duration_text-distinct}
-use Rattle.speedate.proofs.DurationFacts.{is_duration}
+use Rattle.speedate.proofs.IsoTextLemmas.{duration_text-reads, duration_text-distinct}
+use Rattle.speedate.proofs.DurationValueLemmas.{is_duration}
 use Rattle.speedate.proofs.duration.Duration.to_text.Goals as goal
 
 -- what was appended to nothing is the text

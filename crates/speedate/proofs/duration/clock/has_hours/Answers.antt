@@ -3,7 +3,7 @@ use Rattle.std.specs.Prelude.{◌==◌}
 use Rattle.std.proofs.lemmas.Bool.{ne_eqb}
 use Rattle.speedate_base.specs.Ascii.{colon}
 use Rattle.speedate_base.specs.DigitRuns.{run_length}
-use Rattle.speedate.specs.ClockFormLaws.{hours_length-run, has_hours-run}
+use Rattle.speedate.proofs.ClockFormLemmas.{hours_length-run, has_hours-run}
 use Rattle.speedate.proofs.duration.clock.has_hours.Goals as goal
 
 -- the byte at the end of the digits

@@ -3,8 +3,8 @@ use Rattle.std.specs.Char.{is_ascii_digit}
 use Rattle.std.proofs.lemmas.List.Sums.{prefix_len-le-length}
 use Rattle.std.proofs.Math.Nat.{pow-le-pow_right}
 use Rattle.speedate_base.specs.DigitRuns.{run_length, run_value}
-use Rattle.speedate_base.specs.DigitRunLaws.{digits_value-front-lt}
-use Rattle.speedate_base.specs.NumberLaws.{run-digits}
+use Rattle.speedate_base.proofs.DigitRunLemmas.{digits_value-front-lt}
+use Rattle.speedate_base.proofs.NumberLemmas.{run-digits}
 use Rattle.speedate.proofs.duration.iso.short_number.Goals as goal
 
 -- six digits spell less than a million

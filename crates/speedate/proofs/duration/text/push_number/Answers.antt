@@ -1,7 +1,7 @@
 use Rattle.std.proofs.Common.{rules, ◌≡◌, ◌∙◌, ap, sym, ℕ, ◌+◌, ◌/◌, ◌%◌, ◌<◌, ◌≤◌, List, ◌++◌, length, length-append, append_assoc, arith}
 use Rattle.std.specs.Fmt.{decimal}
 use Rattle.speedate_base.specs.Digits.{two_digit_text}
-use Rattle.speedate.proofs.NumberText.{decimal-pairs}
+use Rattle.speedate.proofs.DecimalTextLemmas.{decimal-pairs}
 use Rattle.speedate.proofs.duration.text.push_number.Goals as goal
 
 grouped : (old front pair last : List ℕ) → ((old ++ front) ++ pair) ++ last ≡ old ++ ((front ++ pair) ++ last)

@@ -5,7 +5,7 @@ use Rattle.std.proofs.lemmas.Fmt.{length-decimal-le}
 use Rattle.std.proofs.lemmas.Str.{encode_ascii}
 use Rattle.speedate_base.specs.Ascii.{capital_s}
 use Rattle.speedate.specs.DurationText.{short_fraction_text}
-use Rattle.speedate.specs.DurationTextLaws.{fraction-length}
+use Rattle.speedate.proofs.DurationTextLemmas.{fraction-length}
 use Rattle.speedate.proofs.duration.text.push_seconds.Goals as goal
 
 pub push_up_to_two_digits-requires : goal.push_up_to_two_digits-requires

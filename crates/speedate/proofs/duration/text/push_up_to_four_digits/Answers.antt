@@ -1,7 +1,7 @@
 use Rattle.std.proofs.Common.{rules, ◌≡◌, ◌∙◌, ap, sym, ℕ, ◌+◌, ◌/◌, ◌%◌, ◌<◌, ◌≤◌, List, ◌++◌, length, length-append, append_assoc, arith}
 use Rattle.std.specs.Fmt.{decimal}
 use Rattle.speedate_base.specs.Digits.{two_digit_text}
-use Rattle.speedate.proofs.NumberText.{decimal-pair}
+use Rattle.speedate.proofs.DecimalTextLemmas.{decimal-pair}
 use Rattle.speedate.proofs.duration.text.push_up_to_four_digits.Goals as goal
 
 grouped : (old front pair : List ℕ) → (old ++ front) ++ pair ≡ old ++ (front ++ pair)

@@ -2,7 +2,7 @@ use Rattle.std.proofs.Common.{rules, ◌∙◌, ap, sym, ℕ, ◌+◌, ◌≤◌
 use Rattle.std.proofs.Math.Utf8.{encode}
 use Rattle.std.proofs.lemmas.Fmt.{decimal_digit}
 use Rattle.std.proofs.lemmas.Str.{encode_ascii}
-use Rattle.speedate.proofs.NumberText.{decimal-two}
+use Rattle.speedate.proofs.DecimalTextLemmas.{decimal-two}
 use Rattle.speedate.proofs.duration.text.push_up_to_two_digits.Goals as goal
 
 pub push-requires : goal.push-requires

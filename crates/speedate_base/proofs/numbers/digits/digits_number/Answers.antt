@@ -1,6 +1,6 @@
 use Rattle.std.proofs.Common.{refl, ◌∙◌, ◌-◌, ◌^◌, min}
 use Rattle.speedate_base.specs.DigitRuns.{digits_value}
-use Rattle.speedate_base.proofs.BlockLaws.{is-number}
+use Rattle.speedate_base.proofs.BlockLemmas.{is-number}
 use Rattle.speedate_base.proofs.numbers.digits.digits_number.Goals as goal
 
 pub unwrap-requires : goal.unwrap-requires

@@ -1,7 +1,7 @@
 use Rattle.std.proofs.Common.{ℕ, ◌≡◌, ◌∙◌, ap, take, arith}
 use Rattle.std.specs.Char.{is_ascii_digit}
 use Rattle.std.specs.List.{prefix_len, list_all}
-use Rattle.speedate_base.specs.NumberLaws.{run-digits}
+use Rattle.speedate_base.proofs.NumberLemmas.{run-digits}
 use Rattle.speedate_base.proofs.numbers.digits.long_run.Goals as goal
 
 pub digits_number-requires : goal.digits_number-requires

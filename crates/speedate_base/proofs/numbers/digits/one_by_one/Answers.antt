@@ -3,8 +3,8 @@ use Rattle.std.specs.Char.{is_ascii_digit}
 use Rattle.std.specs.List.{list_all}
 use Rattle.std.proofs.lemmas.List.{take_all}
 use Rattle.speedate_base.specs.DigitRuns.{digits_value}
-use Rattle.speedate_base.specs.DigitRunLaws.{one_digit_value-le, digits_value-front-fits, digits_value-front-more, all_digits-more, run_length-ended}
-use Rattle.speedate_base.proofs.BlockLaws.{is-number, is-place}
+use Rattle.speedate_base.proofs.DigitRunLemmas.{one_digit_value-le, digits_value-front-fits, digits_value-front-more, all_digits-more, run_length-ended}
+use Rattle.speedate_base.proofs.BlockLemmas.{is-number, is-place}
 use Rattle.speedate_base.proofs.numbers.digits.one_by_one.Goals as goal
 
 pub returns-then-not-is_ascii_digit : goal.returns-then-not-is_ascii_digit

@@ -1,5 +1,5 @@
 use Rattle.std.proofs.Common.{◌+◌, ◌≤◌, length, arith}
-use Rattle.speedate_base.proofs.BlockLaws.{block-on}
+use Rattle.speedate_base.proofs.BlockLemmas.{block-on}
 use Rattle.speedate_base.proofs.numbers.digits.run_end.Goals as goal
 
 pub loop-end-preserved : goal.loop-end-preserved

@@ -2,7 +2,7 @@ use Rattle.std.proofs.Common.{◌∙◌, ap, sym, ℕ, take, arith}
 use Rattle.std.specs.Char.{is_ascii_digit}
 use Rattle.std.specs.Prelude.{slice_index}
 use Rattle.speedate_base.specs.DigitRuns.{digits_value}
-use Rattle.speedate_base.specs.DigitRunLaws.{digit-within, one_digit_value-le, digits_value-front-fits, digits_value-front-more, all_digits-more, run_length-ended}
+use Rattle.speedate_base.proofs.DigitRunLemmas.{digit-within, one_digit_value-le, digits_value-front-fits, digits_value-front-more, all_digits-more, run_length-ended}
 use Rattle.speedate_base.proofs.numbers.digits.run_in_front.Goals as goal
 
 pub returns-then-not-is_ascii_digit : goal.returns-then-not-is_ascii_digit

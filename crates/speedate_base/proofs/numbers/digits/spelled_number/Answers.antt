@@ -4,8 +4,8 @@ use Rattle.std.proofs.lemmas.List.{length-take-le, take_all}
 use Rattle.std.proofs.lemmas.Result.{err_from_is_err_and}
 use Rattle.std.specs.Char.{is_ascii_digit}
 use Rattle.speedate_base.specs.DigitRuns.{digits_value}
-use Rattle.speedate_base.specs.DigitRunLaws.{digits_value-fits, list_all-more}
-use Rattle.speedate_base.proofs.BlockLaws.{run-front, run-on, block-all, block-ends, block-more, is-number, is-place, from-number, from-place}
+use Rattle.speedate_base.proofs.DigitRunLemmas.{digits_value-fits, list_all-more}
+use Rattle.speedate_base.proofs.BlockLemmas.{run-front, run-on, block-all, block-ends, block-more, is-number, is-place, from-number, from-place}
 use Rattle.speedate_base.proofs.numbers.digits.spelled_number.Goals as goal
 
 pub returns-in_err-value : goal.returns-in_err-value

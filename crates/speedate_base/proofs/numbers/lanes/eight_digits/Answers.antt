@@ -1,8 +1,8 @@
 use Rattle.std.proofs.Common.{◌≡◌, ◌∙◌, ap, ℕ, ◌+◌, ◌*◌, List, [], ◌∷◌, length, get_or, arith}
 use Rattle.speedate_base.specs.DigitRuns.{digits_value}
 use Rattle.speedate_base.specs.Pattern.{fit_digits, neighbours}
-use Rattle.speedate_base.specs.DigitRunLaws.{digits_value-fits}
-use Rattle.speedate_base.proofs.PatternLaws.{by_eight}
+use Rattle.speedate_base.proofs.DigitRunLemmas.{digits_value-fits}
+use Rattle.speedate_base.proofs.PatternLemmas.{by_eight}
 use Rattle.speedate_base.proofs.numbers.lanes.eight_digits.Goals as goal
 
 -- every other pair of eight digits, joined

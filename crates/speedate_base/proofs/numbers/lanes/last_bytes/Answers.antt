@@ -2,8 +2,8 @@ use Rattle.std.proofs.Common.{◌≡◌, ◌∙◌, ap, ℕ, zero, suc, ◌-◌,
 use Rattle.std.specs.Int.{from_le_bytes}
 use Rattle.std.proofs.lemmas.List.{take_all}
 use Rattle.speedate_base.specs.Pattern.{eight_at}
-use Rattle.speedate_base.proofs.PatternLaws.{by_eight}
-use Rattle.speedate_base.proofs.WordLaws.{word, from_le_bytes-word, lanes_of, bytes_are}
+use Rattle.speedate_base.proofs.PatternLemmas.{by_eight}
+use Rattle.speedate_base.proofs.WordLemmas.{word, from_le_bytes-word, lanes_of, bytes_are}
 use Rattle.speedate_base.proofs.numbers.lanes.last_bytes.Goals as goal
 
 -- the number of eight bytes, moved down by all but the last ones

@@ -7,8 +7,8 @@ use Rattle.std.proofs.lemmas.Bool.Decides.{nat_tests}
 use Rattle.std.proofs.lemmas.Simd.{length-zip2}
 use lib.Lanes.{Each1, zip2}
 use Rattle.speedate_base.specs.Pattern.{fits_byte, fit_length, fit_digits, neighbours}
-use Rattle.speedate_base.proofs.PatternLaws.{by_eight, fit_length-le}
-use Rattle.speedate_base.proofs.WordLaws.{word, from_le_bytes-word, to_le_bytes-word, front_bytes, masked-word}
+use Rattle.speedate_base.proofs.PatternLemmas.{by_eight, fit_length-le}
+use Rattle.speedate_base.proofs.WordLemmas.{word, from_le_bytes-word, to_le_bytes-word, front_bytes, masked-word}
 use Rattle.speedate_base.proofs.numbers.lanes.pairs.Goals as goal
 
 -- a lane less the pattern's byte

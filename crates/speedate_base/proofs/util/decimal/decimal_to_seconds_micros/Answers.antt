@@ -9,11 +9,11 @@ use Rattle.speedate_base.specs.DecimalTimestamp.{decimal_microsecond}
 use Rattle.speedate_base.specs.DecimalUnit.{row}
 use Rattle.speedate_base.specs.DigitRuns.{digits_value}
 use Rattle.speedate_base.specs.IntFloat.{parts as decimal_parts}
-use Rattle.speedate_base.specs.NearestLaws.{scale-some}
+use Rattle.speedate_base.proofs.NearestLemmas.{scale-some}
 use Rattle.speedate_base.specs.Numbers.{with_sign}
 use Rattle.speedate_base.specs.Timestamp.{instant_at, range_answer}
-use Rattle.speedate_base.specs.TimestampLaws.{unit-digits}
-use Rattle.speedate_base.proofs.DecimalLaws.{decimal-far, decimal_microsecond-sum}
+use Rattle.speedate_base.proofs.TimestampLemmas.{unit-digits}
+use Rattle.speedate_base.proofs.DecimalLemmas.{decimal-far, decimal_microsecond-sum}
 use Rattle.speedate_base.proofs.util.decimal.decimal_to_seconds_micros.Goals as goal
 
 -- what is far in numbers of 64 bits is far

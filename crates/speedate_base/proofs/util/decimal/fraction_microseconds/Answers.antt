@@ -3,9 +3,9 @@ use Rattle.std.proofs.lemmas.Nat.{pow-add}
 use Rattle.speedate_base.specs.DecimalUnit.{row}
 use Rattle.speedate_base.specs.DigitRuns.{digits_value}
 use Rattle.speedate_base.specs.Nearest.{nearest}
-use Rattle.speedate_base.specs.NearestLaws.{nearest-exact, scale-some}
+use Rattle.speedate_base.proofs.NearestLemmas.{nearest-exact, scale-some}
 use Rattle.speedate_base.specs.Numbers.{with_sign}
-use Rattle.speedate_base.specs.TimestampLaws.{unit-digits}
+use Rattle.speedate_base.proofs.TimestampLemmas.{unit-digits}
 use Rattle.speedate_base.proofs.util.decimal.fraction_microseconds.Goals as goal
 
 -- a fraction of no more digits, with zeros behind them

@@ -5,9 +5,9 @@ use Rattle.std.proofs.Math.Nat.{pow-le-pow_right}
 use Rattle.std.proofs.lemmas.Bool.{cases_lt}
 use Rattle.std.proofs.lemmas.Bool.Decides.{nat_tests}
 use Rattle.speedate_base.specs.DigitRuns.{digits_value}
-use Rattle.speedate_base.specs.DigitRunLaws.{digits_value-append, digits_value-lt}
-use Rattle.speedate_base.proofs.DecimalLaws.{digits_value-large, same-whole, less-whole, more-whole}
-use Rattle.speedate_base.specs.NearestLaws.{scale-some}
+use Rattle.speedate_base.proofs.DigitRunLemmas.{digits_value-append, digits_value-lt}
+use Rattle.speedate_base.proofs.DecimalLemmas.{digits_value-large, same-whole, less-whole, more-whole}
+use Rattle.speedate_base.proofs.NearestLemmas.{scale-some}
 use Rattle.speedate_base.proofs.util.decimal.is_inferred_seconds.Goals as goal
 
 -- the digits of a decimal, by its whole part and its fraction

@@ -1,6 +1,6 @@
 use Rattle.std.proofs.Common.{arith}
-use Rattle.speedate_base.specs.DigitRunLaws.{digits_value-front-lt}
-use Rattle.speedate_base.proofs.RoundingLaws.{parts-all}
+use Rattle.speedate_base.proofs.DigitRunLemmas.{digits_value-front-lt}
+use Rattle.speedate_base.proofs.RoundingLemmas.{parts-all}
 use Rattle.speedate_base.proofs.util.rounding.block.Goals as goal
 
 pub eight_digits-requires : goal.eight_digits-requires

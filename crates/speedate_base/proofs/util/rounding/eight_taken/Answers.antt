@@ -1,5 +1,5 @@
 use Rattle.std.proofs.Common.{◌∙◌}
-use Rattle.speedate_base.proofs.RoundingLaws.{fours-taken}
+use Rattle.speedate_base.proofs.RoundingLemmas.{fours-taken}
 use Rattle.speedate_base.proofs.util.rounding.eight_taken.Goals as goal
 
 pub returns-clause-twice : goal.returns-clause-twice

@@ -3,8 +3,8 @@ use Rattle.std.specs.Char.{is_ascii_digit}
 use Rattle.std.specs.List.{list_all}
 use Rattle.std.proofs.Math.Nat.{pow-le-pow_right}
 use Rattle.speedate_base.specs.DigitRuns.{digits_value}
-use Rattle.speedate_base.proofs.BlockLaws.{is-number}
-use Rattle.speedate_base.proofs.RoundingLaws.{filled-small}
+use Rattle.speedate_base.proofs.BlockLemmas.{is-number}
+use Rattle.speedate_base.proofs.RoundingLemmas.{filled-small}
 use Rattle.speedate_base.proofs.util.rounding.filled.Goals as goal
 
 small : (digits : List ℕ) (places value power : ℕ) → length digits ≤ places → list_all is_ascii_digit digits ≡ true

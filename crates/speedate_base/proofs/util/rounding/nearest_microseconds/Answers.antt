@@ -1,9 +1,9 @@
 use Rattle.std.proofs.Common.{◌≡◌, ◌∙◌, ap, sym, ℕ, ◌*◌, ◌^◌, Bool, length}
 use Rattle.speedate_base.specs.DigitRuns.{digits_value}
 use Rattle.speedate_base.specs.Nearest.{nearest, quotient}
-use Rattle.speedate_base.specs.NearestLaws.{halved, nearest-halved}
+use Rattle.speedate_base.proofs.NearestLemmas.{halved, nearest-halved}
 use Rattle.speedate_base.specs.Numbers.{with_sign}
-use Rattle.speedate_base.specs.NearestLaws.{scale-some}
+use Rattle.speedate_base.proofs.NearestLemmas.{scale-some}
 use Rattle.speedate_base.proofs.util.rounding.nearest_microseconds.Goals as goal
 
 -- twice the size, halved

@@ -4,7 +4,7 @@ use Rattle.std.specs.List.{list_all}
 use Rattle.std.proofs.lemmas.List.{take_rest, take-append-drop, drop-drop, length-drop, length-take-le}
 use Rattle.speedate_base.specs.DigitRuns.{digits_value}
 use Rattle.speedate_base.specs.Nearest.{quotient}
-use Rattle.speedate_base.proofs.RoundingLaws.{parts-all, filled-taken, block-taken}
+use Rattle.speedate_base.proofs.RoundingLemmas.{parts-all, filled-taken, block-taken}
 use Rattle.speedate_base.proofs.util.rounding.twice_microseconds.Goals as goal
 
 -- the digits from a place on, as the code's slice has them

@@ -1,8 +1,8 @@
 use Rattle.std.proofs.Common.{arith}
 use Rattle.speedate_civil.specs.Date.{parts}
-use Rattle.speedate_civil.specs.DayNumberLaws.{days_before_year-is}
-use Rattle.speedate_civil.specs.DateNumberedLaws.{date_numbered-is}
-use Rattle.speedate_civil.proofs.DateFacts.{is_day}
+use Rattle.speedate_civil.proofs.DayNumberLemmas.{days_before_year-is}
+use Rattle.speedate_civil.proofs.DateNumberedLemmas.{date_numbered-is}
+use Rattle.speedate_civil.proofs.DateValueLemmas.{is_day}
 use Rattle.speedate_civil.proofs.date.Date.day_number.Goals as goal
 
 pub returns-clause-number : goal.returns-clause-number

@@ -1,7 +1,7 @@
 use Rattle.std.proofs.Common.{arith}
 use Rattle.speedate_civil.specs.Date.{parts}
-use Rattle.speedate_civil.specs.DayNumberLaws.{day_number-next_month, day_number-next_year}
-use Rattle.speedate_civil.proofs.DateFacts.{is_day}
+use Rattle.speedate_civil.proofs.DayNumberLemmas.{day_number-next_month, day_number-next_year}
+use Rattle.speedate_civil.proofs.DateValueLemmas.{is_day}
 use Rattle.speedate_civil.proofs.date.Date.next_day.Goals as goal
 
 pub returns-then-self-lt12-clause-number : goal.returns-then-self-lt12-clause-number

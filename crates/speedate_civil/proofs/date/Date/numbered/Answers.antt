@@ -1,9 +1,9 @@
 use Rattle.std.proofs.Common.{◌∙◌, ap, sym}
 use Rattle.speedate_civil.specs.Date.{parts}
-use Rattle.speedate_civil.specs.DateNumberedLaws.{date_after-day_number}
+use Rattle.speedate_civil.proofs.DateNumberedLemmas.{date_after-day_number}
 use Rattle.speedate_civil.specs.DayNumber.{date_after}
-use Rattle.speedate_civil.proofs.DateFacts.{is_day}
-use Rattle.speedate_civil.proofs.YearOfDay.{year_numbered-is, year_numbered-date}
+use Rattle.speedate_civil.proofs.DateValueLemmas.{is_day}
+use Rattle.speedate_civil.proofs.YearLemmas.{year_numbered-is, year_numbered-date}
 use Rattle.speedate_civil.proofs.date.Date.numbered.Goals as goal
 
 pub day_of_year-requires-clause-day : goal.day_of_year-requires-clause-day

@@ -1,7 +1,7 @@
 use Rattle.std.proofs.Common.{arith}
 use Rattle.speedate_civil.specs.Date.{parts}
-use Rattle.speedate_civil.specs.DayNumberLaws.{ordinal_day-small, year_length-is, leap_day-small}
-use Rattle.speedate_civil.proofs.DateFacts.{is_day}
+use Rattle.speedate_civil.proofs.DayNumberLemmas.{ordinal_day-small, year_length-is, leap_day-small}
+use Rattle.speedate_civil.proofs.DateValueLemmas.{is_day}
 use Rattle.speedate_civil.proofs.date.Date.ordinal_day.Goals as goal
 
 pub overflow_add-result : goal.overflow_add-result

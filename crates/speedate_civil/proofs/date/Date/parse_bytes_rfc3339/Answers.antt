@@ -3,10 +3,10 @@ use Rattle.std.specs.Result.{result_and}
 use Rattle.std.proofs.lemmas.Result.{err_from_is_err_and}
 use Rattle.speedate_base.specs.declared.faults.ParseError.{ParseError}
 use Rattle.speedate_base.specs.Requirement.{meets}
-use Rattle.speedate_base.specs.RequirementLaws.{meets-chain}
+use Rattle.speedate_base.proofs.RequirementLemmas.{meets-chain}
 use Rattle.speedate_civil.specs.Calendar.{Ymd}
 use Rattle.speedate_civil.specs.DateText.{date_table, date_end, date_numbers}
-use Rattle.speedate_civil.specs.NumberTextLaws.{number_answer-date}
+use Rattle.speedate_civil.proofs.NumberTextLemmas.{number_answer-date}
 use Rattle.speedate_civil.proofs.date.Date.parse_bytes_rfc3339.Goals as goal
 
 pub returns-in_err-date : goal.returns-in_err-date

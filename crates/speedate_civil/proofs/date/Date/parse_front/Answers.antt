@@ -4,10 +4,10 @@ use Rattle.std.specs.Int.{is_in_range}
 use Rattle.std.proofs.lemmas.Bool.{and_from, le-leb}
 use Rattle.std.proofs.lemmas.Bool.Decides.{nat_tests}
 use Rattle.speedate_base.specs.Digits.{four_digits_at, four_digit_value, two_digits_at, two_digit_value}
-use Rattle.speedate_base.specs.DigitRunLaws.{one_digit_value-le}
+use Rattle.speedate_base.proofs.DigitRunLemmas.{one_digit_value-le}
 use Rattle.speedate_base.specs.Pattern.{eight_at, fit_length, fit_digits, neighbours}
-use Rattle.speedate_base.specs.RequirementLaws.{meets-all}
-use Rattle.speedate_base.proofs.PatternLaws.{fit_length-all}
+use Rattle.speedate_base.proofs.RequirementLemmas.{meets-all}
+use Rattle.speedate_base.proofs.PatternLemmas.{fit_length-all}
 use Rattle.speedate_civil.specs.Calendar.{Ymd, month_length}
 use Rattle.speedate_civil.specs.DateText.{date_table, date_numbers, date_front}
 use Rattle.speedate_civil.proofs.date.Date.parse_front.Goals as goal

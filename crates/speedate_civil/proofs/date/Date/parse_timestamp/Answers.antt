@@ -8,7 +8,7 @@ use Rattle.speedate_base.specs.declared.faults.ParseError.{ParseError}
 use Rattle.speedate_civil.specs.Calendar.{Ymd}
 use Rattle.speedate_civil.specs.DateTimestamp.{date_timestamp_answer}
 use Rattle.speedate_civil.specs.NumberText.{or_number}
-use Rattle.speedate_civil.specs.NumberTextLaws.{whole_number-refused}
+use Rattle.speedate_civil.proofs.NumberTextLemmas.{whole_number-refused}
 use Rattle.speedate_civil.proofs.date.Date.parse_timestamp.Goals as goal
 
 -- the answer where the number and the table's answer are known

@@ -1,8 +1,8 @@
 use Rattle.std.proofs.Common.{arith}
 use Rattle.std.proofs.lemmas.Int.{ints}
 use Rattle.speedate_civil.specs.Date.{parts}
-use Rattle.speedate_civil.specs.DayNumberLaws.{day_number-small}
-use Rattle.speedate_civil.proofs.DateFacts.{is_day}
+use Rattle.speedate_civil.proofs.DayNumberLemmas.{day_number-small}
+use Rattle.speedate_civil.proofs.DateValueLemmas.{is_day}
 use Rattle.speedate_civil.proofs.date.Date.timestamp_ms.Goals as goal
 
 pub overflow_mul-result : goal.overflow_mul-result

@@ -5,9 +5,9 @@ use Rattle.speedate_base.specs.Numbers.{whole_number}
 use Rattle.speedate_civil.specs.DateText.{date_answer, date_text}
 use Rattle.speedate_civil.specs.DateTimestamp.{date_timestamp_answer, date_or_timestamp}
 use Rattle.speedate_civil.specs.NumberText.{or_number}
-use Rattle.speedate_base.specs.TextLaws.{text-canonical}
-use Rattle.speedate_civil.specs.DateLaws.{date_text-reads, date_text-distinct}
-use Rattle.speedate_civil.proofs.DateFacts.{is_date}
+use Rattle.speedate_base.proofs.TextLemmas.{text-canonical}
+use Rattle.speedate_civil.proofs.DateLemmas.{date_text-reads, date_text-distinct}
+use Rattle.speedate_civil.proofs.DateValueLemmas.{is_date}
 use Rattle.speedate_civil.proofs.date.Date.to_text.Goals as goal
 
 -- what was appended to nothing is the text

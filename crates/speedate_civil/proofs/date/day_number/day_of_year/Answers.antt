@@ -1,7 +1,7 @@
 use Rattle.std.proofs.Common.{◌≡◌, ◌≤◌, arith, ◌∙◌}
 use Rattle.std.proofs.lemmas.Bool.Decides.{nat_tests}
-use Rattle.speedate_civil.specs.DayNumberLaws.{year_length-is, leap_day-small}
-use Rattle.speedate_civil.proofs.MonthOfDay.{long_day, long_day-small, ordinal-at}
+use Rattle.speedate_civil.proofs.DayNumberLemmas.{year_length-is, leap_day-small}
+use Rattle.speedate_civil.proofs.MonthLemmas.{long_day, long_day-small, ordinal-at}
 use Rattle.speedate_civil.proofs.date.day_number.day_of_year.Goals as goal
 use Rattle.speedate_civil.proofs.date.day_number.day_of_year.Goals.{then-day-february, else-day-february}
 

@@ -1,6 +1,6 @@
 use Rattle.std.proofs.Common.{arith}
 use Rattle.std.proofs.lemmas.Bool.Decides.{nat_tests}
-use Rattle.speedate_civil.proofs.MonthOfDay.{days_of_months-is}
+use Rattle.speedate_civil.proofs.MonthLemmas.{days_of_months-is}
 use Rattle.speedate_civil.proofs.date.day_number.days_before_month.Goals as goal
 
 pub returns-then-month-le2 : goal.returns-then-month-le2

@@ -5,7 +5,7 @@ use mir.Val.{SFits}
 use Rattle.speedate_base.specs.UnixTime.{parts as instant_parts}
 use Rattle.speedate_civil.specs.Date.{parts as date_parts}
 use Rattle.speedate_civil.specs.DateAndTime.{DateAndTime}
-use Rattle.speedate_civil.specs.DateTimeInstantLaws.{date_time_at-shown}
+use Rattle.speedate_civil.proofs.DateTimeInstantLemmas.{date_time_at-shown}
 use Rattle.speedate_civil.specs.DateTimeTimestamp.{IsShownAt, date_time_at}
 use Rattle.speedate_civil.specs.Time.{parts as time_parts}
 use Rattle.speedate_civil.specs.TimeOfDay.{time_at}

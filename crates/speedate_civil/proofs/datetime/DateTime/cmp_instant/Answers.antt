@@ -2,8 +2,8 @@ use Rattle.std.proofs.Common.{◌≡◌, ◌∙◌, ap, sym, subst, rules}
 use Rattle.std.specs.Ordering.{ordering_reverse}
 use Rattle.speedate_civil.specs.DateTime.{parts}
 use Rattle.speedate_civil.specs.InstantOrder.{date_time_instant_order, IsNotAfter}
-use Rattle.speedate_civil.specs.InstantOrderLaws.{date_time_text-order, date_time_instant_order-turned, date_time_instant_order-transitive}
-use Rattle.speedate_civil.proofs.DateTimeFacts.{is_date_and_time}
+use Rattle.speedate_civil.proofs.InstantOrderLemmas.{date_time_text-order, date_time_instant_order-turned, date_time_instant_order-transitive}
+use Rattle.speedate_civil.proofs.DateTimeValueLemmas.{is_date_and_time}
 use Rattle.speedate_civil.proofs.datetime.DateTime.cmp_instant.Goals as goal
 
 pub returns-then-is_some-2-clause-turned : goal.returns-then-is_some-2-clause-turned

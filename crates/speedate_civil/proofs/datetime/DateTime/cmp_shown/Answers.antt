@@ -5,8 +5,8 @@ use Rattle.std.specs.Ordering.{ordering_then, on}
 use Rattle.speedate_civil.specs.DateOrder.{date_order}
 use Rattle.speedate_civil.specs.DateTime.{parts}
 use Rattle.speedate_civil.specs.InstantOrder.{instant_order, shown_time}
-use Rattle.speedate_civil.specs.InstantOrderLaws.{shown_date_time-order}
-use Rattle.speedate_civil.proofs.DateTimeFacts.{is_date_and_time}
+use Rattle.speedate_civil.proofs.InstantOrderLemmas.{shown_date_time-order}
+use Rattle.speedate_civil.proofs.DateTimeValueLemmas.{is_date_and_time}
 use Rattle.speedate_civil.proofs.datetime.DateTime.cmp_shown.Goals as goal
 
 pub returns-in-Equal : goal.returns-in-Equal

@@ -1,6 +1,6 @@
 use Rattle.std.proofs.Common.{◌≡◌, ◌∙◌, sym, rules}
 use Rattle.speedate_civil.specs.DateTime.{parts}
-use Rattle.speedate_civil.specs.InstantOrderLaws.{utc_date_time-order}
+use Rattle.speedate_civil.proofs.InstantOrderLemmas.{utc_date_time-order}
 use Rattle.speedate_civil.proofs.datetime.DateTime.cmp_utc.Goals as goal
 
 pub returns-then-eq : goal.returns-then-eq

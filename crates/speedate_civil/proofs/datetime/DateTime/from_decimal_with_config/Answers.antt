@@ -11,7 +11,7 @@ use Rattle.speedate_base.specs.Timestamp.{UnitRow}
 use Rattle.speedate_civil.specs.DateAndTime.{local_microsecond}
 use Rattle.speedate_civil.specs.DateTime.{parts}
 use Rattle.speedate_civil.specs.declared.datetime.DateTime.{DateTime}
-use Rattle.speedate_civil.specs.DateTimeInstantLaws.{date_time_decimal-nearest}
+use Rattle.speedate_civil.proofs.DateTimeInstantLemmas.{date_time_decimal-nearest}
 use Rattle.speedate_civil.specs.DateTimeTimestamp.{instant_date_time, date_time_decimal_answer}
 use Rattle.speedate_civil.proofs.datetime.DateTime.from_decimal_with_config.Goals as goal
 

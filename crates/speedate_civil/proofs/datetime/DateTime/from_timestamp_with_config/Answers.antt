@@ -12,7 +12,7 @@ use Rattle.speedate_base.specs.UnixTime.{parts as instant_parts}
 use Rattle.speedate_civil.specs.declared.datetime.DateTime.{DateTime}
 use Rattle.speedate_civil.specs.DateAndTime.{local_microsecond}
 use Rattle.speedate_civil.specs.DateTime.{parts}
-use Rattle.speedate_civil.specs.DateTimeInstantLaws.{date_time_timestamp-instant}
+use Rattle.speedate_civil.proofs.DateTimeInstantLemmas.{date_time_timestamp-instant}
 use Rattle.speedate_civil.specs.DateTimeTimestamp.{later_answer, instant_date_time, date_time_timestamp_answer, meant_microsecond}
 use Rattle.speedate_civil.proofs.datetime.DateTime.from_timestamp_with_config.Goals as goal
 

@@ -6,15 +6,15 @@ use mir.Syntax.{w32, w64}
 use mir.Val.{SFits}
 use Rattle.speedate_base.specs.declared.faults.ParseError.{ParseError}
 use Rattle.speedate_base.specs.Requirement.{AllHold}
-use Rattle.speedate_base.specs.RequirementLaws.{meets-all}
+use Rattle.speedate_base.proofs.RequirementLemmas.{meets-all}
 use Rattle.speedate_base.specs.Timestamp.{Instant}
 use Rattle.speedate_civil.specs.declared.datetime.DateTime.{DateTime}
 use Rattle.speedate_civil.specs.DateAndTime.{DateAndTime, utc_second}
 use Rattle.speedate_civil.specs.DateTime.{parts}
 use Rattle.speedate_civil.specs.DateTimeTimestamp.{IsShownAt, instant_date_time}
 use Rattle.speedate_civil.specs.OffsetMove.{move_table}
-use Rattle.speedate_civil.specs.OffsetMoveLaws.{second-moved, instant-kept}
-use Rattle.speedate_civil.proofs.DateTimeFacts.{is_date_and_time, local_second-small}
+use Rattle.speedate_civil.proofs.OffsetMoveLemmas.{second-moved, instant-kept}
+use Rattle.speedate_civil.proofs.DateTimeValueLemmas.{is_date_and_time, local_second-small}
 use Rattle.speedate_civil.proofs.datetime.DateTime.in_timezone.Goals as goal
 
 pub shifted-requires : goal.shifted-requires

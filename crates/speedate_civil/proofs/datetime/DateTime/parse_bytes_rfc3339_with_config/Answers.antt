@@ -1,5 +1,5 @@
 use Rattle.std.proofs.Common.{sym}
-use Rattle.speedate_civil.specs.NumberTextLaws.{number_answer-date}
+use Rattle.speedate_civil.proofs.NumberTextLemmas.{number_answer-date}
 use Rattle.speedate_civil.proofs.datetime.DateTime.parse_bytes_rfc3339_with_config.Goals as goal
 
 pub returns-clause-no_number : goal.returns-clause-no_number

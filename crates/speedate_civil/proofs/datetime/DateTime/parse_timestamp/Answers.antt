@@ -11,7 +11,7 @@ use Rattle.speedate_civil.specs.DateAndTime.{DateAndTime}
 use Rattle.speedate_civil.specs.DateTimeText.{with_time}
 use Rattle.speedate_civil.specs.DateTimeTimestamp.{date_time_number_answer}
 use Rattle.speedate_civil.specs.NumberText.{or_number}
-use Rattle.speedate_civil.specs.NumberTextLaws.{number_answer-refused}
+use Rattle.speedate_civil.proofs.NumberTextLemmas.{number_answer-refused}
 use Rattle.speedate_civil.proofs.datetime.DateTime.parse_timestamp.Goals as goal
 
 -- the answer where the number and the table's answer are known

@@ -5,8 +5,8 @@ use Rattle.speedate_base.specs.declared.config.TimestampUnit.TheVariants as unit
 use Rattle.speedate_civil.specs.DateAndTime.{DateAndTime, IsDateAndTime, local_second}
 use Rattle.speedate_civil.specs.DateTime.{parts}
 use Rattle.speedate_civil.specs.DateTimeTimestamp.{date_time_timestamp_answer}
-use Rattle.speedate_civil.specs.DateTimeTimestampLaws.{date_time_timestamp-leads_back}
-use Rattle.speedate_civil.proofs.DateTimeFacts.{is_date_and_time, local_second-small}
+use Rattle.speedate_civil.proofs.DateTimeTimestampLemmas.{date_time_timestamp-leads_back}
+use Rattle.speedate_civil.proofs.DateTimeValueLemmas.{is_date_and_time, local_second-small}
 use Rattle.speedate_civil.proofs.datetime.DateTime.timestamp.Goals as goal
 
 -- without an offset none is attached

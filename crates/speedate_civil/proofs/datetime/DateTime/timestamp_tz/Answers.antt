@@ -3,7 +3,7 @@ use Rattle.std.specs.Prelude.{ℤ, unsigned_abs}
 use Rattle.std.proofs.lemmas.Int.{ints}
 use Rattle.speedate_base.specs.Offset.{seconds_per_day}
 use Rattle.speedate_civil.specs.DateTime.{parts}
-use Rattle.speedate_civil.proofs.DateTimeFacts.{is_date_and_time, local_second-small, offset-small}
+use Rattle.speedate_civil.proofs.DateTimeValueLemmas.{is_date_and_time, local_second-small, offset-small}
 use Rattle.speedate_civil.proofs.datetime.DateTime.timestamp_tz.Goals as goal
 
 pub overflow_sub-result : goal.overflow_sub-result

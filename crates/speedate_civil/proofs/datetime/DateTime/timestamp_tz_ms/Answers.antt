@@ -2,7 +2,7 @@ use Rattle.std.proofs.Common.{◌<◌, arith, sym, subst}
 use Rattle.std.specs.Prelude.{ℤ, unsigned_abs}
 use Rattle.std.proofs.lemmas.Int.{ints}
 use Rattle.speedate_civil.specs.DateTime.{parts}
-use Rattle.speedate_civil.proofs.DateTimeFacts.{is_date_and_time, utc_second-small}
+use Rattle.speedate_civil.proofs.DateTimeValueLemmas.{is_date_and_time, utc_second-small}
 use Rattle.speedate_civil.proofs.datetime.DateTime.timestamp_tz_ms.Goals as goal
 
 pub overflow_mul-result : goal.overflow_mul-result

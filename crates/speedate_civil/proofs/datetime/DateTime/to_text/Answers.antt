@@ -1,12 +1,12 @@
 use Rattle.std.proofs.Common.{◌≡◌, ◌∙◌, sym, ap, ℕ, List, [], ◌++◌}
 use Rattle.speedate_base.specs.Numbers.{number_answer}
-use Rattle.speedate_base.specs.TextLaws.{text-canonical}
+use Rattle.speedate_base.proofs.TextLemmas.{text-canonical}
 use Rattle.speedate_civil.specs.DateTime.{parts}
 use Rattle.speedate_civil.specs.DateTimeText.{date_time_answer, date_time_text}
 use Rattle.speedate_civil.specs.DateTimeTimestamp.{date_time_number_answer, date_time_or_timestamp}
-use Rattle.speedate_civil.specs.DateTimeLaws.{date_time_text-reads, date_time_text-distinct}
+use Rattle.speedate_civil.proofs.DateTimeLemmas.{date_time_text-reads, date_time_text-distinct}
 use Rattle.speedate_civil.specs.NumberText.{or_number}
-use Rattle.speedate_civil.proofs.DateTimeFacts.{is_date_and_time}
+use Rattle.speedate_civil.proofs.DateTimeValueLemmas.{is_date_and_time}
 use Rattle.speedate_civil.proofs.datetime.DateTime.to_text.Goals as goal
 
 -- what was appended to nothing is the text

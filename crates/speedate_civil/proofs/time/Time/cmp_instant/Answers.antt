@@ -2,8 +2,8 @@ use Rattle.std.proofs.Common.{◌≡◌, ◌∙◌, ap, sym, subst, rules}
 use Rattle.std.specs.Ordering.{ordering_reverse}
 use Rattle.speedate_civil.specs.Time.{parts}
 use Rattle.speedate_civil.specs.InstantOrder.{time_instant_order, IsNotAfter}
-use Rattle.speedate_civil.specs.InstantOrderLaws.{time_text-order, time_instant_order-turned, time_instant_order-transitive}
-use Rattle.speedate_civil.proofs.TimeFacts.{is_time}
+use Rattle.speedate_civil.proofs.InstantOrderLemmas.{time_text-order, time_instant_order-turned, time_instant_order-transitive}
+use Rattle.speedate_civil.proofs.TimeValueLemmas.{is_time}
 use Rattle.speedate_civil.proofs.time.Time.cmp_instant.Goals as goal
 
 pub returns-then-is_some-2-clause-turned : goal.returns-then-is_some-2-clause-turned

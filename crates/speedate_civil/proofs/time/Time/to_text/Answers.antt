@@ -1,9 +1,9 @@
 use Rattle.std.proofs.Common.{◌≡◌, ◌∙◌, sym, ap, ℕ, List, [], ◌++◌}
 use Rattle.speedate_civil.specs.Time.{parts}
-use Rattle.speedate_base.specs.TextLaws.{text-canonical}
+use Rattle.speedate_base.proofs.TextLemmas.{text-canonical}
 use Rattle.speedate_civil.specs.TimeText.{time_answer, time_text}
-use Rattle.speedate_civil.specs.TimeLaws.{time_text-reads, time_text-distinct}
-use Rattle.speedate_civil.proofs.TimeFacts.{is_time}
+use Rattle.speedate_civil.proofs.TimeLemmas.{time_text-reads, time_text-distinct}
+use Rattle.speedate_civil.proofs.TimeValueLemmas.{is_time}
 use Rattle.speedate_civil.proofs.time.Time.to_text.Goals as goal
 
 -- what was appended to nothing is the text

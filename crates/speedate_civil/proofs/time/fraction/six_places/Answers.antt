@@ -1,7 +1,7 @@
 use Rattle.std.proofs.Common.{◌≡◌, ◌∙◌, ap, ℕ, zero, suc, ◌+◌, ◌*◌, ◌≤◌, List, [], ◌∷◌, length, get_or, take, arith}
 use Rattle.speedate_base.specs.DigitRuns.{fraction_value}
 use Rattle.speedate_base.specs.Pattern.{fit_digits, neighbours}
-use Rattle.speedate_base.proofs.PatternLaws.{by_eight, fit_length-le}
+use Rattle.speedate_base.proofs.PatternLemmas.{by_eight, fit_length-le}
 use Rattle.speedate_civil.proofs.time.fraction.six_places.Goals as goal
 
 abbrev zeros : List ℕ

@@ -3,7 +3,7 @@ use Rattle.std.specs.Prelude.{unsigned_abs, pos, false}
 use Rattle.std.proofs.Math.Nat.{div-div-eq-div-mul, mul-div_left}
 use Rattle.speedate_base.specs.DigitRuns.{digits_value}
 use Rattle.speedate_base.specs.Nearest.{nearest}
-use Rattle.speedate_base.specs.NearestLaws.{nearest-exact, scale-some}
+use Rattle.speedate_base.proofs.NearestLemmas.{nearest-exact, scale-some}
 use Rattle.speedate.specs.IsoForm.{unit_seconds}
 use Rattle.speedate.specs.IsoSums.{unit_parts}
 use Rattle.speedate.proofs.duration.iso.DurationUnit.exact_fraction.Goals as goal

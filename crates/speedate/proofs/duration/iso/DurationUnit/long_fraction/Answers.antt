@@ -2,7 +2,7 @@ use Rattle.std.proofs.Common.{◌≡◌, ◌∙◌, sym, ap, ap₂, lit<, arith,
 use Rattle.std.specs.Prelude.{unsigned_abs, false}
 use Rattle.std.proofs.Math.Nat.{div-div-eq-div-mul, mul-div_left, mul_comm}
 use Rattle.speedate_base.specs.DigitRuns.{digits_value}
-use Rattle.speedate_base.specs.NearestLaws.{nearest-halved, scale-some}
+use Rattle.speedate_base.proofs.NearestLemmas.{nearest-halved, scale-some}
 use Rattle.speedate.proofs.duration.iso.DurationUnit.long_fraction.Goals as goal
 
 -- the whole seconds of twice the microseconds of a fraction

@@ -1,6 +1,6 @@
 use Rattle.std.proofs.Common.{◌≡◌, ◌∙◌, sym, arith}
 use Rattle.speedate_base.specs.Ascii.{capital_t}
-use Rattle.speedate.specs.IsoFrontLaws.{answer-behind-designator}
+use Rattle.speedate.proofs.IsoFrontLemmas.{answer-behind-designator}
 use Rattle.speedate.specs.IsoSums.{sums_parts}
 use Rattle.speedate.proofs.duration.iso.Sums.of_plain.Goals as goal
 

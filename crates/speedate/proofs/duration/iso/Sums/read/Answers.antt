@@ -1,4 +1,4 @@
-use Rattle.speedate.specs.DurationAnswerLaws.{iso_form-only}
+use Rattle.speedate.proofs.DurationAnswerLemmas.{iso_form-only}
 use Rattle.speedate.proofs.duration.iso.Sums.read.Goals as goal
 
 pub returns : goal.returns

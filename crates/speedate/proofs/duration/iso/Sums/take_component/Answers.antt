@@ -1,7 +1,7 @@
 use Rattle.std.proofs.Common.{◌∙◌, ap, ℕ, ◌-◌, length, take, drop}
 use Rattle.std.specs.Char.{is_ascii_digit}
 use Rattle.std.specs.List.{list_all}
-use Rattle.speedate.specs.IsoFrontLaws.{fraction-digits}
+use Rattle.speedate.proofs.IsoFrontLemmas.{fraction-digits}
 use Rattle.speedate.proofs.duration.iso.Sums.take_component.Goals as goal
 
 pub add-requires-clause-digits : goal.add-requires-clause-digits

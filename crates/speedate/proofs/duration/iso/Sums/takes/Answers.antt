@@ -1,6 +1,6 @@
 use Rattle.std.proofs.Common.{◌∙◌, ap, sym, nat_le}
 use Rattle.std.specs.Option.{is_some}
-use Rattle.speedate.specs.IsoPlaceLaws.{unit-from}
+use Rattle.speedate.proofs.IsoPlaceLemmas.{unit-from}
 use Rattle.speedate.proofs.duration.iso.Sums.takes.Goals as goal
 
 pub returns-clause-taken : goal.returns-clause-taken

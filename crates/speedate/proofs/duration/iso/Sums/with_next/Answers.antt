@@ -1,7 +1,7 @@
 use Rattle.std.proofs.Common.{arith, sym, ap, ◌∙◌, ℕ}
 use Rattle.std.specs.Option.{is_some}
 use Rattle.speedate.specs.IsoForm.{unit_in}
-use Rattle.speedate.specs.IsoFrontLaws.{answer-behind-plain}
+use Rattle.speedate.proofs.IsoFrontLemmas.{answer-behind-plain}
 use Rattle.speedate.specs.IsoSums.{sums_parts, unit_parts}
 use Rattle.speedate.proofs.duration.iso.Sums.with_next.Goals as goal
 

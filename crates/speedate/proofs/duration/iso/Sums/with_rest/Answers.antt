@@ -3,8 +3,8 @@ use Rattle.std.proofs.lemmas.List.{take_rest, length-drop, drop-drop}
 use Rattle.std.proofs.lemmas.Result.{err_from_is_err_and}
 use Rattle.speedate_base.specs.declared.faults.ParseError.{ParseError}
 use Rattle.speedate_base.specs.Requirement.{meets}
-use Rattle.speedate_base.specs.RequirementLaws.{meets-value}
-use Rattle.speedate.specs.IsoFrontLaws.{answer-behind, answer-refused}
+use Rattle.speedate_base.proofs.RequirementLemmas.{meets-value}
+use Rattle.speedate.proofs.IsoFrontLemmas.{answer-behind, answer-refused}
 use Rattle.speedate.specs.DurationNumbers.{UnsignedDuration}
 use Rattle.speedate.specs.IsoForm.{Sums, item_at, item_length, item_table, with_item, IsAnswerFrom}
 use Rattle.speedate.specs.IsoSums.{sums_parts}

@@ -2,9 +2,9 @@ use Rattle.std.proofs.Common.{◌∙◌, ap, ap₂, ℕ, ◌+◌, drop}
 use Rattle.std.proofs.lemmas.Result.{err_from_is_err_and}
 use Rattle.std.proofs.lemmas.List.{take_rest}
 use Rattle.speedate_base.specs.DigitRuns.{run_value}
-use Rattle.speedate_base.specs.RequirementLaws.{meets-next}
+use Rattle.speedate_base.proofs.RequirementLemmas.{meets-next}
 use Rattle.speedate.specs.ClockForm.{clock_form, hours_digits, hours_length, after_hours, behind_hours}
-use Rattle.speedate.specs.ClockFormLaws.{after_hours-saturated}
+use Rattle.speedate.proofs.ClockFormLemmas.{after_hours-saturated}
 use Rattle.speedate.proofs.duration.unsigned.UnsignedDuration.from_clock.Goals as goal
 
 pub returns-in_err-end : goal.returns-in_err-end

@@ -2,7 +2,7 @@ use Rattle.std.proofs.Common.{◌∙◌, ap, ap₂, ℕ, drop}
 use Rattle.std.proofs.lemmas.Result.{err_from_is_err_and}
 use Rattle.std.proofs.lemmas.List.{take_rest}
 use Rattle.speedate_base.specs.DigitRuns.{run_value}
-use Rattle.speedate_base.specs.RequirementLaws.{meets-next}
+use Rattle.speedate_base.proofs.RequirementLemmas.{meets-next}
 use Rattle.speedate.specs.DayForm.{day_form, days_table, days_length, after_days}
 use Rattle.speedate.proofs.duration.unsigned.UnsignedDuration.from_days.Goals as goal
 

@@ -1,9 +1,9 @@
 use Rattle.std.proofs.Common.{◌≡◌, rules, sym, ◌∙◌}
 use Rattle.speedate_civil.specs.Date.{parts}
 use Rattle.speedate_civil.specs.DateOrder.{date_order}
-use Rattle.speedate_civil.specs.DateOrderLaws.{date_text-order}
-use Rattle.speedate_civil.specs.DateOrderLaws.{date_order-day_number}
-use Rattle.speedate_civil.proofs.DateFacts.{is_day}
+use Rattle.speedate_civil.proofs.DateOrderLemmas.{date_text-order}
+use Rattle.speedate_civil.proofs.DateOrderLemmas.{date_order-day_number}
+use Rattle.speedate_civil.proofs.DateValueLemmas.{is_day}
 use Rattle.speedate_civil.proofs.date.order.DateOrd.cmp.Goals as goal
 
 pub returns-clause-text_order : goal.returns-clause-text_order

@@ -4,7 +4,7 @@ use Rattle.std.specs.Char.{is_ascii_digit}
 use Rattle.std.specs.List.{prefix_len}
 use Rattle.std.proofs.lemmas.List.{get_or-drop, take-take}
 use Rattle.speedate_base.specs.DigitRuns.{run_length, run_digits, fraction_value}
-use Rattle.speedate_base.specs.DigitRunLaws.{fraction_value-take}
+use Rattle.speedate_base.proofs.DigitRunLemmas.{fraction_value-take}
 use Rattle.speedate_base.specs.Pattern.{eight_at, fit_length}
 use Rattle.speedate_civil.proofs.time.fraction.Fraction.read.Goals as goal
 

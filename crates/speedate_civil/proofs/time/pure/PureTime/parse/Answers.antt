@@ -8,8 +8,8 @@ use Rattle.speedate_base.specs.Ascii.{colon}
 use Rattle.speedate_base.specs.Digits.{two_digits_at, two_digit_value}
 use Rattle.speedate_base.specs.Pattern.{eight_at, fit_length, fit_digits, neighbours}
 use Rattle.speedate_base.specs.Requirement.{result_map}
-use Rattle.speedate_base.specs.RequirementLaws.{meets-all}
-use Rattle.speedate_base.proofs.PatternLaws.{fit_length-all}
+use Rattle.speedate_base.proofs.RequirementLemmas.{meets-all}
+use Rattle.speedate_base.proofs.PatternLemmas.{fit_length-all}
 use Rattle.speedate_civil.specs.ClockText.{Clock, at_hour, clock_answer, time_front, hour_table, minute_digits, hour_range}
 use Rattle.speedate_civil.specs.PureTime.{parts}
 use Rattle.speedate_civil.proofs.time.pure.PureTime.parse.Goals as goal

@@ -17,7 +17,7 @@ use Rattle.speedate_base.specs.Offset.{seconds_per_day}
 use Rattle.speedate_base.specs.Timestamp.{Instant}
 use Rattle.speedate_civil.specs.DayNumber.{day_number, epoch_day}
 use Rattle.speedate_civil.specs.DateOrder.{date_order}
-use Rattle.speedate_civil.specs.DateOrderLaws.{date_order-day_number, date_text-front-order, digits-order, hundreds-order, then-then}
+use Rattle.speedate_civil.proofs.DateOrderLemmas.{date_order-day_number, date_text-front-order, digits-order, hundreds-order, then-then}
 use Rattle.speedate_civil.specs.ClockText.{fraction_text}
 use Rattle.speedate_civil.specs.DateTimeText.{date_time_text}
 use Rattle.speedate_civil.specs.TimeText.{time_text}

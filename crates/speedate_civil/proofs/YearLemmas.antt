@@ -5,7 +5,7 @@ use Rattle.std.proofs.lemmas.Bool.{cases_lt}
 use Rattle.std.proofs.lemmas.Bool.Decides.{nat_tests}
 use Rattle.speedate_civil.specs.Calendar.{Ymd, IsDay}
 use Rattle.speedate_civil.specs.DayNumber.{days_of_months, year_length, days_before_year, ordinal_day, day_number}
-use Rattle.speedate_civil.specs.DayNumberLaws.{leap_day, year_length-is, days_before_year-is}
+use Rattle.speedate_civil.proofs.DayNumberLemmas.{leap_day, year_length-is, days_before_year-is}
 
 -- a day number in centuries and days, counted from the 400 years before the year 1
 century-is : (days : ℕ) → let century = (4 * days + 3) / 146097 in let rest = (4 * days + 3) % 146097 / 4 in

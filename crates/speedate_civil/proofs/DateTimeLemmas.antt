@@ -6,11 +6,11 @@ use Rattle.speedate_base.specs.declared.config.MicrosecondsPrecisionOverflowBeha
 use Rattle.speedate_base.specs.Ascii.{capital_t}
 use Rattle.speedate_base.specs.Offset.{IsWholeMinutes}
 use Rattle.speedate_base.specs.Requirement.{result_map, result_and_then}
-use Rattle.speedate_base.specs.TextLaws.{text-distinct}
+use Rattle.speedate_base.proofs.TextLemmas.{text-distinct}
 use Rattle.speedate_civil.specs.DateAndTime.{DateAndTime, IsDateAndTime}
-use Rattle.speedate_civil.specs.DateLaws.{date_text-front}
+use Rattle.speedate_civil.proofs.DateLemmas.{date_text-front}
 use Rattle.speedate_civil.specs.DateTimeText.{date_and_time, with_time, date_time_answer, date_time_text}
-use Rattle.speedate_civil.specs.TimeLaws.{time_text-reads}
+use Rattle.speedate_civil.proofs.TimeLemmas.{time_text-reads}
 use Rattle.speedate_civil.specs.TimeText.{time_text}
 
 pub date_time_text-reads : (behavior : MicrosecondsPrecisionOverflowBehavior) (value : DateAndTime) → IsDateAndTime value → IsWholeMinutes value.time.offset

@@ -8,18 +8,18 @@ use Rattle.speedate_base.specs.declared.config.TimestampUnit.{TimestampUnit}
 use Rattle.speedate_base.specs.declared.faults.ParseError.{ParseError}
 use Rattle.speedate_base.specs.DecimalTimestamp.{decimal_row, decimal_scale, decimal_size, decimal_microsecond, decimal_instant}
 use Rattle.speedate_base.specs.Nearest.{IsNearest}
-use Rattle.speedate_base.specs.NearestLaws.{nearest-is, scale-some}
+use Rattle.speedate_base.proofs.NearestLemmas.{nearest-is, scale-some}
 use Rattle.speedate_base.specs.Numbers.{DecimalParts}
 use Rattle.speedate_base.specs.Offset.{seconds_per_day}
 use Rattle.speedate_base.specs.Requirement.{result_map, result_and_then}
-use Rattle.speedate_base.specs.RequirementLaws.{meets-value}
+use Rattle.speedate_base.proofs.RequirementLemmas.{meets-value}
 use Rattle.speedate_base.specs.Timestamp.{Instant, instant_at, instant_answer, per_second, unit_row, unit_table, inferred_seconds_max, first_second, range_table, range_answer}
-use Rattle.speedate_base.specs.TimestampLaws.{instant_microsecond, instant_at-microsecond}
+use Rattle.speedate_base.proofs.TimestampLemmas.{instant_microsecond, instant_at-microsecond}
 use Rattle.speedate_civil.specs.DateAndTime.{DateAndTime, local_second, local_microsecond}
 use Rattle.speedate_civil.specs.DateTimestamp.{day_at, second_at}
 use Rattle.speedate_civil.specs.DayNumber.{epoch_day}
 use Rattle.speedate_civil.specs.DateTimeTimestamp.{IsShownAt, later_instant, later_answer, sum_table, date_time_at, instant_date_time, date_time_timestamp_answer, date_time_decimal_answer, meant_microsecond}
-use Rattle.speedate_civil.specs.DayNumberLaws.{day_number-date_after}
+use Rattle.speedate_civil.proofs.DayNumberLemmas.{day_number-date_after}
 use Rattle.speedate_civil.specs.TimeOfDay.{second_of_day, time_at}
 
 -- an answer of two steps is that of the second, to what the first answered

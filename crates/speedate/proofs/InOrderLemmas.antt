@@ -12,16 +12,16 @@ use Rattle.speedate_base.specs.declared.faults.ParseError.{ParseError}
 use Rattle.speedate_base.specs.declared.faults.ParseError.TheVariants as fault
 use Rattle.speedate_base.specs.Ascii.{capital_p}
 use Rattle.speedate_base.specs.Numbers.{has_minus, sign_length}
-use Rattle.speedate_base.specs.NumberLaws.{sign-of_text}
+use Rattle.speedate_base.proofs.NumberLemmas.{sign-of_text}
 use Rattle.speedate_base.specs.Requirement.{meets, AllHold, result_and_then}
 use Rattle.speedate.specs.DurationNumbers.{DurationNumbers, UnsignedDuration, signed_form}
 use Rattle.speedate.specs.DurationForm.{form_answer}
 use Rattle.speedate.specs.DurationAnswer.{iso_answer, iso_form, unsigned_answer, duration_answer}
-use Rattle.speedate.specs.DurationAnswerLaws.{iso_form-is, iso_form-only, duration_answer-iso}
+use Rattle.speedate.proofs.DurationAnswerLemmas.{iso_form-is, iso_form-only, duration_answer-iso}
 use Rattle.speedate.specs.InOrder.{IsLaxOrRefused, IsAnswerInOrder, are_in_order, are_some_of, IsMadeOf, is_iso}
 use Rattle.speedate.specs.IsoForm.{DurationUnit, units, unit_in, ComponentText, Item, TimeDesignator, Component, item_text, IsItem, item_at, item_length, item_table, units_after, are_counted, Sums, no_sums, with_component, with_item, with_items, AreGood, sums_length, Ends, IsAnswerFrom}
-use Rattle.speedate.specs.IsoFormLaws.{item_at-text, answer-with}
-use Rattle.speedate.specs.IsoFrontLaws.{answer-refused}
+use Rattle.speedate.proofs.IsoFormLemmas.{item_at-text, answer-with}
+use Rattle.speedate.proofs.IsoFrontLemmas.{answer-refused}
 
 abbrev Answer : Type 0
 Answer = Result UnsignedDuration ParseError

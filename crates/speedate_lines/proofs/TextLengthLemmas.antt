@@ -11,7 +11,7 @@ use Rattle.speedate.specs.Digits.{six_digit_text}
 use Rattle.speedate.specs.ClockText.{fraction_text}
 use Rattle.speedate.specs.OffsetText.{offset_text}
 use Rattle.speedate.specs.DurationText.{counted_text, seconds_text, hours_text, days_text, start_text, rest_text, is_whole_days, duration_text}
-use Rattle.speedate.specs.DurationTextLaws.{start-length, years-length, days-length, hours-length, minutes-length, seconds-length}
+use Rattle.speedate.proofs.DurationTextLemmas.{start-length, years-length, days-length, hours-length, minutes-length, seconds-length}
 
 rest-length : (whole none : Bool) (clock : List ℕ) → length clock ≤ 16
     → length (if whole then (if none then codes "T0S" else []) else capital_t ∷ clock) ≤ 17

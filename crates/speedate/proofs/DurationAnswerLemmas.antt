@@ -8,13 +8,13 @@ use Rattle.speedate_base.specs.declared.faults.ParseError.{ParseError}
 use Rattle.speedate_base.specs.Ascii.{capital_p, capital_t}
 use Rattle.speedate_base.specs.Numbers.{sign_length, IsSign}
 use Rattle.speedate_base.specs.Requirement.{meets, result_and_then}
-use Rattle.speedate_base.specs.RequirementLaws.{meets-all, meets-next, meets-value}
+use Rattle.speedate_base.proofs.RequirementLemmas.{meets-all, meets-next, meets-value}
 use Rattle.speedate.specs.DurationAnswer.{iso_answer, iso_form, unsigned_answer, duration_answer}
 use Rattle.speedate.specs.DurationForm.{form_answer, IsDurationAnswer, IsGrammarAnswer}
 use Rattle.speedate.specs.DurationNumbers.{DurationNumbers, UnsignedDuration, signed_form}
 use Rattle.speedate.specs.IsoForm.{Item, TimeDesignator, Component, item_text, IsItem, Sums, no_sums, item_at, item_length, component_length, item_table, with_item, IsAnswerFrom, IsIsoAnswer}
-use Rattle.speedate.specs.IsoFormLaws.{answer-only, answer-with, duration_answer-only}
-use Rattle.speedate.specs.IsoFrontLaws.{answer-behind, answer-refused}
+use Rattle.speedate.proofs.IsoFormLemmas.{answer-only, answer-with, duration_answer-only}
+use Rattle.speedate.proofs.IsoFrontLemmas.{answer-behind, answer-refused}
 
 -- an item has a byte
 length-some : (text : List ℕ) (is_time : Bool) → 0 < (if is_time then 1 else component_length text)

@@ -11,11 +11,11 @@ use Rattle.std.proofs.lemmas.List.{drop-take, drop-drop, drop_more, take-append-
 use Rattle.speedate_base.specs.declared.faults.ParseError.{ParseError}
 use Rattle.speedate_base.specs.Ascii.{capital_t}
 use Rattle.speedate_base.specs.DigitRuns.{run_length, run_value}
-use Rattle.speedate_base.specs.NumberLaws.{run-digits}
+use Rattle.speedate_base.proofs.NumberLemmas.{run-digits}
 use Rattle.speedate_base.specs.Requirement.{meets, AllHold}
-use Rattle.speedate_base.specs.RequirementLaws.{meets-next}
+use Rattle.speedate_base.proofs.RequirementLemmas.{meets-next}
 use Rattle.speedate.specs.DurationNumbers.{UnsignedDuration}
-use Rattle.speedate.specs.IsoFormLaws.{answer-with}
+use Rattle.speedate.proofs.IsoFormLemmas.{answer-with}
 use Rattle.speedate.specs.IsoForm.{DurationUnit, ComponentText, Item, Component, TimeDesignator, Sums, IsItem, component_at, component_length, item_at, item_length, item_text, item_table, with_amount, with_component, with_item, are_counted, Ends, IsAnswerFrom, sums_length, units, unit_in, is_decimal_mark, fraction_length, IsFraction}
 
 -- after a decimal mark stand digits

@@ -5,7 +5,7 @@ use Rattle.std.proofs.Common.{arith, refl, ap, ap₂, sym, ◌∙◌, get_or}
 use Rattle.std.proofs.lemmas.Nat.{and_mask, le_bytes_8, mod-pow-add}
 use Rattle.std.proofs.Math.Nat.{zero-mod}
 use lib.Lanes.{Each1, digits_l}
-use Rattle.speedate_base.proofs.PatternLaws.{by_eight}
+use Rattle.speedate_base.proofs.PatternLemmas.{by_eight}
 
 -- bytes as one number in base 256, the first byte lowest
 abbrev pub word : List ℕ → ℕ

@@ -5,7 +5,7 @@ use Rattle.std.specs.Option.{ForSome}
 use Rattle.std.proofs.Common.{arith}
 use Rattle.std.proofs.lemmas.Bool.{le-leb, lt-ltb, le-ltb, ne_eqb}
 use Rattle.speedate_base.specs.Ascii.{plus_sign, hyphen, comma, full_stop}
-use Rattle.speedate_base.specs.DigitLaws.{two_digits-printed, two_digit_value-printed}
+use Rattle.speedate_base.proofs.DigitLemmas.{two_digits-printed, two_digit_value-printed}
 use Rattle.speedate_base.specs.Numbers.{with_sign}
 use Rattle.speedate_base.specs.Offset.{IsOffset, IsWholeMinutes, seconds_per_day}
 use Rattle.speedate_civil.specs.OffsetText.{offset_answer, offset_text, offset_size_text, signed_answer}

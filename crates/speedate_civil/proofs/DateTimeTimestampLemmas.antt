@@ -7,13 +7,13 @@ use Rattle.std.proofs.lemmas.Int.{ints}
 use Rattle.speedate_base.specs.declared.config.TimestampUnit.TheVariants as unit
 use Rattle.speedate_base.specs.Offset.{seconds_per_day}
 use Rattle.speedate_base.specs.Requirement.{result_map, result_and_then}
-use Rattle.speedate_base.specs.RequirementLaws.{meets-all}
+use Rattle.speedate_base.proofs.RequirementLemmas.{meets-all}
 use Rattle.speedate_base.specs.Timestamp.{Instant, instant_answer, first_second, last_second, range_table}
 use Rattle.speedate_civil.specs.DateAndTime.{DateAndTime, IsDateAndTime, local_second}
-use Rattle.speedate_civil.specs.DateNumberedLaws.{date_after-day_number}
+use Rattle.speedate_civil.proofs.DateNumberedLemmas.{date_after-day_number}
 use Rattle.speedate_civil.specs.DateTimeTimestamp.{later_answer, sum_table, date_time_at, instant_date_time, date_time_timestamp_answer}
 use Rattle.speedate_civil.specs.DayNumber.{epoch_day, day_number, date_after}
-use Rattle.speedate_civil.specs.DayNumberLaws.{day_number-small}
+use Rattle.speedate_civil.proofs.DayNumberLemmas.{day_number-small}
 use Rattle.speedate_civil.specs.TimeOfDay.{TimeOfDay, IsTime, second_of_day, time_at}
 
 by-one : (second : ℤ) → int_div_euclid second (pos 1) ≡ second

@@ -11,12 +11,12 @@ use Rattle.speedate_base.specs.declared.faults.ParseError.TheVariants as fault
 use Rattle.speedate_base.specs.DecimalTimestamp.{decimal_digits, decimal_scale, decimal_microsecond, decimal_instant}
 use Rattle.speedate_base.specs.Digits.{one_digit_value}
 use Rattle.speedate_base.specs.DigitRuns.{digits_value}
-use Rattle.speedate_base.specs.DigitRunLaws.{digits_value-append}
+use Rattle.speedate_base.proofs.DigitRunLemmas.{digits_value-append}
 use Rattle.speedate_base.specs.Nearest.{nearest, quotient}
-use Rattle.speedate_base.specs.NearestLaws.{halved, nearest-halved, quotient-whole, halved-whole}
+use Rattle.speedate_base.proofs.NearestLemmas.{halved, nearest-halved, quotient-whole, halved-whole}
 use Rattle.speedate_base.specs.Numbers.{DecimalParts, with_sign}
 use Rattle.speedate_base.specs.Timestamp.{Instant, UnitRow, instant_at, first_second, last_second, range_answer}
-use Rattle.speedate_base.specs.NearestLaws.{scale-some}
+use Rattle.speedate_base.proofs.NearestLemmas.{scale-some}
 
 -- digits of which one is not 0 do not spell 0
 pub digits_value-some : (digits : List ℕ) (place : ℕ) → list_all is_ascii_digit digits ≡ true → place < length digits → get_or digits place 0 ≢ 48

@@ -6,10 +6,10 @@ use Rattle.std.proofs.Common.{arith, ◌∙◌, ap, sym, subst}
 use Rattle.std.proofs.lemmas.Bool.{le-leb}
 use Rattle.std.proofs.lemmas.Bool.Decides.{nat_tests}
 use Rattle.speedate_base.specs.declared.faults.ParseError.{ParseError}
-use Rattle.speedate_base.specs.DigitLaws.{two_digits-printed, four_digits-printed, two_digit_value-printed, four_digit_value-printed}
+use Rattle.speedate_base.proofs.DigitLemmas.{two_digits-printed, four_digits-printed, two_digit_value-printed, four_digit_value-printed}
 use Rattle.speedate_base.specs.Requirement.{meets}
-use Rattle.speedate_base.specs.RequirementLaws.{meets-all, meets-chain}
-use Rattle.speedate_base.specs.TextLaws.{text-distinct}
+use Rattle.speedate_base.proofs.RequirementLemmas.{meets-all, meets-chain}
+use Rattle.speedate_base.proofs.TextLemmas.{text-distinct}
 use Rattle.speedate_civil.specs.Calendar.{Ymd, IsDate, month_length}
 use Rattle.speedate_civil.specs.DateText.{date_text, date_front, date_answer, date_numbers, date_table, date_end}
 

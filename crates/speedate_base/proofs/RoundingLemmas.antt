@@ -9,9 +9,9 @@ use Rattle.std.proofs.lemmas.List.Folds.{list_all-append}
 use Rattle.std.proofs.lemmas.Nat.{pow-add}
 use Rattle.std.proofs.Math.Nat.{mul-le-mul_right}
 use Rattle.speedate_base.specs.DigitRuns.{digits_value}
-use Rattle.speedate_base.specs.DigitRunLaws.{digits_value-append, digits_value-lt}
+use Rattle.speedate_base.proofs.DigitRunLemmas.{digits_value-append, digits_value-lt}
 use Rattle.speedate_base.specs.Nearest.{quotient}
-use Rattle.speedate_base.specs.NearestLaws.{scale-some, quotient-carried, quotient-multiple}
+use Rattle.speedate_base.proofs.NearestLemmas.{scale-some, quotient-carried, quotient-multiple}
 
 -- parts of digits are digits
 pub parts-all : (digits : List ℕ) (count : ℕ) → list_all is_ascii_digit digits ≡ true

@@ -4,7 +4,7 @@ use Rattle.std.specs.Option.{unwrap_or}
 use Rattle.std.proofs.Common.{arith, sym}
 use Rattle.std.proofs.lemmas.Int.{ints}
 use Rattle.speedate_base.specs.Requirement.{AllHold, meets}
-use Rattle.speedate_base.specs.RequirementLaws.{meets-value}
+use Rattle.speedate_base.proofs.RequirementLemmas.{meets-value}
 use Rattle.speedate_civil.specs.DateAndTime.{DateAndTime, local_second, utc_second}
 use Rattle.speedate_civil.specs.OffsetMove.{move_table}
 

@@ -9,7 +9,7 @@ use Rattle.std.proofs.lemmas.List.Folds.{prefix_len-append}
 use Rattle.std.proofs.lemmas.List.Sums.{prefix_len-le-length}
 use Rattle.std.proofs.Math.Seq.{take-add}
 use Rattle.speedate_base.specs.DigitRuns.{run_length, digits_value}
-use Rattle.speedate_base.specs.DigitRunLaws.{digits_value-append, run-whole}
+use Rattle.speedate_base.proofs.DigitRunLemmas.{digits_value-append, run-whole}
 
 -- the front of some bytes has their run where it ends within it
 pub run-front : (bytes : List ℕ) (count : ℕ) → prefix_len is_ascii_digit (take count bytes) < length (take count bytes)

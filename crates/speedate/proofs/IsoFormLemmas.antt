@@ -12,10 +12,10 @@ use Rattle.speedate_base.specs.declared.config.IsoOrder.{IsoOrder}
 use Rattle.speedate_base.specs.declared.config.MicrosecondsPrecisionOverflowBehavior.{MicrosecondsPrecisionOverflowBehavior}
 use Rattle.speedate_base.specs.declared.faults.ParseError.{ParseError}
 use Rattle.speedate_base.specs.Ascii.{capital_p, capital_t}
-use Rattle.speedate_base.specs.DigitRunLaws.{run_length-append}
+use Rattle.speedate_base.proofs.DigitRunLemmas.{run_length-append}
 use Rattle.speedate_base.specs.Numbers.{has_minus, sign_length}
 use Rattle.speedate_base.specs.Requirement.{AllHold, result_and_then}
-use Rattle.speedate_base.specs.RequirementLaws.{meets-all}
+use Rattle.speedate_base.proofs.RequirementLemmas.{meets-all}
 use Rattle.speedate.specs.DurationNumbers.{DurationNumbers, UnsignedDuration, signed_form}
 use Rattle.speedate.specs.IsoForm.{units, unit_in, ComponentText, Item, TimeDesignator, Component, item_text, is_decimal_mark, IsFraction, IsItem, fraction_length, component_at, item_at, Sums, with_item, with_items, item_table, AreGood, sums_length, Ends, IsAnswerFrom, IsIsoAnswer, no_sums}
 use Rattle.speedate.specs.DurationForm.{form_answer, IsDurationAnswer}

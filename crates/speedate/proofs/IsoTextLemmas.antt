@@ -18,17 +18,17 @@ use Rattle.speedate_base.specs.declared.config.MicrosecondsPrecisionOverflowBeha
 use Rattle.speedate_base.specs.declared.config.MicrosecondsPrecisionOverflowBehavior.TheVariants as behavior
 use Rattle.speedate_base.specs.Ascii.{digit_zero, full_stop, capital_d, capital_h, capital_m, capital_s, capital_t, capital_y}
 use Rattle.speedate_base.specs.Digits.{one_digit_value, six_digit_text}
-use Rattle.speedate_base.specs.DigitLaws.{six_digits-printed}
+use Rattle.speedate_base.proofs.DigitLemmas.{six_digits-printed}
 use Rattle.speedate_base.specs.DigitRuns.{digits_value}
-use Rattle.speedate_base.specs.DigitRunLaws.{digits_value-lt}
+use Rattle.speedate_base.proofs.DigitRunLemmas.{digits_value-lt}
 use Rattle.speedate_base.specs.Nearest.{nearest}
-use Rattle.speedate_base.specs.NearestLaws.{nearest-exact, scale-some}
+use Rattle.speedate_base.proofs.NearestLemmas.{nearest-exact, scale-some}
 use Rattle.speedate_base.specs.Requirement.{result_and_then}
 use Rattle.speedate_base.specs.Offset.{seconds_per_day}
-use Rattle.speedate_base.specs.TextLaws.{text-distinct}
+use Rattle.speedate_base.proofs.TextLemmas.{text-distinct}
 use Rattle.speedate.specs.DurationAnswer.{iso_form, unsigned_answer, duration_answer}
-use Rattle.speedate.specs.DurationAnswerLaws.{iso_form-only}
-use Rattle.speedate.specs.DurationLaws.{normal_form-same}
+use Rattle.speedate.proofs.DurationAnswerLemmas.{iso_form-only}
+use Rattle.speedate.proofs.DurationLemmas.{normal_form-same}
 use Rattle.speedate.specs.DurationNumbers.{DurationNumbers, IsDuration, length_of, signed_form}
 use Rattle.speedate.specs.DurationText.{counted_text, kept_digit, without_last_zeros, short_fraction_text, hours_text, days_text, start_text, rest_text, is_whole_days, duration_text}
 use Rattle.speedate.specs.IsoForm.{DurationUnit, unit, units, unit_in, ComponentText, Item, TimeDesignator, Component, item_text, IsFraction, Sums, no_sums, units_behind, unit_seconds, fraction_seconds, fraction_microseconds, with_component, with_item, with_items, AreGood, Ends, sums_length, IsIsoAnswer}

@@ -15,11 +15,11 @@ use Rattle.speedate_base.specs.declared.faults.ParseError.TheVariants as fault
 use Rattle.speedate_base.specs.DigitRuns.{digits_value}
 use Rattle.speedate_base.specs.Requirement.{meets, result_and_then}
 use Rattle.speedate.specs.DurationAnswer.{iso_answer, duration_answer}
-use Rattle.speedate.specs.DurationAnswerLaws.{iso_answer-item, duration_answer-iso}
+use Rattle.speedate.proofs.DurationAnswerLemmas.{iso_answer-item, duration_answer-iso}
 use Rattle.speedate.specs.DurationNumbers.{UnsignedDuration, signed_form}
 use Rattle.speedate.specs.Exchanged.{has_fraction, IsWhole, AreWhole, IsPlain, AreExchanged}
 use Rattle.speedate.specs.IsoForm.{DurationUnit, units, unit_in, ComponentText, Item, TimeDesignator, Component, item_text, IsItem, item_at, item_table, Sums, no_sums, units_behind, with_component, with_item, with_items}
-use Rattle.speedate.specs.IsoFormLaws.{item_at-amount}
+use Rattle.speedate.proofs.IsoFormLemmas.{item_at-amount}
 
 abbrev Answer : Type 0
 Answer = Result UnsignedDuration ParseError

@@ -6,14 +6,14 @@ use Rattle.speedate_base.specs.declared.config.MicrosecondsPrecisionOverflowBeha
 use Rattle.speedate_base.specs.declared.config.MicrosecondsPrecisionOverflowBehavior.TheVariants as behavior
 use Rattle.speedate_base.specs.Ascii.{colon, full_stop}
 use Rattle.speedate_base.specs.Digits.{two_digit_text, six_digit_text}
-use Rattle.speedate_base.specs.DigitLaws.{two_digits-printed, two_digit_value-printed}
+use Rattle.speedate_base.proofs.DigitLemmas.{two_digits-printed, two_digit_value-printed}
 use Rattle.speedate_base.specs.Offset.{IsWholeMinutes}
 use Rattle.speedate_base.specs.Requirement.{result_map}
-use Rattle.speedate_base.specs.TextLaws.{text-distinct}
+use Rattle.speedate_base.proofs.TextLemmas.{text-distinct}
 use Rattle.speedate_civil.specs.ClockText.{Clock, at_hour, clock_answer, time_front, minute_text}
-use Rattle.speedate_civil.specs.ClockLaws.{clock-whole, clock-fraction}
+use Rattle.speedate_civil.proofs.ClockLemmas.{clock-whole, clock-fraction}
 use Rattle.speedate_civil.specs.OffsetText.{offset_text}
-use Rattle.speedate_civil.specs.OffsetLaws.{offset_text-begins, offset_text-reads}
+use Rattle.speedate_civil.proofs.OffsetLemmas.{offset_text-begins, offset_text-reads}
 use Rattle.speedate_civil.specs.TimeOfDay.{TimeOfDay, IsTime}
 use Rattle.speedate_civil.specs.TimeText.{time_answer, time_text}
 

@@ -1,6 +1,6 @@
--- Laws of the order of dates: it is a total order, that of the day numbers, and that of the texts.
+-- Laws of the order of dates: it is that of the day numbers, and that of the texts.
 use Rattle.std.specs.Prelude.{◌≡◌, ℕ, ◌+◌, ◌-◌, ◌/◌, ◌%◌, ◌<◌, List, [], ◌++◌, refl}
-use Rattle.std.specs.Cmp.{IsTotalOrder, ranks, nat_cmp_is, nat_cmp_total, on_total, then_total}
+use Rattle.std.specs.Cmp.{ranks, nat_cmp_is}
 use Rattle.std.specs.Cmp.Lexicographic.{slice_cmp}
 use Rattle.std.specs.Ordering.{nat_cmp, ordering_then, MatchOrdering}
 use Rattle.std.specs.declared.cmp.Ordering.{Ordering}
@@ -12,13 +12,7 @@ use Rattle.speedate_civil.specs.Calendar.{Ymd, IsDay}
 use Rattle.speedate_civil.specs.DateOrder.{date_order}
 use Rattle.speedate_civil.specs.DateText.{date_text}
 use Rattle.speedate_civil.specs.DayNumber.{days_of_months, days_before_year, day_number}
-use Rattle.speedate_civil.specs.DayNumberLaws.{days_of_months-next, days_of_months-rises, days_before_year-next, days_before_year-rises, ordinal_day-small}
-
--- dates are ordered one after another
-pub date_order-total : IsTotalOrder date_order
-date_order-total =
-    then_total (on_total (λ (date : Ymd). date.year) nat_cmp_total)
-    (then_total (on_total (λ (date : Ymd). date.month) nat_cmp_total) (on_total (λ (date : Ymd). date.day) nat_cmp_total))
+use Rattle.speedate_civil.proofs.DayNumberLemmas.{days_of_months-next, days_of_months-rises, days_before_year-next, days_before_year-rises, ordinal_day-small}
 
 -- an earlier year has smaller day numbers
 earlier_year : (first second : Ymd) → IsDay first → IsDay second → first.year < second.year → day_number first < day_number second

@@ -3,9 +3,9 @@ use Rattle.std.specs.Prelude.{◌≡◌, ℕ, ◌≤◌, Some}
 use Rattle.std.proofs.Common.{arith, ◌∙◌, ap, sym}
 use Rattle.std.proofs.lemmas.Bool.{le-leb}
 use Rattle.speedate_civil.specs.Calendar.{Ymd, IsDay}
-use Rattle.speedate_civil.specs.DateOrderLaws.{day_number-distinct}
+use Rattle.speedate_civil.proofs.DateOrderLemmas.{day_number-distinct}
 use Rattle.speedate_civil.specs.DayNumber.{day_number, date_after, date_numbered}
-use Rattle.speedate_civil.specs.DayNumberLaws.{day_number-small, date_after-IsDay, day_number-date_after}
+use Rattle.speedate_civil.proofs.DayNumberLemmas.{day_number-small, date_after-IsDay, day_number-date_after}
 
 -- so many steps as its day number counts lead to a date
 pub date_after-day_number : (date : Ymd) → IsDay date → date_after (day_number date) ≡ date

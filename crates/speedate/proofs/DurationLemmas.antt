@@ -1,0 +1,35 @@
+-- Durations have one normal form.
+use Rattle.std.specs.Prelude.{◌≡◌, ℕ, ◌/◌, ◌%◌, ◌≤◌, Bool, true, nat_le, Ok}
+use Rattle.std.proofs.Common.{arith, ap, ap₂, sym, ◌∙◌}
+use Rattle.std.proofs.lemmas.Bool.Decides.{nat_tests}
+use Rattle.speedate_base.specs.Offset.{seconds_per_day}
+use Rattle.speedate_base.proofs.RequirementLemmas.{meets-all}
+use Rattle.speedate.specs.DurationNumbers.{DurationNumbers, IsDuration, length_seconds, length_microseconds, of_length, carried_second, carried_day, normal_table, normal_form}
+
+-- numbers in their ranges are those of their length
+pub of_length-only : (numbers : DurationNumbers) → IsDuration numbers → of_length numbers.positive (length_microseconds numbers) ≡ numbers
+of_length-only numbers valid =
+    let whole : length_microseconds numbers / 1000000 ≡ length_seconds numbers = omega (arith, valid.microsecond) in
+    let days : length_microseconds numbers / 1000000 / seconds_per_day ≡ numbers.day = omega (arith, valid.second, valid.microsecond) in
+    let seconds : length_microseconds numbers / 1000000 % seconds_per_day ≡ numbers.second = omega (arith, valid.second, valid.microsecond) in
+    let left : length_microseconds numbers % 1000000 ≡ numbers.microsecond = omega (arith, valid.microsecond) in
+    λ i. record { positive = numbers.positive; day = days i; second = seconds i; microsecond = left i }
+
+-- and have no other length
+pub length-of_length : (positive : Bool) (length : ℕ) → length_microseconds (of_length positive length) ≡ length
+length-of_length positive length = omega arith
+
+-- so two durations of one sign and one length are one
+pub length-only : (first second : DurationNumbers) → IsDuration first → IsDuration second → first.positive ≡ second.positive
+    → length_microseconds first ≡ length_microseconds second → first ≡ second
+length-only first second one two sign same =
+    sym (of_length-only first one) ∙ ap₂ of_length sign same ∙ of_length-only second two
+
+-- the normal form of a duration is itself
+pub normal_form-same : (numbers : DurationNumbers) → IsDuration numbers → normal_form numbers ≡ Ok numbers
+normal_form-same numbers valid =
+    let second : nat_le (carried_second numbers) 4294967295 ≡ true = grind (arith, nat_tests, valid.second, valid.microsecond) in
+    let few : carried_day numbers ≤ 999999999 = omega (arith, valid.day, valid.second, valid.microsecond) in
+    let day : nat_le (carried_day numbers) 4294967295 ≡ true = grind (arith, nat_tests, few) in
+    let last : nat_le (carried_day numbers) 999999999 ≡ true = grind (arith, nat_tests, few) in
+    meets-all (normal_table numbers) _ (second, (day, (last, tt))) ∙ ap Ok (of_length-only numbers valid)
