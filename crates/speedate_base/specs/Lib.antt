@@ -13,7 +13,7 @@ pub mod Nearest
 pub mod Timestamp
 pub mod DecimalTimestamp
 pub mod UnixTime
-pub mod DecimalUnit
+pub mod UnixUnit
 pub mod DateConfig
 pub mod TimeConfig
 pub mod DateTimeConfig

@@ -12,7 +12,7 @@ use crate::config::{
 };
 use crate::faults::{ConfigError, ParseError};
 use crate::numbers::{Decimal, DigitRun, IntFloat};
-use crate::util::{DecimalUnit, UnixTime};
+use crate::util::{UnixTime, UnixUnit};
 use std::alloc::AllocError;
 
 /// Whether two faults are one: false for `TooShort` and `ExtraCharacters`.
@@ -139,8 +139,8 @@ pub fn clone_timestamp_unit(unit: &TimestampUnit) -> Result<TimestampUnit, Alloc
     unit.clone()
 }
 
-/// A second unit of a decimal that is the same: `Millisecond` for `Millisecond`.
-pub fn clone_decimal_unit(unit: &DecimalUnit) -> Result<DecimalUnit, AllocError>
+/// A second unit of timestamps that is the same.
+pub fn clone_unix_unit(unit: &UnixUnit) -> Result<UnixUnit, AllocError>
     ensures clone { result ≡ Ok unit.now }
 {
     unit.clone()

@@ -14,7 +14,7 @@ use crate::config::TimestampUnit;
 use crate::faults::ParseError;
 pub use decimal::{decimal_to_seconds_micros, decimal_unit};
 pub use rounding::{LARGEST_UNIT, filled, nearest_microseconds, twice_microseconds};
-pub use unit::DecimalUnit;
+pub use unit::{MICROSECOND, MILLISECOND, SECOND, UnixUnit};
 pub use unix_time::{FIRST_SECOND, LAST_SECOND, UnixTime};
 
 /// The seconds of a day.
@@ -36,16 +36,16 @@ pub fn timestamp_to_seconds_micros(
     ensures answer { result_map parts result ≡ instant_answer unit timestamp }
 {
     match unit {
-        TimestampUnit::Second => Ok(UnixTime::from_seconds(timestamp)),
-        TimestampUnit::Millisecond => Ok(UnixTime::from_milliseconds(timestamp)),
-        TimestampUnit::Microsecond => Ok(UnixTime::from_microseconds(timestamp)),
+        TimestampUnit::Second => Ok(UnixTime::at(timestamp, SECOND)),
+        TimestampUnit::Millisecond => Ok(UnixTime::at(timestamp, MILLISECOND)),
+        TimestampUnit::Microsecond => Ok(UnixTime::at(timestamp, MICROSECOND)),
         TimestampUnit::Infer => {
             if timestamp.unsigned_abs() <= INFERRED_SECONDS_MAX {
-                Ok(UnixTime::from_seconds(timestamp))
+                Ok(UnixTime::at(timestamp, SECOND))
             } else if timestamp == i64::MIN {
                 Err(ParseError::DateTooSmall)
             } else {
-                Ok(UnixTime::from_milliseconds(timestamp))
+                Ok(UnixTime::at(timestamp, MILLISECOND))
             }
         }
     }

@@ -4,7 +4,7 @@ ghost use Rattle.std.specs.Prelude.{◌≡◌, ◌<◌, ◌≤◌, ◌^◌, ◌=
 ghost use Rattle.std.specs.Char.{is_ascii_digit};
 ghost use Rattle.std.specs.List.{list_all};
 ghost use Rattle.speedate_base.specs.DecimalTimestamp.{decimal_digits, decimal_scale, decimal_row, decimal_instant};
-ghost use Rattle.speedate_base.specs.DecimalUnit.{row};
+ghost use Rattle.speedate_base.specs.UnixUnit.{row, IsOfRow};
 ghost use Rattle.speedate_base.specs.DigitRuns.{digits_value};
 ghost use Rattle.speedate_base.specs.IntFloat.{parts as decimal_parts};
 ghost use Rattle.speedate_base.specs.Nearest.{nearest};
@@ -15,7 +15,7 @@ ghost use Rattle.speedate_base.specs.Timestamp.{IsInYears, inferred_seconds_max,
 ghost use Rattle.speedate_base.specs.UnixTime.{parts};
 
 use super::rounding::{filled, nearest_microseconds};
-use super::{DecimalUnit, INFERRED_SECONDS_MAX, UnixTime};
+use super::{INFERRED_SECONDS_MAX, MICROSECOND, MILLISECOND, SECOND, UnixTime, UnixUnit};
 use crate::config::TimestampUnit;
 use crate::faults::ParseError;
 use crate::numbers::digits::digits_number;
@@ -31,18 +31,18 @@ const FAR_MICROSECONDS: u64 = 1 << 60;
 /// An inferred unit is seconds where the size of the whole decimal is at most 20,000,000,000,
 /// otherwise milliseconds.
 #[inline]
-pub fn decimal_unit(decimal: Decimal<'_>, unit: TimestampUnit) -> DecimalUnit
-    ensures row { row result ≡ decimal_row unit (decimal_parts decimal.entry) }
+pub fn decimal_unit(decimal: Decimal<'_>, unit: TimestampUnit) -> UnixUnit
+    ensures row { IsOfRow (decimal_row unit (decimal_parts decimal.entry)) result }
 {
     match unit {
-        TimestampUnit::Second => DecimalUnit::Second,
-        TimestampUnit::Millisecond => DecimalUnit::Millisecond,
-        TimestampUnit::Microsecond => DecimalUnit::Microsecond,
+        TimestampUnit::Second => SECOND,
+        TimestampUnit::Millisecond => MILLISECOND,
+        TimestampUnit::Microsecond => MICROSECOND,
         TimestampUnit::Infer => {
             if is_inferred_seconds(decimal) {
-                DecimalUnit::Second
+                SECOND
             } else {
-                DecimalUnit::Millisecond
+                MILLISECOND
             }
         }
     }
@@ -90,7 +90,7 @@ fn are_zeros(digits: &[u8]) -> bool
 #[inline]
 pub fn decimal_to_seconds_micros(
     decimal: Decimal<'_>,
-    unit: DecimalUnit,
+    unit: UnixUnit,
 ) -> Result<UnixTime, ParseError>
     ensures answer { result_map parts result ≡ range_answer (decimal_instant (row unit) (decimal_parts decimal.entry)) }
     ensures within { IfOk result (λ time. IsInYears (parts time)) }
@@ -101,20 +101,20 @@ pub fn decimal_to_seconds_micros(
         return Err(far_fault(decimal.negative));
     }
     let size = whole + fraction_microseconds(decimal.fraction, unit, decimal.negative);
-    UnixTime::from_microseconds(with_sign(decimal.negative, size)).in_years()
+    UnixTime::at(with_sign(decimal.negative, size), MICROSECOND).in_years()
 }
 
 /// The microseconds of a fraction of the unit, to the nearest.
 #[inline]
-fn fraction_microseconds(digits: &[u8], unit: DecimalUnit, negative: bool) -> u64
+fn fraction_microseconds(digits: &[u8], unit: UnixUnit, negative: bool) -> u64
     requires { IsTrue (list_all is_ascii_digit digits.now) }
     ensures nearest { with_sign negative result
         ≡ nearest (with_sign negative (digits_value digits.now * (1000000 / (row unit).per_second))) (10 ^ length digits.now) }
     ensures within { result ≤ 1000000 }
 {
     // So few digits are whole microseconds.
-    if digits.len() <= unit.digits() {
-        return filled(digits, unit.digits());
+    if digits.len() <= unit.digits {
+        return filled(digits, unit.digits);
     }
     nearest_microseconds(digits, unit.microseconds(), negative)
 }

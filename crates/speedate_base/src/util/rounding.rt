@@ -76,7 +76,7 @@ pub fn filled(digits: &[u8], places: usize) -> u64
 
 /// Ten to a power up to the eighth.
 #[inline]
-fn power_of_ten(exponent: usize) -> u64
+pub(super) fn power_of_ten(exponent: usize) -> u64
     requires { exponent ≤ 8 }
     ensures { result ≡ 10 ^ exponent }
 {

@@ -1,22 +1,46 @@
-//! Units of decimal timestamps.
+//! Units of timestamps.
 
-ghost use Rattle.std.specs.Prelude.{◌≡◌, ◌≤◌, ◌/◌};
+ghost use Rattle.std.specs.Prelude.{◌≡◌, ◌≤◌, ◌*◌, ◌/◌, ◌^◌};
 
+use super::rounding::power_of_ten;
 use crate::faults::ParseError;
 
-/// The unit of a decimal timestamp.
-#[derive(Clone, Copy, Debug)]
-pub enum DecimalUnit {
-    /// Seconds since 1970-01-01T00:00:00.
-    Second,
-    /// Milliseconds since 1970-01-01T00:00:00.
-    Millisecond,
-    /// Microseconds since 1970-01-01T00:00:00.
-    Microsecond,
+/// A unit of timestamps, which count from 1970-01-01T00:00:00.
+#[derive(Clone, Copy)]
+pub struct UnixUnit {
+    /// How many of it make a second: 1,000 milliseconds.
+    pub per_second: u32,
+    /// How many digits after a point are whole microseconds: 3 for milliseconds.
+    pub digits: usize,
+    /// The fault of a text with more digits than those: `MillisecondFractionTooLong` for milliseconds.
+    pub too_long: ParseError,
+    pub ghost few: { digits ≤ 6 },
+    pub ghost whole: { per_second * 10 ^ digits ≡ 1000000 },
 }
 
-impl DecimalUnit {
-    ghost use Rattle.speedate_base.specs.DecimalUnit.{row};
+/// Seconds since 1970-01-01T00:00:00.
+pub const SECOND: UnixUnit = UnixUnit {
+    per_second: 1,
+    digits: 6,
+    too_long: ParseError::SecondFractionTooLong,
+};
+
+/// Milliseconds since 1970-01-01T00:00:00.
+pub const MILLISECOND: UnixUnit = UnixUnit {
+    per_second: 1_000,
+    digits: 3,
+    too_long: ParseError::MillisecondFractionTooLong,
+};
+
+/// Microseconds since 1970-01-01T00:00:00.
+pub const MICROSECOND: UnixUnit = UnixUnit {
+    per_second: 1_000_000,
+    digits: 0,
+    too_long: ParseError::MicrosecondFractionTooLong,
+};
+
+impl UnixUnit {
+    ghost use Rattle.speedate_base.specs.UnixUnit.{row};
 
     /// The microseconds of the unit: 1,000 for milliseconds.
     #[inline]
@@ -24,34 +48,6 @@ impl DecimalUnit {
         ensures worth { result ≡ 1000000 / (row self).per_second }
         ensures small { result ≤ 1000000 }
     {
-        match self {
-            DecimalUnit::Second => 1_000_000,
-            DecimalUnit::Millisecond => 1_000,
-            DecimalUnit::Microsecond => 1,
-        }
-    }
-
-    /// How many digits behind a point are whole microseconds: 3 for milliseconds.
-    #[inline]
-    pub fn digits(self) -> usize
-        ensures digits { result ≡ (row self).digits }
-    {
-        match self {
-            DecimalUnit::Second => 6,
-            DecimalUnit::Millisecond => 3,
-            DecimalUnit::Microsecond => 0,
-        }
-    }
-
-    /// The fault of a text with more digits than those: `MillisecondFractionTooLong` for milliseconds.
-    #[inline]
-    pub fn too_long(self) -> ParseError
-        ensures fault { result ≡ (row self).too_long }
-    {
-        match self {
-            DecimalUnit::Second => ParseError::SecondFractionTooLong,
-            DecimalUnit::Millisecond => ParseError::MillisecondFractionTooLong,
-            DecimalUnit::Microsecond => ParseError::MicrosecondFractionTooLong,
-        }
+        power_of_ten(self.digits)
     }
 }

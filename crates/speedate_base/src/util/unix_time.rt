@@ -2,6 +2,7 @@
 
 ghost use Rattle.std.specs.Prelude.{◌≡◌, ◌<◌};
 
+use super::unit::UnixUnit;
 use crate::faults::ParseError;
 
 /// The first second of the year 0000, counted from 1970-01-01T00:00:00.
@@ -25,39 +26,17 @@ impl UnixTime {
     ghost use Rattle.speedate_base.specs.Requirement.{result_map};
     ghost use Rattle.speedate_base.specs.Timestamp.{IsInYears, instant_at, range_answer};
     ghost use Rattle.speedate_base.specs.UnixTime.{parts};
+    ghost use Rattle.speedate_base.specs.UnixUnit.{row};
 
-    /// The instant so many seconds after 1970-01-01T00:00:00: a second before it for -1.
-    #[inline]
-    pub(super) fn from_seconds(timestamp: i64) -> Self
-        ensures { parts result ≡ instant_at 1 timestamp }
+    /// The instant of a timestamp in a unit: second -1 and 999,000 microseconds for millisecond -1.
+    #[inline(always)]
+    pub(super) fn at(timestamp: i64, unit: UnixUnit) -> Self
+        ensures { parts result ≡ instant_at (row unit).per_second timestamp }
     {
+        let per_second = i64::from(unit.per_second);
         UnixTime {
-            second: timestamp,
-            microsecond: 0,
-        }
-    }
-
-    /// The instant so many milliseconds after 1970-01-01T00:00:00: second -1 and 999,000
-    /// microseconds for -1.
-    #[inline]
-    pub(super) fn from_milliseconds(timestamp: i64) -> Self
-        ensures { parts result ≡ instant_at 1000 timestamp }
-    {
-        UnixTime {
-            second: timestamp.div_euclid(1000),
-            microsecond: 1000 * timestamp.rem_euclid(1000) as u32,
-        }
-    }
-
-    /// The instant so many microseconds after 1970-01-01T00:00:00: second -1 and 999,999
-    /// microseconds for -1.
-    #[inline]
-    pub(super) fn from_microseconds(timestamp: i64) -> Self
-        ensures { parts result ≡ instant_at 1000000 timestamp }
-    {
-        UnixTime {
-            second: timestamp.div_euclid(1_000_000),
-            microsecond: timestamp.rem_euclid(1_000_000) as u32,
+            second: timestamp.div_euclid(per_second),
+            microsecond: timestamp.rem_euclid(per_second) as u32 * (1_000_000 / unit.per_second),
         }
     }
 

@@ -3,7 +3,7 @@
 ghost use Rattle.std.specs.Prelude.{◌≡◌, IfOk};
 ghost use Rattle.std.specs.Option.{ForSome};
 ghost use Rattle.speedate_base.specs.DecimalTimestamp.{decimal_row, decimal_scale, decimal_size, decimal_instant};
-ghost use Rattle.speedate_base.specs.DecimalUnit.{row};
+ghost use Rattle.speedate_base.specs.UnixUnit.{row};
 ghost use Rattle.speedate_base.specs.IntFloat.{parts as decimal_parts};
 ghost use Rattle.speedate_base.specs.Nearest.{IsNearest};
 ghost use Rattle.speedate_base.specs.Offset.{IsOffset};
@@ -16,7 +16,7 @@ use crate::datetime::DateTime;
 use speedate_base::config::{DateTimeConfig, takes_digits};
 use speedate_base::faults::ParseError;
 use speedate_base::numbers::Decimal;
-use speedate_base::util::{DecimalUnit, decimal_to_seconds_micros, decimal_unit};
+use speedate_base::util::{UnixUnit, decimal_to_seconds_micros, decimal_unit};
 
 impl DateTime {
     /// The date-time of a decimal timestamp, in the unit of the configuration and to the nearest
@@ -60,8 +60,8 @@ impl DateTime {
     {
         let unit = decimal_unit(decimal, config.timestamp_unit);
         let behavior = config.time_config.microseconds_precision_overflow_behavior;
-        if !takes_digits(behavior, decimal.fraction.len(), unit.digits()) {
-            return Err(unit.too_long());
+        if !takes_digits(behavior, decimal.fraction.len(), unit.digits) {
+            return Err(unit.too_long);
         }
         Self::at_decimal(decimal, unit, config.time_config.unix_timestamp_offset)
     }
@@ -70,7 +70,7 @@ impl DateTime {
     #[inline]
     fn at_decimal(
         decimal: Decimal<'_>,
-        unit: DecimalUnit,
+        unit: UnixUnit,
         offset: Option<i32>,
     ) -> Result<Self, ParseError>
         requires { ForSome offset IsOffset }

@@ -6,7 +6,7 @@ use Rattle.std.specs.Char.{is_ascii_digit}
 use Rattle.std.specs.List.{list_all}
 use Rattle.std.proofs.Math.Nat.{mul-le-mul_right, le-mul_of_pos_right}
 use Rattle.speedate_base.specs.DecimalTimestamp.{decimal_microsecond}
-use Rattle.speedate_base.specs.DecimalUnit.{row}
+use Rattle.speedate_base.specs.UnixUnit.{row}
 use Rattle.speedate_base.specs.DigitRuns.{digits_value}
 use Rattle.speedate_base.specs.IntFloat.{parts as decimal_parts}
 use Rattle.speedate_base.proofs.NearestLemmas.{scale-some}
@@ -56,5 +56,5 @@ returns-clause-answer c =
     let signed : c.with_sign.result ≡ decimal_microsecond (row given) (decimal_parts decimal) =
     c.with_sign.ensures.number ∙ ap (λ (n : ℕ). with_sign decimal.negative (n + part)) size ∙ sym sum in
     let fits : SFits w64 c.with_sign.result = search rules in
-    let time = (simp to_z-of_z at c.from_microseconds.ensures) ∙ ap (instant_at 1000000) signed in
+    let time = (simp to_z-of_z at c.at.ensures) ∙ ap (instant_at 1000000) signed in
     c.in_years.ensures.answer ∙ ap range_answer time

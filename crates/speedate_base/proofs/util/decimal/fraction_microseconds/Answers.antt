@@ -1,6 +1,6 @@
 use Rattle.std.proofs.Common.{◌≡◌, ◌∙◌, ap, sym, ℕ, ◌+◌, ◌-◌, ◌*◌, ◌^◌, ◌≤◌, Bool, length, arith}
 use Rattle.std.proofs.lemmas.Nat.{pow-add}
-use Rattle.speedate_base.specs.DecimalUnit.{row}
+use Rattle.speedate_base.specs.UnixUnit.{row}
 use Rattle.speedate_base.specs.DigitRuns.{digits_value}
 use Rattle.speedate_base.specs.Nearest.{nearest}
 use Rattle.speedate_base.proofs.NearestLemmas.{nearest-exact, scale-some}
@@ -17,11 +17,9 @@ exact negative worth digits count value filled few is_worth is =
     let product : filled * 10 ^ count ≡ value * worth = ap (λ (n : ℕ). n * 10 ^ count) is ∙ grind (arith, power) in
     sym (ap (λ (n : ℕ). nearest (with_sign negative n) (10 ^ count)) (sym product) ∙ nearest-exact negative filled (10 ^ count) (scale-some count))
 
-pub returns-then-digits-clause-nearest : goal.returns-then-digits-clause-nearest
-returns-then-digits-clause-nearest c =
+pub returns-then-digits-unit-clause-nearest : goal.returns-then-digits-unit-clause-nearest
+returns-then-digits-unit-clause-nearest c =
     let digits = c.args.digits.now in
     let given = c.args.unit in
-    let places : c.digits-then-digits.result ≡ (row given).digits = c.digits-then-digits.ensures.digits in
-    let few : length digits ≤ (row given).digits = omega (arith, c.if-digits.true, c.digits.ensures.digits) in
-    let filled = c.filled.ensures.value ∙ ap (λ (n : ℕ). digits_value digits * 10 ^ (n - length digits)) places in
-    exact c.args.negative _ (row given).digits (length digits) (digits_value digits) c.filled.result few (unit-digits (row given)) filled
+    let few : length digits ≤ given.digits = omega (arith, c.if-digits-unit.true) in
+    exact c.args.negative _ given.digits (length digits) (digits_value digits) c.filled.result few (unit-digits (row given)) c.filled.ensures.value
