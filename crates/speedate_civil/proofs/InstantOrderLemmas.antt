@@ -1,13 +1,14 @@
 -- Laws of the order by instants: it is total, among values with offsets and among those without; without offsets it is the
 -- order of the texts; and where the offsets are one it is that of what clocks show.
-use Rattle.std.specs.Prelude.{◌≡◌, ℕ, ◌+◌, ◌*◌, ◌/◌, ◌%◌, ◌<◌, ◌<ℤ◌, Bool, true, false, ◌&&◌, if◌then◌else◌, ◌∷◌, ◌==◌, ℤ, pos, ◌+ℤ◌, ◌-ℤ◌, ◌*ℤ◌, Option, Some, None, refl}
-use Rattle.std.specs.Option.{is_some, unwrap_or}
+use Rattle.std.specs.Prelude.{◌≡◌, ℕ, ◌+◌, ◌*◌, ◌/◌, ◌%◌, ◌<◌, ◌<ℤ◌, Bool, true, false, ◌&&◌, ◌∷◌, ◌==◌, ℤ, pos, ◌+ℤ◌, ◌-ℤ◌, ◌*ℤ◌, Option, None, refl}
+use Rattle.std.specs.Option.{is_some}
 use Rattle.std.specs.Cmp.{IsTotalOrder, int_ranks, int_cmp_is, upto, nat_cmp_total, int_cmp_total, on_total, then_total}
 use Rattle.std.specs.Cmp.Lexicographic.{slice_cmp}
 use Rattle.std.specs.Ordering.{nat_cmp, int_cmp, is_gt, ordering_then, ordering_reverse, MatchOrdering, on}
 use Rattle.std.specs.declared.cmp.Ordering.{Ordering}
 use Rattle.std.specs.declared.cmp.Ordering.TheVariants.{Less, Equal, Greater}
 use Rattle.std.proofs.Common.{arith, ◌∙◌, ap, sym}
+use Rattle.std.proofs.Math.Bool.{and_comm}
 use Rattle.std.proofs.lemmas.Bool.Decides.{nat_tests}
 use Rattle.std.proofs.lemmas.Int.{ints}
 use Rattle.std.proofs.lemmas.List.{append-nil}
@@ -22,7 +23,7 @@ use Rattle.speedate_civil.specs.ClockText.{fraction_text}
 use Rattle.speedate_civil.specs.DateTimeText.{date_time_text}
 use Rattle.speedate_civil.specs.TimeText.{time_text}
 use Rattle.speedate_civil.specs.DateAndTime.{DateAndTime, IsDateAndTime, local_second}
-use Rattle.speedate_civil.specs.InstantOrder.{instant_order, by_offsets, shown_time, utc_time, time_instant_order, shown_date_time, utc_date_time, date_time_instant_order, AreAlike, IsNotAfter}
+use Rattle.speedate_civil.specs.InstantOrder.{instant_order, by_instant, time_instant, time_instant_order, date_time_instant, date_time_instant_order, AreAlike, IsNotAfter}
 use Rattle.speedate_civil.specs.TimeOfDay.{TimeOfDay, IsTime, second_of_day}
 
 -- instants are ordered one after another
@@ -41,7 +42,7 @@ left-ranked first second less Less before = int_cmp_is (first -ℤ less) (second
 left-ranked first second less Equal same = int_cmp_is (first -ℤ less) (second -ℤ less) Equal (ap (λ (number : ℤ). number -ℤ less) same)
 left-ranked first second less Greater after = int_cmp_is (first -ℤ less) (second -ℤ less) Greater (omega (arith, ints))
 
-pub left-order : (first second less : ℤ) → int_cmp (first -ℤ less) (second -ℤ less) ≡ int_cmp first second
+left-order : (first second less : ℤ) → int_cmp (first -ℤ less) (second -ℤ less) ≡ int_cmp first second
 left-order first second less = sym (left-ranked first second less (int_cmp first second) (int_ranks first second))
 
 -- days and then seconds of the day are ordered as the seconds
@@ -56,10 +57,10 @@ clock-order : (first second : TimeOfDay) → IsTime first → IsTime second → 
 clock-order first second one two next = grind (arith, nat_tests, one.minute, one.second, two.minute, two.second)
 
 -- what clocks show of times is ordered as the second of the day and the microsecond
-pub shown_time-order : (first second : TimeOfDay)
-    → on shown_time instant_order first second
+time_instant-order : (first second : TimeOfDay)
+    → on (time_instant false) instant_order first second
     ≡ ordering_then (nat_cmp (second_of_day first) (second_of_day second)) (nat_cmp first.microsecond second.microsecond)
-shown_time-order first second =
+time_instant-order first second =
     ap (λ (order : Ordering). ordering_then order (nat_cmp first.microsecond second.microsecond)) (pos-order (second_of_day first) (second_of_day second))
 
 -- the second of a date-time, from the year 0 on
@@ -84,23 +85,15 @@ local_second-order first second one two =
     ∙ day-order days others seconds shown small little
     ∙ ap (λ (order : Ordering). ordering_then order (nat_cmp seconds shown)) (sym (date_order-day_number first.date second.date one.date.day two.date.day))
 
-pub shown_date_time-order : (first second : DateAndTime) → IsDateAndTime first → IsDateAndTime second
-    → on shown_date_time instant_order first second ≡ ordering_then (date_order first.date second.date) (on shown_time instant_order first.time second.time)
-shown_date_time-order first second one two =
+date_time_instant-order : (first second : DateAndTime) → IsDateAndTime first → IsDateAndTime second
+    → on (date_time_instant false) instant_order first second ≡ ordering_then (date_order first.date second.date) (on (time_instant false) instant_order first.time second.time)
+date_time_instant-order first second one two =
     let dates : Ordering = date_order first.date second.date in
     let seconds : Ordering = nat_cmp (second_of_day first.time) (second_of_day second.time) in
     let microseconds : Ordering = nat_cmp first.time.microsecond second.time.microsecond in
     ap (λ (order : Ordering). ordering_then order microseconds) (local_second-order first second one two)
     ∙ then-then dates seconds microseconds
-    ∙ ap (ordering_then dates) (sym (shown_time-order first.time second.time))
-
--- where the offsets of date-times are one, those are ordered as what clocks show
-pub utc_date_time-order : (first second : DateAndTime) → first.time.offset ≡ second.time.offset
-    → on utc_date_time instant_order first second ≡ on shown_date_time instant_order first second
-utc_date_time-order first second same =
-    let less : ℤ = unwrap_or second.time.offset (pos 0) in
-    (λ i. ordering_then (int_cmp (local_second first -ℤ unwrap_or (same i) (pos 0)) (local_second second -ℤ less)) (nat_cmp first.time.microsecond second.time.microsecond))
-    ∙ ap (λ (order : Ordering). ordering_then order (nat_cmp first.time.microsecond second.time.microsecond)) (left-order (local_second first) (local_second second) less)
+    ∙ ap (ordering_then dates) (sym (time_instant-order first.time second.time))
 
 -- the first digits of six and the last four are ordered as the number
 six_digits-order : (first second : ℕ)
@@ -128,7 +121,7 @@ time_text-order first second one two none nothing =
     let fractions : Ordering = nat_cmp first.microsecond second.microsecond in
     let printed : Ordering = slice_cmp nat_cmp (fraction_text first.microsecond) (fraction_text second.microsecond) in
     rw (none, nothing, append-nil (fraction_text first.microsecond), append-nil (fraction_text second.microsecond))
-    (shown_time-order first second
+    (time_instant-order first second
     ∙ ap (ordering_then (nat_cmp (second_of_day first) (second_of_day second))) (sym (fractions-order first.microsecond second.microsecond _ _ refl refl))
     ∙ sym (clock-order first second one two printed)
     ∙ sym (digits-order first.hour second.hour _ ∙ ap (ordering_then (nat_cmp first.hour second.hour))
@@ -140,10 +133,10 @@ pub date_time_text-order : (first second : DateAndTime) → IsDateAndTime first 
 date_time_text-order first second one two none nothing =
     let texts : Ordering = slice_cmp nat_cmp (time_text first.time) (time_text second.time) in
     let times : time_instant_order first.time second.time ≡ texts = time_text-order first.time second.time one.time two.time none nothing in
-    let shown : time_instant_order first.time second.time ≡ on shown_time instant_order first.time second.time = rw (none) refl in
-    let all : date_time_instant_order first second ≡ on shown_date_time instant_order first second = rw (none) refl in
+    let shown : time_instant_order first.time second.time ≡ on (time_instant false) instant_order first.time second.time = rw (none) refl in
+    let all : date_time_instant_order first second ≡ on (date_time_instant false) instant_order first second = rw (none) refl in
     all
-    ∙ shown_date_time-order first second one two
+    ∙ date_time_instant-order first second one two
     ∙ ap (ordering_then (date_order first.date second.date)) (sym shown ∙ times)
     ∙ sym (date_text-front-order first.date second.date (capital_t ∷ time_text first.time) (capital_t ∷ time_text second.time))
 
@@ -164,62 +157,27 @@ chain : {K : Type 0} {order : K → K → Ordering} → IsTotalOrder order → (
 chain {K} {order} total first second third one two =
     not_after (order first third) (upto total first second third (not_greater (order first second) one) (not_greater (order second third) two))
 
--- an order by offsets is total among values with offsets, and among those without, where its two orders are
-module _ {K : Type 0} (offset : K → Option ℤ) {utc shown : K → K → Ordering} (one : IsTotalOrder utc) (two : IsTotalOrder shown) where
+-- an order by instants is total among values with offsets, and among those without
+module _ {K : Type 0} (offset : K → Option ℤ) (instant : Bool → K → Instant) where
+  total : (is_utc : Bool) → IsTotalOrder (on (instant is_utc) instant_order)
+  total is_utc = on_total (instant is_utc) instant_order-total
+
   -- values the other way round are ordered the other way round
-  pub by_offsets-turned : (first second : K) → by_offsets offset utc shown second first ≡ ordering_reverse (by_offsets offset utc shown first second)
-  by_offsets-turned first second = turned (offset first) (offset second)
-    where
-      turned : (own other : Option ℤ)
-          → (if is_some other && is_some own then utc second first else shown second first)
-          ≡ ordering_reverse (if is_some own && is_some other then utc first second else shown first second)
-      turned None None = two.antisymm second first
-      turned None (Some other) = two.antisymm second first
-      turned (Some own) None = two.antisymm second first
-      turned (Some own) (Some other) = one.antisymm second first
+  pub by_instant-turned : (first second : K) → by_instant offset instant second first ≡ ordering_reverse (by_instant offset instant first second)
+  by_instant-turned first second =
+      ap (λ (is_utc : Bool). on (instant is_utc) instant_order second first) (and_comm (is_some (offset second)) (is_some (offset first)))
+      ∙ (total (is_some (offset first) && is_some (offset second))).antisymm second first
 
   -- and of three values that are alike the first is not after the last, where it is not after the next, and that not after the last
-  pub by_offsets-transitive : (first second third : K) → AreAlike (offset first) (offset second) → AreAlike (offset second) (offset third)
-      → IsNotAfter (by_offsets offset utc shown first second) → IsNotAfter (by_offsets offset utc shown second third) → IsNotAfter (by_offsets offset utc shown first third)
-  by_offsets-transitive first second third = chained (offset first) (offset second) (offset third)
+  pub by_instant-transitive : (first second third : K) → AreAlike (offset first) (offset second) → AreAlike (offset second) (offset third)
+      → IsNotAfter (by_instant offset instant first second) → IsNotAfter (by_instant offset instant second third) → IsNotAfter (by_instant offset instant first third)
+  by_instant-transitive first second third = chained (is_some (offset first)) (is_some (offset second)) (is_some (offset third))
     where
-      chained : (a b c : Option ℤ) → AreAlike a b → AreAlike b c
-          → IsNotAfter (if is_some a && is_some b then utc first second else shown first second)
-          → IsNotAfter (if is_some b && is_some c then utc second third else shown second third)
-          → IsNotAfter (if is_some a && is_some c then utc first third else shown first third)
-      chained None None None forth back = chain two first second third
-      chained None None (Some c) forth back = absurd (cc)
-      chained None (Some b) c forth back = absurd (cc)
-      chained (Some a) None c forth back = absurd (cc)
-      chained (Some a) (Some b) None forth back = absurd (cc)
-      chained (Some a) (Some b) (Some c) forth back = chain one first second third
-
-time_order-utc : IsTotalOrder (on utc_time instant_order)
-time_order-utc = on_total utc_time instant_order-total
-
-time_order-shown : IsTotalOrder (on shown_time instant_order)
-time_order-shown = on_total shown_time instant_order-total
-
--- so of times
-pub time_instant_order-turned : (first second : TimeOfDay) → time_instant_order second first ≡ ordering_reverse (time_instant_order first second)
-time_instant_order-turned = by_offsets-turned (λ (time : TimeOfDay). time.offset) time_order-utc time_order-shown
-
-pub time_instant_order-transitive : (first second third : TimeOfDay) → AreAlike first.offset second.offset → AreAlike second.offset third.offset
-    → IsNotAfter (time_instant_order first second) → IsNotAfter (time_instant_order second third) → IsNotAfter (time_instant_order first third)
-time_instant_order-transitive = by_offsets-transitive (λ (time : TimeOfDay). time.offset) time_order-utc time_order-shown
-
-date_time_order-utc : IsTotalOrder (on utc_date_time instant_order)
-date_time_order-utc = on_total utc_date_time instant_order-total
-
-date_time_order-shown : IsTotalOrder (on shown_date_time instant_order)
-date_time_order-shown = on_total shown_date_time instant_order-total
-
--- and of date-times
-pub date_time_instant_order-turned : (first second : DateAndTime)
-    → date_time_instant_order second first ≡ ordering_reverse (date_time_instant_order first second)
-date_time_instant_order-turned = by_offsets-turned (λ (value : DateAndTime). value.time.offset) date_time_order-utc date_time_order-shown
-
-pub date_time_instant_order-transitive : (first second third : DateAndTime)
-    → AreAlike first.time.offset second.time.offset → AreAlike second.time.offset third.time.offset
-    → IsNotAfter (date_time_instant_order first second) → IsNotAfter (date_time_instant_order second third) → IsNotAfter (date_time_instant_order first third)
-date_time_instant_order-transitive = by_offsets-transitive (λ (value : DateAndTime). value.time.offset) date_time_order-utc date_time_order-shown
+      chained : (a b c : Bool) → a ≡ b → b ≡ c → IsNotAfter (on (instant (a && b)) instant_order first second)
+          → IsNotAfter (on (instant (b && c)) instant_order second third) → IsNotAfter (on (instant (a && c)) instant_order first third)
+      chained true true true one two = chain (total true) first second third
+      chained false false false one two = chain (total false) first second third
+      chained true true false one two = absurd (cc)
+      chained true false c one two = absurd (cc)
+      chained false true c one two = absurd (cc)
+      chained false false true one two = absurd (cc)

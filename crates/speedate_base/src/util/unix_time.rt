@@ -12,7 +12,7 @@ pub const FIRST_SECOND: i64 = -62_167_219_200;
 pub const LAST_SECOND: i64 = 253_402_300_799;
 
 /// An instant: seconds since 1970-01-01T00:00:00, rounded down, and the microseconds that are left.
-#[derive(Clone, Copy, Debug, PartialEq, Eq)]
+#[derive(Clone, Copy, Debug, PartialEq, Eq, PartialOrd, Ord)]
 pub struct UnixTime {
     /// Seconds since 1970-01-01T00:00:00, rounded down.
     pub second: i64,

@@ -1,16 +1,18 @@
 //! The order of date-times by the instant at which they lie.
 
 use super::DateTime;
+use speedate_base::util::UnixTime;
 use std::cmp::Ordering;
 
 impl DateTime {
     ghost use Rattle.std.specs.Prelude.{◌≡◌, None};
     ghost use Rattle.std.specs.Cmp.Lexicographic.{slice_cmp};
-    ghost use Rattle.std.specs.Ordering.{nat_cmp, on, ordering_reverse};
+    ghost use Rattle.std.specs.Ordering.{nat_cmp, ordering_reverse};
+    ghost use Rattle.speedate_base.specs.UnixTime.{parts as instant_parts};
     ghost use Rattle.speedate_civil.specs.declared.datetime.DateTime.{DateTime};
     ghost use Rattle.speedate_civil.specs.DateTime.{parts};
     ghost use Rattle.speedate_civil.specs.DateTimeText.{date_time_text};
-    ghost use Rattle.speedate_civil.specs.InstantOrder.{instant_order, shown_date_time, utc_date_time, date_time_instant_order, AreAlike, IsNotAfter};
+    ghost use Rattle.speedate_civil.specs.InstantOrder.{date_time_instant, date_time_instant_order, AreAlike, IsNotAfter};
 
     /// Which of two date-times is the earlier one: in UTC where both have an offset, so
     /// 2022-01-02T01:00:00+03:00 is before 2022-01-01T23:00:00Z, and where one has none as clocks
@@ -31,35 +33,22 @@ impl DateTime {
             → IsNotAfter result → IsNotAfter (date_time_instant_order (parts other.now) (parts third))
             → IsNotAfter (date_time_instant_order (parts self.now) (parts third)) }
     {
-        if self.time.tz_offset.is_some() && other.time.tz_offset.is_some() {
-            self.cmp_utc(other)
-        } else {
-            self.cmp_shown(other)
-        }
+        let is_utc = self.time.tz_offset.is_some() && other.time.tz_offset.is_some();
+        self.instant(is_utc).cmp(&other.instant(is_utc))
     }
 
-    /// Which of two date-times is the earlier one, as clocks show them.
+    /// The instant of the date-time, in UTC or as a clock shows it; an absent offset is 0.
     #[inline]
-    fn cmp_shown(&self, other: &DateTime) -> Ordering
-        ensures order { result ≡ on shown_date_time instant_order (parts self.now) (parts other.now) }
+    fn instant(&self, is_utc: bool) -> UnixTime
+        ensures { instant_parts result ≡ date_time_instant is_utc (parts self.now) }
     {
-        match self.date.cmp(&other.date) {
-            Ordering::Equal => self.time.cmp_shown(&other.time),
-            order => order,
+        UnixTime {
+            second: if is_utc {
+                self.timestamp_tz()
+            } else {
+                self.timestamp()
+            },
+            microsecond: self.time.microsecond,
         }
-    }
-
-    /// Which of two date-times is the earlier one, in UTC; an absent offset is 0. Where the offsets
-    /// are one that is what clocks show, and no days are counted.
-    #[inline]
-    fn cmp_utc(&self, other: &DateTime) -> Ordering
-        ensures order { result ≡ on utc_date_time instant_order (parts self.now) (parts other.now) }
-    {
-        if self.time.tz_offset == other.time.tz_offset {
-            return self.cmp_shown(other);
-        }
-        self.timestamp_tz()
-            .cmp(&other.timestamp_tz())
-            .then(self.time.microsecond.cmp(&other.time.microsecond))
     }
 }

@@ -1,16 +1,17 @@
 //! The order of times by the instant at which they lie.
 
 use super::Time;
+use speedate_base::util::UnixTime;
 use std::cmp::Ordering;
 
 impl Time {
     ghost use Rattle.std.specs.Prelude.{◌≡◌, None};
     ghost use Rattle.std.specs.Cmp.Lexicographic.{slice_cmp};
-    ghost use Rattle.std.specs.Ordering.{nat_cmp, on, ordering_reverse};
+    ghost use Rattle.std.specs.Ordering.{nat_cmp, ordering_reverse};
+    ghost use Rattle.speedate_base.specs.UnixTime.{parts as instant_parts};
     ghost use Rattle.speedate_civil.specs.declared.time.Time.{Time};
-    ghost use Rattle.speedate_civil.specs.InstantOrder.{instant_order, shown_time, utc_time, time_instant_order, AreAlike, IsNotAfter};
+    ghost use Rattle.speedate_civil.specs.InstantOrder.{time_instant, time_instant_order, AreAlike, IsNotAfter};
     ghost use Rattle.speedate_civil.specs.Time.{parts};
-    ghost use Rattle.speedate_civil.specs.TimeOfDay.{utc_second_of_day};
     ghost use Rattle.speedate_civil.specs.TimeText.{time_text};
 
     /// Which of two times is the earlier one: in UTC where both have an offset, so 12:00:00+01:00
@@ -32,38 +33,20 @@ impl Time {
             → IsNotAfter result → IsNotAfter (time_instant_order (parts other.now) (parts third))
             → IsNotAfter (time_instant_order (parts self.now) (parts third)) }
     {
-        if self.tz_offset.is_some() && other.tz_offset.is_some() {
-            self.cmp_utc(other)
-        } else {
-            self.cmp_shown(other)
+        let is_utc = self.tz_offset.is_some() && other.tz_offset.is_some();
+        self.instant(is_utc).cmp(&other.instant(is_utc))
+    }
+
+    /// The instant of the time on 1970-01-01, in UTC or as a clock shows it; an absent offset is 0.
+    #[inline]
+    fn instant(&self, is_utc: bool) -> UnixTime
+        ensures { instant_parts result ≡ time_instant is_utc (parts self.now) }
+    {
+        let second = i64::from(self.total_seconds());
+        let offset = i64::from(self.tz_offset.unwrap_or(0));
+        UnixTime {
+            second: if is_utc { second - offset } else { second },
+            microsecond: self.microsecond,
         }
-    }
-
-    /// Which of two times is the earlier one, as clocks show them.
-    #[inline]
-    pub(crate) fn cmp_shown(&self, other: &Time) -> Ordering
-        ensures order { result ≡ on shown_time instant_order (parts self.now) (parts other.now) }
-    {
-        self.total_seconds()
-            .cmp(&other.total_seconds())
-            .then(self.microsecond.cmp(&other.microsecond))
-    }
-
-    /// Which of two times is the earlier one, in UTC; an absent offset is 0.
-    #[inline]
-    fn cmp_utc(&self, other: &Time) -> Ordering
-        ensures order { result ≡ on utc_time instant_order (parts self.now) (parts other.now) }
-    {
-        self.utc_second()
-            .cmp(&other.utc_second())
-            .then(self.microsecond.cmp(&other.microsecond))
-    }
-
-    /// The seconds since midnight in UTC; an absent offset is 0.
-    #[inline]
-    fn utc_second(&self) -> i64
-        ensures second { result ≡ utc_second_of_day (parts self.now) }
-    {
-        i64::from(self.total_seconds()) - i64::from(self.tz_offset.unwrap_or(0))
     }
 }

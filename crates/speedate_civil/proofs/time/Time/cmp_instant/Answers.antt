@@ -1,42 +1,20 @@
-use Rattle.std.proofs.Common.{◌≡◌, ◌∙◌, ap, sym, subst, rules}
-use Rattle.std.specs.Ordering.{ordering_reverse}
+use Rattle.std.proofs.Common.{◌≡◌, ◌∙◌, subst, rules}
 use Rattle.speedate_civil.specs.Time.{parts}
-use Rattle.speedate_civil.specs.InstantOrder.{time_instant_order, IsNotAfter}
-use Rattle.speedate_civil.proofs.InstantOrderLemmas.{time_text-order, time_instant_order-turned, time_instant_order-transitive}
+use Rattle.speedate_civil.specs.InstantOrder.{time_instant, time_instant_order, IsNotAfter}
+use Rattle.speedate_civil.proofs.InstantOrderLemmas.{time_text-order, by_instant-transitive}
 use Rattle.speedate_civil.proofs.TimeValueLemmas.{is_time}
 use Rattle.speedate_civil.proofs.time.Time.cmp_instant.Goals as goal
 
-pub returns-then-is_some-2-clause-turned : goal.returns-then-is_some-2-clause-turned
-returns-then-is_some-2-clause-turned c =
-    let first = parts c.args.self.now in
-    let second = parts c.args.other.now in
-    let order : c.cmp_utc.result ≡ time_instant_order first second = search rules in
-    time_instant_order-turned first second ∙ ap ordering_reverse (sym order)
-
-pub returns-then-is_some-2-clause-transitive : goal.returns-then-is_some-2-clause-transitive
-returns-then-is_some-2-clause-transitive c =
-    let first = parts c.args.self.now in
-    let second = parts c.args.other.now in
-    let order : c.cmp_utc.result ≡ time_instant_order first second = search rules in
-    λ third one two before. time_instant_order-transitive first second (parts third) one two (subst IsNotAfter order before)
-
-pub returns-else-is_some-clause-text_order : goal.returns-else-is_some-clause-text_order
-returns-else-is_some-clause-text_order c =
+pub returns-clause-text_order : goal.returns-clause-text_order
+returns-clause-text_order c =
     let first = c.args.self.now in
     let second = c.args.other.now in
-    let order : c.cmp_shown.result ≡ time_instant_order (parts first) (parts second) = search rules in
+    let order : c.cmp.result ≡ time_instant_order (parts first) (parts second) = search rules in
     λ none nothing. order ∙ time_text-order (parts first) (parts second) (is_time first) (is_time second) none nothing
 
-pub returns-else-is_some-clause-turned : goal.returns-else-is_some-clause-turned
-returns-else-is_some-clause-turned c =
+pub returns-clause-transitive : goal.returns-clause-transitive
+returns-clause-transitive c =
     let first = parts c.args.self.now in
     let second = parts c.args.other.now in
-    let order : c.cmp_shown.result ≡ time_instant_order first second = search rules in
-    time_instant_order-turned first second ∙ ap ordering_reverse (sym order)
-
-pub returns-else-is_some-clause-transitive : goal.returns-else-is_some-clause-transitive
-returns-else-is_some-clause-transitive c =
-    let first = parts c.args.self.now in
-    let second = parts c.args.other.now in
-    let order : c.cmp_shown.result ≡ time_instant_order first second = search rules in
-    λ third one two before. time_instant_order-transitive first second (parts third) one two (subst IsNotAfter order before)
+    let order : c.cmp.result ≡ time_instant_order first second = search rules in
+    λ third one two before. by_instant-transitive (λ value. value.offset) time_instant first second (parts third) one two (subst IsNotAfter order before)
