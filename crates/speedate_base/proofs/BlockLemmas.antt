@@ -21,7 +21,7 @@ run-front bytes count ends =
     ∙ ap (λ (test : Bool). cond test (length front + prefix_len is_ascii_digit rest) (prefix_len is_ascii_digit front))
     (ne_eqb _ _ (λ same. absurd (omega (arith, ends, same))))
 
--- and their run goes on behind it where it is all digits
+-- and their run goes on after it where it is all digits
 pub run-on : (bytes : List ℕ) (count : ℕ) → count ≤ length bytes → list_all is_ascii_digit (take count bytes) ≡ true
     → prefix_len is_ascii_digit bytes ≡ count + prefix_len is_ascii_digit (drop count bytes)
 run-on bytes count within all =
@@ -45,7 +45,7 @@ block-all bytes place count within is full =
     let long = block-length bytes place within in
     sym (run-whole (block bytes place)) ∙ eq-eqb _ _ (omega (arith, is, full, long, prefix_len-le-length is_ascii_digit (block bytes place)))
 
--- and the run goes on behind them
+-- and the run goes on after them
 pub block-on : (bytes : List ℕ) (place count : ℕ) → place + 8 ≤ length bytes → count ≡ prefix_len is_ascii_digit (block bytes place) → 8 ≤ count
     → run_length bytes place ≡ 8 + run_length bytes (place + 8)
 block-on bytes place count within is full =

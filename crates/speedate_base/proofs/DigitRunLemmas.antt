@@ -54,7 +54,7 @@ digits_value-front-fits bytes count within few all =
     let power : 10 ^ count ≤ 10 ^ 18 = pow-le-pow_right {n = 10} (lit< tt) few_more in
     omega (arith, digits_value-front-lt bytes count within all)
 
--- digits behind others
+-- digits after others
 pub digits_value-append : (digits more : List ℕ) → digits_value (digits ++ more) ≡ digits_value digits * 10 ^ length more + digits_value more
 digits_value-append [] more = omega arith
 digits_value-append (first ∷ digits) more =
@@ -97,7 +97,7 @@ whole-first bytes true same =
     ap (λ (n : ℕ). n == suc (length bytes)) next ∙ one_more (prefix_len is_ascii_digit bytes) (length bytes) _ same
 whole-first bytes false same = ne_eqb 0 (suc (length bytes)) (λ none. absurd (omega arith))
 
--- a run ends with the bytes exactly if all of them are digits
+-- a run ends with the bytes if and only if all of them are digits
 pub run-whole : (bytes : List ℕ) → (prefix_len is_ascii_digit bytes == length bytes) ≡ list_all is_ascii_digit bytes
 run-whole [] = refl
 run-whole (byte ∷ bytes) = whole-first bytes (is_ascii_digit byte) (run-whole bytes)

@@ -10,8 +10,8 @@ use Rattle.speedate_base.specs.Ascii.{plus_sign, hyphen, full_stop}
 use Rattle.speedate_base.specs.DigitRuns.{run_length, run_digits, run_value}
 use Rattle.speedate_base.specs.Numbers.{has_minus, sign_length, point_place, is_decimal, decimal_answer, decimal_parts, IsSign, JoinsTo, DecimalParts, Fractional, NoNumber, whole_or, whole_number, number_answer, with_sign, fits_i64}
 use Rattle.speedate_base.specs.IntFloat.{parts, number_of, JoinsToFloat}
-use Rattle.speedate_base.specs.declared.numbers.number.IntFloat.{IntFloat}
-use Rattle.speedate_base.specs.declared.numbers.number.IntFloat.TheVariants as number
+use Rattle.speedate_base.specs.declared.numbers.int_float.IntFloat.{IntFloat}
+use Rattle.speedate_base.specs.declared.numbers.int_float.IntFloat.TheVariants as number
 
 first-digit : (byte : ℕ) (bytes : List ℕ) (test : Bool) → is_ascii_digit byte ≡ test
     → list_all is_ascii_digit (take (prefix_len is_ascii_digit bytes) bytes) ≡ true
@@ -79,7 +79,7 @@ never : (a b : Bool) (value : ℤ) → (if (a && false) && b then Some value els
 never true b value = refl
 never false b value = refl
 
--- a text that goes on behind its digits is no whole number
+-- a text that goes on after its digits is no whole number
 pub whole_number-none : (text : List ℕ) → point_place text < length text → whole_number text ≡ None
 whole_number-none text within =
     let start = sign_length text in
@@ -104,7 +104,7 @@ run-passes text start place after before =
     sym (ap is_ascii_digit (get_or-drop start text (place - start) 0 ∙ ap (λ (n : ℕ). get_or text n 0) there))
     ∙ prefix_len_passes is_ascii_digit (drop start text) (place - start) 0 below
 
--- a text with another byte behind its first is no whole number
+-- a text with another byte after its first is no whole number
 pub whole_number-other : (text : List ℕ) (place : ℕ) → 1 ≤ place → place < length text → is_ascii_digit (get_or text place 0) ≡ false
     → whole_number text ≡ None
 whole_number-other text place after within other =

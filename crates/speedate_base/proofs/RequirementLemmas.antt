@@ -27,7 +27,7 @@ row-and_then : {A B : Type 0} (step : A → Result B ParseError) (holds : Bool) 
 row-and_then step true fault first second same = same
 row-and_then step false fault first second same = refl
 
--- what is done with the answer of a table is done behind it
+-- what is done with the answer of a table is done after it
 pub meets-and_then : {A B : Type 0} (step : A → Result B ParseError) (rows : List Requirement) (next : Result A ParseError)
     → result_and_then step (meets rows next) ≡ meets rows (result_and_then step next)
 meets-and_then step [] next = refl

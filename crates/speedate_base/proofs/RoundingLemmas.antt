@@ -20,7 +20,7 @@ parts-all digits count all =
     and_parts _ _ (sym (list_all-append is_ascii_digit (take count digits) (drop count digits))
     ∙ ap (list_all is_ascii_digit) (take-append-drop count digits) ∙ all)
 
--- what few digits spell with zeros behind them
+-- what few digits spell with zeros after them
 pub filled-small : (digits : List ℕ) (count : ℕ) → length digits ≤ count → list_all is_ascii_digit digits ≡ true
     → digits_value digits * 10 ^ (count - length digits) < 10 ^ count
 filled-small digits count few all =
@@ -32,7 +32,7 @@ filled-small digits count few all =
     let more : (digits_value digits + 1) * 10 ^ (count - length digits) ≡ digits_value digits * 10 ^ (count - length digits) + 10 ^ (count - length digits) = grind arith in
     omega (arith, power, product, more, scale-some (count - length digits))
 
--- the last block, with zeros behind its digits
+-- the last block, with zeros after its digits
 pub filled-taken : (up : Bool) (unit count value twice : ℕ) → count ≤ 8
     → twice ≡ quotient up (2 * (value * 10 ^ (8 - count) * unit) + 0) 100000000 → twice ≡ quotient up (2 * (value * unit)) (10 ^ count)
 filled-taken up unit count value twice few taken =
@@ -47,7 +47,7 @@ filled-taken up unit count value twice few taken =
     ∙ sym (quotient-carried up 0 (size * zeros) zeros (10 ^ count) (scale-some (8 - count)) (scale-some count))
     ∙ once ∙ ap (λ (n : ℕ). quotient up n (10 ^ count)) bare
 
--- four digits behind four
+-- four digits after four
 pub fours-taken : (up : Bool) (unit value rest last : ℕ) → last ≡ quotient up (2 * (value % 10000 * unit) + rest) 10000
     → quotient up (2 * (value / 10000 * unit) + last) 10000 ≡ quotient up (2 * (value * unit) + rest) 100000000
 fours-taken up unit value rest last is =

@@ -13,7 +13,7 @@ factor-some : (first second : ℕ) → first * second ≡ 1000000 → 0 < first
 factor-some zero second is = absurd (omega (arith, is))
 factor-some (suc first) second is = omega arith
 
--- a unit has as many microseconds as its digits behind the point tell apart
+-- a unit has as many microseconds as its digits after the point tell apart
 pub unit-digits : (row : UnitRow) → 1000000 / row.per_second ≡ 10 ^ row.digits
 unit-digits row =
     let some = factor-some row.per_second (10 ^ row.digits) row.whole in

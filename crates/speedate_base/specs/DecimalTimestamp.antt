@@ -1,4 +1,4 @@
--- Decimal timestamps (Unix time): what they mean to the nearest microsecond, and how many digits a text may have behind its point.
+-- Decimal timestamps (Unix time): what they mean to the nearest microsecond, and how many digits a text may have after its point.
 use Rattle.std.specs.Prelude.{ℕ, ◌*◌, ◌/◌, ◌^◌, nat_le, List, [], ◌∷◌, ◌++◌, length, ℤ}
 use Rattle.speedate_base.specs.declared.config.MicrosecondsPrecisionOverflowBehavior.{MicrosecondsPrecisionOverflowBehavior}
 use Rattle.speedate_base.specs.declared.config.TimestampUnit.{TimestampUnit}
@@ -9,7 +9,7 @@ use Rattle.speedate_base.specs.Requirement.{Requirement, ◌else_fault◌, ◌im
 use Rattle.speedate_base.specs.Refusal.{refuses_digits}
 use Rattle.speedate_base.specs.Timestamp.{Instant, UnitRow, unit_row, inferred_seconds_max, instant_at}
 
--- a decimal is its digits, as one number, over ten to the number of those behind the point
+-- a decimal is its digits, as one number, over ten to the number of those after the point
 abbrev pub decimal_digits : DecimalParts → ℕ
 decimal_digits decimal = digits_value (decimal.whole ++ decimal.fraction)
 

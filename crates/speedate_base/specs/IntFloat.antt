@@ -1,8 +1,8 @@
 -- What contracts see of numbers that were read.
 use Rattle.std.specs.Prelude.{List, ℕ, Bool, true, false}
-use Rattle.speedate_base.specs.declared.numbers.number.Decimal.{Decimal}
-use Rattle.speedate_base.specs.declared.numbers.number.IntFloat.{IntFloat}
-use Rattle.speedate_base.specs.declared.numbers.number.IntFloat.TheVariants as number
+use Rattle.speedate_base.specs.declared.numbers.int_float.Decimal.{Decimal}
+use Rattle.speedate_base.specs.declared.numbers.int_float.IntFloat.{IntFloat}
+use Rattle.speedate_base.specs.declared.numbers.int_float.IntFloat.TheVariants as number
 use Rattle.speedate_base.specs.Numbers.{DecimalParts, Number, Whole, Fractional, NoNumber, JoinsTo}
 
 -- the parts of a `Decimal`

@@ -39,7 +39,7 @@ pub record DecimalParts : Type 0 where
   pub whole : List ℕ
   pub fraction : List ℕ
 
--- the place of a decimal's point, behind its sign and the digits before it
+-- the place of a decimal's point, after its sign and the digits before it
 abbrev pub point_place : List ℕ → ℕ
 point_place text = sign_length text + run_length text (sign_length text)
 
@@ -78,7 +78,7 @@ whole_or None next = next
 abbrev pub number_answer : List ℕ → Number
 number_answer text = whole_or (whole_number text) (decimal_answer text)
 
--- a sign as it stands in a text: `-` exactly if it is negative, otherwise `+` or nothing
+-- a sign as it stands in a text: `-` if and only if it is negative, otherwise `+` or nothing
 abbrev pub IsSign : Bool → List ℕ → Type 0
 IsSign negative sign = MatchBool negative (sign ≡ codes "-") ((sign ≡ []) ⊎ (sign ≡ codes "+"))
 

@@ -4,7 +4,7 @@ use Rattle.speedate_base.specs.declared.config.IsoOrder.TheVariants as order
 use Rattle.speedate_base.specs.declared.config.MicrosecondsPrecisionOverflowBehavior.TheVariants as behavior
 use Rattle.speedate_base.specs.declared.config.TimeConfig.{TimeConfig}
 
--- further digits are refused, timestamps get no offset, and the quantities of a duration may come in any order
+-- further digits are refused, timestamps get no offset, and the components of a duration may come in any order
 abbrev pub IsDefault : TimeConfig → Type 0
 IsDefault config =
     (config.microseconds_precision_overflow_behavior ≡ behavior.Error)

@@ -12,7 +12,7 @@ pub record Instant : Type 0 where
   pub second : ℤ
   pub microsecond : ℕ
 
--- a unit of timestamps: how many of it make a second, how many digits behind a point are whole microseconds, and the fault of a
+-- a unit of timestamps: how many of it make a second, how many digits after a point are whole microseconds, and the fault of a
 -- text with more; a second has a million microseconds, so the one number says the other
 pub record UnitRow : Type 0 where
   pub per_second : ℕ

@@ -28,7 +28,7 @@ pub enum TimestampUnit {
 }
 
 /// What is done with digits past the microsecond: of a second past the sixth, of a millisecond past
-/// the third, of a microsecond each behind the point.
+/// the third, of a microsecond each after the point.
 #[derive(Clone, Copy, Debug, PartialEq, Eq, Default)]
 pub enum MicrosecondsPrecisionOverflowBehavior {
     /// They are dropped, and a timestamp is rounded to the nearest microsecond.
@@ -38,13 +38,13 @@ pub enum MicrosecondsPrecisionOverflowBehavior {
     Error,
 }
 
-/// Whether the quantities of an ISO 8601 duration have to come in order.
+/// Whether the components of an ISO 8601 duration have to come in order.
 #[derive(Clone, Copy, Debug, PartialEq, Eq, Default)]
 pub enum IsoOrder {
     /// They may come in any order on their side of the `T`, and more than once.
     #[default]
     Lax,
-    /// Each comes at most once, years before months, weeks and days, and behind the `T` hours before
+    /// Each comes at most once, years before months, weeks and days, and after the `T` hours before
     /// minutes and seconds.
     Strict,
 }
@@ -159,7 +159,7 @@ impl Default for DateConfigBuilder {
 }
 
 /// What is done with digits of a second past the sixth, which offset the time of a timestamp gets, and
-/// whether the quantities of a duration have to come in order. The default refuses such digits, attaches
+/// whether the components of a duration have to come in order. The default refuses such digits, attaches
 /// no offset and takes any order;
 /// `TimeConfig::builder().unix_timestamp_offset(Some(3600)).build()` attaches one hour.
 #[derive(Clone, Copy, Debug, PartialEq, Eq)]
@@ -168,7 +168,7 @@ pub struct TimeConfig {
     pub microseconds_precision_overflow_behavior: MicrosecondsPrecisionOverflowBehavior,
     /// The offset, in seconds, that a timestamp's value gets: none, or one of less than 24 hours.
     pub unix_timestamp_offset: Option<i32>,
-    /// Whether the quantities of an ISO 8601 duration have to come in order.
+    /// Whether the components of an ISO 8601 duration have to come in order.
     pub iso_order: IsoOrder,
     pub ghost offset_in_range: { ForSome unix_timestamp_offset IsOffset },
 }
@@ -189,7 +189,7 @@ impl Default for TimeConfig {
 
     ghost is_default = { IsDefault };
 
-    /// Further digits are refused, timestamps get no offset, and quantities may come in any order.
+    /// Further digits are refused, timestamps get no offset, and components may come in any order.
     fn default() -> Self {
         TimeConfig {
             microseconds_precision_overflow_behavior: MicrosecondsPrecisionOverflowBehavior::default(),
@@ -267,7 +267,7 @@ impl TimeConfigBuilder {
         }
     }
 
-    /// Sets whether the quantities of an ISO 8601 duration have to come in order: `P1D1Y` is refused
+    /// Sets whether the components of an ISO 8601 duration have to come in order: `P1D1Y` is refused
     /// with `Strict`.
     pub fn iso_order(self, order: IsoOrder) -> Self
         ensures order { result.iso_order ≡ order }

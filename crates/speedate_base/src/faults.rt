@@ -72,11 +72,11 @@ pub enum ParseError {
     DurationInvalidNumber,
     /// A duration has a second `T`.
     DurationTRepeated,
-    /// A quantity follows one with a fraction.
+    /// A component follows one with a fraction.
     DurationInvalidFraction,
-    /// A quantity after `T` has no unit of time.
+    /// A component after `T` has no unit of time.
     DurationInvalidTimeUnit,
-    /// A quantity before `T` has no unit of days.
+    /// A component before `T` has no unit of days.
     DurationInvalidDateUnit,
     /// The days of a duration are not followed by a form of `day`.
     DurationInvalidDays,
@@ -92,9 +92,9 @@ pub enum ParseError {
     DateTooLarge,
     /// A time of day, or a sum on the way to it, is too large.
     TimeTooLarge,
-    /// A quantity of a duration is out of order, or repeated, and the configuration refuses that.
+    /// A component of a duration is out of order, or repeated, and the configuration refuses that.
     DurationUnitOrder,
-    /// A timestamp in microseconds has a digit behind its point, and the configuration refuses it.
+    /// A timestamp in microseconds has a digit after its point, and the configuration refuses it.
     MicrosecondFractionTooLong,
 }
 

@@ -5,14 +5,14 @@ ghost use Rattle.speedate_base.specs.Numbers.{has_minus, sign_length, with_sign,
 ghost use Rattle.speedate_base.specs.IntFloat.{number_of, JoinsToFloat};
 
 pub(crate) mod digits;
+mod int_float;
 pub(crate) mod lanes;
-mod number;
 mod places;
 
 use digits::spelled_number;
 pub use digits::{DigitRun, digit_run, run_end};
+pub use int_float::{Decimal, IntFloat};
 pub use lanes::{LANES, eight_bytes, fitting, pairs};
-pub use number::{Decimal, IntFloat};
 pub use places::{byte_at, two_digits, two_digits_there};
 
 /// The whole number that a text is, or `None`: -12 for `"-012"`.

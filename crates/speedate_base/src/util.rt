@@ -5,14 +5,14 @@ ghost use Rattle.speedate_base.specs.Requirement.{result_map};
 ghost use Rattle.speedate_base.specs.Timestamp.{instant_answer};
 ghost use Rattle.speedate_base.specs.UnixTime.{parts};
 
-mod decimal;
+mod decimal_timestamp;
 mod rounding;
 mod unit;
 mod unix_time;
 
 use crate::config::TimestampUnit;
 use crate::faults::ParseError;
-pub use decimal::{decimal_to_seconds_micros, decimal_unit};
+pub use decimal_timestamp::{decimal_to_seconds_micros, decimal_unit};
 pub use rounding::{LARGEST_UNIT, filled, nearest_microseconds, twice_microseconds};
 pub use unit::{MICROSECOND, MILLISECOND, SECOND, UnixUnit};
 pub use unix_time::{FIRST_SECOND, LAST_SECOND, UnixTime};

@@ -23,7 +23,7 @@ use Rattle.speedate_civil.specs.ClockText.{fraction_text}
 use Rattle.speedate_civil.specs.DateTimeText.{date_time_text}
 use Rattle.speedate_civil.specs.TimeText.{time_text}
 use Rattle.speedate_civil.specs.DateAndTime.{DateAndTime, IsDateAndTime, local_second}
-use Rattle.speedate_civil.specs.InstantOrder.{instant_order, by_instant, time_instant, time_instant_order, date_time_instant, date_time_instant_order, AreAlike, IsNotAfter}
+use Rattle.speedate_civil.specs.InstantOrder.{instant_order, by_instant, time_instant, time_instant_order, date_time_instant, date_time_instant_order, BothOrNeither, IsNotAfter}
 use Rattle.speedate_civil.specs.TimeOfDay.{TimeOfDay, IsTime, second_of_day}
 
 -- instants are ordered one after another
@@ -163,13 +163,13 @@ module _ {K : Type 0} (offset : K → Option ℤ) (instant : Bool → K → Inst
   total is_utc = on_total (instant is_utc) instant_order-total
 
   -- values the other way round are ordered the other way round
-  pub by_instant-turned : (first second : K) → by_instant offset instant second first ≡ ordering_reverse (by_instant offset instant first second)
-  by_instant-turned first second =
+  pub by_instant-reversed : (first second : K) → by_instant offset instant second first ≡ ordering_reverse (by_instant offset instant first second)
+  by_instant-reversed first second =
       ap (λ (is_utc : Bool). on (instant is_utc) instant_order second first) (and_comm (is_some (offset second)) (is_some (offset first)))
       ∙ (total (is_some (offset first) && is_some (offset second))).antisymm second first
 
   -- and of three values that are alike the first is not after the last, where it is not after the next, and that not after the last
-  pub by_instant-transitive : (first second third : K) → AreAlike (offset first) (offset second) → AreAlike (offset second) (offset third)
+  pub by_instant-transitive : (first second third : K) → BothOrNeither (offset first) (offset second) → BothOrNeither (offset second) (offset third)
       → IsNotAfter (by_instant offset instant first second) → IsNotAfter (by_instant offset instant second third) → IsNotAfter (by_instant offset instant first third)
   by_instant-transitive first second third = chained (is_some (offset first)) (is_some (offset second)) (is_some (offset third))
     where

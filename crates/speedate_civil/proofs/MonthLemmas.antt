@@ -86,7 +86,7 @@ ordinal-early year day early =
           }
     ]
 
--- from March on it is behind by what February lacks
+-- from March on it lags by what February lacks
 late-month : (year month : ℕ) → IsInRange 3 12 month
     → (days_of_months year (month - 1) + 2 ≡ long_days month + leap_day year) × (long_days month + month_length year month ≡ long_days (month + 1))
 late-month year month valid =

@@ -45,7 +45,7 @@ other-fault refused fault answer behind number one two =
     let same : refused ≡ fault = cc in
     false≢true (sym behind ∙ ap may_be_number same ∙ number)
 
--- and one that is refused by a fault behind the first hyphen, whatever is asked of a date at its front
+-- and one that is refused by a fault after the first hyphen, whatever is asked of a date at its front
 pub number_answer-refused : {A : Type 0} (next : Ymd → Result A ParseError) (text : List ℕ) (fault : ParseError)
     → result_and_then next (date_front text) ≡ Err fault → may_be_number fault ≡ false → number_answer text ≡ NoNumber
 number_answer-refused next text refused read behind =

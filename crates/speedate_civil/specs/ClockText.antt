@@ -20,7 +20,7 @@ pub record Clock : Type 0 where
   pub microsecond : ℕ
   pub size : ℕ
 
--- a second follows the minute, behind `:`
+-- a second follows the minute, after `:`
 abbrev pub has_second : List ℕ → Bool
 has_second rest = slice_index rest 2 == colon
 

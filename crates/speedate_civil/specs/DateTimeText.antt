@@ -24,7 +24,7 @@ separator_table text = (is_separator (slice_index text 10) else_fault fault.Inva
 abbrev pub date_and_time : Ymd → TimeOfDay → DateAndTime
 date_and_time date time = record { date = date; time = time }
 
--- the date-time of a date at the front of a text, and of the time that is the rest behind the separator
+-- the date-time of a date at the front of a text, and of the time that is the rest after the separator
 abbrev pub with_time : MicrosecondsPrecisionOverflowBehavior → List ℕ → Ymd → Result DateAndTime ParseError
 with_time behavior text date =
     meets (separator_table text) (result_map (date_and_time date) (time_answer behavior (drop 11 text)))

@@ -39,8 +39,8 @@ abbrev pub date_time_instant_order : DateAndTime → DateAndTime → Ordering
 date_time_instant_order = by_instant (λ value. value.time.offset) date_time_instant
 
 -- both of two values have an offset, or neither has
-abbrev pub AreAlike : Option ℤ → Option ℤ → Type 0
-AreAlike first second = is_some first ≡ is_some second
+abbrev pub BothOrNeither : Option ℤ → Option ℤ → Type 0
+BothOrNeither first second = is_some first ≡ is_some second
 
 -- of two values in this order the first is not after the second
 abbrev pub IsNotAfter : Ordering → Type 0

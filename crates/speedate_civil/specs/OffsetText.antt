@@ -1,4 +1,4 @@
--- The offset behind a time (RFC 3339 5.6, time-offset; the ranges are those of its 5.7). `rest` is what follows the time,
+-- The offset after a time (RFC 3339 5.6, time-offset; the ranges are those of its 5.7). `rest` is what follows the time,
 -- and `numbers` what follows the sign.
 -- Departs from it: the offset may be left out, and so may its `:`; the sign may be U+2212, as in ISO 8601; `-00:00` is the
 -- offset 0, where RFC 3339 4.3 has it for an unknown one.
@@ -26,7 +26,7 @@ offset_sign_length rest =
     if has_minus_sign rest then 3
     else (if (slice_index rest 0 == plus_sign) || (slice_index rest 0 == hyphen) then 1 else 0)
 
--- the place of its minute, behind the hour and an optional `:`
+-- the place of its minute, after the hour and an optional `:`
 abbrev pub offset_minute_place : List ℕ → ℕ
 offset_minute_place numbers = if slice_index numbers 2 == colon then 3 else 2
 
@@ -38,7 +38,7 @@ offset_minute numbers = two_digit_value numbers (offset_minute_place numbers)
 abbrev pub offset_size : List ℕ → ℕ
 offset_size numbers = 3600 * two_digit_value numbers 0 + 60 * offset_minute numbers
 
--- what the text behind a sign has to meet
+-- what the text after a sign has to meet
 abbrev pub signed_table : List ℕ → List Requirement
 signed_table numbers =
     (two_digits_at numbers 0 else_fault fault.InvalidCharTzHour)
@@ -59,7 +59,7 @@ unsigned_table rest =
     ∷ (nat_le (length rest) 1 else_fault fault.ExtraCharacters)
     ∷ []
 
--- the offset that stands behind a sign, or the fault
+-- the offset that stands after a sign, or the fault
 abbrev pub signed_answer : Bool → List ℕ → Result (Option ℤ) ParseError
 signed_answer west numbers = meets (signed_table numbers) (Ok (Some (with_sign west (offset_size numbers))))
 

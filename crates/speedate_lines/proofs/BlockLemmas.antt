@@ -6,7 +6,7 @@ use Rattle.std.proofs.lemmas.Slice.{between_is}
 use Rattle.speedate_lines.specs.Block.{kept_part}
 use Rattle.std.proofs.Math.Seq.{take-append-add}
 
--- the front of a block is what was kept, and then what was written behind it
+-- the front of a block is what was kept, and then what was written after it
 pub take-filled : (kept count : ℕ) (old buffer post : List ℕ) → kept ≤ length old → count ≤ length buffer
     → take (kept + count) (take kept old ++ (buffer ++ post)) ≡ take kept old ++ take count buffer
 take-filled kept count old buffer post first second =

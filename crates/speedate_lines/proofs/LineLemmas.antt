@@ -53,7 +53,7 @@ unfinished-free [] = tt
 unfinished-free (byte ∷ bytes) =
     first-free byte (byte == line_feed) (complete_lines bytes) (unfinished_line bytes) refl (unfinished-free bytes)
 
--- the pieces of a text behind the pieces of what stands before it
+-- the pieces of a text after the pieces of what stands before it
 abbrev pub behind : List (List ℕ) → Pieces → Pieces
 behind lines after = record { complete = lines ++ after.complete; unfinished = after.unfinished }
 

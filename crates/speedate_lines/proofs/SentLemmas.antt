@@ -74,7 +74,7 @@ AppendsBeginning-same part whole = record { left = part.left; sent = AppendsBut-
 pub AppendsBeginning-all : (a b c : Option (List ℕ)) (bytes : List ℕ) → Appends a b bytes → Keeps b c → AppendsBeginning a c bytes
 AppendsBeginning-all a b c bytes sent kept = record { left = []; sent = AppendsBut-nil a c bytes (Appends-kept a b c bytes sent kept) }
 
--- behind the first bytes a beginning of the others has been written
+-- after the first bytes a beginning of the others has been written
 pub AppendsFrom-beginning : {a b c : Option (List ℕ)} {others bytes : List ℕ} (first : List ℕ) → Appends a b first → AppendsBeginning b c others → bytes ≡ first ++ others
     → AppendsFrom first a c bytes
 AppendsFrom-beginning {a = a} {b = b} {c = c} first before part same = record {

@@ -63,7 +63,7 @@ kinds = date_kind ∷ time_kind ∷ date_time_kind ∷ duration_kind ∷ strict_
 abbrev pub front : Kind → List ℕ
 front kind = kind.word ++ space ∷ []
 
--- the answer to a line by the kind whose word and a space begin it, from the text behind those
+-- the answer to a line by the kind whose word and a space begin it, from the text after those
 unfoldable pub answer_by_kind : List Kind → List ℕ → List ℕ
 answer_by_kind [] line = err_answer (codes "unknown_kind")
 answer_by_kind (kind ∷ others) line =

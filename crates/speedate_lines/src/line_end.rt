@@ -9,7 +9,7 @@ use std::simd::prelude::*;
 /// How many bytes are looked at together.
 const LANES: usize = 16;
 
-/// The place of the first line feed at `from` or behind it.
+/// The place of the first line feed at `from` or after it.
 #[inline]
 pub fn line_end(text: &[u8], from: usize) -> Option<usize>
     requires { from ≤ length text.now }
@@ -27,7 +27,7 @@ pub fn line_end(text: &[u8], from: usize) -> Option<usize>
     line_end_in_rest(text, place)
 }
 
-/// The same, byte by byte: for the bytes that fill no vector.
+/// The place of the first line feed at `from` or after it, byte by byte: for bytes that fill no vector.
 fn line_end_in_rest(text: &[u8], from: usize) -> Option<usize>
     requires { from ≤ length text.now }
     ensures found { MatchOption result (IsOneLine text.now from (length text.now))

@@ -37,7 +37,7 @@ pub enum RunError {
 ///
 /// A line is ended by a line feed or by the end of the input, and its answer by a line feed.
 /// `date TEXT`, `time TEXT`, `datetime TEXT`, `duration TEXT` and `duration-strict TEXT`, whose
-/// quantities have to come in order, are answered by `ok` and the canonical text of the value, or by
+/// components have to come in order, are answered by `ok` and the canonical text of the value, or by
 /// `err` and the name of the fault; a line of more than 4,096 bytes by `err line_too_long`, any other
 /// by `err unknown_kind`. Every complete line that was read is answered before the next read.
 /// For the input `date 2020-02-29` the output is `ok 2020-02-29` and a line feed.
@@ -48,7 +48,7 @@ pub fn run<R: Read, W: Write>(
     input: &mut Watched<R>,
     output: &mut Watched<W>,
 ) -> Result<(), RunError>
-    // An end that had not failed has failed exactly if the answer says so.
+    // An end that had not failed has failed if and only if the answer says so.
     ensures failed { input.old.failed ≡ false → output.old.failed ≡ false →
         EndsBy result input.new.failed output.new.failed }
     // All input was read, and what was written is the answers to its lines.
@@ -89,7 +89,7 @@ pub fn run<R: Read, W: Write>(
     }
 }
 
-/// Reads once, behind the first `kept` bytes of the block, and returns how many bytes of it are
+/// Reads once, after the first `kept` bytes of the block, and returns how many bytes of it are
 /// then filled: no more than before at the end of the input.
 fn fill<R: Read>(
     input: &mut Watched<R>,

@@ -17,7 +17,8 @@ pub fn two_digits(bytes: &[u8], place: usize) -> Option<u8>
     Some(10 * tens + ones)
 }
 
-/// The same where the text may end before them: `None` for `b"07"` at place 1.
+/// The number that two digits at a place spell, or `None` where a byte is no digit or the text ends before
+/// them: `None` for `b"07"` at place 1.
 #[inline]
 pub fn two_digits_there(bytes: &[u8], place: usize) -> Option<u8>
     ensures value { result ≡ (if two_digits_at bytes.now place

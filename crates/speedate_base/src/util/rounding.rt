@@ -61,7 +61,7 @@ fn block(digits: &[u8]) -> u64
     eight_digits(u8x8::from_slice(digits))
 }
 
-/// What fewer than eight digits spell, with zeros behind them up to so many places: 120,000 for
+/// What fewer than eight digits spell, with zeros after them up to so many places: 120,000 for
 /// `b"12"` and six places.
 #[inline]
 pub fn filled(digits: &[u8], places: usize) -> u64
@@ -93,7 +93,7 @@ pub(super) fn power_of_ten(exponent: usize) -> u64
     }
 }
 
-/// Twice the microseconds of eight digits, where `rest` is that of the digits behind them.
+/// Twice the microseconds of eight digits, where `rest` is that of the digits after them.
 #[inline]
 fn eight_taken(value: u64, rest: u64, unit: u64, up: bool) -> u64
     requires value { value < 100000000 }
@@ -106,7 +106,8 @@ fn eight_taken(value: u64, rest: u64, unit: u64, up: bool) -> u64
     four_taken(value / 10_000, last, unit, up)
 }
 
-/// The same of four digits: numbers of 64 bits hold it, and those of 128 bits divide slowly.
+/// Twice the microseconds of four digits, where `rest` is that of the digits after them. Numbers of 64
+/// bits hold it; those of 128 bits divide slowly.
 #[inline]
 fn four_taken(value: u64, rest: u64, unit: u64, up: bool) -> u64
     requires value { value < 10000 }

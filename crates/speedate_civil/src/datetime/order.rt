@@ -12,7 +12,7 @@ impl DateTime {
     ghost use Rattle.speedate_civil.specs.declared.datetime.DateTime.{DateTime};
     ghost use Rattle.speedate_civil.specs.DateTime.{parts};
     ghost use Rattle.speedate_civil.specs.DateTimeText.{date_time_text};
-    ghost use Rattle.speedate_civil.specs.InstantOrder.{date_time_instant, date_time_instant_order, AreAlike, IsNotAfter};
+    ghost use Rattle.speedate_civil.specs.InstantOrder.{date_time_instant, date_time_instant_order, BothOrNeither, IsNotAfter};
 
     /// Which of two date-times is the earlier one: in UTC where both have an offset, so
     /// 2022-01-02T01:00:00+03:00 is before 2022-01-01T23:00:00Z, and where one has none as clocks
@@ -27,9 +27,9 @@ impl DateTime {
         ensures order { result ≡ date_time_instant_order (parts self.now) (parts other.now) }
         ensures text_order { self.now.time.tz_offset ≡ None → other.now.time.tz_offset ≡ None
             → result ≡ slice_cmp nat_cmp (date_time_text (parts self.now)) (date_time_text (parts other.now)) }
-        ensures turned { date_time_instant_order (parts other.now) (parts self.now) ≡ ordering_reverse result }
-        ensures transitive { (third : DateTime) → AreAlike self.now.time.tz_offset other.now.time.tz_offset
-            → AreAlike other.now.time.tz_offset third.time.tz_offset
+        ensures reversed { date_time_instant_order (parts other.now) (parts self.now) ≡ ordering_reverse result }
+        ensures transitive { (third : DateTime) → BothOrNeither self.now.time.tz_offset other.now.time.tz_offset
+            → BothOrNeither other.now.time.tz_offset third.time.tz_offset
             → IsNotAfter result → IsNotAfter (date_time_instant_order (parts other.now) (parts third))
             → IsNotAfter (date_time_instant_order (parts self.now) (parts third)) }
     {

@@ -33,7 +33,7 @@ impl DateTime {
     /// [`DateTime::from_timestamp`] where it is a whole one. Where it is a decimal they are, in this
     /// order:
     ///
-    /// - `SecondFractionTooLong` for more than six digits behind the point of a timestamp in seconds,
+    /// - `SecondFractionTooLong` for more than six digits after the point of a timestamp in seconds,
     ///   `MillisecondFractionTooLong` for more than three in milliseconds;
     /// - those of [`DateTime::from_decimal_with_config`].
     #[inline(always)]
@@ -56,7 +56,7 @@ impl DateTime {
     /// microsecond, the unit of timestamps and their offset as the configuration has them:
     /// 1970-01-01T00:00:01+01:00 for `"1"` and the offset 3,600. Digits of a timestamp that are not
     /// refused are not dropped either: it is rounded to the nearest microsecond. Where they are
-    /// refused, a timestamp in microseconds with a digit behind its point is
+    /// refused, a timestamp in microseconds with a digit after its point is
     /// `MicrosecondFractionTooLong`. The offset is not for texts of a date-time.
     #[inline(always)]
     pub fn parse_str_with_config(text: &str, config: &DateTimeConfig) -> Result<Self, ParseError>

@@ -13,7 +13,7 @@ impl DateTime {
     ghost use Rattle.speedate_civil.specs.DateTime.{parts};
     ghost use Rattle.speedate_civil.specs.OffsetMove.{date_time_with_offset, date_time_in_timezone};
 
-    /// The same date and time of day with another offset, in seconds, or with none:
+    /// This date and time of day with another offset, in seconds, or with none:
     /// 2020-01-01T12:00:00-01:00 for 2020-01-01T12:00:00Z and `Some(-3600)`. What the clock shows stays.
     ///
     /// `OutOfRangeTz` where the offset is of 24 hours or more.

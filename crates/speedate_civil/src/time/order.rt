@@ -10,7 +10,7 @@ impl Time {
     ghost use Rattle.std.specs.Ordering.{nat_cmp, ordering_reverse};
     ghost use Rattle.speedate_base.specs.UnixTime.{parts as instant_parts};
     ghost use Rattle.speedate_civil.specs.declared.time.Time.{Time};
-    ghost use Rattle.speedate_civil.specs.InstantOrder.{time_instant, time_instant_order, AreAlike, IsNotAfter};
+    ghost use Rattle.speedate_civil.specs.InstantOrder.{time_instant, time_instant_order, BothOrNeither, IsNotAfter};
     ghost use Rattle.speedate_civil.specs.Time.{parts};
     ghost use Rattle.speedate_civil.specs.TimeText.{time_text};
 
@@ -28,8 +28,8 @@ impl Time {
         ensures order { result ≡ time_instant_order (parts self.now) (parts other.now) }
         ensures text_order { self.now.tz_offset ≡ None → other.now.tz_offset ≡ None
             → result ≡ slice_cmp nat_cmp (time_text (parts self.now)) (time_text (parts other.now)) }
-        ensures turned { time_instant_order (parts other.now) (parts self.now) ≡ ordering_reverse result }
-        ensures transitive { (third : Time) → AreAlike self.now.tz_offset other.now.tz_offset → AreAlike other.now.tz_offset third.tz_offset
+        ensures reversed { time_instant_order (parts other.now) (parts self.now) ≡ ordering_reverse result }
+        ensures transitive { (third : Time) → BothOrNeither self.now.tz_offset other.now.tz_offset → BothOrNeither other.now.tz_offset third.tz_offset
             → IsNotAfter result → IsNotAfter (time_instant_order (parts other.now) (parts third))
             → IsNotAfter (time_instant_order (parts self.now) (parts third)) }
     {

@@ -14,7 +14,7 @@ impl Time {
     ghost use Rattle.speedate_civil.specs.Time.{parts};
     ghost use Rattle.speedate_civil.specs.TimeOfDay.{utc_second_of_day};
 
-    /// The same time of day with another offset, in seconds, or with none: 12:00:00-01:00 for
+    /// This time of day with another offset, in seconds, or with none: 12:00:00-01:00 for
     /// 12:00:00Z and `Some(-3600)`. What the clock shows stays.
     ///
     /// `OutOfRangeTz` where the offset is of 24 hours or more.

@@ -58,7 +58,7 @@ fn answers<R: AllocGlobal + Abort>(rt: &R, input: &[u8], step: usize) -> Vec<u8>
     ended.written
 }
 
-/// `front`, and behind it so many bytes.
+/// `front`, and after it so many bytes.
 fn padded(alloc: Global, front: &[u8], byte: u8, count: usize) -> Result<Vec<u8>, AllocError> {
     let mut line = Vec::new(alloc);
     line.extend_from_slice(front)?;

@@ -2,7 +2,7 @@ use Rattle.std.proofs.Common.{◌≡◌, ◌∙◌, ap, sym, subst, rules}
 use Rattle.std.specs.Ordering.{ordering_reverse}
 use Rattle.speedate_civil.specs.DateTime.{parts}
 use Rattle.speedate_civil.specs.InstantOrder.{date_time_instant, date_time_instant_order, IsNotAfter}
-use Rattle.speedate_civil.proofs.InstantOrderLemmas.{date_time_text-order, by_instant-turned, by_instant-transitive}
+use Rattle.speedate_civil.proofs.InstantOrderLemmas.{date_time_text-order, by_instant-reversed, by_instant-transitive}
 use Rattle.speedate_civil.proofs.DateTimeValueLemmas.{is_date_and_time}
 use Rattle.speedate_civil.proofs.datetime.DateTime.cmp_instant.Goals as goal
 
@@ -13,12 +13,12 @@ returns-clause-text_order c =
     let order : c.cmp.result ≡ date_time_instant_order (parts first) (parts second) = search rules in
     λ none nothing. order ∙ date_time_text-order (parts first) (parts second) (is_date_and_time first) (is_date_and_time second) none nothing
 
-pub returns-clause-turned : goal.returns-clause-turned
-returns-clause-turned c =
+pub returns-clause-reversed : goal.returns-clause-reversed
+returns-clause-reversed c =
     let first = parts c.args.self.now in
     let second = parts c.args.other.now in
     let order : c.cmp.result ≡ date_time_instant_order first second = search rules in
-    by_instant-turned (λ value. value.time.offset) date_time_instant first second ∙ ap ordering_reverse (sym order)
+    by_instant-reversed (λ value. value.time.offset) date_time_instant first second ∙ ap ordering_reverse (sym order)
 
 pub returns-clause-transitive : goal.returns-clause-transitive
 returns-clause-transitive c =

@@ -41,7 +41,7 @@ read text front numbers fits from counted enough spelled =
     let five : 5 ≤ fit_length form (eight_at text 0) = subst (λ (block : List ℕ). 5 ≤ fit_length form block) from (omega (arith, counted, enough)) in
     subst (λ (all : List ℕ). Front text all) (sym (spelled ∙ ap (λ (block : List ℕ). neighbours (fit_digits 5 form block)) from)) (front_is text five)
 
--- the rows of the hour and the minute hold, so the clock behind them decides
+-- the rows of the hour and the minute hold, so the clock after them decides
 decided : (behavior : MicrosecondsPrecisionOverflowBehavior) (text numbers : List ℕ) → Front text numbers → 5 ≤ length text → get_or numbers 0 0 ≤ 23
     → time_front behavior text ≡ result_map (at_hour (get_or numbers 0 0)) (clock_answer behavior (drop 3 text))
 decided behavior text numbers front long early =

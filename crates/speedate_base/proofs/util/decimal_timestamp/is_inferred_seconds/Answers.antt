@@ -8,7 +8,7 @@ use Rattle.speedate_base.specs.DigitRuns.{digits_value}
 use Rattle.speedate_base.proofs.DigitRunLemmas.{digits_value-append, digits_value-lt}
 use Rattle.speedate_base.proofs.DecimalLemmas.{digits_value-large, same-whole, less-whole, more-whole}
 use Rattle.speedate_base.proofs.NearestLemmas.{scale-some}
-use Rattle.speedate_base.proofs.util.decimal.is_inferred_seconds.Goals as goal
+use Rattle.speedate_base.proofs.util.decimal_timestamp.is_inferred_seconds.Goals as goal
 
 -- the digits of a decimal, by its whole part and its fraction
 spread : (whole fraction : List ℕ) → nat_le (digits_value (whole ++ fraction)) (20000000000 * 10 ^ length fraction)

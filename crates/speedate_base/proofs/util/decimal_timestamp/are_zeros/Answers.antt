@@ -3,7 +3,7 @@ use Rattle.std.proofs.lemmas.Bool.{ne_eqb}
 use Rattle.speedate_base.specs.DigitRuns.{digits_value}
 use Rattle.speedate_base.proofs.DigitRunLemmas.{digits_value-front-more}
 use Rattle.speedate_base.proofs.DecimalLemmas.{digits_value-some}
-use Rattle.speedate_base.proofs.util.decimal.are_zeros.Goals as goal
+use Rattle.speedate_base.proofs.util.decimal_timestamp.are_zeros.Goals as goal
 
 pub returns-then-digit-ne48 : goal.returns-then-digit-ne48
 returns-then-digit-ne48 c =

@@ -21,7 +21,7 @@ use crate::faults::ParseError;
 use crate::numbers::digits::digits_number;
 use crate::numbers::{Decimal, with_sign};
 
-/// So many microseconds before 1970 lie before the year 0000, and so many after it behind the year
+/// So many microseconds before 1970 lie before the year 0000, and so many after it are past the year
 /// 9999.
 const FAR_MICROSECONDS: u64 = 1 << 60;
 

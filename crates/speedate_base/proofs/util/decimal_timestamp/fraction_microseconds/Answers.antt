@@ -6,9 +6,9 @@ use Rattle.speedate_base.specs.Nearest.{nearest}
 use Rattle.speedate_base.proofs.NearestLemmas.{nearest-exact, scale-some}
 use Rattle.speedate_base.specs.Numbers.{with_sign}
 use Rattle.speedate_base.proofs.TimestampLemmas.{unit-digits}
-use Rattle.speedate_base.proofs.util.decimal.fraction_microseconds.Goals as goal
+use Rattle.speedate_base.proofs.util.decimal_timestamp.fraction_microseconds.Goals as goal
 
--- a fraction of no more digits, with zeros behind them
+-- a fraction of no more digits, with zeros after them
 exact : (negative : Bool) (worth digits count value filled : ℕ) → count ≤ digits → worth ≡ 10 ^ digits → filled ≡ value * 10 ^ (digits - count)
     → with_sign negative filled ≡ nearest (with_sign negative (value * worth)) (10 ^ count)
 exact negative worth digits count value filled few is_worth is =

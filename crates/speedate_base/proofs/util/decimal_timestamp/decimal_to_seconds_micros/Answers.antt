@@ -14,7 +14,7 @@ use Rattle.speedate_base.specs.Numbers.{with_sign}
 use Rattle.speedate_base.specs.Timestamp.{instant_at, range_answer}
 use Rattle.speedate_base.proofs.TimestampLemmas.{unit-digits}
 use Rattle.speedate_base.proofs.DecimalLemmas.{decimal-far, decimal_microsecond-sum}
-use Rattle.speedate_base.proofs.util.decimal.decimal_to_seconds_micros.Goals as goal
+use Rattle.speedate_base.proofs.util.decimal_timestamp.decimal_to_seconds_micros.Goals as goal
 
 -- what is far in numbers of 64 bits is far
 far : (whole : List ℕ) (worth value size : ℕ) → list_all is_ascii_digit whole ≡ true → value ≡ min (digits_value whole) (2 ^ 64 - 1)
