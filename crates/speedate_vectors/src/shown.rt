@@ -1,60 +1,14 @@
-//! What a call answers, as a text; what Display writes, and what it answers where the writer takes
-//! nothing; what `parse` reads.
+//! What Display and Debug write: the same in every form, and Debug what it is derived to write.
 
-use arrayvec::ArrayString;
-use speedate::ParseError;
+ghost use Rattle.std.specs.Prelude.{◌<◌};
+
+use speedate::{
+    Date, DateConfig, DateTime, DateTimeConfig, Duration, IntFloat, Moment, Time, TimeConfig,
+    float_parse_str,
+};
 use std::fmt::{self, Debug, Display, Write};
 use std::process::Abort;
-use std::str::FromStr;
 use std::test::Fail;
-
-/// The answer to a row is to be the value that is written as the text, or the fault of that name.
-pub fn expect_answer<R: Abort, T: Display + Copy, Row: Debug>(
-    rt: &R,
-    answer: Result<T, ParseError>,
-    row: &Row,
-    want: &str,
-) {
-    match answer {
-        Ok(value) => {
-            let mut text = ArrayString::<64>::new();
-            assert!(rt; write!(text, "{value}").is_ok(), "{row:?}");
-            assert_eq!(rt; text.as_str(), want, "{row:?}");
-        }
-        Err(fault) => assert_eq!(rt; fault.name(), want, "{row:?}"),
-    }
-}
-
-/// A value is to be written as the text, whatever width, fill or form is asked for.
-pub fn expect_shown<R: AllocGlobal + Abort, T: Display>(
-    rt: &R,
-    value: &T,
-    want: &str,
-) -> Result<(), Fail> {
-    let plain = format!(in rt.alloc(); "{value}")?;
-    assert_eq!(rt; plain.as_str(), want);
-    let padded = format!(in rt.alloc(); "{value:*>40}")?;
-    assert_eq!(rt; padded.as_str(), want);
-    let alternate = format!(in rt.alloc(); "{value:#}")?;
-    assert_eq!(rt; alternate.as_str(), want);
-    assert!(rt; write!(Full, "{value}").is_err(), "{want}");
-    Ok(())
-}
-
-/// Each text is to be parsed as the value that is written as the text beside it, or to be refused by
-/// the fault of that name.
-pub fn expect_parsed<R: AllocGlobal + Abort, T: FromStr<Err = ParseError> + Display + Copy>(
-    rt: &R,
-    cases: &[(&str, &str)],
-) -> Result<(), Fail> {
-    for (text, want) in cases {
-        match text.parse::<T>() {
-            Ok(value) => expect_shown(rt, &value, want)?,
-            Err(fault) => assert_eq!(rt; fault.name(), *want, "{text}"),
-        }
-    }
-    Ok(())
-}
 
 /// A writer that takes nothing.
 #[derive(Drop)]
@@ -64,4 +18,158 @@ impl Write for Full {
     fn write_str(&mut self, _text: &str) -> fmt::Result {
         Err(fmt::Error)
     }
+}
+
+/// A value is to be written as the text, whatever precision, sign, width, fill or form is asked for.
+pub fn expect_shown<T: Display, R: AllocGlobal + Abort>(
+    rt: &R,
+    value: &T,
+    want: &str,
+) -> Result<(), Fail> {
+    let shown = format!(in rt.alloc();
+        "{value} {value:.3} {value:+} {value:08} {value:#} {value:*>40}"
+    )?;
+    let wanted = format!(in rt.alloc(); "{want} {want} {want} {want} {want} {want}")?;
+    assert_eq!(rt; shown.as_str(), wanted.as_str());
+    assert!(rt; write!(Full, "{value}").is_err(), "{want}");
+    Ok(())
+}
+
+/// The next drawn number, below `end`; each fourth one is 0.
+fn drawn(state: &mut u64, end: u32) -> u32
+    requires { 0 < end }
+    ensures { result < end }
+{
+    *state = state
+        .wrapping_mul(6_364_136_223_846_793_005)
+        .wrapping_add(1_442_695_040_888_963_407);
+    let number = (*state >> 33) as u32;
+    if number % 4 == 0 { 0 } else { number / 4 % end }
+}
+
+#[test]
+fn values(rt: HostRuntime) -> Result<(), Fail> {
+    let mut state = 20_240_602;
+    for _ in 0..1000 {
+        let date = Date::from_day_number(drawn(&mut state, 3_652_425)).expect(&rt, "a date");
+        expect_shown(&rt, &date, date.to_text().as_str())?;
+        let (second, microsecond) = (drawn(&mut state, 86_400), drawn(&mut state, 1_000_000));
+        let offset = drawn(&mut state, 172_799) as i32 - 86_399;
+        let plain = Time::from_timestamp(second, microsecond)
+            .ok()
+            .expect(&rt, "a time");
+        let time = plain
+            .with_timezone_offset(Some(offset))
+            .ok()
+            .expect(&rt, "a time");
+        for time in [plain, time] {
+            expect_shown(&rt, &time, time.to_text().as_str())?;
+            let date_time = DateTime { date, time };
+            expect_shown(&rt, &date_time, date_time.to_text().as_str())?;
+        }
+        let day = drawn(&mut state, 1_000_000_000);
+        for positive in [true, false] {
+            let length = Duration::new(positive, day, second, microsecond)
+                .ok()
+                .expect(&rt, "a duration");
+            expect_shown(&rt, &length, length.to_text().as_str())?;
+        }
+    }
+    Ok(())
+}
+
+/// A value is to be written by Debug as the text.
+pub fn expect_debug<T: Debug, R: AllocGlobal + Abort>(
+    rt: &R,
+    value: &T,
+    want: &str,
+) -> Result<(), Fail> {
+    let written = format!(in rt.alloc(); "{value:?}")?;
+    assert_eq!(rt; written.as_str(), want);
+    Ok(())
+}
+
+#[test]
+fn debug_texts(rt: HostRuntime) -> Result<(), Fail> {
+    let date = Date {
+        year: 2020,
+        month: 2,
+        day: 29,
+    };
+    let time = Time {
+        hour: 1,
+        minute: 2,
+        second: 3,
+        microsecond: 4,
+        tz_offset: Some(-5),
+    };
+    expect_debug(&rt, &date, "Date { year: 2020, month: 2, day: 29 }")?;
+    expect_debug(
+        &rt,
+        &time,
+        "Time { hour: 1, minute: 2, second: 3, microsecond: 4, tz_offset: Some(-5) }",
+    )?;
+    expect_debug(
+        &rt,
+        &DateTime { date, time },
+        "DateTime { date: Date { year: 2020, month: 2, day: 29 }, \
+        time: Time { hour: 1, minute: 2, second: 3, microsecond: 4, tz_offset: Some(-5) } }",
+    )?;
+    let length = Duration {
+        positive: false,
+        day: 1,
+        second: 2,
+        microsecond: 3,
+    };
+    expect_debug(
+        &rt,
+        &length,
+        "Duration { positive: false, day: 1, second: 2, microsecond: 3 }",
+    )?;
+    let moment = Moment {
+        second: 1,
+        microsecond: 2,
+    };
+    expect_debug(&rt, &moment, "Moment { second: 1, microsecond: 2 }")?;
+    expect_debug(&rt, &float_parse_str("7"), "Int(7)")?;
+    expect_debug(
+        &rt,
+        &float_parse_str("-1.5"),
+        "Float(Decimal { negative: true, whole: [49], fraction: [53] })",
+    )?;
+    expect_debug(&rt, &IntFloat::Err, "Err")?;
+    expect_debug(
+        &rt,
+        &DateConfig::default(),
+        "DateConfig { timestamp_unit: Infer }",
+    )?;
+    expect_debug(
+        &rt,
+        &DateConfig::builder(),
+        "DateConfigBuilder { config: DateConfig { timestamp_unit: Infer } }",
+    )?;
+    expect_debug(
+        &rt,
+        &TimeConfig::default(),
+        "TimeConfig { microseconds_precision_overflow_behavior: Error, unix_timestamp_offset: None, \
+        iso_order: Lax }",
+    )?;
+    expect_debug(
+        &rt,
+        &TimeConfig::builder(),
+        "TimeConfigBuilder { config: TimeConfig { microseconds_precision_overflow_behavior: Error, \
+        unix_timestamp_offset: None, iso_order: Lax } }",
+    )?;
+    expect_debug(
+        &rt,
+        &DateTimeConfig::default(),
+        "DateTimeConfig { timestamp_unit: Infer, time_config: TimeConfig { \
+        microseconds_precision_overflow_behavior: Error, unix_timestamp_offset: None, iso_order: Lax } }",
+    )?;
+    expect_debug(
+        &rt,
+        &DateTimeConfig::builder(),
+        "DateTimeConfigBuilder { config: DateTimeConfig { timestamp_unit: Infer, time_config: TimeConfig { \
+        microseconds_precision_overflow_behavior: Error, unix_timestamp_offset: None, iso_order: Lax } } }",
+    )
 }

@@ -1,0 +1,58 @@
+//! Units and behaviors by their names.
+
+use crate::rows::quoted;
+use arrayvec::ArrayString;
+use speedate::{ConfigError, MicrosecondsPrecisionOverflowBehavior, TimestampUnit};
+use std::fmt::{Debug, Write};
+use std::process::Abort;
+use std::str::FromStr;
+
+/// Texts, and the unit that each names.
+const UNITS: &str = "\
+'s'        Second
+'S'        Second
+'ms'       Millisecond
+'MS'       Millisecond
+'us'       Microsecond
+'US'       Microsecond
+'infer'    Infer
+'inFer'    Infer
+''         unknown_timestamp_unit_string
+' s'       unknown_timestamp_unit_string
+'x'        unknown_timestamp_unit_string
+'usec'     unknown_timestamp_unit_string
+'infers'   unknown_timestamp_unit_string
+'\u{b5}s'  unknown_timestamp_unit_string
+'\u{17f}'  unknown_timestamp_unit_string
+'@s'       unknown_timestamp_unit_string";
+
+/// Texts, and the behavior that each names.
+const BEHAVIORS: &str = "\
+'truncate'  Truncate
+'TRUNCATE'  Truncate
+'eRRor'     Error
+''          unknown_microseconds_precision_overflow_behavior_string
+'errors'    unknown_microseconds_precision_overflow_behavior_string
+' error'    unknown_microseconds_precision_overflow_behavior_string
+'infer'     unknown_microseconds_precision_overflow_behavior_string";
+
+/// Each text is to name the value that is written so, or to have the fault of that name.
+fn expect_each<T: FromStr<Err = ConfigError> + Debug + Copy, R: Abort>(rt: &R, table: &str) {
+    for row in table.lines() {
+        let (_, text, want) = quoted(rt, row);
+        match text.parse::<T>() {
+            Ok(choice) => {
+                let mut name = ArrayString::<64>::new();
+                assert!(rt; write!(name, "{choice:?}").is_ok(), "{row}");
+                assert_eq!(rt; name.as_str(), want, "{row}");
+            }
+            Err(fault) => assert_eq!(rt; fault.name(), want, "{row}"),
+        }
+    }
+}
+
+#[test]
+fn names(rt: HostRuntime) {
+    expect_each::<TimestampUnit, _>(&rt, UNITS);
+    expect_each::<MicrosecondsPrecisionOverflowBehavior, _>(&rt, BEHAVIORS);
+}

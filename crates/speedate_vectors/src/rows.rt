@@ -1,0 +1,66 @@
+//! Tables of tests. A table is a text, and each of its lines a row: words, and where a text is read that
+//! text in quotes, the answer to it last. `<9*5000>` in quotes stands for 5,000 times `9`.
+
+use arrayvec::ArrayString;
+use speedate::ParseError;
+use std::alloc::{AllocError, Global};
+use std::fmt::{Display, Write};
+use std::process::Abort;
+use std::str::FromStr;
+
+/// What stands before the text in quotes, that text, and what stands after it.
+pub fn quoted<'a, R: Abort>(rt: &R, row: &'a str) -> (&'a str, &'a str, &'a str) {
+    let (before, rest) = row.split_once('\'').expect(rt, row);
+    let (text, after) = rest.rsplit_once('\'').expect(rt, row);
+    (before, text, after.trim_start())
+}
+
+/// The first five words of a row, and no text for those that it lacks.
+pub fn words(row: &str) -> [&str; 5] {
+    let mut words = [""; 5];
+    for (place, word) in row.split_whitespace().enumerate() {
+        if place < words.len() {
+            words[place] = word;
+        }
+    }
+    words
+}
+
+/// The value that a word is, which is to be one.
+pub fn value<T: FromStr, R: Abort>(rt: &R, word: &str) -> T
+where
+    T::Err: Drop,
+{
+    word.parse().ok().expect(rt, word)
+}
+
+/// The bytes of a text in quotes.
+pub fn bytes<R: AllocGlobal + Abort>(rt: &R, text: &str) -> Result<Vec<u8>, AllocError> {
+    let mut bytes = Vec::new(rt.alloc());
+    let (front, rest) = text.split_once('<').unwrap_or((text, ">"));
+    let (run, back) = rest.split_once('>').expect(rt, text);
+    let (repeated, count) = run.split_once('*').unwrap_or(("", "0"));
+    bytes.extend_from_slice(front.as_bytes())?;
+    for _ in 0..value::<u32, R>(rt, count) {
+        bytes.extend_from_slice(repeated.as_bytes())?;
+    }
+    bytes.extend_from_slice(back.as_bytes())?;
+    Ok(bytes)
+}
+
+/// The answer to a row is to be the value that is written so, or the fault of that name.
+pub fn expect<T: Display + Copy, R: Abort>(
+    rt: &R,
+    answer: Result<T, ParseError>,
+    want: &str,
+    row: &str,
+) {
+    match answer {
+        Ok(value) => {
+            let mut text = ArrayString::<64>::new();
+            assert!(rt; write!(text, "{value}").is_ok(), "{row}");
+            assert_eq!(rt; text.as_str(), want, "{row}");
+        }
+        Err(fault) => assert_eq!(rt; fault.name(), want, "{row}"),
+    }
+}
