@@ -214,9 +214,7 @@ impl FromStr for Time {
 
     /// Reads a time from a text, as [`Time::parse_str`] does: `"12:13Z".parse()` gives 12:13:00 in UTC.
     #[inline]
-    fn from_str(text: &str) -> Result<Self, ParseError>
-        ensures answer { result_map parts result ≡ time_answer behavior.Error text.now }
-    {
+    fn from_str(text: &str) -> Result<Self, ParseError> {
         Self::parse_str(text)
     }
 }

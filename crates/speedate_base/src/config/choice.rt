@@ -16,9 +16,7 @@ impl FromStr for TimestampUnit {
     /// The unit that a text names, in letters of any case: `TimestampUnit::Millisecond` for `"ms"`,
     /// and the others for `"s"`, `"us"` and `"infer"`. `UnknownTimestampUnitString` for another text.
     #[inline]
-    fn from_str(text: &str) -> Result<Self, ConfigError>
-        ensures answer { result ≡ unit_answer text.now }
-    {
+    fn from_str(text: &str) -> Result<Self, ConfigError> {
         if names(text, "s") {
             Ok(TimestampUnit::Second)
         } else if names(text, "ms") {
@@ -41,9 +39,7 @@ impl FromStr for MicrosecondsPrecisionOverflowBehavior {
     /// The behavior that a text names, in letters of any case: `Truncate` for `"truncate"`, and
     /// `Error` for `"error"`. `UnknownMicrosecondsPrecisionOverflowBehaviorString` for another text.
     #[inline]
-    fn from_str(text: &str) -> Result<Self, ConfigError>
-        ensures answer { result ≡ behavior_answer text.now }
-    {
+    fn from_str(text: &str) -> Result<Self, ConfigError> {
         if names(text, "truncate") {
             Ok(MicrosecondsPrecisionOverflowBehavior::Truncate)
         } else if names(text, "error") {

@@ -141,9 +141,7 @@ impl FromStr for Date {
     /// Reads a date from a text, as [`Date::parse_str`] does: `"2020-02-29".parse()` gives 29 February
     /// 2020.
     #[inline]
-    fn from_str(text: &str) -> Result<Self, ParseError>
-        ensures answer { result_map parts result ≡ date_or_timestamp unit.Infer text.now }
-    {
+    fn from_str(text: &str) -> Result<Self, ParseError> {
         Self::parse_str(text)
     }
 }

@@ -231,9 +231,7 @@ impl FromStr for DateTime {
     /// Reads a date-time from a text, as [`DateTime::parse_str`] does: `"1654560000".parse()` gives
     /// midnight on 7 June 2022.
     #[inline]
-    fn from_str(text: &str) -> Result<Self, ParseError>
-        ensures answer { result_map parts result ≡ date_time_or_timestamp unit.Infer behavior.Error None text.now }
-    {
+    fn from_str(text: &str) -> Result<Self, ParseError> {
         Self::parse_str(text)
     }
 }
