@@ -3,7 +3,6 @@
 #![tactic(auto)]
 
 mod duration;
-pub mod laws;
 
 pub use duration::Duration;
 pub use speedate_base::config::{

@@ -103,12 +103,15 @@ impl ParseError {
     ghost use Rattle.std.specs.Option.{option_map};
     ghost use Rattle.speedate_base.specs.Fault.{fault_name};
     ghost use Rattle.speedate_base.specs.FaultDocumentation.{fault_documentation};
+    ghost use Rattle.speedate_base.specs.declared.faults.ParseError.{ParseError};
 
-    /// The snake-case name, of at most 29 bytes, as `too_short` for `ParseError::TooShort`.
+    /// The snake-case name, of at most 29 bytes, as `too_short` for `ParseError::TooShort`. No other
+    /// fault has it.
     #[inline]
     pub fn name(&self) -> &'static str
         ensures name { result.now ≡ fault_name self.now }
         ensures short { length result.now ≤ 29 }
+        ensures distinct { (other : ParseError) → result.now ≡ fault_name other → self.now ≡ other }
     {
         match self {
             ParseError::TooShort => "too_short",

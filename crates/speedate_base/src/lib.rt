@@ -4,6 +4,5 @@
 
 pub mod config;
 pub mod faults;
-pub mod laws;
 pub mod numbers;
 pub mod util;

@@ -2,7 +2,7 @@ mod CalendarFacts
 mod ClockLemmas
 mod DateLemmas
 mod DateNumberedLemmas
-mod DateOrderLemmas
+pub mod DateOrderLemmas
 mod DateTimeInstantLemmas
 mod DateTimeLemmas
 mod DateTimeTimestampLemmas
@@ -13,7 +13,7 @@ mod OffsetLemmas
 mod OffsetMoveLemmas
 mod StandardFacts
 mod TimeLemmas
-mod DateValueLemmas
+pub mod DateValueLemmas
 mod TimeValueLemmas
 mod DateTimeValueLemmas
 mod MonthLemmas

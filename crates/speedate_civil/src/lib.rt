@@ -3,6 +3,5 @@
 
 pub mod date;
 pub mod datetime;
-pub mod laws;
 pub mod text;
 pub mod time;

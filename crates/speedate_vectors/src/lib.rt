@@ -20,6 +20,7 @@ mod durations;
 mod faults;
 #[cfg(test)]
 mod fractions;
+pub mod laws;
 #[cfg(test)]
 mod numbers;
 #[cfg(test)]

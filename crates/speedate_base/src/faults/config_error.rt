@@ -2,6 +2,7 @@
 
 ghost use Rattle.std.specs.Prelude.{◌≡◌, Some, None};
 ghost use Rattle.speedate_base.specs.Fault.{config_error_name};
+ghost use Rattle.speedate_base.specs.declared.faults.config_error.ConfigError.{ConfigError};
 
 use std::fmt;
 
@@ -19,10 +20,11 @@ pub enum ConfigError {
 
 impl ConfigError {
     /// The snake-case name, as `unknown_timestamp_unit_string` for
-    /// `ConfigError::UnknownTimestampUnitString`.
+    /// `ConfigError::UnknownTimestampUnitString`. The other fault has another one.
     #[inline]
     pub fn name(&self) -> &'static str
         ensures name { result.now ≡ config_error_name self.now }
+        ensures distinct { (other : ConfigError) → result.now ≡ config_error_name other → self.now ≡ other }
     {
         match self {
             ConfigError::UnknownMicrosecondsPrecisionOverflowBehaviorString => {

@@ -6,7 +6,7 @@ use Rattle.speedate_civil.specs.Date.{parts}
 use Rattle.speedate_civil.proofs.DateOrderLemmas.{date_order-day_number}
 use Rattle.speedate_civil.specs.DayNumber.{day_number}
 use Rattle.speedate_civil.proofs.DateValueLemmas.{is_day}
-use Rattle.speedate_civil.proofs.laws.earlier_date.Goals as goal
+use Rattle.speedate_vectors.proofs.laws.earlier_date.Goals as goal
 
 -- what `<` answers of two numbers
 less-is : (first second : ℕ) (answer : Bool) → answer ≡ is_lt (nat_cmp first second) → IsTrue answer ↔ first < second
