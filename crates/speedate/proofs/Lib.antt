@@ -1,2 +1,3 @@
 mod NumberText
 mod DurationFacts
+mod Letters

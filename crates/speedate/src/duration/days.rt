@@ -58,7 +58,7 @@ impl UnsignedDuration {
                 microsecond: 0,
             });
         }
-        let clock = Self::from_clock(bytes, digit_run(bytes, 0), behavior)?;
+        let clock = Self::from_clock(bytes, digit_run(bytes), behavior)?;
         if clock.day != 0 {
             return Err(ParseError::DurationHourValueTooLarge);
         }
