@@ -18,7 +18,7 @@ use Rattle.speedate_base.specs.declared.faults.ParseError.{ParseError}
 use Rattle.speedate_base.specs.Requirement.{◌implies◌, result_and_then}
 use Rattle.speedate_base.specs.RequirementLaws.{meets-ok, meets-value}
 use Rattle.speedate_civil.specs.ClockText.{Clock, has_point, has_second, minute_clock, minute_digits, minute_table, minute_front, clock_answer}
-use Rattle.speedate.specs.ClockForm.{hours_length, behind_hours, hours_digits, hours_range, end_table, clock_numbers, whole_clock, after_hours, clock_form}
+use Rattle.speedate.specs.ClockForm.{colon_place, from_minute, hours_table, hours_range, end_table, clock_numbers, whole_clock, after_hours, clock_form}
 use Rattle.speedate.specs.DayForm.{is_day_letter}
 use Rattle.speedate.specs.DurationForm.{has_days}
 use Rattle.speedate.specs.DurationNumbers.{UnsignedDuration}
@@ -61,9 +61,9 @@ after-minute a b c (d ∷ e ∷ []) true asked sized =
 after-minute a b c (d ∷ e ∷ p ∷ last) true asked sized =
     let parts = and_parts (is_ascii_digit d) (is_ascii_digit e) asked in
     let ends : (point : Bool) → ((p == 46) || (p == 44)) ≡ point → ((if point then 6 + prefix_len is_ascii_digit last else 5) == length (a ∷ b ∷ c ∷ d ∷ e ∷ p ∷ last)) ≡ true
-        → list_any is_day_letter (p ∷ last) ≡ false =
+    → list_any is_day_letter (p ∷ last) ≡ false =
     λ point. elim point as (λ (point : Bool). ((p == 46) || (p == 44)) ≡ point → ((if point then 6 + prefix_len is_ascii_digit last else 5) == length (a ∷ b ∷ c ∷ d ∷ e ∷ p ∷ last)) ≡ true
-        → list_any is_day_letter (p ∷ last) ≡ false) [
+    → list_any is_day_letter (p ∷ last) ≡ false) [
       | true ↦ λ is all.
           let whole : (prefix_len is_ascii_digit last == length last) ≡ true = grind (arith, nat_tests, all) in
           rw (point-no_letter p is) (digits-no_letter last (sym (run-whole last) ∙ whole))
@@ -95,9 +95,9 @@ pub clock-no_letter : (behavior : MicrosecondsPrecisionOverflowBehavior) (text :
     → has_days text ≡ false
 unfolding clock_form
 clock-no_letter behavior text value same =
-    let hours = hours_length text in
-    let rest : List ℕ = behind_hours text in
-    let front = meets-ok (hours_digits text) (after_hours behavior (run_value text 0) rest) value same in
+    let hours = colon_place text in
+    let rest : List ℕ = from_minute text in
+    let front = meets-ok (hours_table text) (after_hours behavior (run_value text 0) rest) value same in
     let ranges = meets-ok (hours_range behavior (run_value text 0) rest) (result_and_then (whole_clock (run_value text 0) rest) (minute_front behavior rest)) value front.1 in
     let read = both-ok (whole_clock (run_value text 0) rest) (minute_front behavior rest) value ranges.1 in
     let minute = meets-ok (minute_digits rest) (clock_answer behavior rest) read.0 read.1 in

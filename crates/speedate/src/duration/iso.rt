@@ -7,7 +7,7 @@ ghost use Rattle.speedate_base.specs.DigitRuns.{run_length, run_value, digits_va
 ghost use Rattle.std.specs.Option.{option_map, is_some};
 ghost use Rattle.speedate_base.specs.declared.faults.ParseError.TheVariants as fault;
 ghost use Rattle.speedate_base.specs.Requirement.{meets, result_map};
-ghost use Rattle.speedate.specs.IsoForm.{Component, TimeDesignator, units, unit_in, is_decimal_mark, fraction_length, unit_seconds, units_behind, fraction_seconds, fraction_microseconds, component_at, component_length, item_at, item_length, are_counted, with_amount, with_item, item_table, sums_length, unit_fault, no_sums, IsAnswerFrom};
+ghost use Rattle.speedate.specs.IsoForm.{Component, TimeDesignator, units, unit_in, is_decimal_mark, fraction_length, unit_seconds, next_units_after, fraction_seconds, fraction_microseconds, component_at, component_length, item_at, item_length, are_counted, with_amount, with_item, item_table, sums_length, unit_fault, no_sums, IsAnswerFrom};
 
 use super::unsigned::UnsignedDuration;
 use speedate_base::config::IsoOrder;
@@ -240,7 +240,7 @@ impl Sums {
         requires unit { IsUnitOf self.now.is_time unit.now }
         requires place { self.now.passed ≤ unit.now.place }
         ensures units { drop result (units self.now.is_time)
-            ≡ units_behind self.now.order self.now.is_time unit.now.designator (sums_parts self.now).next_units }
+            ≡ next_units_after self.now.order self.now.is_time unit.now.designator (sums_parts self.now).next_units }
     {
         match self.order {
             IsoOrder::Lax => 0,
