@@ -9,14 +9,14 @@ use Rattle.std.proofs.lemmas.List.Sums.{position_or_len_is, passes_at_first, pre
 use Rattle.speedate_base.specs.declared.config.MicrosecondsPrecisionOverflowBehavior.{MicrosecondsPrecisionOverflowBehavior}
 use Rattle.speedate_base.specs.Ascii.{colon}
 use Rattle.speedate_base.specs.DigitRuns.{run_length}
-use Rattle.speedate.specs.ClockForm.{hours_length, has_hours, after_hours}
+use Rattle.speedate.specs.ClockForm.{colon_place, has_hours, after_hours}
 
 digit-no_colon : (byte : ℕ) → is_ascii_digit byte ≡ true → (byte == colon) ≡ false
 digit-no_colon byte digit = grind (arith, nat_tests)
 
 -- where `:` follows the digits at the front, they are the hours
-pub hours_length-run : (text : List ℕ) → get_or text (run_length text 0) 0 ≡ colon → (run_length text 0 < length text) × (hours_length text ≡ run_length text 0)
-hours_length-run text ends =
+pub colon_place-run : (text : List ℕ) → get_or text (run_length text 0) 0 ≡ colon → (run_length text 0 < length text) × (colon_place text ≡ run_length text 0)
+colon_place-run text ends =
     let end = run_length text 0 in
     let within : end < length text = elim (cases_lt end (length text)) [
       | inl within ↦ within
@@ -31,11 +31,11 @@ hours_length-run text ends =
 has_hours-none : (text : List ℕ) (has : Bool) → has_hours text ≡ has → (get_or text (run_length text 0) 0 == colon) ≡ false → has ≡ false
 has_hours-none text false same other = refl
 has_hours-none text true same other =
-    let front = nat_lt (hours_length text) (length text) in
-    let few = nat_le (hours_length text) 10 in
-    let parts = and_parts (front && few) (run_length text 0 == hours_length text) same in
-    let ends : run_length text 0 ≡ hours_length text = eqb-true (run_length text 0) (hours_length text) parts.1 in
-    let within : hours_length text < length text = grind (arith, nat_tests, (and_parts front few parts.0).0) in
+    let front = nat_lt (colon_place text) (length text) in
+    let few = nat_le (colon_place text) 10 in
+    let parts = and_parts (front && few) (run_length text 0 == colon_place text) same in
+    let ends : run_length text 0 ≡ colon_place text = eqb-true (run_length text 0) (colon_place text) parts.1 in
+    let within : colon_place text < length text = grind (arith, nat_tests, (and_parts front few parts.0).0) in
     absurd (false≢true (sym other ∙ ap (λ (n : ℕ). get_or text n 0 == colon) ends ∙ passes_at_first (λ byte. byte == colon) text 0 within))
 
 last-two : (within few whole : Bool) → within ≡ true → whole ≡ true → (within && few && whole) ≡ few
@@ -49,10 +49,10 @@ pub has_hours-run : (text : List ℕ) (ends : Bool) → (get_or text (run_length
 has_hours-run text false other = has_hours-none text (has_hours text) refl other
 has_hours-run text true ends =
     let end = run_length text 0 in
-    let run = hours_length-run text (eqb-true _ _ ends) in
-    let within : nat_lt (hours_length text) (length text) ≡ true = grind (arith, nat_tests, run.0, run.1) in
-    let same : (end == hours_length text) ≡ true = grind (arith, nat_tests, run.1) in
-    last-two _ (nat_le (hours_length text) 10) _ within same ∙ ap (λ (n : ℕ). nat_le n 10) run.1
+    let run = colon_place-run text (eqb-true _ _ ends) in
+    let within : nat_lt (colon_place text) (length text) ≡ true = grind (arith, nat_tests, run.0, run.1) in
+    let same : (end == colon_place text) ≡ true = grind (arith, nat_tests, run.1) in
+    last-two _ (nat_le (colon_place text) 10) _ within same ∙ ap (λ (n : ℕ). nat_le n 10) run.1
 
 -- a number of hours that does not fit 64 bits is refused like the largest that does
 pub after_hours-saturated : (behavior : MicrosecondsPrecisionOverflowBehavior) (hours : ℕ) (rest : List ℕ)

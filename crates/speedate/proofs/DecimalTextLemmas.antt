@@ -14,7 +14,7 @@ decimal-two number long small =
 two-more : (front : List ℕ) (tens ones : ℕ) → (front ++ tens ∷ []) ++ ones ∷ [] ≡ front ++ tens ∷ ones ∷ []
 two-more front tens ones = simp append_assoc
 
--- a longer one is the digits in front of its last two, and those
+-- a longer one is the digits before its last two, and those
 pub decimal-pair : (number : ℕ) → 100 ≤ number → number < 2 ^ 32 → decimal number ≡ decimal (number / 100) ++ two_digit_text (number % 100)
 decimal-pair number long small =
     let front : number / 10 / 10 ≡ number / 100 = omega arith in
@@ -25,7 +25,7 @@ decimal-pair number long small =
     ∙ two-more (decimal (number / 10 / 10)) (48 + number / 10 % 10) (48 + number % 10)
     ∙ (λ i. decimal (front i) ++ (48 + tens i) ∷ (48 + ones i) ∷ [])
 
--- and of five digits or more, those in front of its last four, and those
+-- and of five digits or more, those before its last four, and those
 pub decimal-pairs : (number : ℕ) → 10000 ≤ number → number < 2 ^ 32
     → decimal number ≡ (decimal (number / 10000) ++ two_digit_text (number / 100 % 100)) ++ two_digit_text (number % 100)
 decimal-pairs number long small =

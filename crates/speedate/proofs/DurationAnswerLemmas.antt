@@ -14,7 +14,7 @@ use Rattle.speedate.specs.DurationForm.{form_answer, IsDurationAnswer, IsGrammar
 use Rattle.speedate.specs.DurationNumbers.{DurationNumbers, UnsignedDuration, signed_form}
 use Rattle.speedate.specs.IsoForm.{Item, TimeDesignator, Component, item_text, IsItem, Sums, no_sums, item_at, item_length, component_length, item_table, with_item, IsAnswerFrom, IsIsoAnswer}
 use Rattle.speedate.proofs.IsoFormLemmas.{answer-only, answer-with, duration_answer-only}
-use Rattle.speedate.proofs.IsoFrontLemmas.{answer-behind, answer-refused}
+use Rattle.speedate.proofs.IsoFrontLemmas.{answer-after, answer-refused}
 
 -- an item has a byte
 length-some : (text : List ℕ) (is_time : Bool) → 0 < (if is_time then 1 else component_length text)
@@ -29,10 +29,10 @@ step : (sums : Sums) (text : List ℕ) (front : Result ℕ ParseError) (next : R
     → 0 < length text → front ≡ meets (item_table sums (item_at text)) (Ok 0)
     → IsAnswerFrom (with_item (item_at text) sums) (drop (item_length text) text) next
     → IsAnswerFrom sums text (meets (item_table sums (item_at text)) next)
-step sums text (Ok none) next some same behind =
+step sums text (Ok none) next some same later =
     let held = meets-value (item_table sums (item_at text)) 0 none (sym same) in
-    subst (IsAnswerFrom sums text) (sym (meets-all (item_table sums (item_at text)) next held.0)) (answer-behind sums text next some held.0 behind)
-step sums text (Err fault) next some same behind =
+    subst (IsAnswerFrom sums text) (sym (meets-all (item_table sums (item_at text)) next held.0)) (answer-after sums text next some held.0 later)
+step sums text (Err fault) next some same later =
     subst (IsAnswerFrom sums text) (meets-next (item_table sums (item_at text)) 0 (Err fault) next same) (answer-refused sums text fault 0 some same)
 
 iso_answer-from : (most : ℕ) (sums : Sums) (text : List ℕ) → length text ≤ most → IsAnswerFrom sums text (iso_answer most sums text)
@@ -49,10 +49,10 @@ iso_answer-from (suc most) sums (byte ∷ rest) few =
 item-front : (sums : Sums) (item : Item) (text : List ℕ) (front : Result ℕ ParseError) (next : Result UnsignedDuration ParseError) → 0 < length (item_text item ++ text)
     → front ≡ meets (item_table sums item) (Ok 0) → IsItem item → item_at (item_text item ++ text) ≡ item → IsAnswerFrom (with_item item sums) text next
     → IsAnswerFrom sums (item_text item ++ text) (meets (item_table sums item) next)
-item-front sums item text (Ok none) next some same is there behind =
+item-front sums item text (Ok none) next some same is there later =
     let held = meets-value (item_table sums item) 0 none (sym same) in
-    subst (IsAnswerFrom sums (item_text item ++ text)) (sym (meets-all (item_table sums item) next held.0)) (answer-with sums item text next is held.0 behind)
-item-front sums item text (Err fault) next some same is there behind =
+    subst (IsAnswerFrom sums (item_text item ++ text)) (sym (meets-all (item_table sums item) next held.0)) (answer-with sums item text next is held.0 later)
+item-front sums item text (Err fault) next some same is there later =
     let refused = same ∙ ap (λ (item : Item). meets (item_table sums item) (Ok 0)) (sym there) in
     subst (IsAnswerFrom sums (item_text item ++ text)) (meets-next (item_table sums item) 0 (Err fault) next same)
     (answer-refused sums (item_text item ++ text) fault 0 some refused)

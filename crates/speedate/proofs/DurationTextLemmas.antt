@@ -18,7 +18,7 @@ kept-some : (digit : ℕ) (digits : List ℕ) (last : ℕ) → kept_digit digit 
 kept-some digit [] last = refl
 kept-some digit (next ∷ digits) last = refl
 
--- and another digit stays, with all in front of it
+-- and another digit stays, with all before it
 pub without-other : (digits : List ℕ) (last : ℕ) → last ≢ digit_zero → without_last_zeros (digits ++ last ∷ []) ≡ digits ++ last ∷ []
 without-other [] last other = ap (λ (test : Bool). if test then [] else last ∷ []) (ne_eqb last digit_zero other)
 without-other (digit ∷ digits) last other = ap (kept_digit digit) (without-other digits last other) ∙ kept-some digit digits last

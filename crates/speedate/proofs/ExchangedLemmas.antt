@@ -18,7 +18,7 @@ use Rattle.speedate.specs.DurationAnswer.{iso_answer, duration_answer}
 use Rattle.speedate.proofs.DurationAnswerLemmas.{iso_answer-item, duration_answer-iso}
 use Rattle.speedate.specs.DurationNumbers.{UnsignedDuration, signed_form}
 use Rattle.speedate.specs.Exchanged.{has_fraction, IsWhole, AreWhole, IsPlain, AreExchanged}
-use Rattle.speedate.specs.IsoForm.{DurationUnit, units, unit_in, ComponentText, Item, TimeDesignator, Component, item_text, IsItem, item_at, item_table, Sums, no_sums, units_behind, with_component, with_item, with_items}
+use Rattle.speedate.specs.IsoForm.{DurationUnit, units, unit_in, ComponentText, Item, TimeDesignator, Component, item_text, IsItem, item_at, item_table, Sums, no_sums, next_units_after, with_component, with_item, with_items}
 use Rattle.speedate.proofs.IsoFormLemmas.{item_at-amount}
 
 abbrev Answer : Type 0
@@ -40,7 +40,7 @@ IsFree sums = (sums.order ≡ order.Lax) × (sums.next_units ≡ units sums.is_t
 -- in the lax order those after an item are such sums again
 amount-free : (unit : Option DurationUnit) (component : ComponentText) (sums : Sums) → IsFree sums → IsFree (with_component unit component sums)
 amount-free None component sums free = free
-amount-free (Some unit) component sums free = (free.0, ap (λ (order : IsoOrder). units_behind order sums.is_time unit.designator sums.next_units) free.0)
+amount-free (Some unit) component sums free = (free.0, ap (λ (order : IsoOrder). next_units_after order sums.is_time unit.designator sums.next_units) free.0)
 
 item-free : (item : Item) (sums : Sums) → IsFree sums → IsFree (with_item item sums)
 item-free TimeDesignator sums free = (free.0, refl)
@@ -99,8 +99,8 @@ amounts-swap : (one two : Option DurationUnit) (first second : ComponentText) (s
 amounts-swap None two first second sums free = refl
 amounts-swap (Some one) None first second sums free = refl
 amounts-swap (Some one) (Some two) first second sums free =
-    let behind = λ (unit : DurationUnit) (next : List DurationUnit). ap (λ (order : IsoOrder). units_behind order sums.is_time unit.designator next) free.0 in
-    let both = behind two (units_behind sums.order sums.is_time one.designator sums.next_units) ∙ sym (behind one (units_behind sums.order sums.is_time two.designator sums.next_units)) in
+    let later = λ (unit : DurationUnit) (next : List DurationUnit). ap (λ (order : IsoOrder). next_units_after order sums.is_time unit.designator next) free.0 in
+    let both = later two (next_units_after sums.order sums.is_time one.designator sums.next_units) ∙ sym (later one (next_units_after sums.order sums.is_time two.designator sums.next_units)) in
     let fractions = or-swap sums.fraction (has_fraction first) (has_fraction second) in
     let days = add-swap sums.day _ _ _ _ in
     let seconds = add-swap sums.second _ _ _ _ in
@@ -175,10 +175,10 @@ pair-answer sums first second rest free one two =
     let next = with_item (Component first) sums in
     let last = answer_from (with_item (Component second) next) rest in
     let plain = plain-next sums first second one two in
-    let behind = iso_answer-item next (Component second) rest plain.0.0 (item_at-whole next (Component second) rest plain.0)
+    let later = iso_answer-item next (Component second) rest plain.0.0 (item_at-whole next (Component second) rest plain.0)
     ∙ plain-table next second last (item-free (Component first) sums free) plain in
     iso_answer-item sums (Component first) (item_text (Component second) ++ rest) one.0.0 (item_at-whole sums (Component first) (item_text (Component second) ++ rest) one.0)
-    ∙ plain-table sums first _ free one ∙ ap (λ (next : Answer). if fits sums first then next else Err fault.DurationValueTooLarge) behind
+    ∙ plain-table sums first _ free one ∙ ap (λ (next : Answer). if fits sums first then next else Err fault.DurationValueTooLarge) later
     ∙ two-rows (fits sums first) (fits next second) fault.DurationValueTooLarge last
 
 -- it does not depend on their order
@@ -192,16 +192,16 @@ pair-exchanged sums first second rest free one two =
     ∙ sym (pair-answer sums second first rest free two one)
 
 -- nor where they stand after items, whether these are refused or not
-behind-exchanged : (sums : Sums) (items : List Item) (first second : ComponentText) (rest : List ℕ) → IsFree sums → AreWhole sums items
+after-exchanged : (sums : Sums) (items : List Item) (first second : ComponentText) (rest : List ℕ) → IsFree sums → AreWhole sums items
     → IsPlain (with_items items sums) first → IsPlain (with_items items sums) second
     → answer_from sums (flat_map item_text items ++ (item_text (Component first) ++ (item_text (Component second) ++ rest)))
     ≡ answer_from sums (flat_map item_text items ++ (item_text (Component second) ++ (item_text (Component first) ++ rest)))
-behind-exchanged sums [] first second rest free whole one two = pair-exchanged sums first second rest free one two
-behind-exchanged sums (item ∷ items) first second rest free whole one two =
+after-exchanged sums [] first second rest free whole one two = pair-exchanged sums first second rest free one two
+after-exchanged sums (item ∷ items) first second rest free whole one two =
     let read = λ (text : List ℕ). ap (answer_from sums) (append_assoc (item_text item) (flat_map item_text items) text)
     ∙ iso_answer-item sums item (flat_map item_text items ++ text) (whole-item sums item whole.0) (item_at-whole sums item (flat_map item_text items ++ text) whole.0) in
     read (item_text (Component first) ++ (item_text (Component second) ++ rest))
-    ∙ ap (meets (item_table sums item)) (behind-exchanged (with_item item sums) items first second rest (item-free item sums free) whole.1 one two)
+    ∙ ap (meets (item_table sums item)) (after-exchanged (with_item item sums) items first second rest (item-free item sums free) whole.1 one two)
     ∙ sym (read (item_text (Component second) ++ (item_text (Component first) ++ rest)))
 
 -- texts that are one but for that order have one answer
@@ -213,7 +213,7 @@ duration_answer-exchanged asked behavior one two lax are =
     let second = item_text (Component are.second) in
     let body : List ℕ = items ++ (first ++ (second ++ are.rest)) in
     let exchanged : List ℕ = items ++ (second ++ (first ++ are.rest)) in
-    let same = behind-exchanged (no_sums order.Lax) are.items are.first are.second are.rest (refl, refl) are.are_whole are.is_plain_first are.is_plain_second in
+    let same = after-exchanged (no_sums order.Lax) are.items are.first are.second are.rest (refl, refl) are.are_whole are.is_plain_first are.is_plain_second in
     let read = λ (text : List ℕ). duration_answer order.Lax behavior text in
     rw lax
     (ap read are.is_one ∙ duration_answer-iso order.Lax behavior are.negative are.sign body are.is_sign

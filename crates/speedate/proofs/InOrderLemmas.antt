@@ -78,10 +78,10 @@ iso-both zero sums (byte ∷ rest) = inl refl
 iso-both (suc most) sums (byte ∷ rest) =
     let text = byte ∷ rest in
     let item = item_at text in
-    let behind = drop (item_length text) text in
+    let later = drop (item_length text) text in
     table-both sums item _ _
-    (subst (λ (next : Sums). IsLaxOrRefused (iso_answer most next behind) (iso_answer most (with_item item sums) behind))
-    (item-lax item sums) (iso-both most (with_item item sums) behind))
+    (subst (λ (next : Sums). IsLaxOrRefused (iso_answer most next later) (iso_answer most (with_item item sums) later))
+    (item-lax item sums) (iso-both most (with_item item sums) later))
 
 both-signed : (positive : Bool) (lax answer : Answer) → IsLaxOrRefused lax answer
     → IsLaxOrRefused (result_and_then (signed_form positive) lax) (result_and_then (signed_form positive) answer)
@@ -105,10 +105,10 @@ duration-both asked behavior text =
 -- the unit of a designator has that designator
 found-designator : (test : Bool) (one : DurationUnit) (other : Option DurationUnit) (designator : ℕ) (unit : DurationUnit) → (designator == one.designator) ≡ test
     → (other ≡ Some unit → unit.designator ≡ designator) → (if test then Some one else other) ≡ Some unit → unit.designator ≡ designator
-found-designator true one other designator unit test behind same =
+found-designator true one other designator unit test later same =
     let is : one ≡ unit = cc in
     sym (eqb-true designator one.designator test ∙ ap (λ (unit : DurationUnit). unit.designator) is)
-found-designator false one other designator unit test behind same = behind same
+found-designator false one other designator unit test later same = later same
 
 unit-designator : (units : List DurationUnit) (designator : ℕ) (unit : DurationUnit) → unit_in units designator ≡ Some unit → unit.designator ≡ designator
 unit-designator [] designator unit same = absurd (cc)
@@ -153,15 +153,15 @@ amount-strict : (next : List DurationUnit) (sums : Sums) (component : ComponentT
     → IsAnswerFrom (as_strict (units_after component.designator next) (with_item (Component component) sums)) rest
     (strict_end in_order after)
     → IsAnswerFrom (as_strict next sums) (item_text (Component component) ++ rest) (strict_end (comes && in_order) after)
-amount-strict next sums component rest in_order false after is all late behind = out_of_order next sums component rest is all late
-amount-strict next sums component rest in_order true after is all comes behind =
+amount-strict next sums component rest in_order false after is all late later = out_of_order next sums component rest is all late
+amount-strict next sums component rest in_order true after is all comes later =
     let unit = unit_in (units sums.is_time) component.designator in
     let same = component-strict unit component next sums refl all.1.1.1.0 in
     let counted = sym (ap are_counted same) ∙ all.1.1.1.1.1.0 in
     let hold : AllHold (item_table (as_strict next sums) (Component component)) =
     (all.0, (all.1.0, (all.1.1.0, (all.1.1.1.0, (comes, (counted, tt)))))) in
     answer-with (as_strict next sums) (Component component) rest (strict_end in_order after) is hold
-    (subst (λ (next : Sums). IsAnswerFrom next rest (strict_end in_order after)) same behind)
+    (subst (λ (next : Sums). IsAnswerFrom next rest (strict_end in_order after)) same later)
 
 -- so good items are refused if and only if they are not in order
 items-strict : (next : List DurationUnit) (sums : Sums) (items : List Item) → AreGood sums items
@@ -267,8 +267,8 @@ first-designator : (test : Bool) (unit : DurationUnit) (next : List DurationUnit
     → (is_some (if test then Some unit else unit_in next component.designator)
     && are_in_order (if test then next else units_after component.designator next) (map Component components ++ rest))
     ≡ ((if test then are_some_of (designators components) (unit_designators next) else are_some_of (designators (component ∷ components)) (unit_designators next)) && last)
-first-designator true unit next component components rest last here behind = here
-first-designator false unit next component components rest last here behind = behind
+first-designator true unit next component components rest last here later = here
+first-designator false unit next component components rest last here later = later
 
 -- components of one side, before nothing or a `T`, are in order if and only if their designators are some of those of the
 -- side, in the order of the table, each at most once

@@ -33,21 +33,21 @@ mark-no_digit : (byte : ℕ) → is_decimal_mark byte ≡ true → is_ascii_digi
 mark-no_digit byte is = grind (arith, nat_tests, is)
 
 -- digits end before a byte that is none
-run-ended : (digits : List ℕ) (byte : ℕ) (rest : List ℕ) → list_all is_ascii_digit digits ≡ true → is_ascii_digit byte ≡ false
+run-end : (digits : List ℕ) (byte : ℕ) (rest : List ℕ) → list_all is_ascii_digit digits ≡ true → is_ascii_digit byte ≡ false
     → prefix_len is_ascii_digit (digits ++ byte ∷ rest) ≡ length digits
-run-ended digits byte rest all other = run_length-append digits (byte ∷ rest) all ∙ rw other (omega arith)
+run-end digits byte rest all other = run_length-append digits (byte ∷ rest) all ∙ rw other (omega arith)
 
 -- a fraction ends before a designator
-fraction-ended : (fraction : List ℕ) (designator : ℕ) (rest : List ℕ) → IsFraction fraction → is_ascii_digit designator ≡ false → is_decimal_mark designator ≡ false
+fraction-end : (fraction : List ℕ) (designator : ℕ) (rest : List ℕ) → IsFraction fraction → is_ascii_digit designator ≡ false → is_decimal_mark designator ≡ false
     → fraction_length (fraction ++ designator ∷ rest) ≡ length fraction
-fraction-ended [] designator rest is digit point = rw point refl
-fraction-ended (mark ∷ digits) designator rest is digit point = rw (is.0, run-ended digits designator rest is.1 digit) (omega arith)
+fraction-end [] designator rest is digit point = rw point refl
+fraction-end (mark ∷ digits) designator rest is digit point = rw (is.0, run-end digits designator rest is.1 digit) (omega arith)
 
 -- nor does it begin with a digit
-number-ended : (number fraction : List ℕ) (designator : ℕ) (rest : List ℕ) → list_all is_ascii_digit number ≡ true → IsFraction fraction → is_ascii_digit designator ≡ false
+number-end : (number fraction : List ℕ) (designator : ℕ) (rest : List ℕ) → list_all is_ascii_digit number ≡ true → IsFraction fraction → is_ascii_digit designator ≡ false
     → prefix_len is_ascii_digit (number ++ (fraction ++ designator ∷ rest)) ≡ length number
-number-ended number [] designator rest all is digit = run-ended number designator rest all digit
-number-ended number (mark ∷ digits) designator rest all is digit = run-ended number mark (digits ++ designator ∷ rest) all (mark-no_digit mark is.0)
+number-end number [] designator rest all is digit = run-end number designator rest all digit
+number-end number (mark ∷ digits) designator rest all is digit = run-end number mark (digits ++ designator ∷ rest) all (mark-no_digit mark is.0)
 
 -- digits begin with no `T`
 number-no_designator : (number rest : List ℕ) → nat_lt 0 (length number) ≡ true → list_all is_ascii_digit number ≡ true
@@ -59,12 +59,12 @@ number-no_designator (digit ∷ number) rest some all = grind (arith, nat_tests,
 component_at-text : (component : ComponentText) (rest : List ℕ) → IsItem (Component component) → is_ascii_digit component.designator ≡ false → is_decimal_mark component.designator ≡ false
     → component_at (component.number ++ (component.fraction ++ component.designator ∷ rest)) ≡ component
 component_at-text component rest is digit point =
-    let behind = component.fraction ++ component.designator ∷ rest in
+    let later = component.fraction ++ component.designator ∷ rest in
     rw (
-      number-ended component.number component.fraction component.designator rest is.0 is.1 digit,
-      take-append_seam component.number behind,
-      drop-append_seam component.number behind,
-      fraction-ended component.fraction component.designator rest is.1 digit point,
+      number-end component.number component.fraction component.designator rest is.0 is.1 digit,
+      take-append_seam component.number later,
+      drop-append_seam component.number later,
+      fraction-end component.fraction component.designator rest is.1 digit point,
       take-append_seam component.fraction (component.designator ∷ rest),
       get_or-append_seam component.fraction component.designator rest 0,
     ) refl
@@ -115,11 +115,11 @@ front-only sums [] (item ∷ others) rest other first second same good goods one
 front-only sums (item ∷ items) [] rest other first second same good goods one two =
     absurd (end-no_front sums other second item items rest two (sym same) good)
 front-only sums (item ∷ items) (next ∷ others) rest other first second same good goods one two =
-    let behind = flat_map item_text items ++ rest in
-    let others_behind = flat_map item_text others ++ other in
+    let later = flat_map item_text items ++ rest in
+    let others_after = flat_map item_text others ++ other in
     let joined = sym (append_assoc (item_text item) (flat_map item_text items) rest) ∙ same ∙ append_assoc (item_text next) (flat_map item_text others) other in
-    let is : next ≡ item = sym (item_at-text sums next others_behind goods.0 goods.1) ∙ sym (ap item_at joined) ∙ item_at-text sums item behind good.0 good.1 in
-    let left = append_cancel_left (item_text item) behind others_behind (joined ∙ ap (λ (item : Item). item_text item ++ others_behind) is) in
+    let is : next ≡ item = sym (item_at-text sums next others_after goods.0 goods.1) ∙ sym (ap item_at joined) ∙ item_at-text sums item later good.0 good.1 in
+    let left = append_cancel_left (item_text item) later others_after (joined ∙ ap (λ (item : Item). item_text item ++ others_after) is) in
     let after = front-only (with_item item sums) items others rest other first second left good.2
     (subst (λ (item : Item). AreGood (with_item item sums) others) is goods.2) one
     (subst (λ (item : Item). Ends (with_items others (with_item item sums)) other second) is two) in

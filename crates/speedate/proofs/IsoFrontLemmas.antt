@@ -19,12 +19,12 @@ use Rattle.speedate.proofs.IsoFormLemmas.{answer-with}
 use Rattle.speedate.specs.IsoForm.{DurationUnit, ComponentText, Item, Component, TimeDesignator, Sums, IsItem, component_at, component_length, item_at, item_length, item_text, item_table, with_amount, with_component, with_item, are_counted, Ends, IsAnswerFrom, sums_length, units, unit_in, is_decimal_mark, fraction_length, IsFraction}
 
 -- after a decimal mark stand digits
-digits-behind : (text : List ℕ) (has_mark : Bool) → list_all is_ascii_digit (drop 1 (take (if has_mark then 1 + run_length text 1 else 0) text)) ≡ true
-digits-behind text true = ap (list_all is_ascii_digit) (drop-take 1 (run_length text 1) text) ∙ run-digits (drop 1 text)
-digits-behind text false = refl
+digits-after : (text : List ℕ) (has_mark : Bool) → list_all is_ascii_digit (drop 1 (take (if has_mark then 1 + run_length text 1 else 0) text)) ≡ true
+digits-after text true = ap (list_all is_ascii_digit) (drop-take 1 (run_length text 1) text) ∙ run-digits (drop 1 text)
+digits-after text false = refl
 
 pub fraction-digits : (text : List ℕ) → list_all is_ascii_digit (drop 1 (take (fraction_length text) text)) ≡ true
-fraction-digits text = digits-behind text (is_decimal_mark (slice_index text 0))
+fraction-digits text = digits-after text (is_decimal_mark (slice_index text 0))
 
 -- what has the length of a fraction is one
 sign-first : (text : List ℕ) (has_mark : Bool) → is_decimal_mark (slice_index text 0) ≡ has_mark → IsFraction (take (if has_mark then 1 + run_length text 1 else 0) text)
@@ -52,8 +52,8 @@ parted text n m within =
     let rest = drop n text in
     let last = drop_more rest m 0 within in
     let places : n + (m + 1) ≡ n + m + 1 = omega arith in
-    let behind = drop-drop (m + 1) n text ∙ ap (λ (k : ℕ). drop k text) places in
-    let cut = ap (λ (end : List ℕ). take m rest ++ end) (last ∙ ap (λ (end : List ℕ). get_or rest m 0 ∷ end) behind) in
+    let later = drop-drop (m + 1) n text ∙ ap (λ (k : ℕ). drop k text) places in
+    let cut = ap (λ (end : List ℕ). take m rest ++ end) (last ∙ ap (λ (end : List ℕ). get_or rest m 0 ∷ end) later) in
     simp append_assoc (sym (take-append-drop n text) ∙ ap (λ (end : List ℕ). take n text ++ end) (sym (take-append-drop m rest) ∙ cut))
 
 -- what begins a text as an item and meets the table is an item, and the text is its text and the rest
@@ -72,34 +72,34 @@ component-front sums text hold =
 after-item : (sums : Sums) (item : Item) (text rest : List ℕ) (answer : Result UnsignedDuration ParseError)
     → text ≡ item_text item ++ rest → IsItem item → AllHold (item_table sums item)
     → IsAnswerFrom (with_item item sums) rest answer → IsAnswerFrom sums text answer
-after-item sums item text rest answer same is hold behind =
-    subst (λ (text : List ℕ). IsAnswerFrom sums text answer) (sym same) (answer-with sums item rest answer is hold behind)
+after-item sums item text rest answer same is hold later =
+    subst (λ (text : List ℕ). IsAnswerFrom sums text answer) (sym same) (answer-with sums item rest answer is hold later)
 
 front-item : (sums : Sums) (text : List ℕ) (answer : Result UnsignedDuration ParseError) (is_time : Bool)
     → (slice_index text 0 == capital_t) ≡ is_time → 0 < length text
     → AllHold (item_table sums (if is_time then TimeDesignator else Component (component_at text)))
     → IsAnswerFrom (with_item (if is_time then TimeDesignator else Component (component_at text)) sums) (drop (if is_time then 1 else component_length text) text) answer
     → IsAnswerFrom sums text answer
-front-item sums text answer true same some hold behind =
-    after-item sums TimeDesignator text (drop 1 text) answer (whole-designator text some (eqb-true (slice_index text 0) capital_t same)) tt hold behind
-front-item sums text answer false same some hold behind =
+front-item sums text answer true same some hold later =
+    after-item sums TimeDesignator text (drop 1 text) answer (whole-designator text some (eqb-true (slice_index text 0) capital_t same)) tt hold later
+front-item sums text answer false same some hold later =
     let front = component-front sums text hold in
-    after-item sums (Component (component_at text)) text (drop (component_length text) text) answer front.1 front.0 hold behind
+    after-item sums (Component (component_at text)) text (drop (component_length text) text) answer front.1 front.0 hold later
 
 -- where the item at the front of a text meets the table, the answer is that of what follows it
-pub answer-behind : (sums : Sums) (text : List ℕ) (answer : Result UnsignedDuration ParseError)
+pub answer-after : (sums : Sums) (text : List ℕ) (answer : Result UnsignedDuration ParseError)
     → 0 < length text → AllHold (item_table sums (item_at text))
     → IsAnswerFrom (with_item (item_at text) sums) (drop (item_length text) text) answer → IsAnswerFrom sums text answer
-answer-behind sums text answer = front-item sums text answer (slice_index text 0 == capital_t) refl
+answer-after sums text answer = front-item sums text answer (slice_index text 0 == capital_t) refl
 
 -- the same of a number at a place and a designator after it that has a unit
-pub answer-behind-plain : (sums next : Sums) (body : List ℕ) (place end number designator : ℕ) (unit : DurationUnit)
+pub answer-after-plain : (sums next : Sums) (body : List ℕ) (place end number designator : ℕ) (unit : DurationUnit)
     (answer : Result UnsignedDuration ParseError)
     → sums.fraction ≡ false → number ≡ run_value body place → end ≡ place + run_length body place → designator ≡ slice_index body end
     → Some unit ≡ unit_in (units sums.is_time) designator → next ≡ with_amount unit number [] sums
     → place < end → number ≤ 4294967295 → is_some (unit_in sums.next_units designator) ≡ true → are_counted (with_amount unit number [] sums) ≡ true
     → IsAnswerFrom next (drop (end + 1) body) answer → IsAnswerFrom sums (drop place body) answer
-answer-behind-plain sums next body place end number designator unit answer none spelled ended read is added some small may_come counted behind =
+answer-after-plain sums next body place end number designator unit answer none spelled ended read is added some small may_come counted later =
     let text : List ℕ = drop place body in
     let count = run_length body place in
     let component : ComponentText = record { number = take count text; fraction = []; designator = slice_index (drop count text) 0 } in
@@ -117,7 +117,7 @@ answer-behind-plain sums next body place end number designator unit answer none 
     let rest = ap (λ (n : ℕ). drop n body) (sym last) ∙ sym (drop-drop (count + 0 + 1) place body) in
     after-item sums (Component component) text (drop (count + 0 + 1) text) answer whole (run-digits text, tt) all
     (subst (λ (sums : Sums). IsAnswerFrom sums (drop (count + 0 + 1) text) answer) (sym same)
-    (subst (λ (rest : List ℕ). IsAnswerFrom next rest answer) rest behind))
+    (subst (λ (rest : List ℕ). IsAnswerFrom next rest answer) rest later))
 
 -- a text that begins with a `T` is not empty
 first-within : (text : List ℕ) → slice_index text 0 ≡ capital_t → 0 < length text
@@ -125,17 +125,17 @@ first-within [] is = absurd (cc)
 first-within (byte ∷ text) is = omega arith
 
 -- and of a `T` at a place
-pub answer-behind-designator : (sums next : Sums) (body : List ℕ) (place : ℕ) (answer : Result UnsignedDuration ParseError)
+pub answer-after-designator : (sums next : Sums) (body : List ℕ) (place : ℕ) (answer : Result UnsignedDuration ParseError)
     → sums.is_time ≡ false → slice_index body place ≡ capital_t → next ≡ with_item TimeDesignator sums
     → IsAnswerFrom next (drop (place + 1) body) answer → IsAnswerFrom sums (drop place body) answer
-answer-behind-designator sums next body place answer none is added behind =
+answer-after-designator sums next body place answer none is added later =
     let text : List ℕ = drop place body in
     let first : slice_index text 0 ≡ capital_t = get_or-drop place body 0 0 ∙ ap (λ (n : ℕ). slice_index body n) (omega arith) ∙ is in
     let rest = sym (drop-drop 1 place body) in
     let some : 0 < length text = first-within text first in
     after-item sums TimeDesignator text (drop 1 text) answer (whole-designator text some first) tt (ap not none, tt)
     (subst (λ (sums : Sums). IsAnswerFrom sums (drop 1 text) answer) added
-    (subst (λ (rest : List ℕ). IsAnswerFrom next rest answer) rest behind))
+    (subst (λ (rest : List ℕ). IsAnswerFrom next rest answer) rest later))
 
 ends-refused : (sums : Sums) (text : List ℕ) (fault : ParseError) → 0 < length text
     → meets (item_table sums (item_at text)) (Ok (sums_length sums)) ≡ Err fault → Ends sums text (Err fault)

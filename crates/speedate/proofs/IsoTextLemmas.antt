@@ -31,7 +31,7 @@ use Rattle.speedate.proofs.DurationAnswerLemmas.{iso_form-only}
 use Rattle.speedate.proofs.DurationLemmas.{normal_form-same}
 use Rattle.speedate.specs.DurationNumbers.{DurationNumbers, IsDuration, length_of, signed_form}
 use Rattle.speedate.specs.DurationText.{counted_text, kept_digit, without_last_zeros, short_fraction_text, hours_text, days_text, start_text, rest_text, is_whole_days, duration_text}
-use Rattle.speedate.specs.IsoForm.{DurationUnit, unit, units, unit_in, ComponentText, Item, TimeDesignator, Component, item_text, IsFraction, Sums, no_sums, units_behind, unit_seconds, fraction_seconds, fraction_microseconds, with_component, with_item, with_items, AreGood, Ends, sums_length, IsIsoAnswer}
+use Rattle.speedate.specs.IsoForm.{DurationUnit, unit, units, unit_in, ComponentText, Item, TimeDesignator, Component, item_text, IsFraction, Sums, no_sums, next_units_after, unit_seconds, fraction_seconds, fraction_microseconds, with_component, with_item, with_items, AreGood, Ends, sums_length, IsIsoAnswer}
 
 -- a number without leading zeros is digits that spell it
 abbrev AreDigits : List ℕ → Type 0
@@ -149,7 +149,7 @@ clock_sums order next some day second microsecond = record {
 
 -- the units that may come after so many of a unit, of which nothing is printed for none
 abbrev units_left : IsoOrder → Bool → ℕ → Bool → List DurationUnit → List DurationUnit
-units_left order is_time designator none next = if none then next else units_behind order is_time designator next
+units_left order is_time designator none next = if none then next else next_units_after order is_time designator next
 
 -- so many of a unit of one side, which may come next, bring days and seconds to others, all of which fit
 record Adds (unit : DurationUnit) (next : List DurationUnit) (is_time : Bool) (number day second days seconds : ℕ) : Type 0 where
@@ -175,7 +175,7 @@ amount-leads : (order : IsoOrder) (next : List DurationUnit) (unit : DurationUni
     → Leads (whole_sums order next is_time some day second) (decimal number ++ fraction ++ unit.designator ∷ [])
     (record {
       order = order;
-      next_units = units_behind order is_time unit.designator next;
+      next_units = next_units_after order is_time unit.designator next;
       is_time = is_time;
       fraction = nat_lt 0 (length fraction);
       some = true;
@@ -197,7 +197,7 @@ amount-leads order next unit is_time some number day second days seconds microse
     let sum = ap (λ one. with_component one component sums) adds.found
     ∙ (λ i. record {
       order = order;
-      next_units = units_behind order is_time unit.designator next;
+      next_units = next_units_after order is_time unit.designator next;
       is_time = is_time;
       fraction = nat_lt 0 (length fraction);
       some = true;
@@ -222,9 +222,9 @@ amount-leads order next unit is_time some number day second days seconds microse
 whole-leads : (order : IsoOrder) (next : List DurationUnit) (unit : DurationUnit) (is_time some : Bool) (number day second days seconds : ℕ)
     → Adds unit next is_time number day second days seconds
     → Leads (whole_sums order next is_time some day second) (decimal number ++ unit.designator ∷ [])
-    (whole_sums order (units_behind order is_time unit.designator next) is_time true days seconds)
+    (whole_sums order (next_units_after order is_time unit.designator next) is_time true days seconds)
 whole-leads order next unit is_time some number day second days seconds adds =
-    let after = whole_sums order (units_behind order is_time unit.designator next) is_time true days seconds in
+    let after = whole_sums order (next_units_after order is_time unit.designator next) is_time true days seconds in
     subst (λ (digits : List ℕ). Leads (whole_sums order next is_time some day second) (digits ++ unit.designator ∷ []) after) (append-nil (decimal number))
     (amount-leads order next unit is_time some number day second days seconds 0 [] adds (no-fraction unit))
 
@@ -255,9 +255,9 @@ designator-leads order next some day second = (TimeDesignator ∷ [], refl, (tt,
 
 -- no seconds at all
 zero-leads : (order : IsoOrder) (next : List DurationUnit) (some : Bool) (day : ℕ) → day ≤ 4294967295
-    → Leads (whole_sums order next false some day 0) (codes "T0S") (whole_sums order (units_behind order true capital_s (units true)) true true day 0)
+    → Leads (whole_sums order next false some day 0) (codes "T0S") (whole_sums order (next_units_after order true capital_s (units true)) true true day 0)
 zero-leads order next some day few =
-    let after = whole_sums order (units_behind order true capital_s (units true)) true true day 0 in
+    let after = whole_sums order (next_units_after order true capital_s (units true)) true true day 0 in
     let adds : Adds (unit capital_s 0 1) (units true) true 0 day 0 day 0 = record {
       found = refl;
       comes = refl;

@@ -11,3 +11,4 @@ mod IsoPlaceLemmas
 mod IsoTextLemmas
 mod DecimalTextLemmas
 mod DurationValueLemmas
+mod LetterLemmas

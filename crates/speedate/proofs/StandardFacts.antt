@@ -77,8 +77,8 @@ iso-repeated = refl
 abbrev one_of : ℕ → Item
 one_of designator = Component (record { number = codes "1"; fraction = []; designator = designator })
 
-items-made : IsMadeOf (codes "P1MT1M") (one_of capital_m ∷ TimeDesignator ∷ one_of capital_m ∷ [])
-items-made = record {
+items-of_text : IsMadeOf (codes "P1MT1M") (one_of capital_m ∷ TimeDesignator ∷ one_of capital_m ∷ [])
+items-of_text = record {
   negative = false;
   sign = [];
   is_sign = inl refl;

@@ -13,24 +13,24 @@ use Rattle.speedate_civil.specs.ClockText.{Clock, minute_front}
 use Rattle.speedate.specs.DurationNumbers.{UnsignedDuration}
 
 -- how many bytes stand before the first `:`, or in all where there is none
-abbrev pub hours_length : List ℕ → ℕ
-hours_length text = position_or_len (λ byte. byte == colon) text
+abbrev pub colon_place : List ℕ → ℕ
+colon_place text = position_or_len (λ byte. byte == colon) text
 
 -- what follows that `:`
-abbrev pub behind_hours : List ℕ → List ℕ
-behind_hours text = drop (hours_length text + 1) text
+abbrev pub from_minute : List ℕ → List ℕ
+from_minute text = drop (colon_place text + 1) text
 
 -- at most ten digits, or none, and `:` begin a text
 abbrev pub has_hours : List ℕ → Bool
-has_hours text = nat_lt (hours_length text) (length text) && nat_le (hours_length text) 10 && (run_length text 0 == hours_length text)
+has_hours text = nat_lt (colon_place text) (length text) && nat_le (colon_place text) 10 && (run_length text 0 == colon_place text)
 
 -- what a text has to meet to begin with hours: at most ten digits, or none, and `:`
-abbrev pub hours_digits : List ℕ → List Requirement
-hours_digits text =
+abbrev pub hours_table : List ℕ → List Requirement
+hours_table text =
     (nat_le 5 (length text) else_fault fault.TooShort)
-    ∷ (nat_lt (hours_length text) (length text) else_fault fault.InvalidCharHour)
-    ∷ (nat_le (hours_length text) 10 else_fault fault.DurationHourValueTooLarge)
-    ∷ ((run_length text 0 == hours_length text) else_fault fault.InvalidCharHour)
+    ∷ (nat_lt (colon_place text) (length text) else_fault fault.InvalidCharHour)
+    ∷ (nat_le (colon_place text) 10 else_fault fault.DurationHourValueTooLarge)
+    ∷ ((run_length text 0 == colon_place text) else_fault fault.InvalidCharHour)
     ∷ []
 
 -- and then to go on to the minute: there are at most 2,400,000,000 hours, and what follows them has at least two bytes,
@@ -66,4 +66,4 @@ after_hours behavior hours rest =
 -- the duration that a text is in this form, or the text's fault
 unfoldable pub clock_form : MicrosecondsPrecisionOverflowBehavior → List ℕ → Result UnsignedDuration ParseError
 clock_form behavior text =
-    meets (hours_digits text) (after_hours behavior (run_value text 0) (behind_hours text))
+    meets (hours_table text) (after_hours behavior (run_value text 0) (from_minute text))

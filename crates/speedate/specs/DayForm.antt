@@ -1,10 +1,10 @@
 -- A duration as days and a clock, `1 day, 10:20`. This form is the library's own. `text` begins with the days.
-use Rattle.std.specs.Prelude.{ℕ, ◌+◌, Bool, not, ◌||◌, List, [], ◌∷◌, codes, length, drop, slice_index, nat_eq, nat_le, nat_lt, ◌==◌, if◌then◌else◌, Result, Ok}
+use Rattle.std.specs.Prelude.{ℕ, Bool, false, not, ◌||◌, List, [], ◌∷◌, codes, length, drop, slice_index, nat_eq, nat_le, nat_lt, ◌==◌, if◌then◌else◌, Result, Ok}
 use Rattle.std.specs.List.{starts_with}
 use Rattle.speedate_base.specs.declared.config.MicrosecondsPrecisionOverflowBehavior.{MicrosecondsPrecisionOverflowBehavior}
 use Rattle.speedate_base.specs.declared.faults.ParseError.{ParseError}
 use Rattle.speedate_base.specs.declared.faults.ParseError.TheVariants as fault
-use Rattle.speedate_base.specs.Ascii.{space, comma, capital_a, capital_d, small_a, small_d}
+use Rattle.speedate_base.specs.Ascii.{capital_d, small_d}
 use Rattle.speedate_base.specs.DigitRuns.{run_length, run_value}
 use Rattle.speedate_base.specs.Requirement.{Requirement, ◌else_fault◌, meets, result_map, result_and_then}
 use Rattle.speedate.specs.ClockForm.{clock_form}
@@ -14,47 +14,55 @@ use Rattle.speedate.specs.DurationNumbers.{UnsignedDuration}
 abbrev pub is_day_letter : ℕ → Bool
 is_day_letter byte = (byte == small_d) || (byte == capital_d)
 
--- where it stands: after the number of the days, and one space if there is one
-abbrev pub letter_place : List ℕ → ℕ
-letter_place text =
-    let end = run_length text 0 in
-    if slice_index text end == space then end + 1 else end
+-- what follows the first of some texts with which a text begins: all of it where it begins with none of them
+abbrev pub after_one_of : List (List ℕ) → List ℕ → List ℕ
+after_one_of [] text = text
+after_one_of (one ∷ others) text = if starts_with nat_eq text one then drop (length one) text else after_one_of others text
 
--- what follows that letter
-abbrev pub behind_letter : List ℕ → List ℕ
-behind_letter text = drop (letter_place text + 1) text
+-- a text begins with one of some texts
+abbrev pub begins_with_one_of : List (List ℕ) → List ℕ → Bool
+begins_with_one_of [] text = false
+begins_with_one_of (one ∷ others) text = starts_with nat_eq text one || begins_with_one_of others text
 
--- how many bytes the rest of the word `days` or `day` has, small or in capitals
-abbrev pub ending_length : List ℕ → ℕ
-ending_length text =
-    if starts_with nat_eq text (codes "ays") || starts_with nat_eq text (codes "AYS") then 3
-    else (if starts_with nat_eq text (codes "ay") || starts_with nat_eq text (codes "AY") then 2 else 0)
+-- what may follow the letter in the word `days` or `day`, small or in capitals
+abbrev pub day_endings : List (List ℕ)
+day_endings = codes "ays" ∷ codes "AYS" ∷ codes "ay" ∷ codes "AY" ∷ []
 
--- the rest of a word begins a text
-abbrev pub begins_ending : List ℕ → Bool
-begins_ending text = (slice_index text 0 == small_a) || (slice_index text 0 == capital_a)
+-- what begins an ending, whole or not
+abbrev pub ending_letters : List (List ℕ)
+ending_letters = codes "a" ∷ codes "A" ∷ []
 
--- how many bytes part the days from a clock: a comma, a space, or both
-abbrev pub gap_length : List ℕ → ℕ
-gap_length text =
-    if slice_index text 0 == comma then (if slice_index text 1 == space then 2 else 1)
-    else (if slice_index text 0 == space then 1 else 0)
+-- what may part the days from a clock
+abbrev pub gaps : List (List ℕ)
+gaps = codes ", " ∷ codes "," ∷ codes " " ∷ []
 
--- where the word that begins with that letter ends
-abbrev pub word_end : List ℕ → ℕ
-word_end text = letter_place text + 1 + ending_length (behind_letter text)
+-- a text is a number, a space or none, the letter of a day, an ending or none, a gap or none, and then a clock or nothing
+abbrev pub after_number : List ℕ → List ℕ
+after_number text = drop (run_length text 0) text
 
--- how many bytes the days and what parts them from a clock have
-abbrev pub days_length : List ℕ → ℕ
-days_length text = word_end text + gap_length (drop (word_end text) text)
+abbrev pub after_space : List ℕ → List ℕ
+after_space text = after_one_of (codes " " ∷ []) (after_number text)
+
+abbrev pub after_letter : List ℕ → List ℕ
+after_letter text = drop 1 (after_space text)
+
+abbrev pub after_ending : List ℕ → List ℕ
+after_ending text = after_one_of day_endings (after_letter text)
+
+abbrev pub after_gap : List ℕ → List ℕ
+after_gap text = after_one_of gaps (after_ending text)
+
+-- an ending is whole, or there is none
+abbrev pub has_whole_ending : List ℕ → Bool
+has_whole_ending text = begins_with_one_of day_endings text || not (begins_with_one_of ending_letters text)
 
 -- what a text has to meet to begin with days
 abbrev pub days_table : List ℕ → List Requirement
 days_table text =
     (nat_lt 0 (run_length text 0) else_fault fault.DurationInvalidNumber)
     ∷ (nat_le (run_value text 0) 4294967295 else_fault fault.DurationValueTooLarge)
-    ∷ (is_day_letter (slice_index text (letter_place text)) else_fault fault.DurationInvalidDays)
-    ∷ ((nat_lt 0 (ending_length (behind_letter text)) || not (begins_ending (behind_letter text))) else_fault fault.DurationInvalidDays)
+    ∷ (is_day_letter (slice_index (after_space text) 0) else_fault fault.DurationInvalidDays)
+    ∷ (has_whole_ending (after_letter text) else_fault fault.DurationInvalidDays)
     ∷ []
 
 -- what the clock after them has to meet: it has fewer than 24 hours
@@ -82,4 +90,4 @@ after_days behavior days rest = result_map (with_days days) (rest_answer behavio
 -- the numbers that a text says in this form, the days of any size, or the text's fault
 unfoldable pub day_form : MicrosecondsPrecisionOverflowBehavior → List ℕ → Result UnsignedDuration ParseError
 day_form behavior text =
-    meets (days_table text) (after_days behavior (run_value text 0) (drop (days_length text) text))
+    meets (days_table text) (after_days behavior (run_value text 0) (after_gap text))

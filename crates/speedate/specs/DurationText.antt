@@ -10,7 +10,7 @@ use Rattle.speedate.specs.DurationNumbers.{DurationNumbers}
 abbrev pub counted_text : ℕ → ℕ → List ℕ
 counted_text number unit = if number == 0 then [] else decimal number ++ unit ∷ []
 
--- a digit in front of others, but for a zero in front of none
+-- a digit before others, but for a zero before none
 abbrev pub kept_digit : ℕ → List ℕ → List ℕ
 kept_digit digit [] = if digit == digit_zero then [] else digit ∷ []
 kept_digit digit (next ∷ rest) = digit ∷ next ∷ rest
@@ -24,7 +24,7 @@ without_last_zeros (digit ∷ digits) = kept_digit digit (without_last_zeros dig
 abbrev pub short_fraction_text : ℕ → List ℕ
 short_fraction_text microsecond = if microsecond == 0 then [] else full_stop ∷ without_last_zeros (six_digit_text microsecond)
 
--- there is nothing behind the days
+-- there is nothing after the days
 abbrev pub is_whole_days : DurationNumbers → Bool
 is_whole_days numbers = (numbers.second == 0) && (numbers.microsecond == 0)
 
@@ -43,12 +43,12 @@ hours_text numbers =
     counted_text (numbers.second / 3600) capital_h ++ counted_text (numbers.second / 60 % 60) capital_m
     ++ seconds_text (numbers.second % 60) numbers.microsecond
 
--- what stands behind the days: a clock, and no seconds where there are no days either
+-- what stands after the days: a clock, and no seconds where there are no days either
 abbrev pub rest_text : DurationNumbers → List ℕ
 rest_text numbers =
     if is_whole_days numbers then (if numbers.day == 0 then codes "T0S" else []) else capital_t ∷ hours_text numbers
 
--- `P`, behind a sign where the duration is not positive
+-- `P`, after a sign where the duration is negative
 abbrev pub start_text : Bool → List ℕ
 start_text positive = if positive then capital_p ∷ [] else hyphen ∷ capital_p ∷ []
 

@@ -127,9 +127,9 @@ fraction_microseconds unit digits =
     - 1000000 * fraction_seconds unit digits
 
 -- after the unit of a designator the strict order leaves what follows it, the lax one the whole side
-abbrev pub units_behind : IsoOrder → Bool → ℕ → List DurationUnit → List DurationUnit
-units_behind order.Lax is_time designator next = units is_time
-units_behind order.Strict is_time designator next = units_after designator next
+abbrev pub next_units_after : IsoOrder → Bool → ℕ → List DurationUnit → List DurationUnit
+next_units_after order.Lax is_time designator next = units is_time
+next_units_after order.Strict is_time designator next = units_after designator next
 
 -- the sums with so many of a unit, and with a fraction of it
 abbrev pub with_amount : DurationUnit → ℕ → List ℕ → Sums → Sums
@@ -137,7 +137,7 @@ with_amount unit number fraction sums =
     let digits = drop 1 fraction in
     record {
       order = sums.order;
-      next_units = units_behind sums.order sums.is_time unit.designator sums.next_units;
+      next_units = next_units_after sums.order sums.is_time unit.designator sums.next_units;
       is_time = sums.is_time;
       fraction = sums.fraction || nat_lt 0 (length fraction);
       some = true;

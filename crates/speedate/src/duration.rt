@@ -22,6 +22,9 @@ use speedate_base::util::SECONDS_PER_DAY;
 use std::str::FromStr;
 use unsigned::UnsignedDuration;
 
+/// How many days the longest duration has.
+const DAYS_MAX: u32 = 999_999_999;
+
 /// A length of time: days of 86,400 seconds, seconds of a day, and microseconds of a second, with a
 /// sign. A length of nothing may have either sign.
 ///
@@ -67,7 +70,7 @@ impl Duration {
         let day = day
             .checked_add(second / SECONDS_PER_DAY)
             .ok_or(ParseError::DurationValueTooLarge)?;
-        if day > 999_999_999 {
+        if day > DAYS_MAX {
             return Err(ParseError::DurationDaysTooLarge);
         }
         Ok(Duration {
@@ -177,6 +180,15 @@ impl Duration {
     fn signed(positive: bool, size: UnsignedDuration) -> Result<Self, ParseError>
         ensures answer { result_map parts result ≡ signed_form positive (unsigned_parts size) }
     {
+        // Most lengths are in their normal form as they are read.
+        if size.day <= DAYS_MAX && size.second < SECONDS_PER_DAY && size.microsecond < 1_000_000 {
+            return Ok(Duration {
+                positive,
+                day: size.day,
+                second: size.second,
+                microsecond: size.microsecond,
+            });
+        }
         Self::new(positive, size.day, size.second, size.microsecond)
     }
 

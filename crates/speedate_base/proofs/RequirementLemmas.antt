@@ -45,9 +45,15 @@ row-value : {A : Type 0} (holds : Bool) (fault : ParseError) (rest : Result A Pa
 row-value true fault rest value same = (refl, same)
 row-value false fault rest value same = absurd (cc)
 
-pub meets-value : {A : Type 0} (rows : List Requirement) (given value : A) → meets rows (Ok given) ≡ Ok value → AllHold rows × (given ≡ value)
-meets-value [] given value same = (tt, cc)
-meets-value (row ∷ rows) given value same =
-    let first = row-value row.holds row.fault (meets rows (Ok given)) value same in
-    let others = meets-value rows given value first.1 in
+pub meets-ok : {A : Type 0} (rows : List Requirement) (next : Result A ParseError) (value : A) → meets rows next ≡ Ok value → AllHold rows × (next ≡ Ok value)
+meets-ok [] next value same = (tt, same)
+meets-ok (row ∷ rows) next value same =
+    let first = row-value row.holds row.fault (meets rows next) value same in
+    let others = meets-ok rows next value first.1 in
     ((first.0, others.0), others.1)
+
+pub meets-value : {A : Type 0} (rows : List Requirement) (given value : A) → meets rows (Ok given) ≡ Ok value → AllHold rows × (given ≡ value)
+meets-value rows given value same =
+    let all = meets-ok rows (Ok given) value same in
+    let last : ◌≡◌ {A = Result _ ParseError} (Ok given) (Ok value) = all.1 in
+    (all.0, cc)

@@ -10,7 +10,7 @@ pub(crate) mod lanes;
 mod places;
 
 use digits::spelled_number;
-pub use digits::{DigitRun, digit_run, run_end};
+pub use digits::{DigitRun, digit_run, few_digits, run_end};
 pub use int_float::{Decimal, IntFloat};
 pub use lanes::{LANES, eight_bytes, fitting, pairs};
 pub use places::{byte_at, two_digits, two_digits_there};

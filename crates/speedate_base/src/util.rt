@@ -13,7 +13,7 @@ mod unix_time;
 use crate::config::TimestampUnit;
 use crate::faults::ParseError;
 pub use decimal_timestamp::{decimal_to_seconds_micros, decimal_unit};
-pub use rounding::{LARGEST_UNIT, filled, nearest_microseconds, twice_microseconds};
+pub use rounding::{LARGEST_UNIT, nearest_microseconds, twice_microseconds};
 pub use unit::{MICROSECOND, MILLISECOND, SECOND, UnixUnit};
 pub use unix_time::{FIRST_SECOND, LAST_SECOND, UnixTime};
 

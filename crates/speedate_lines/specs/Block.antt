@@ -12,7 +12,7 @@ abbrev pub longest_read : ℕ
 longest_read = 69633
 
 -- a read put what it read after the first bytes of a block, and nothing at the end of the input
-pub record ReadsBehind (before after : Option (List ℕ)) (kept filled : ℕ) (old new : List ℕ) : Type 0 where
+pub record ReadsAfter (before after : Option (List ℕ)) (kept filled : ℕ) (old new : List ℕ) : Type 0 where
   pub more : List ℕ
   pub consumed : Consumes before after more
   pub one_read : length more ≤ longest_read

@@ -6,7 +6,7 @@ ghost use Rattle.arrayvec.specs.ArrayString.{array_string_len};
 ghost use Rattle.speedate_lines.specs.Lines.{IsOneLine, complete_lines, unfinished_line, last_line, lines};
 ghost use Rattle.speedate_lines.specs.Answer.{answers};
 ghost use Rattle.speedate_lines.specs.Outcome.{EndsBy};
-ghost use Rattle.speedate_lines.specs.Block.{kept_part, ReadsBehind};
+ghost use Rattle.speedate_lines.specs.Block.{kept_part, ReadsAfter};
 ghost use Rattle.speedate_lines.specs.Sent.{AppendsBut, AppendsBeginning, AnswersCompleteLines, AnswersBeginning};
 ghost use Rattle.speedate_lines.specs.Watch.{KeepsUnflushed};
 
@@ -102,7 +102,7 @@ fn fill<R: Read>(
     ensures failed { input.new.failed ≡ (input.old.failed || is_err result) }
     ensures unread { OnErr result
         (Keeps (R.remaining input.old.inner) (R.remaining input.new.inner)) }
-    ensures filled { IfOk result (λ filled. ReadsBehind (R.remaining input.old.inner)
+    ensures filled { IfOk result (λ filled. ReadsAfter (R.remaining input.old.inner)
         (R.remaining input.new.inner) kept filled block.old block.new) }
 {
     let count = input.read(&mut block[kept..])?;

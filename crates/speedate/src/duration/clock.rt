@@ -5,7 +5,7 @@ ghost use Rattle.speedate_base.specs.Ascii.{colon};
 ghost use Rattle.speedate_base.specs.DigitRuns.{run_length, run_value};
 ghost use Rattle.speedate_base.specs.Requirement.{meets, result_map, result_and_then};
 ghost use Rattle.speedate_civil.specs.ClockText.{minute_front};
-ghost use Rattle.speedate.specs.ClockForm.{hours_length, behind_hours, has_hours, hours_digits, whole_clock, after_hours, clock_form};
+ghost use Rattle.speedate.specs.ClockForm.{colon_place, from_minute, has_hours, hours_table, whole_clock, after_hours, clock_form};
 
 use super::unsigned::UnsignedDuration;
 use speedate_base::config::{MicrosecondsPrecisionOverflowBehavior, takes_digits};
@@ -90,8 +90,8 @@ impl UnsignedDuration {
 #[inline(always)]
 fn hours_end(bytes: &[u8], end: usize) -> Result<usize, ParseError>
     requires { end ≡ run_length bytes.now 0 }
-    ensures answer { result ≡ meets (hours_digits bytes.now) (Ok (hours_length bytes.now)) }
-    ensures len { IfOk result (λ place. place ≡ hours_length bytes.now) }
+    ensures answer { result ≡ meets (hours_table bytes.now) (Ok (colon_place bytes.now)) }
+    ensures len { IfOk result (λ place. place ≡ colon_place bytes.now) }
     ensures within { IfOk result (λ place. place < length bytes.now) }
 {
     if bytes.len() < 5 {
@@ -108,7 +108,7 @@ fn hours_end(bytes: &[u8], end: usize) -> Result<usize, ParseError>
 fn has_hours(bytes: &[u8], end: usize) -> bool
     requires { end ≡ run_length bytes.now 0 }
     ensures value { result ≡ has_hours bytes.now }
-    ensures len { IsTrue result → end ≡ hours_length bytes.now }
+    ensures len { IsTrue result → end ≡ colon_place bytes.now }
     ensures within { IsTrue result → end < length bytes.now }
 {
     byte_at(bytes, end) == b':' && end <= HOURS_LENGTH_MAX
@@ -118,7 +118,7 @@ fn has_hours(bytes: &[u8], end: usize) -> bool
 fn hours_fault(bytes: &[u8]) -> ParseError
     requires long { 5 ≤ length bytes.now }
     requires other { has_hours bytes.now ≡ false }
-    ensures fault { Err result ≡ meets (hours_digits bytes.now) (Ok (hours_length bytes.now)) }
+    ensures fault { Err result ≡ meets (hours_table bytes.now) (Ok (colon_place bytes.now)) }
 {
     match colon_place(bytes) {
         Some(place) if place > HOURS_LENGTH_MAX => ParseError::DurationHourValueTooLarge,

@@ -1,9 +1,10 @@
 //! The form of a duration that begins with days.
 
-ghost use Rattle.std.specs.Prelude.{◌≡◌, ◌-◌, ◌^◌, ◌≤◌, length, min, Ok, IfOk};
+ghost use Rattle.std.specs.Prelude.{◌≡◌, ℕ, List, ◌-◌, ◌^◌, min, codes, ◌∷◌, [], Some, None, Ok, if◌then◌else◌};
 ghost use Rattle.speedate_base.specs.Requirement.{meets, result_map};
 ghost use Rattle.speedate_base.specs.DigitRuns.{run_length, run_value};
-ghost use Rattle.speedate.specs.DayForm.{is_day_letter, letter_place, ending_length, begins_ending, gap_length, days_length, days_table, after_days, rest_answer, day_form};
+ghost use Rattle.speedate.specs.DayForm.{after_one_of, day_endings, gaps, has_whole_ending, is_day_letter, after_gap, days_table, after_days, rest_answer, day_form};
+ghost use Rattle.std.specs.Option.{option_map};
 
 use super::unsigned::UnsignedDuration;
 use speedate_base::config::MicrosecondsPrecisionOverflowBehavior;
@@ -26,8 +27,8 @@ impl UnsignedDuration {
         requires value { days.value ≡ min (run_value bytes.now 0) (2 ^ 64 - 1) }
         ensures answer { result_map unsigned_parts result ≡ day_form behavior bytes.now }
     {
-        let (count, length) = days_at_front(bytes, days)?;
-        Self::after_days(&bytes[length..], count, behavior)
+        let (count, rest) = days_at_front(bytes, days)?;
+        Self::after_days(rest, count, behavior)
     }
 
     /// Reads what follows the days, and joins it to them.
@@ -58,7 +59,7 @@ impl UnsignedDuration {
                 microsecond: 0,
             });
         }
-        let clock = Self::from_clock(bytes, digit_run(bytes, 0), behavior)?;
+        let clock = Self::from_clock(bytes, digit_run(bytes), behavior)?;
         if clock.day != 0 {
             return Err(ParseError::DurationHourValueTooLarge);
         }
@@ -66,16 +67,14 @@ impl UnsignedDuration {
     }
 }
 
-/// How many days the digits at the front are, and how many bytes these and what parts them from a
-/// clock have.
+/// How many days the digits at the front are, and what follows these and what parts them from a
+/// clock.
 #[inline(always)]
-fn days_at_front(bytes: &[u8], days: DigitRun) -> Result<(u32, usize), ParseError>
+fn days_at_front(bytes: &[u8], days: DigitRun) -> Result<(u32, &[u8]), ParseError>
     requires len { days.length ≡ run_length bytes.now 0 }
     requires value { days.value ≡ min (run_value bytes.now 0) (2 ^ 64 - 1) }
-    ensures answer { result ≡ meets (days_table bytes.now) (Ok (run_value bytes.now 0, days_length bytes.now)) }
-    ensures count { IfOk result (λ days. days.0 ≡ run_value bytes.now 0) }
-    ensures len { IfOk result (λ days. days.1 ≡ days_length bytes.now) }
-    ensures within { IfOk result (λ days. days.1 ≤ length bytes.now) }
+    ensures answer { result_map {B = ℕ × List ℕ} (λ days. (days.0, days.1.now)) result
+        ≡ meets (days_table bytes.now) (Ok (run_value bytes.now 0, after_gap bytes.now)) }
 {
     if days.length == 0 {
         return Err(ParseError::DurationInvalidNumber);
@@ -83,17 +82,12 @@ fn days_at_front(bytes: &[u8], days: DigitRun) -> Result<(u32, usize), ParseErro
     if days.value > u64::from(u32::MAX) {
         return Err(ParseError::DurationValueTooLarge);
     }
-    let place = letter_place(bytes, days.length);
-    if !is_day_letter(byte_at(bytes, place)) {
+    let word = without_space(&bytes[days.length..]);
+    if !is_day_letter(byte_at(word, 0)) {
         return Err(ParseError::DurationInvalidDays);
     }
-    let rest = &bytes[place + 1..];
-    let ending = ending_length(rest);
-    if ending == 0 && begins_ending(rest) {
-        return Err(ParseError::DurationInvalidDays);
-    }
-    let end = place + 1 + ending;
-    Ok((days.value as u32, end + gap_length(&bytes[end..])))
+    let rest = without_ending(&word[1..]).ok_or(ParseError::DurationInvalidDays)?;
+    Ok((days.value as u32, without_gap(rest)))
 }
 
 /// Whether a byte is the letter of a day.
@@ -104,52 +98,40 @@ pub(super) fn is_day_letter(byte: u8) -> bool
     byte == b'd' || byte == b'D'
 }
 
-/// The place of that letter, where the number of the days ends at `end`: after one space if there
-/// is one.
+/// A text without the space that it begins with, if there is one.
 #[inline(always)]
-fn letter_place(bytes: &[u8], end: usize) -> usize
-    requires end { end ≡ run_length bytes.now 0 }
-    requires within { end ≤ length bytes.now }
-    ensures place { result ≡ letter_place bytes.now }
-    ensures within { result ≤ length bytes.now }
+fn without_space(text: &[u8]) -> &[u8]
+    ensures rest { result.now ≡ after_one_of (codes " " ∷ []) text.now }
 {
-    if byte_at(bytes, end) == b' ' {
-        end + 1
-    } else {
-        end
+    match text {
+        [b' ', rest @ ..] => rest,
+        _ => text,
     }
 }
 
-/// How many bytes of `ays`, `ay`, `AYS` or `AY` stand at the front of a text: the longest of them.
+/// A text without the rest of a word that it begins with, `ays`, `ay`, `AYS` or `AY`, if there is one:
+/// the longest of them. `None` where a word goes on otherwise.
 #[inline(always)]
-fn ending_length(text: &[u8]) -> usize
-    ensures len { result ≡ ending_length text.now }
-    ensures within { result ≤ length text.now }
+fn without_ending(text: &[u8]) -> Option<&[u8]>
+    ensures rest { option_map (λ rest. rest.now) result
+        ≡ (if has_whole_ending text.now then Some (after_one_of day_endings text.now) else None) }
 {
     match text {
-        [b'a', b'y', b's', ..] | [b'A', b'Y', b'S', ..] => 3,
-        [b'a', b'y', ..] | [b'A', b'Y', ..] => 2,
-        _ => 0,
+        [b'a', b'y', b's', rest @ ..] | [b'A', b'Y', b'S', rest @ ..] => Some(rest),
+        [b'a', b'y', rest @ ..] | [b'A', b'Y', rest @ ..] => Some(rest),
+        [b'a' | b'A', ..] => None,
+        _ => Some(text),
     }
 }
 
-/// Whether `a` or `A` stands at the front of a text.
+/// A text without what parts days from a clock, a comma, a space, or both, if it begins so.
 #[inline(always)]
-fn begins_ending(text: &[u8]) -> bool
-    ensures { result ≡ begins_ending text.now }
-{
-    matches!(text, [b'a' | b'A', ..])
-}
-
-/// How many bytes part the days from a clock, at the front of a text: a comma, a space, or both.
-#[inline(always)]
-fn gap_length(text: &[u8]) -> usize
-    ensures len { result ≡ gap_length text.now }
-    ensures within { result ≤ length text.now }
+fn without_gap(text: &[u8]) -> &[u8]
+    ensures rest { result.now ≡ after_one_of gaps text.now }
 {
     match text {
-        [b',', b' ', ..] => 2,
-        [b',', ..] | [b' ', ..] => 1,
-        _ => 0,
+        [b',', b' ', rest @ ..] => rest,
+        [b',', rest @ ..] | [b' ', rest @ ..] => rest,
+        _ => text,
     }
 }

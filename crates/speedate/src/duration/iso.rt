@@ -3,21 +3,18 @@
 ghost use Rattle.std.specs.Prelude.{◌≡◌, ◌+◌, ◌*◌, ◌<◌, ◌≤◌, length, take, drop, slice_index, IsTrue, Bool, true, false, Ok, Err, IfOk, IfSome, [], if◌then◌else◌};
 ghost use Rattle.std.specs.Char.{is_ascii_digit};
 ghost use Rattle.std.specs.List.{list_all};
-ghost use Rattle.speedate_base.specs.DigitRuns.{run_length, run_value, digits_value};
+ghost use Rattle.speedate_base.specs.DigitRuns.{run_length, run_value, digits_value, fraction_value};
 ghost use Rattle.std.specs.Option.{option_map, is_some};
 ghost use Rattle.speedate_base.specs.declared.faults.ParseError.TheVariants as fault;
 ghost use Rattle.speedate_base.specs.Requirement.{meets, result_map};
-ghost use Rattle.speedate.specs.IsoForm.{Component, TimeDesignator, units, unit_in, is_decimal_mark, fraction_length, unit_seconds, units_behind, fraction_seconds, fraction_microseconds, component_at, component_length, item_at, item_length, are_counted, with_amount, with_item, item_table, sums_length, unit_fault, no_sums, IsAnswerFrom};
+ghost use Rattle.speedate.specs.IsoForm.{Component, TimeDesignator, units, unit_in, is_decimal_mark, fraction_length, unit_seconds, next_units_after, fraction_seconds, fraction_microseconds, component_at, component_length, item_at, item_length, are_counted, with_amount, with_item, item_table, sums_length, unit_fault, no_sums, IsAnswerFrom};
 
 use super::unsigned::UnsignedDuration;
 use speedate_base::config::IsoOrder;
 use speedate_base::faults::ParseError;
-use speedate_base::numbers::{byte_at, digit_run, run_end};
-use speedate_base::util::{SECONDS_PER_DAY, filled, twice_microseconds};
-
-/// How many digits a number has at most that is read straight on. So many of the largest unit, in days
-/// or in seconds, are counted in 32 bits.
-const SHORT_LENGTH: usize = 6;
+use speedate_base::numbers::{byte_at, digit_run, few_digits};
+use speedate_base::util::{SECONDS_PER_DAY, twice_microseconds};
+use speedate_civil::time::Fraction;
 
 /// How many digits of a fraction of a second are whole microseconds.
 const MICROSECOND_LENGTH: usize = 6;
@@ -65,35 +62,24 @@ impl DurationUnit {
     }
 
     /// The whole seconds of a fraction of this unit, and the microseconds that are nearest to what is
-    /// left: a million of them where that is all but a second.
+    /// left: a million of them where that is all but a second. The fraction is given by its digits, and
+    /// by the microseconds of a second that the first six of them are.
     #[inline(always)]
-    fn fraction(&self, digits: &[u8]) -> (u32, u32)
-        requires { IsTrue (list_all is_ascii_digit digits.now) }
-        ensures second { result.0 ≡ fraction_seconds (unit_parts self.now) digits.now }
-        ensures microsecond { result.1 ≡ fraction_microseconds (unit_parts self.now) digits.now }
-        ensures second_small { result.0 ≤ 31536000 }
-        ensures microsecond_small { result.1 ≤ 1000000 }
-    {
-        if digits.len() <= MICROSECOND_LENGTH {
-            self.exact_fraction(digits)
-        } else {
-            self.long_fraction(digits)
-        }
-    }
-
-    /// The same of digits that are whole microseconds of a second.
-    #[inline(always)]
-    fn exact_fraction(&self, digits: &[u8]) -> (u32, u32)
-        requires short { length digits.now ≤ 6 }
+    fn fraction(&self, digits: &[u8], microseconds: u32) -> (u32, u32)
         requires digits { IsTrue (list_all is_ascii_digit digits.now) }
+        requires microseconds { microseconds ≡ fraction_value 6 digits.now }
+        requires small { microseconds < 1000000 }
         ensures second { result.0 ≡ fraction_seconds (unit_parts self.now) digits.now }
         ensures microsecond { result.1 ≡ fraction_microseconds (unit_parts self.now) digits.now }
         ensures second_small { result.0 ≤ 31536000 }
         ensures microsecond_small { result.1 ≤ 1000000 }
     {
-        let microseconds = self.seconds() * filled(digits, MICROSECOND_LENGTH);
-        let whole = microseconds / 1_000_000;
-        (whole as u32, (microseconds - 1_000_000 * whole) as u32)
+        if digits.len() > MICROSECOND_LENGTH {
+            return self.long_fraction(digits);
+        }
+        let all = self.seconds() * u64::from(microseconds);
+        let whole = all / 1_000_000;
+        (whole as u32, (all - 1_000_000 * whole) as u32)
     }
 
     /// The same of any number of digits.
@@ -226,7 +212,10 @@ impl Sums {
         ensures some { IfSome result (λ next. place < next.1) }
         ensures within { IfSome result (λ next. next.1 ≤ length body.now) }
     {
-        let (number, end) = short_number(body, place)?;
+        let (number, end) = few_digits(body, place)?;
+        if end == place {
+            return None;
+        }
         let unit = DurationUnit::of_designator(byte_at(body, end), self.is_time)?;
         if !self.takes(&unit) {
             return None;
@@ -251,7 +240,7 @@ impl Sums {
         requires unit { IsUnitOf self.now.is_time unit.now }
         requires place { self.now.passed ≤ unit.now.place }
         ensures units { drop result (units self.now.is_time)
-            ≡ units_behind self.now.order self.now.is_time unit.now.designator (sums_parts self.now).next_units }
+            ≡ next_units_after self.now.order self.now.is_time unit.now.designator (sums_parts self.now).next_units }
     {
         match self.order {
             IsoOrder::Lax => 0,
@@ -338,7 +327,7 @@ impl Sums {
         ensures some { IfOk result (λ size. 0 < size) }
         ensures within { IfOk result (λ size. size ≤ length text.now) }
     {
-        let number = digit_run(text, 0);
+        let number = digit_run(text);
         if number.length == 0 {
             return Err(ParseError::DurationInvalidNumber);
         }
@@ -349,7 +338,7 @@ impl Sums {
             return Err(ParseError::DurationInvalidFraction);
         }
         let rest = &text[number.length..];
-        let size = fraction_length(rest);
+        let (size, microseconds) = fraction_at_front(rest);
         let designator = byte_at(rest, size);
         let unit = DurationUnit::of_designator(designator, self.is_time).ok_or(unit_fault(
             self.is_time,
@@ -357,24 +346,33 @@ impl Sums {
         if !self.takes(&unit) {
             return Err(ParseError::DurationUnitOrder);
         }
-        self.add(number.value as u32, &unit, &rest[..size])?;
+        self.add(number.value as u32, &unit, &rest[..size], microseconds)?;
         Ok(number.length + size + 1)
     }
 
-    /// Adds so many of a unit, and a fraction of it, which is nothing or a decimal mark and digits.
+    /// Adds so many of a unit, and a fraction of it, which is nothing or a decimal mark and digits, and
+    /// by these so many microseconds of a second.
     #[inline(always)]
-    fn add(&mut self, number: u32, unit: &DurationUnit, fraction: &[u8]) -> Result<(), ParseError>
+    fn add(
+        &mut self,
+        number: u32,
+        unit: &DurationUnit,
+        fraction: &[u8],
+        microseconds: u32,
+    ) -> Result<(), ParseError>
         requires none { self.old.fraction ≡ false }
         requires unit { IsUnitOf self.old.is_time unit.now }
         requires place { self.old.passed ≤ unit.now.place }
         requires digits { IsTrue (list_all is_ascii_digit (drop 1 fraction.now)) }
+        requires microseconds { microseconds ≡ fraction_value 6 (drop 1 fraction.now) }
+        requires small { microseconds < 1000000 }
         ensures counted { result ≡ (if are_counted (with_amount (unit_parts unit.now) number fraction.now (sums_parts self.old))
             then Ok tt else Err fault.DurationValueTooLarge) }
         ensures sums { IfOk result (λ _. sums_parts self.new ≡ with_amount (unit_parts unit.now) number fraction.now (sums_parts self.old)) }
     {
         let (whole, microsecond) = match fraction {
             [] => (0, 0),
-            [_, digits @ ..] => unit.fraction(digits),
+            [_, digits @ ..] => unit.fraction(digits, microseconds),
         };
         let number = u64::from(number);
         let day = u64::from(self.day)
@@ -400,34 +398,21 @@ impl Sums {
     }
 }
 
-/// The number at a place, where it has digits and few of them, and where these end: 120 and place 4 for
-/// `b"x120."` at place 1.
+/// How many bytes the fraction has that stands at the front of a text, its decimal mark and digits,
+/// and the microseconds of a second that its first six digits are: 4 and 120,000 for `b".120S"`, and
+/// 0 and 0 where there is none.
 #[inline(always)]
-fn short_number(text: &[u8], place: usize) -> Option<(u32, usize)>
-    requires place { place ≤ length text.now }
-    ensures value { IfSome result (λ number. number.0 ≡ run_value text.now place) }
-    ensures end { IfSome result (λ number. number.1 ≡ place + run_length text.now place) }
-    ensures small { IfSome result (λ number. number.0 < 1000000) }
-    ensures some { IfSome result (λ number. place < number.1) }
+fn fraction_at_front(text: &[u8]) -> (usize, u32)
+    ensures len { result.0 ≡ fraction_length text.now }
+    ensures microseconds { result.1 ≡ fraction_value 6 (drop 1 (take (fraction_length text.now) text.now)) }
+    ensures within { result.0 ≤ length text.now }
+    ensures small { result.1 < 1000000 }
 {
-    let number = digit_run(text, place);
-    if number.length == 0 || number.length > SHORT_LENGTH {
-        return None;
+    if !begins_fraction(text) {
+        return (0, 0);
     }
-    Some((number.value as u32, place + number.length))
-}
-
-/// How many bytes the fraction has that stands at the front of a text: its decimal mark and digits.
-#[inline(always)]
-fn fraction_length(text: &[u8]) -> usize
-    ensures len { result ≡ fraction_length text.now }
-    ensures within { result ≤ length text.now }
-{
-    if begins_fraction(text) {
-        run_end(text, 1)
-    } else {
-        0
-    }
+    let fraction = Fraction::read(text, 1);
+    (1 + fraction.length, fraction.microsecond)
 }
 
 /// Whether a decimal mark stands at the front of a text.

@@ -145,7 +145,7 @@ fn push_seconds<const LENGTH: usize>(second: u32, microsecond: u32, text: &mut A
     }
 }
 
-/// How the text of a duration begins: `-P` where it is not positive.
+/// How the text of a duration begins: `-P` where it is negative.
 #[inline(always)]
 fn start_text(positive: bool) -> &'static str
     ensures { result.now ≡ start_text positive }
@@ -160,8 +160,8 @@ impl Duration {
     ghost use Rattle.speedate.specs.Duration.{parts};
     ghost use Rattle.speedate.specs.DurationAnswer.{duration_answer};
 
-    /// The canonical text: a sign where the duration is not positive, `P`, and the years of 365 days,
-    /// the days, and behind a `T` the hours, minutes and seconds that are not 0, as
+    /// The canonical text: a sign where the duration is negative, `P`, and the years of 365 days,
+    /// the days, and after a `T` the hours, minutes and seconds that are not 0, as
     /// `-P1Y2DT3H4M5.06S`. The fraction of a second has no zeros at its end. A duration of nothing
     /// is `PT0S` or `-PT0S`. Every configuration reads it back as the duration.
     #[inline]

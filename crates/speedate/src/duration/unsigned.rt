@@ -1,7 +1,9 @@
 //! Durations without their sign, and which form a text has.
 
-ghost use Rattle.std.specs.Prelude.{◌≡◌};
+ghost use Rattle.std.specs.Prelude.{◌≡◌, ◌-◌, ◌^◌, ◌≤◌, length, min};
+ghost use Rattle.speedate_base.specs.DigitRuns.{run_length, run_value};
 ghost use Rattle.speedate_base.specs.Requirement.{result_map};
+ghost use Rattle.speedate.specs.ClockForm.{clock_form};
 ghost use Rattle.speedate.specs.Duration.{unsigned_parts};
 ghost use Rattle.speedate.specs.DurationAnswer.{unsigned_answer};
 ghost use Rattle.speedate.specs.DurationForm.{has_day_letter, has_days, form_answer};
@@ -10,7 +12,7 @@ use super::days::is_day_letter;
 use super::iso::Sums;
 use speedate_base::config::{IsoOrder, MicrosecondsPrecisionOverflowBehavior};
 use speedate_base::faults::ParseError;
-use speedate_base::numbers::{byte_at, digit_run};
+use speedate_base::numbers::{DigitRun, byte_at, digit_run};
 
 /// A length of time as a text says it: days, seconds and microseconds, of any size.
 #[derive(Clone, Copy)]
@@ -49,21 +51,44 @@ impl UnsignedDuration {
         if bytes.is_empty() {
             return Err(ParseError::TooShort);
         }
-        let number = digit_run(bytes, 0);
-        if has_days(bytes) {
+        let number = digit_run(bytes);
+        if byte_at(bytes, number.length) == b':' {
+            let clock = Self::from_clock(bytes, number, behavior);
+            // A clock has no letter, so it is not searched for one.
+            if clock.is_ok() {
+                return clock;
+            }
+        }
+        if has_days(bytes, number.length) {
             return Self::from_days(bytes, number, behavior);
         }
-        Self::from_clock(bytes, number, behavior)
+        Self::refused_clock(bytes, number, behavior)
+    }
+
+    /// Reads a clock again that has a fault.
+    #[inline(never)]
+    fn refused_clock(
+        bytes: &[u8],
+        hours: DigitRun,
+        behavior: MicrosecondsPrecisionOverflowBehavior,
+    ) -> Result<Self, ParseError>
+        requires len { hours.length ≡ run_length bytes.now 0 }
+        requires value { hours.value ≡ min (run_value bytes.now 0) (2 ^ 64 - 1) }
+        ensures answer { result_map unsigned_parts result ≡ clock_form behavior bytes.now }
+    {
+        Self::from_clock(bytes, hours, behavior)
     }
 }
 
-/// Whether a text has days: the letter of a day stands anywhere in it, or it is too short for a
-/// clock.
+/// Whether a text has days, whose first digits end at `end`: the letter of a day stands anywhere in it,
+/// or it is too short for a clock.
 #[inline]
-fn has_days(bytes: &[u8]) -> bool
+fn has_days(bytes: &[u8], end: usize) -> bool
+    requires end { end ≡ run_length bytes.now 0 }
+    requires within { end ≤ length bytes.now }
     ensures { result ≡ has_days bytes.now }
 {
-    bytes.len() < 5 || has_day_letter(bytes)
+    bytes.len() < 5 || has_day_letter(&bytes[end..])
 }
 
 /// Whether the letter of a day stands anywhere.

@@ -1,6 +1,6 @@
 //! Digits in runs.
 
-ghost use Rattle.std.specs.Prelude.{◌≡◌, ◌+◌, ◌-◌, ◌^◌, ◌<◌, ◌≤◌, length, min, ◌==◌, IsTrue, Ok, Err, if◌then◌else◌};
+ghost use Rattle.std.specs.Prelude.{◌≡◌, ◌+◌, ◌-◌, ◌^◌, ◌<◌, ◌≤◌, length, min, nat_le, ◌==◌, IsTrue, IfSome, Some, None, Ok, Err, if◌then◌else◌};
 ghost use Rattle.std.specs.Char.{is_ascii_digit};
 ghost use Rattle.std.specs.List.{list_all};
 ghost use Rattle.speedate_base.specs.DigitRuns.{run_length, run_value, digits_value};
@@ -18,31 +18,44 @@ pub struct DigitRun {
     pub value: u64,
 }
 
-/// The run of digits that begins at `place`: 3 digits that spell 120 for `b"x120."` at place 1.
-#[inline(always)]
-pub fn digit_run(bytes: &[u8], place: usize) -> DigitRun
-    requires { place ≤ length bytes.now }
-    ensures length { result.length ≡ run_length bytes.now place }
-    ensures value { result.value ≡ min (run_value bytes.now place) (2 ^ 64 - 1) }
-{
-    run_in_front(&bytes[place..])
-}
+/// How many digits are read one by one on the way to their end.
+const FEW: usize = 6;
 
-/// The run of digits at the front of bytes. A run of few digits is read on the way to its end.
+/// The run of digits at the front of bytes: 3 digits that spell 120 for `b"120.5"`.
 #[inline(always)]
-fn run_in_front(bytes: &[u8]) -> DigitRun
+pub fn digit_run(bytes: &[u8]) -> DigitRun
     ensures length { result.length ≡ run_length bytes.now 0 }
     ensures value { result.value ≡ min (run_value bytes.now 0) (2 ^ 64 - 1) }
 {
-    let mut value = 0;
-    for length in 0..LANES {
-        let byte = byte_at(bytes, length);
-        if !byte.is_ascii_digit() {
-            return DigitRun { length, value };
-        }
-        value = 10 * value + u64::from(byte - b'0');
+    match few_digits(bytes, 0) {
+        Some((value, length)) => DigitRun {
+            length,
+            value: u64::from(value),
+        },
+        None => long_run(bytes),
     }
-    long_run(bytes)
+}
+
+/// What the digits from `place` on spell, and where they end, or `None` where they are more than six:
+/// 120 and place 4 for `b"x120."` at place 1, and 0 and place 4 at place 4.
+#[inline(always)]
+pub fn few_digits(bytes: &[u8], place: usize) -> Option<(u32, usize)>
+    requires { place ≤ length bytes.now }
+    ensures answer { result ≡ (if nat_le (run_length bytes.now place) FEW
+        then Some (run_value bytes.now place, place + run_length bytes.now place) else None) }
+    ensures small { IfSome result (λ few. few.0 < 1000000) }
+    ensures within { IfSome result (λ few. few.1 ≤ length bytes.now) }
+{
+    let mut value = 0;
+    let mut end = place;
+    while byte_at(bytes, end).is_ascii_digit() {
+        if end - place == FEW {
+            return None;
+        }
+        value = 10 * value + u32::from(byte_at(bytes, end) - b'0');
+        end += 1;
+    }
+    Some((value, end))
 }
 
 /// The same of any number of digits.

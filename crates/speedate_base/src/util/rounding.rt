@@ -66,7 +66,7 @@ fn block(digits: &[u8]) -> u64
 /// What fewer than eight digits spell, with zeros after them up to so many places: 120,000 for
 /// `b"12"` and six places.
 #[inline]
-pub fn filled(digits: &[u8], places: usize) -> u64
+pub(super) fn filled(digits: &[u8], places: usize) -> u64
     requires short { length digits.now < LANES }
     requires places { (length digits.now ≤ places) × (places ≤ 8) }
     requires digits { IsTrue (list_all is_ascii_digit digits.now) }

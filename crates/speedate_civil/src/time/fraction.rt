@@ -10,7 +10,7 @@ use std::simd::prelude::*;
 
 /// A fraction of a second: how many digits it has, and the microsecond that they mean.
 #[derive(Clone, Copy)]
-pub(crate) struct Fraction {
+pub struct Fraction {
     /// How many digits.
     pub length: usize,
     /// The microsecond, 0 to 999,999.
@@ -34,7 +34,7 @@ impl Fraction {
     /// The fraction whose digits begin at `place`: three digits that mean 120,000 microseconds for
     /// `b".120Z"` at place 1. Digits past the sixth are counted only.
     #[inline(always)]
-    pub(crate) fn read(bytes: &[u8], place: usize) -> Self
+    pub fn read(bytes: &[u8], place: usize) -> Self
         requires { place ≤ length bytes.now }
         ensures length { result.length ≡ run_length bytes.now place }
         ensures microsecond { result.microsecond ≡ fraction_value 6 (run_digits bytes.now place) }

@@ -8,7 +8,7 @@ ghost use Rattle.speedate_civil.specs.ClockText.{has_point, second_there};
 use crate::time::fraction::Fraction;
 use speedate_base::config::{MicrosecondsPrecisionOverflowBehavior, takes_digits};
 use speedate_base::faults::ParseError;
-use speedate_base::numbers::{LANES, byte_at, eight_bytes, fitting, pairs, two_digits_there};
+use speedate_base::numbers::{LANES, byte_at, eight_bytes, fitting, pairs};
 use std::simd::prelude::*;
 
 /// A time of day that was read at the front of a text, without what follows it there.
@@ -92,11 +92,17 @@ impl PureTime {
         ensures within { IfOk result (λ time. place + time.size ≤ length bytes.now) }
     {
         let rest = &bytes[place..];
-        let minute = two_digits_there(rest, 0).ok_or(ParseError::InvalidCharMinute)?;
-        let second = if byte_at(rest, 2) == b':' {
-            Some(two_digits_there(rest, 3))
-        } else {
-            None
+        let front = eight_bytes(rest, 0);
+        let form = u8x8::from_array(*b"00:00.00");
+        let fits = fitting(front, form);
+        if fits < 2 {
+            return Err(ParseError::InvalidCharMinute);
+        }
+        let [minute, _, _, second, _, _, _, _] = pairs(front, form, fits);
+        let second = match fits {
+            2 => None,
+            3 | 4 => Some(None),
+            _ => Some(Some(second)),
         };
         Self::after_minute(minute, second, rest, 0, behavior)
     }

@@ -3,7 +3,7 @@ use Rattle.std.specs.Prelude.{◌==◌}
 use Rattle.std.proofs.lemmas.Bool.{ne_eqb}
 use Rattle.speedate_base.specs.Ascii.{colon}
 use Rattle.speedate_base.specs.DigitRuns.{run_length}
-use Rattle.speedate.proofs.ClockFormLemmas.{hours_length-run, has_hours-run}
+use Rattle.speedate.proofs.ClockFormLemmas.{colon_place-run, has_hours-run}
 use Rattle.speedate.proofs.duration.clock.has_hours.Goals as goal
 
 -- the byte at the end of the digits
@@ -19,7 +19,7 @@ returns-then-byte_at-eq58-clause-value c =
 pub returns-then-byte_at-eq58-clause-len : goal.returns-then-byte_at-eq58-clause-len
 returns-then-byte_at-eq58-clause-len c few =
     let text = c.args.bytes.now in
-    c.requires ∙ sym (hours_length-run text (at-end text c.args.end _ c.requires c.byte_at.ensures.byte ∙ c.if-byte_at-eq58.true)).1
+    c.requires ∙ sym (colon_place-run text (at-end text c.args.end _ c.requires c.byte_at.ensures.byte ∙ c.if-byte_at-eq58.true)).1
 
 pub returns-else-byte_at-eq58-clause-value : goal.returns-else-byte_at-eq58-clause-value
 returns-else-byte_at-eq58-clause-value c =

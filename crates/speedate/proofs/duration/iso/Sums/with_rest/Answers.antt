@@ -4,7 +4,7 @@ use Rattle.std.proofs.lemmas.Result.{err_from_is_err_and}
 use Rattle.speedate_base.specs.declared.faults.ParseError.{ParseError}
 use Rattle.speedate_base.specs.Requirement.{meets}
 use Rattle.speedate_base.proofs.RequirementLemmas.{meets-value}
-use Rattle.speedate.proofs.IsoFrontLemmas.{answer-behind, answer-refused}
+use Rattle.speedate.proofs.IsoFrontLemmas.{answer-after, answer-refused}
 use Rattle.speedate.specs.DurationNumbers.{UnsignedDuration}
 use Rattle.speedate.specs.IsoForm.{Sums, item_at, item_length, item_table, with_item, IsAnswerFrom}
 use Rattle.speedate.specs.IsoSums.{sums_parts}
@@ -28,11 +28,11 @@ returns-in_err-place c =
     })
 
 -- what follows an item, from its place on
-behind : (sums next : Sums) (body text : List ℕ) (place size : ℕ) (answer : Result UnsignedDuration ParseError)
+later : (sums next : Sums) (body text : List ℕ) (place size : ℕ) (answer : Result UnsignedDuration ParseError)
     → text ≡ drop place body → size ≡ item_length text → next ≡ with_item (item_at text) sums
     → IsAnswerFrom next (drop (place + size) body) answer
     → IsAnswerFrom (with_item (item_at (drop place body)) sums) (drop (item_length (drop place body)) (drop place body)) answer
-behind sums next body text place size answer same sized added answered =
+later sums next body text place size answer same sized added answered =
     let item = added ∙ ap (λ (text : List ℕ). with_item (item_at text) sums) same in
     let rest = sym (drop-drop size place body) ∙ ap (λ (n : ℕ). drop n (drop place body)) (sized ∙ ap item_length same) in
     subst (λ (next : Sums). IsAnswerFrom next (drop (item_length (drop place body)) (drop place body)) answer) item
@@ -50,5 +50,5 @@ loop-place-preserved c =
     record {
       within = omega (arith, c.in_ok-place.ensures.within, length-drop place body, ap length (take_rest body place), c.loop-place.invariant.within);
       goes_on = λ answer answered. c.loop-place.invariant.goes_on answer
-          (answer-behind sums text answer some held.0 (behind sums _ body _ place _ answer (take_rest body place) sized c.in_ok-place.ensures.sums answered));
+          (answer-after sums text answer some held.0 (later sums _ body _ place _ answer (take_rest body place) sized c.in_ok-place.ensures.sums answered));
     }

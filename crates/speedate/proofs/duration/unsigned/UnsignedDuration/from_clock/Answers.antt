@@ -3,7 +3,7 @@ use Rattle.std.proofs.lemmas.Result.{err_from_is_err_and}
 use Rattle.std.proofs.lemmas.List.{take_rest}
 use Rattle.speedate_base.specs.DigitRuns.{run_value}
 use Rattle.speedate_base.proofs.RequirementLemmas.{meets-next}
-use Rattle.speedate.specs.ClockForm.{clock_form, hours_digits, hours_length, after_hours, behind_hours}
+use Rattle.speedate.specs.ClockForm.{clock_form, hours_table, colon_place, after_hours, from_minute}
 use Rattle.speedate.proofs.ClockFormLemmas.{after_hours-saturated}
 use Rattle.speedate.proofs.duration.unsigned.UnsignedDuration.from_clock.Goals as goal
 
@@ -11,19 +11,19 @@ pub returns-in_err-end : goal.returns-in_err-end
 unfolding clock_form
 returns-in_err-end c =
     let text = c.args.bytes.now in
-    let next = after_hours c.args.behavior (run_value text 0) (behind_hours text) in
+    let next = after_hours c.args.behavior (run_value text 0) (from_minute text) in
     let p = err_from_is_err_and c.from_residual.result c.from_residual.ensures.1 in
-    rw (p.1, p.2) (record { answer = meets-next (hours_digits text) (hours_length text) _ next c.in_err-end.ensures.answer })
+    rw (p.1, p.2) (record { answer = meets-next (hours_table text) (colon_place text) _ next c.in_err-end.ensures.answer })
 
 pub returns : goal.returns
 unfolding clock_form
 returns c =
     let text = c.args.bytes.now in
-    let next = after_hours c.args.behavior (run_value text 0) (behind_hours text) in
+    let next = after_hours c.args.behavior (run_value text 0) (from_minute text) in
     let rest = take_rest text _ ∙ ap (λ (n : ℕ). drop (n + 1) text) c.in_ok-end.ensures.len in
     record {
       answer =
           c.after_hours.ensures.answer ∙ ap₂ (after_hours c.args.behavior) c.requires.value rest
-          ∙ after_hours-saturated c.args.behavior (run_value text 0) (behind_hours text)
-          ∙ meets-next (hours_digits text) (hours_length text) _ next c.in_ok-end.ensures.answer;
+          ∙ after_hours-saturated c.args.behavior (run_value text 0) (from_minute text)
+          ∙ meets-next (hours_table text) (colon_place text) _ next c.in_ok-end.ensures.answer;
     }

@@ -1,12 +1,13 @@
-use Rattle.std.proofs.Common.{◌≡◌, ◌∙◌, sym, ap, ap₂, arith, pow-add, ℕ, ◌+◌, ◌-◌, ◌*◌, ◌/◌, ◌^◌, ◌≤◌, length}
+use Rattle.std.proofs.Common.{List, ◌≡◌, ◌∙◌, sym, ap, ap₂, arith, pow-add, ℕ, ◌+◌, ◌-◌, ◌*◌, ◌/◌, ◌^◌, ◌≤◌, length}
 use Rattle.std.specs.Prelude.{unsigned_abs, pos, false}
 use Rattle.std.proofs.Math.Nat.{div-div-eq-div-mul, mul-div_left}
-use Rattle.speedate_base.specs.DigitRuns.{digits_value}
+use Rattle.speedate_base.specs.DigitRuns.{digits_value, fraction_value}
+use Rattle.speedate_base.proofs.DigitRunLemmas.{fraction_value-filled}
 use Rattle.speedate_base.specs.Nearest.{nearest}
 use Rattle.speedate_base.proofs.NearestLemmas.{nearest-exact, scale-some}
 use Rattle.speedate.specs.IsoForm.{unit_seconds}
 use Rattle.speedate.specs.IsoSums.{unit_parts}
-use Rattle.speedate.proofs.duration.iso.DurationUnit.exact_fraction.Goals as goal
+use Rattle.speedate.proofs.duration.iso.DurationUnit.fraction.Goals as goal
 
 -- a million, by the digits that there are and those that are missing
 million : (count : ℕ) → count ≤ 6 → 10 ^ (6 - count) * 10 ^ count ≡ 1000000
@@ -34,16 +35,22 @@ whole-microseconds value second count few =
     ap (λ (n : ℕ). unsigned_abs (nearest (pos n) scale)) (parted ∙ spread)
     ∙ ap unsigned_abs (nearest-exact false (second * (value * rest)) scale (scale-some count))
 
+-- what the first six places are, where there are no more
+filled : (digits : List ℕ) (microseconds : ℕ) → microseconds ≡ fraction_value 6 digits → length digits ≤ 6 → microseconds ≡ digits_value digits * 10 ^ (6 - length digits)
+filled digits microseconds is few = is ∙ fraction_value-filled 6 digits few
+
 pub returns-clause-second : goal.returns-clause-second
 returns-clause-second c =
     let digits = c.args.digits.now in
     let second = unit_seconds (unit_parts c.args.self.now) in
-    ap₂ (λ (n m : ℕ). n * m / 1000000) c.seconds.ensures.second c.filled.ensures.value
-    ∙ whole-seconds (digits_value digits) second (length digits) c.requires.short
+    let few : length digits ≤ 6 = omega (arith, c.if-digits-gt-MICROSECOND_LENGTH.false) in
+    ap₂ (λ (n m : ℕ). n * m / 1000000) c.seconds.ensures.second (c.from.ensures ∙ filled digits _ c.requires.microseconds few)
+    ∙ whole-seconds (digits_value digits) second (length digits) few
 
 pub returns-clause-microsecond : goal.returns-clause-microsecond
 returns-clause-microsecond c =
     let digits = c.args.digits.now in
     let second = unit_seconds (unit_parts c.args.self.now) in
-    let size = ap₂ (λ (n m : ℕ). n * m) c.seconds.ensures.second c.filled.ensures.value in
-    ap₂ (λ (n m : ℕ). n - 1000000 * m) (size ∙ sym (whole-microseconds (digits_value digits) second (length digits) c.requires.short)) (returns-clause-second c)
+    let few : length digits ≤ 6 = omega (arith, c.if-digits-gt-MICROSECOND_LENGTH.false) in
+    let size = ap₂ (λ (n m : ℕ). n * m) c.seconds.ensures.second (c.from.ensures ∙ filled digits _ c.requires.microseconds few) in
+    ap₂ (λ (n m : ℕ). n - 1000000 * m) (size ∙ sym (whole-microseconds (digits_value digits) second (length digits) few)) (returns-clause-second c)

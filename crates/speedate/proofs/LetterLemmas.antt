@@ -1,0 +1,113 @@
+-- Where no letter of a day stands: among digits, and in a clock.
+use Rattle.std.specs.Prelude.{◌≡◌, ℕ, ◌+◌, ◌<◌, Bool, true, false, ◌&&◌, ◌||◌, List, [], ◌∷◌, length, take, drop, nat_lt, ◌==◌, if◌then◌else◌, Result, Ok, Err, refl}
+use Rattle.std.specs.Char.{is_ascii_digit}
+use Rattle.std.specs.List.{list_all, list_any, prefix_len}
+use Rattle.std.proofs.Common.{arith, ap, ap₂, sym, ◌∙◌}
+use Rattle.std.proofs.lemmas.Bool.{and_parts, eqb-true, false≢true}
+use Rattle.std.proofs.lemmas.Bool.Decides.{nat_tests}
+use Rattle.std.proofs.lemmas.List.{take-append-drop, drop_more}
+use Rattle.std.proofs.lemmas.List.Sums.{passes_at_first}
+use Rattle.std.proofs.lemmas.List.Folds.{list_any-append}
+use Rattle.speedate_base.specs.Ascii.{colon}
+use Rattle.speedate_base.specs.Digits.{two_digits_at}
+use Rattle.speedate_base.specs.DigitRuns.{run_length, run_value}
+use Rattle.speedate_base.proofs.DigitRunLemmas.{run-whole}
+use Rattle.speedate_base.proofs.NumberLemmas.{run-digits}
+use Rattle.speedate_base.specs.declared.config.MicrosecondsPrecisionOverflowBehavior.{MicrosecondsPrecisionOverflowBehavior}
+use Rattle.speedate_base.specs.declared.faults.ParseError.{ParseError}
+use Rattle.speedate_base.specs.Requirement.{◌implies◌, result_and_then}
+use Rattle.speedate_base.proofs.RequirementLemmas.{meets-ok, meets-value}
+use Rattle.speedate_civil.specs.ClockText.{Clock, has_point, has_second, minute_clock, minute_digits, minute_table, minute_front, clock_answer}
+use Rattle.speedate.specs.ClockForm.{colon_place, from_minute, hours_table, hours_range, end_table, clock_numbers, whole_clock, after_hours, clock_form}
+use Rattle.speedate.specs.DayForm.{is_day_letter}
+use Rattle.speedate.specs.DurationForm.{has_days}
+use Rattle.speedate.specs.DurationNumbers.{UnsignedDuration}
+
+digit-no_letter : (byte : ℕ) → is_ascii_digit byte ≡ true → is_day_letter byte ≡ false
+digit-no_letter byte digit = grind (arith, nat_tests)
+
+colon-no_letter : (byte : ℕ) → (byte == colon) ≡ true → is_day_letter byte ≡ false
+colon-no_letter byte same = grind (arith, nat_tests)
+
+point-no_letter : (byte : ℕ) → ((byte == 46) || (byte == 44)) ≡ true → is_day_letter byte ≡ false
+point-no_letter byte same = grind (arith, nat_tests)
+
+digits-no_letter : (text : List ℕ) → list_all is_ascii_digit text ≡ true → list_any is_day_letter text ≡ false
+digits-no_letter [] all = refl
+digits-no_letter (byte ∷ text) all =
+    let parts = and_parts (is_ascii_digit byte) (list_all is_ascii_digit text) all in
+    rw (digit-no_letter byte parts.0) (digits-no_letter text parts.1)
+
+-- so the letter stands in a text if and only if it stands after the first digits
+pub letter-after_digits : (text : List ℕ) → list_any is_day_letter (drop (run_length text 0) text) ≡ list_any is_day_letter text
+letter-after_digits text =
+    let front : List ℕ = take (run_length text 0) text in
+    let rest : List ℕ = drop (run_length text 0) text in
+    let none = digits-no_letter front (run-digits text) in
+    sym (ap (λ (one : Bool). one || list_any is_day_letter rest) none) ∙ sym (list_any-append is_day_letter front rest)
+    ∙ ap (list_any is_day_letter) (take-append-drop (run_length text 0) text)
+
+-- what follows the minute of a clock that takes all of a text
+after-minute : (a b c : ℕ) (more : List ℕ) (second : Bool)
+    → (second implies two_digits_at (a ∷ b ∷ c ∷ more) 3) ≡ true
+    → ((if second && has_point (a ∷ b ∷ c ∷ more) then 6 + run_length (a ∷ b ∷ c ∷ more) 6 else (if second then 5 else 2)) == length (a ∷ b ∷ c ∷ more)) ≡ true
+    → (second ≡ true) × (list_any is_day_letter more ≡ false)
+after-minute a b c more false asked sized = absurd (grind (arith, nat_tests, sized))
+after-minute a b c [] true asked sized = absurd (false≢true asked)
+after-minute a b c (d ∷ []) true asked sized = absurd (false≢true (and_parts _ _ asked).1)
+after-minute a b c (d ∷ e ∷ []) true asked sized =
+    let parts = and_parts (is_ascii_digit d) (is_ascii_digit e) asked in
+    (refl, rw (digit-no_letter d parts.0, digit-no_letter e parts.1) refl)
+after-minute a b c (d ∷ e ∷ p ∷ last) true asked sized =
+    let parts = and_parts (is_ascii_digit d) (is_ascii_digit e) asked in
+    let ends : (point : Bool) → ((p == 46) || (p == 44)) ≡ point → ((if point then 6 + prefix_len is_ascii_digit last else 5) == length (a ∷ b ∷ c ∷ d ∷ e ∷ p ∷ last)) ≡ true
+    → list_any is_day_letter (p ∷ last) ≡ false =
+    λ point. elim point as (λ (point : Bool). ((p == 46) || (p == 44)) ≡ point → ((if point then 6 + prefix_len is_ascii_digit last else 5) == length (a ∷ b ∷ c ∷ d ∷ e ∷ p ∷ last)) ≡ true
+    → list_any is_day_letter (p ∷ last) ≡ false) [
+      | true ↦ λ is all.
+          let whole : (prefix_len is_ascii_digit last == length last) ≡ true = grind (arith, nat_tests, all) in
+          rw (point-no_letter p is) (digits-no_letter last (sym (run-whole last) ∙ whole))
+      | false ↦ λ is all. absurd (grind (arith, nat_tests, all))
+    ] in
+    (refl, rw (digit-no_letter d parts.0, digit-no_letter e parts.1) (ends _ refl sized))
+
+-- no letter stands in a clock, from its minute on, that takes all of a text
+pub minute-no_letter : (rest : List ℕ) → two_digits_at rest 0 ≡ true → (has_second rest implies two_digits_at rest 3) ≡ true
+    → ((minute_clock rest).size == length rest) ≡ true → list_any is_day_letter rest ≡ false
+minute-no_letter [] minute asked sized = refl
+minute-no_letter (a ∷ []) minute asked sized = absurd (false≢true (and_parts _ _ minute).1)
+minute-no_letter (a ∷ b ∷ []) minute asked sized =
+    let parts = and_parts (is_ascii_digit a) (is_ascii_digit b) minute in
+    rw (digit-no_letter a parts.0, digit-no_letter b parts.1) refl
+minute-no_letter (a ∷ b ∷ c ∷ more) minute asked sized =
+    let parts = and_parts (is_ascii_digit a) (is_ascii_digit b) minute in
+    let after = after-minute a b c more (c == colon) asked sized in
+    rw (digit-no_letter a parts.0, digit-no_letter b parts.1, colon-no_letter c after.0) after.1
+
+-- where the answer to what was read is a value, something was read
+both-ok : {A B : Type 0} (step : A → Result B ParseError) (answer : Result A ParseError) (value : B) → result_and_then step answer ≡ Ok value
+    → (found : A) × (answer ≡ Ok found) × (step found ≡ Ok value)
+both-ok step (Ok found) value same = (found, refl, same)
+both-ok step (Err fault) value same = absurd (cc)
+
+-- no letter stands in a clock, and it has five bytes at least
+pub clock-no_letter : (behavior : MicrosecondsPrecisionOverflowBehavior) (text : List ℕ) (value : UnsignedDuration) → clock_form behavior text ≡ Ok value
+    → has_days text ≡ false
+unfolding clock_form
+clock-no_letter behavior text value same =
+    let hours = colon_place text in
+    let rest : List ℕ = from_minute text in
+    let front = meets-ok (hours_table text) (after_hours behavior (run_value text 0) rest) value same in
+    let ranges = meets-ok (hours_range behavior (run_value text 0) rest) (result_and_then (whole_clock (run_value text 0) rest) (minute_front behavior rest)) value front.1 in
+    let read = both-ok (whole_clock (run_value text 0) rest) (minute_front behavior rest) value ranges.1 in
+    let minute = meets-ok (minute_digits rest) (clock_answer behavior rest) read.0 read.1 in
+    let clock = meets-value (minute_table behavior rest) (minute_clock rest) read.0 minute.1 in
+    let whole = meets-ok (end_table rest read.0) (Ok (clock_numbers (run_value text 0) read.0)) value read.2 in
+    let sized = ap (λ (clock : Clock). clock.size == length rest) clock.1 ∙ whole.0.0 in
+    let none = minute-no_letter rest minute.0.0 clock.0.1.0 sized in
+    let within : hours < length text = grind (arith, nat_tests, front.0.1.0) in
+    let at_colon = passes_at_first (λ byte. byte == colon) text 0 within in
+    let long : nat_lt (length text) 5 ≡ false = grind (arith, nat_tests, front.0.0) in
+    let letters = sym (letter-after_digits text) ∙ ap (λ (n : ℕ). list_any is_day_letter (drop n text)) (eqb-true (run_length text 0) hours front.0.1.1.1.0)
+    ∙ ap (list_any is_day_letter) (drop_more text hours 0 within) ∙ ap₂ (λ (one others : Bool). one || others) (colon-no_letter _ at_colon) none in
+    ap₂ (λ (one others : Bool). one || others) long letters
