@@ -245,6 +245,7 @@ impl FromStr for Duration {
     /// and a half.
     #[inline]
     fn from_str(text: &str) -> Result<Self, ParseError>
+        ensures answer { result_map parts result ≡ duration_answer order.Lax behavior.Error text.now }
         ensures grammar { IsGrammarAnswer order.Lax behavior.Error text.now (result_map parts result) }
     {
         Self::parse_str(text)

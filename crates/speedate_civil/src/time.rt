@@ -11,9 +11,9 @@ mod pure;
 mod text;
 mod timezone;
 
+pub use fraction::Fraction;
 use offset::read_offset;
 pub(crate) use offset::{clock_shift, is_offset};
-pub use fraction::Fraction;
 pub use pure::PureTime;
 use speedate_base::config::{MicrosecondsPrecisionOverflowBehavior, TimeConfig};
 use speedate_base::faults::ParseError;
