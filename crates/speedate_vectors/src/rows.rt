@@ -3,7 +3,7 @@
 
 use arrayvec::ArrayString;
 use speedate::ParseError;
-use std::alloc::{AllocError, Global};
+use std::alloc::AllocError;
 use std::fmt::{Display, Write};
 use std::process::Abort;
 use std::str::FromStr;

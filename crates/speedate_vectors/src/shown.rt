@@ -8,7 +8,6 @@ use speedate::{
 };
 use std::fmt::{self, Debug, Display, Write};
 use std::process::Abort;
-use std::test::Fail;
 
 /// A writer that takes nothing.
 #[derive(Drop)]
@@ -21,18 +20,15 @@ impl Write for Full {
 }
 
 /// A value is to be written as the text, whatever precision, sign, width, fill or form is asked for.
-pub fn expect_shown<T: Display, R: AllocGlobal + Abort>(
-    rt: &R,
-    value: &T,
-    want: &str,
-) -> Result<(), Fail> {
+pub fn expect_shown<T: Display, R: AllocGlobal + Abort>(rt: &R, value: &T, want: &str) {
     let shown = format!(in rt.alloc();
         "{value} {value:.3} {value:+} {value:08} {value:#} {value:*>40}"
-    )?;
-    let wanted = format!(in rt.alloc(); "{want} {want} {want} {want} {want} {want}")?;
-    assert_eq!(rt; shown.as_str(), wanted.as_str());
+    );
+    let shown = shown.ok().expect(rt, want);
+    for text in shown.split(' ') {
+        assert_eq!(rt; text, want);
+    }
     assert!(rt; write!(Full, "{value}").is_err(), "{want}");
-    Ok(())
 }
 
 /// The next drawn number, below `end`; each fourth one is 0.
@@ -48,11 +44,11 @@ fn drawn(state: &mut u64, end: u32) -> u32
 }
 
 #[test]
-fn values(rt: HostRuntime) -> Result<(), Fail> {
+fn values(rt: HostRuntime) {
     let mut state = 20_240_602;
     for _ in 0..1000 {
         let date = Date::from_day_number(drawn(&mut state, 3_652_425)).expect(&rt, "a date");
-        expect_shown(&rt, &date, date.to_text().as_str())?;
+        expect_shown(&rt, &date, date.to_text().as_str());
         let (second, microsecond) = (drawn(&mut state, 86_400), drawn(&mut state, 1_000_000));
         let offset = drawn(&mut state, 172_799) as i32 - 86_399;
         let plain = Time::from_timestamp(second, microsecond)
@@ -63,34 +59,28 @@ fn values(rt: HostRuntime) -> Result<(), Fail> {
             .ok()
             .expect(&rt, "a time");
         for time in [plain, time] {
-            expect_shown(&rt, &time, time.to_text().as_str())?;
+            expect_shown(&rt, &time, time.to_text().as_str());
             let date_time = DateTime { date, time };
-            expect_shown(&rt, &date_time, date_time.to_text().as_str())?;
+            expect_shown(&rt, &date_time, date_time.to_text().as_str());
         }
         let day = drawn(&mut state, 1_000_000_000);
         for positive in [true, false] {
             let length = Duration::new(positive, day, second, microsecond)
                 .ok()
                 .expect(&rt, "a duration");
-            expect_shown(&rt, &length, length.to_text().as_str())?;
+            expect_shown(&rt, &length, length.to_text().as_str());
         }
     }
-    Ok(())
 }
 
 /// A value is to be written by Debug as the text.
-pub fn expect_debug<T: Debug, R: AllocGlobal + Abort>(
-    rt: &R,
-    value: &T,
-    want: &str,
-) -> Result<(), Fail> {
-    let written = format!(in rt.alloc(); "{value:?}")?;
+pub fn expect_debug<T: Debug, R: AllocGlobal + Abort>(rt: &R, value: &T, want: &str) {
+    let written = format!(in rt.alloc(); "{value:?}").ok().expect(rt, want);
     assert_eq!(rt; written.as_str(), want);
-    Ok(())
 }
 
 #[test]
-fn debug_texts(rt: HostRuntime) -> Result<(), Fail> {
+fn debug_texts(rt: HostRuntime) {
     let date = Date {
         year: 2020,
         month: 2,
@@ -103,18 +93,18 @@ fn debug_texts(rt: HostRuntime) -> Result<(), Fail> {
         microsecond: 4,
         tz_offset: Some(-5),
     };
-    expect_debug(&rt, &date, "Date { year: 2020, month: 2, day: 29 }")?;
+    expect_debug(&rt, &date, "Date { year: 2020, month: 2, day: 29 }");
     expect_debug(
         &rt,
         &time,
         "Time { hour: 1, minute: 2, second: 3, microsecond: 4, tz_offset: Some(-5) }",
-    )?;
+    );
     expect_debug(
         &rt,
         &DateTime { date, time },
         "DateTime { date: Date { year: 2020, month: 2, day: 29 }, \
         time: Time { hour: 1, minute: 2, second: 3, microsecond: 4, tz_offset: Some(-5) } }",
-    )?;
+    );
     let length = Duration {
         positive: false,
         day: 1,
@@ -125,51 +115,51 @@ fn debug_texts(rt: HostRuntime) -> Result<(), Fail> {
         &rt,
         &length,
         "Duration { positive: false, day: 1, second: 2, microsecond: 3 }",
-    )?;
+    );
     let moment = Moment {
         second: 1,
         microsecond: 2,
     };
-    expect_debug(&rt, &moment, "Moment { second: 1, microsecond: 2 }")?;
-    expect_debug(&rt, &float_parse_str("7"), "Int(7)")?;
+    expect_debug(&rt, &moment, "Moment { second: 1, microsecond: 2 }");
+    expect_debug(&rt, &float_parse_str("7"), "Int(7)");
     expect_debug(
         &rt,
         &float_parse_str("-1.5"),
         "Float(Decimal { negative: true, whole: [49], fraction: [53] })",
-    )?;
-    expect_debug(&rt, &IntFloat::Err, "Err")?;
+    );
+    expect_debug(&rt, &IntFloat::Err, "Err");
     expect_debug(
         &rt,
         &DateConfig::default(),
         "DateConfig { timestamp_unit: Infer }",
-    )?;
+    );
     expect_debug(
         &rt,
         &DateConfig::builder(),
         "DateConfigBuilder { config: DateConfig { timestamp_unit: Infer } }",
-    )?;
+    );
     expect_debug(
         &rt,
         &TimeConfig::default(),
         "TimeConfig { microseconds_precision_overflow_behavior: Error, unix_timestamp_offset: None, \
         iso_order: Lax }",
-    )?;
+    );
     expect_debug(
         &rt,
         &TimeConfig::builder(),
         "TimeConfigBuilder { config: TimeConfig { microseconds_precision_overflow_behavior: Error, \
         unix_timestamp_offset: None, iso_order: Lax } }",
-    )?;
+    );
     expect_debug(
         &rt,
         &DateTimeConfig::default(),
         "DateTimeConfig { timestamp_unit: Infer, time_config: TimeConfig { \
         microseconds_precision_overflow_behavior: Error, unix_timestamp_offset: None, iso_order: Lax } }",
-    )?;
+    );
     expect_debug(
         &rt,
         &DateTimeConfig::builder(),
         "DateTimeConfigBuilder { config: DateTimeConfig { timestamp_unit: Infer, time_config: TimeConfig { \
         microseconds_precision_overflow_behavior: Error, unix_timestamp_offset: None, iso_order: Lax } } }",
-    )
+    );
 }
