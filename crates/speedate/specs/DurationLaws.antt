@@ -1,10 +1,10 @@
 -- Durations have one order, and one normal form.
-use Rattle.std.specs.Prelude.{◌≡◌, ℕ, ◌/◌, ◌%◌, ◌≤◌, Bool, true, false, nat_le, Ok, refl}
+use Rattle.std.specs.Prelude.{◌≡◌, ◌/◌, ◌%◌, ◌≤◌, Bool, true, false, nat_le, Ok, refl}
 use Rattle.std.specs.declared.cmp.Ordering.{Ordering}
 use Rattle.std.specs.declared.cmp.Ordering.TheVariants as ordering
 use Rattle.std.specs.Cmp.{IsTotalOrder}
 use Rattle.std.specs.Ordering.{ordering_reverse}
-use Rattle.std.proofs.Common.{arith, ap, ap₂, sym, ◌∙◌}
+use Rattle.std.proofs.Common.{arith, ap, sym, ◌∙◌}
 use Rattle.std.proofs.lemmas.Bool.Decides.{nat_tests}
 use Rattle.std.proofs.lemmas.Cmp.{alike_right, nat_cmp_total, on_total, then_total}
 use Rattle.speedate_base.specs.Offset.{seconds_per_day}
@@ -62,16 +62,6 @@ of_length-only numbers valid =
     let seconds : length_microseconds numbers / 1000000 % seconds_per_day ≡ numbers.second = omega (arith, valid.second, valid.microsecond) in
     let left : length_microseconds numbers % 1000000 ≡ numbers.microsecond = omega (arith, valid.microsecond) in
     λ i. record { positive = numbers.positive; day = days i; second = seconds i; microsecond = left i }
-
--- and have no other length
-pub length-of_length : (positive : Bool) (length : ℕ) → length_microseconds (of_length positive length) ≡ length
-length-of_length positive length = omega arith
-
--- so two durations of one sign and one length are one
-pub length-only : (first second : DurationNumbers) → IsDuration first → IsDuration second → first.positive ≡ second.positive
-    → length_microseconds first ≡ length_microseconds second → first ≡ second
-length-only first second one two sign same =
-    sym (of_length-only first one) ∙ ap₂ of_length sign same ∙ of_length-only second two
 
 -- the normal form of a duration is itself
 pub normal_form-same : (numbers : DurationNumbers) → IsDuration numbers → normal_form numbers ≡ Ok numbers
