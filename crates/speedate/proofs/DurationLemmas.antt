@@ -15,16 +15,6 @@ of_length-only numbers valid =
     let left : length_microseconds numbers % 1000000 ≡ numbers.microsecond = omega (arith, valid.microsecond) in
     λ i. record { positive = numbers.positive; day = days i; second = seconds i; microsecond = left i }
 
--- and have no other length
-pub length-of_length : (positive : Bool) (length : ℕ) → length_microseconds (of_length positive length) ≡ length
-length-of_length positive length = omega arith
-
--- so two durations of one sign and one length are one
-pub length-only : (first second : DurationNumbers) → IsDuration first → IsDuration second → first.positive ≡ second.positive
-    → length_microseconds first ≡ length_microseconds second → first ≡ second
-length-only first second one two sign same =
-    sym (of_length-only first one) ∙ ap₂ of_length sign same ∙ of_length-only second two
-
 -- the normal form of a duration is itself
 pub normal_form-same : (numbers : DurationNumbers) → IsDuration numbers → normal_form numbers ≡ Ok numbers
 normal_form-same numbers valid =

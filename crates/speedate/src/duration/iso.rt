@@ -6,6 +6,7 @@ ghost use Rattle.std.specs.List.{list_all};
 ghost use Rattle.speedate_base.specs.DigitRuns.{run_length, run_value, digits_value, fraction_value};
 ghost use Rattle.std.specs.Option.{option_map, is_some};
 ghost use Rattle.speedate_base.specs.declared.faults.ParseError.TheVariants as fault;
+ghost use Rattle.speedate_base.specs.Ascii.{capital_t};
 ghost use Rattle.speedate_base.specs.Requirement.{meets, result_map};
 ghost use Rattle.speedate.specs.IsoForm.{Component, TimeDesignator, units, unit_in, is_decimal_mark, fraction_length, unit_seconds, next_units_after, fraction_seconds, fraction_microseconds, component_at, component_length, item_at, item_length, are_counted, with_amount, with_item, item_table, sums_length, unit_fault, no_sums, IsAnswerFrom};
 
@@ -131,7 +132,7 @@ pub(super) struct Sums {
 impl Sums {
     ghost use Rattle.speedate.specs.Duration.{unsigned_parts};
     ghost use Rattle.speedate.specs.DurationAnswer.{iso_form};
-    ghost use Rattle.speedate.specs.IsoSums.{unit_parts, IsUnitOf, sums_parts, GoesOn};
+    ghost use Rattle.speedate.specs.IsoSums.{unit_parts, IsUnitOf, sums_parts, is_plain, GoesOn};
 
     /// Reads all items of a duration, and adds them up.
     ///
@@ -150,6 +151,8 @@ impl Sums {
     #[inline(always)]
     fn of_plain(body: &[u8], order: IsoOrder) -> (Self, usize)
         ensures goes_on { GoesOn (no_sums order) body.now (sums_parts result.0) (drop result.1 body.now) }
+        ensures all { is_plain (sums_parts result.0) body.now result.1 ≡ false }
+        ensures designator { slice_index body.now result.1 ≡ capital_t → result.0.is_time ≡ true }
         ensures within { result.1 ≤ length body.now }
     {
         let none = Sums {
@@ -187,6 +190,7 @@ impl Sums {
         requires start { start ≤ length body.now }
         ensures goes_on { GoesOn (sums_parts self) (drop start body.now) (sums_parts result.0) (drop result.1 body.now) }
         ensures side { result.0.is_time ≡ self.is_time }
+        ensures all { is_plain (sums_parts result.0) body.now result.1 ≡ false }
         ensures none { result.0.fraction ≡ false }
         ensures within { result.1 ≤ length body.now }
     {
@@ -206,6 +210,7 @@ impl Sums {
     fn with_next(self, body: &[u8], place: usize) -> Option<(Self, usize)>
         requires none { self.fraction ≡ false }
         requires place { place ≤ length body.now }
+        ensures plain { is_some result ≡ is_plain (sums_parts self) body.now place }
         ensures goes_on { IfSome result (λ next. GoesOn (sums_parts self) (drop place body.now) (sums_parts next.0) (drop next.1 body.now)) }
         ensures side { IfSome result (λ next. next.0.is_time ≡ self.is_time) }
         ensures none { IfSome result (λ next. next.0.fraction ≡ false) }
@@ -256,7 +261,7 @@ impl Sums {
         requires place { self.passed ≤ unit.now.place }
         requires short { number < 1000000 }
         ensures sums { IfSome result (λ sums. sums_parts sums ≡ with_amount (unit_parts unit.now) number [] (sums_parts self)) }
-        ensures counted { IfSome result (λ _. IsTrue (are_counted (with_amount (unit_parts unit.now) number [] (sums_parts self)))) }
+        ensures counted { is_some result ≡ are_counted (with_amount (unit_parts unit.now) number [] (sums_parts self)) }
     {
         Some(Sums {
             order: self.order,

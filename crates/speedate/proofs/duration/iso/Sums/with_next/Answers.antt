@@ -23,4 +23,4 @@ returns-clause-goes_on c = λ answer later.
     answer-after-plain sums (sums_parts c.in_ok-sums.sums) c.args.body.now c.args.place number.end
     number.number _ (unit_parts c.in_ok-unit.unit) answer
     c.requires.none read.0 read.1 c.byte_at.ensures.byte c.in_ok-unit.ensures.unit c.in_ok-sums.ensures.sums
-    (omega (arith, read.1, c.if-end-place.false)) (omega (arith, number.ensures.small)) comes c.in_ok-sums.ensures.counted later
+    (omega (arith, read.1, c.if-end-place.false)) (omega (arith, number.ensures.small)) comes (sym c.in_ok-sums.ensures.counted) later
