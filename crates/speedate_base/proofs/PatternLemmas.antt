@@ -1,8 +1,9 @@
 -- What is known of bytes that are as a pattern has them.
-use Rattle.std.specs.Prelude.{◌≡◌, ℕ, zero, suc, ◌+◌, ◌≤◌, Bool, true, false, if◌then◌else◌, List, [], ◌∷◌, length, refl}
-use Rattle.std.proofs.Common.{arith}
+use Rattle.std.specs.Prelude.{◌≡◌, ℕ, zero, suc, ◌+◌, ◌≤◌, Bool, true, false, if◌then◌else◌, List, [], ◌∷◌, length, drop, refl}
+use Rattle.std.proofs.Common.{add-zero, arith}
+use Rattle.std.proofs.lemmas.List.{get_or-drop}
 use Rattle.std.proofs.lemmas.Bool.Decides.{nat_tests}
-use Rattle.speedate_base.specs.Pattern.{fits_byte, fit_length}
+use Rattle.speedate_base.specs.Pattern.{eight_at, fits_byte, fit_length}
 
 -- a list of eight is made of eight
 pub by_eight : (P : List ℕ → Type 0) → ((a b c d e f g h : ℕ) → P (a ∷ b ∷ c ∷ d ∷ e ∷ f ∷ g ∷ h ∷ [])) → (bytes : List ℕ) → length bytes ≡ 8 → P bytes
@@ -42,3 +43,17 @@ fit_length-all (suc count) (form ∷ forms) [] enough = absurd (omega arith)
 fit_length-all (suc count) (form ∷ forms) (byte ∷ bytes) enough =
     let first = first-fits count (fit_length forms bytes) (fits_byte form byte) enough in
     (first.0, fit_length-all count forms bytes first.1)
+
+-- eight bytes of a text are the first eight of what begins at their place
+pub eight_at-drop : (place : ℕ) (text : List ℕ) → eight_at text place ≡ eight_at (drop place text) 0
+eight_at-drop place text = cc (
+  get_or-drop place text 0 0,
+  get_or-drop place text 1 0,
+  get_or-drop place text 2 0,
+  get_or-drop place text 3 0,
+  get_or-drop place text 4 0,
+  get_or-drop place text 5 0,
+  get_or-drop place text 6 0,
+  get_or-drop place text 7 0,
+  add-zero place,
+)

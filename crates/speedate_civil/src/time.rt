@@ -115,7 +115,7 @@ impl Time {
         ensures answer { result_map parts result ≡ time_answer behavior (drop place bytes.now) }
     {
         let clock = PureTime::parse(bytes, place, behavior)?;
-        let tz_offset = read_offset(&bytes[place + clock.size..])?;
+        let tz_offset = read_offset(bytes, place + clock.size)?;
         Ok(Time {
             hour: clock.hour,
             minute: clock.minute,

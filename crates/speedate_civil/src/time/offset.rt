@@ -1,6 +1,8 @@
 //! Offsets from UTC, behind a time.
 
-ghost use Rattle.std.specs.Prelude.{◌≡◌, ◌≤◌, ◌+◌, ◌<◌, ◌∷◌, ◌*◌, ◌++◌, ◌-ℤ◌, IfOk, Ok, IsTrue, length, if◌then◌else◌, pos, unsigned_abs};
+ghost use Rattle.std.specs.Prelude.{◌≡◌, ◌≤◌, ◌+◌, ◌<◌, ◌∷◌, ◌*◌, ◌++◌, ◌-ℤ◌, ◌==◌, ◌||◌, IfOk, Ok, IsTrue, length, drop, codes, if◌then◌else◌, pos, unsigned_abs};
+ghost use Rattle.speedate_base.specs.Digits.{two_digit_value};
+ghost use Rattle.speedate_base.specs.Pattern.{fit_length};
 ghost use Rattle.std.specs.Int.{is_negative};
 ghost use Rattle.std.specs.Option.{ForSome, unwrap_or};
 ghost use Rattle.arrayvec.specs.ArrayString.{array_string_len};
@@ -9,55 +11,104 @@ ghost use Rattle.speedate_base.specs.Numbers.{with_sign};
 ghost use Rattle.speedate_base.specs.Offset.{IsOffset, seconds_per_day};
 ghost use Rattle.speedate_base.specs.Requirement.{meets};
 ghost use Rattle.speedate_civil.specs.OffsetMove.{is_offset, move_table};
-ghost use Rattle.speedate_civil.specs.OffsetText.{offset_answer, signed_answer, offset_minute_place, offset_size_text, offset_text};
+ghost use Rattle.speedate_civil.specs.OffsetText.{digits_table, offset_answer, signed_answer, offset_minute, offset_minute_place, offset_size_text, offset_text};
 
 use crate::text::two_digit_text;
 use arrayvec::ArrayString;
 use speedate_base::faults::ParseError;
-use speedate_base::numbers::{byte_at, two_digits_there};
+use speedate_base::numbers::{byte_at, eight_bytes, fitting, pairs};
 use speedate_base::util::SECONDS_PER_DAY;
+use std::simd::prelude::*;
 
-/// The offset in seconds that follows a time: none for no bytes, 0 for `Z` or `z`, 5,400 for
-/// `+01:30`.
+/// The offset in seconds that begins at `place` and takes all the bytes from there on: none for no
+/// bytes, 0 for `Z` or `z`, 5,400 for `+01:30`.
 #[inline(always)]
-pub(crate) fn read_offset(rest: &[u8]) -> Result<Option<i32>, ParseError>
-    ensures answer { result ≡ offset_answer rest.now }
+#[tactic(auto, using(std::proofs::lemmas::List::take_rest))]
+pub(crate) fn read_offset(bytes: &[u8], place: usize) -> Result<Option<i32>, ParseError>
+    requires { place ≤ length bytes.now }
+    ensures answer { result ≡ offset_answer (drop place bytes.now) }
     ensures range { IfOk result (λ offset. ForSome offset IsOffset) }
 {
-    let [first, others @ ..] = rest else {
-        return Ok(None);
-    };
-    let (west, numbers) = match (first, others) {
-        (b'+', numbers) => (false, numbers),
-        (b'-', numbers) => (true, numbers),
-        (0xe2, [0x88, 0x92, numbers @ ..]) => (true, numbers),
-        (b'Z' | b'z', []) => return Ok(Some(0)),
-        (b'Z' | b'z', _) => return Err(ParseError::ExtraCharacters),
-        _ => return Err(ParseError::InvalidCharTzSign),
-    };
-    signed_offset(west, numbers)
+    let first = byte_at(bytes, place);
+    if is_plus_or_minus(first) {
+        return signed_offset(first == b'-', bytes, place + 1);
+    }
+    match &bytes[place..] {
+        [] => Ok(None),
+        [b'Z' | b'z'] => Ok(Some(0)),
+        [b'Z' | b'z', ..] => Err(ParseError::ExtraCharacters),
+        [0xe2, 0x88, 0x92, ..] => signed_offset(true, bytes, place + 3),
+        _ => Err(ParseError::InvalidCharTzSign),
+    }
 }
 
-/// The offset whose sign says whether it is west of UTC, and whose hour and minute follow.
+/// Whether a byte is `+` or `-`, the neighbours of `,`. They come as often, so that a test of each
+/// would be foreseen wrongly for half of all texts.
 #[inline(always)]
-fn signed_offset(west: bool, numbers: &[u8]) -> Result<Option<i32>, ParseError>
-    ensures answer { result ≡ signed_answer west numbers.now }
+fn is_plus_or_minus(byte: u8) -> bool
+    ensures value { result ≡ ((byte == plus_sign) || (byte == hyphen)) }
+{
+    byte.abs_diff(b',') == 1
+}
+
+/// The offset whose sign says whether it is west of UTC, and whose hour begins at `place`.
+#[inline(always)]
+fn signed_offset(west: bool, bytes: &[u8], place: usize) -> Result<Option<i32>, ParseError>
+    requires { place ≤ length bytes.now }
+    ensures answer { result ≡ signed_answer west (drop place bytes.now) }
     ensures range { IfOk result (λ offset. ForSome offset IsOffset) }
 {
-    let hour = two_digits_there(numbers, 0).ok_or(ParseError::InvalidCharTzHour)?;
-    let place = minute_place(numbers);
-    let minute = two_digits_there(numbers, place).ok_or(ParseError::InvalidCharTzMinute)?;
+    let (hour, minute, size) = hour_and_minute(eight_bytes(bytes, place))?;
     if minute > 59 {
         return Err(ParseError::OutOfRangeTzMinute);
     }
-    let size = 3600 * u32::from(hour) + 60 * u32::from(minute);
-    if size >= SECONDS_PER_DAY {
+    let seconds = 3600 * u32::from(hour) + 60 * u32::from(minute);
+    if seconds >= SECONDS_PER_DAY {
         return Err(ParseError::OutOfRangeTz);
     }
-    if numbers.len() > place + 2 {
+    if bytes.len() - place != size {
         return Err(ParseError::ExtraCharacters);
     }
-    Ok(Some(with_sign(west, size)))
+    Ok(Some(with_sign(west, seconds)))
+}
+
+/// The hour and the minute at the front of an offset without its sign, and how many bytes they take:
+/// `HH:MM` or `HHMM`.
+#[inline(always)]
+fn hour_and_minute(front: u8x8) -> Result<(u8, u8, usize), ParseError>
+    ensures numbers { result ≡ meets (digits_table front)
+        (Ok (two_digit_value front 0, offset_minute front, offset_minute_place front + 2)) }
+    ensures small { IfOk result (λ numbers. (numbers.0 ≤ 99) × (numbers.1 ≤ 99)) }
+{
+    let form = u8x8::from_array(*b"00:00:00");
+    let fits = fitting(front, form);
+    if fits < 2 {
+        return Err(ParseError::InvalidCharTzHour);
+    }
+    if fits >= 5 {
+        let [hour, _, _, minute, _, _, _, _] = pairs(front, form, 5);
+        return Ok((hour, minute, 5));
+    }
+    if fits > 2 {
+        return Err(ParseError::InvalidCharTzMinute);
+    }
+    hour_then_minute(front)
+}
+
+/// The same of an offset that has no `:` behind the two digits of its hour.
+#[inline(always)]
+fn hour_then_minute(front: u8x8) -> Result<(u8, u8, usize), ParseError>
+    requires { fit_length (codes "00:00:00") front ≡ 2 }
+    ensures numbers { result ≡ meets (digits_table front)
+        (Ok (two_digit_value front 0, offset_minute front, offset_minute_place front + 2)) }
+    ensures small { IfOk result (λ numbers. (numbers.0 ≤ 99) × (numbers.1 ≤ 99)) }
+{
+    let form = u8x8::splat(b'0');
+    if fitting(front, form) < 4 {
+        return Err(ParseError::InvalidCharTzMinute);
+    }
+    let [hour, _, minute, _, _, _, _, _] = pairs(front, form, 4);
+    Ok((hour, minute, 4))
 }
 
 /// An offset of this size, with its sign.
@@ -106,15 +157,6 @@ fn difference(offset: i32, old: i32) -> i32
     ensures range { unsigned_abs result < 2 * seconds_per_day }
 {
     offset - old
-}
-
-/// The place of the minute behind an hour of two digits and an optional `:`.
-#[inline]
-fn minute_place(numbers: &[u8]) -> usize
-    ensures place { result ≡ offset_minute_place numbers.now }
-    ensures few { result ≤ 3 }
-{
-    if byte_at(numbers, 2) == b':' { 3 } else { 2 }
 }
 
 /// Appends the text of an offset, if there is one.

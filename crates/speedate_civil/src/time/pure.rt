@@ -178,14 +178,11 @@ fn second_there(front: u8x8, fits: usize) -> Option<Option<u8>>
     requires minute { 5 ≤ fits }
     ensures second { result ≡ second_there (drop 3 front) }
 {
-    match fits {
-        5 => None,
-        6 | 7 => Some(None),
-        _ => {
-            let [_, _, _, _, _, _, second, _] = pairs(front, u8x8::from_array(*b"00:00:00"), LANES);
-            Some(Some(second))
-        }
+    if fits == LANES {
+        let [_, _, _, _, _, _, second, _] = pairs(front, u8x8::from_array(*b"00:00:00"), LANES);
+        return Some(Some(second));
     }
+    if fits == 5 { None } else { Some(None) }
 }
 
 /// Whether a point or a comma follows the second of a time that is given from its minute on.

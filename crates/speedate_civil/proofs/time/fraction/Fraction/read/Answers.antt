@@ -1,11 +1,12 @@
-use Rattle.std.proofs.Common.{◌≡◌, ◌∙◌, ap, sym, refl, ℕ, zero, suc, ◌+◌, ◌≤◌, Bool, true, false, List, [], ◌∷◌, take, drop, min, replicate, add-zero, arith}
+use Rattle.std.proofs.Common.{◌≡◌, ◌∙◌, ap, sym, refl, ℕ, zero, suc, ◌+◌, ◌≤◌, Bool, true, false, List, [], ◌∷◌, take, drop, min, replicate, arith}
 use Rattle.std.specs.Prelude.{if◌then◌else◌}
 use Rattle.std.specs.Char.{is_ascii_digit}
 use Rattle.std.specs.List.{prefix_len}
-use Rattle.std.proofs.lemmas.List.{get_or-drop, take-take}
+use Rattle.std.proofs.lemmas.List.{take-take}
 use Rattle.speedate_base.specs.DigitRuns.{run_length, run_digits, fraction_value}
 use Rattle.speedate_base.proofs.DigitRunLemmas.{fraction_value-take}
 use Rattle.speedate_base.specs.Pattern.{eight_at, fit_length}
+use Rattle.speedate_base.proofs.PatternLemmas.{eight_at-drop}
 use Rattle.speedate_civil.proofs.time.fraction.Fraction.read.Goals as goal
 
 -- the first bytes of a text, so many of them, and 0 where it has none
@@ -62,18 +63,7 @@ record Known (text front : List ℕ) (place count : ℕ) : Type 0 where
 known : (text front : List ℕ) (place count : ℕ) → front ≡ eight_at text place → count ≡ fit_length (replicate 8 48) front → Known text front place count
 known text front place count from counted =
     let rest : List ℕ = drop place text in
-    let moved : eight_at rest 0 ≡ eight_at text place = cc (
-      get_or-drop place text 0 0,
-      get_or-drop place text 1 0,
-      get_or-drop place text 2 0,
-      get_or-drop place text 3 0,
-      get_or-drop place text 4 0,
-      get_or-drop place text 5 0,
-      get_or-drop place text 6 0,
-      get_or-drop place text 7 0,
-      add-zero place,
-    ) in
-    let are = from ∙ sym moved ∙ eight-first rest in
+    let are = from ∙ eight_at-drop place text ∙ eight-first rest in
     let run = counted ∙ ap (fit_length (replicate 8 48)) are ∙ first-run 8 rest in
     record {
       counted = run;
