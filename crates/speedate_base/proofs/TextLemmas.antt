@@ -1,8 +1,12 @@
--- Texts that are read back.
-use Rattle.std.specs.Prelude.{◌≡◌, ℕ, List, Result, Ok}
+-- Texts that are printed and read back.
+use Rattle.std.specs.Prelude.{◌≡◌, ℕ, List, [], ◌++◌, Result, Ok}
 use Rattle.std.proofs.Common.{◌∙◌, ap, sym}
 use Rattle.speedate_base.specs.declared.faults.ParseError.{ParseError}
 use Rattle.speedate_base.specs.Requirement.{result_map}
+
+-- what was appended to nothing is the text
+pub text-alone : (before after text : List ℕ) → before ≡ [] → after ≡ before ++ text → after ≡ text
+text-alone before after text none appended = appended ∙ ap (λ (front : List ℕ). front ++ text) none
 
 -- where two values are read back from their texts, and the texts are one, the values are one
 pub text-distinct : {A E : Type 0} (print : A → List ℕ) (read : List ℕ → Result A E) (first second : A)

@@ -1,5 +1,5 @@
-use Rattle.std.proofs.Common.{◌≡◌, ◌∙◌, ap, sym, ◌++◌, ℕ, List, []}
-use Rattle.speedate_base.proofs.TextLemmas.{text-canonical}
+use Rattle.std.proofs.Common.{◌∙◌, ap, sym}
+use Rattle.speedate_base.proofs.TextLemmas.{text-alone, text-canonical}
 use Rattle.speedate.specs.Duration.{parts}
 use Rattle.speedate.specs.DurationAnswer.{duration_answer}
 use Rattle.speedate.specs.DurationText.{duration_text}
@@ -7,26 +7,22 @@ use Rattle.speedate.proofs.IsoTextLemmas.{duration_text-reads, duration_text-dis
 use Rattle.speedate.proofs.DurationValueLemmas.{is_duration}
 use Rattle.speedate.proofs.duration.Duration.to_text.Goals as goal
 
--- what was appended to nothing is the text
-alone : (before after text : List ℕ) → before ≡ [] → after ≡ before ++ text → after ≡ text
-alone before after text none appended = appended ∙ ap (λ (front : List ℕ). front ++ text) none
-
 pub returns-clause-reads_back : goal.returns-clause-reads_back
 returns-clause-reads_back c config =
     let duration = c.args.self.now in
     let behavior = config.microseconds_precision_overflow_behavior in
-    let bytes = alone _ _ _ c.new-text.ensures c.push_onto.ensures.text in
+    let bytes = text-alone _ _ _ c.new-text.ensures c.push_onto.ensures.text in
     ap (duration_answer config.iso_order behavior) bytes ∙ duration_text-reads config.iso_order behavior (parts duration) (is_duration duration)
 
 pub returns-clause-canonical : goal.returns-clause-canonical
 returns-clause-canonical c config =
-    let bytes = alone _ _ _ c.new-text.ensures c.push_onto.ensures.text in
+    let bytes = text-alone _ _ _ c.new-text.ensures c.push_onto.ensures.text in
     text-canonical duration_text (parts c.args.self.now) _ _ bytes (returns-clause-reads_back c config)
 
 pub returns-clause-distinct : goal.returns-clause-distinct
 returns-clause-distinct c other =
     let duration = c.args.self.now in
-    let bytes = alone _ _ _ c.new-text.ensures c.push_onto.ensures.text in (
+    let bytes = text-alone _ _ _ c.new-text.ensures c.push_onto.ensures.text in (
       λ same. duration_text-distinct (parts duration) (parts other) (is_duration duration) (is_duration other) (sym bytes ∙ same),
       λ one. bytes ∙ ap duration_text one,
     )

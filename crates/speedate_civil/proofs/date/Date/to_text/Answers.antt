@@ -1,41 +1,37 @@
-use Rattle.std.proofs.Common.{◌≡◌, ◌∙◌, sym, ap, true, ℕ, List, [], ◌++◌}
+use Rattle.std.proofs.Common.{◌∙◌, sym, ap, true, ℕ, List}
 use Rattle.std.specs.Option.{option_map}
 use Rattle.speedate_civil.specs.Date.{parts}
 use Rattle.speedate_base.specs.Numbers.{whole_number}
 use Rattle.speedate_civil.specs.DateText.{date_answer, date_text}
 use Rattle.speedate_civil.specs.DateTimestamp.{date_timestamp_answer, date_or_timestamp}
 use Rattle.speedate_civil.specs.NumberText.{or_number}
-use Rattle.speedate_base.proofs.TextLemmas.{text-canonical}
+use Rattle.speedate_base.proofs.TextLemmas.{text-alone, text-canonical}
 use Rattle.speedate_civil.proofs.DateLemmas.{date_text-reads, date_text-distinct}
 use Rattle.speedate_civil.proofs.DateValueLemmas.{is_date}
 use Rattle.speedate_civil.proofs.date.Date.to_text.Goals as goal
 
--- what was appended to nothing is the text
-alone : (before after text : List ℕ) → before ≡ [] → after ≡ before ++ text → after ≡ text
-alone before after text none appended = appended ∙ ap (λ (front : List ℕ). front ++ text) none
-
 pub returns-clause-reads_back : goal.returns-clause-reads_back
 returns-clause-reads_back c =
     let date = c.args.self.now in
-    ap date_answer (alone _ _ _ c.new-text.ensures c.push_onto.ensures.text) ∙ date_text-reads (parts date) (is_date date)
+    ap date_answer (text-alone _ _ _ c.new-text.ensures c.push_onto.ensures.text) ∙ date_text-reads (parts date) (is_date date)
 
 pub returns-clause-reads_back_with_config : goal.returns-clause-reads_back_with_config
 returns-clause-reads_back_with_config c config =
     let date = c.args.self.now in
-    let bytes = alone _ _ _ c.new-text.ensures c.push_onto.ensures.text in
+    let bytes = text-alone _ _ _ c.new-text.ensures c.push_onto.ensures.text in
     ap (λ (text : List ℕ). date_or_timestamp config.timestamp_unit text) bytes
     ∙ ap (or_number (option_map (date_timestamp_answer config.timestamp_unit true) (whole_number (date_text (parts date))))) (date_text-reads (parts date) (is_date date))
 
 pub returns-clause-canonical : goal.returns-clause-canonical
 returns-clause-canonical c =
-    text-canonical date_text _ _ _ (alone _ _ _ c.new-text.ensures c.push_onto.ensures.text) (returns-clause-reads_back c)
+    text-canonical date_text _ _ _ (text-alone _ _ _ c.new-text.ensures c.push_onto.ensures.text) (returns-clause-reads_back c)
 
 pub returns-clause-canonical_with_config : goal.returns-clause-canonical_with_config
 returns-clause-canonical_with_config c config =
-    text-canonical date_text _ _ _ (alone _ _ _ c.new-text.ensures c.push_onto.ensures.text) (returns-clause-reads_back_with_config c config)
+    text-canonical date_text _ _ _ (text-alone _ _ _ c.new-text.ensures c.push_onto.ensures.text) (returns-clause-reads_back_with_config c config)
 
 pub returns-clause-distinct : goal.returns-clause-distinct
 returns-clause-distinct c other =
     let date = c.args.self.now in
-    let bytes = alone _ _ _ c.new-text.ensures c.push_onto.ensures.text in
+    let bytes = text-alone _ _ _ c.new-text.ensures c.push_onto.ensures.text in
     (λ same. date_text-distinct (parts date) (parts other) (is_date date) (is_date other) (sym bytes ∙ same), λ one. bytes ∙ ap date_text one)

@@ -1,6 +1,6 @@
-use Rattle.std.proofs.Common.{◌≡◌, ◌∙◌, sym, ap, ℕ, List, [], ◌++◌}
+use Rattle.std.proofs.Common.{◌∙◌, sym, ap}
 use Rattle.speedate_base.specs.Numbers.{number_answer}
-use Rattle.speedate_base.proofs.TextLemmas.{text-canonical}
+use Rattle.speedate_base.proofs.TextLemmas.{text-alone, text-canonical}
 use Rattle.speedate_civil.specs.DateTime.{parts}
 use Rattle.speedate_civil.specs.DateTimeText.{date_time_answer, date_time_text}
 use Rattle.speedate_civil.specs.DateTimeTimestamp.{date_time_number_answer, date_time_or_timestamp}
@@ -9,15 +9,11 @@ use Rattle.speedate_civil.specs.NumberText.{or_number}
 use Rattle.speedate_civil.proofs.DateTimeValueLemmas.{is_date_and_time}
 use Rattle.speedate_civil.proofs.datetime.DateTime.to_text.Goals as goal
 
--- what was appended to nothing is the text
-alone : (before after text : List ℕ) → before ≡ [] → after ≡ before ++ text → after ≡ text
-alone before after text none appended = appended ∙ ap (λ (front : List ℕ). front ++ text) none
-
 pub returns-clause-reads_back : goal.returns-clause-reads_back
 returns-clause-reads_back c whole config =
     let value = c.args.self.now in
     let behavior = config.microseconds_precision_overflow_behavior in
-    let bytes = alone _ _ _ c.new-text.ensures c.push_onto.ensures.text in
+    let bytes = text-alone _ _ _ c.new-text.ensures c.push_onto.ensures.text in
     ap (date_time_answer behavior) bytes ∙ date_time_text-reads behavior (parts value) (is_date_and_time value) whole
 
 pub returns-clause-reads_back_with_config : goal.returns-clause-reads_back_with_config
@@ -26,25 +22,25 @@ returns-clause-reads_back_with_config c whole config =
     let unit = config.timestamp_unit in
     let behavior = config.time_config.microseconds_precision_overflow_behavior in
     let offset = config.time_config.unix_timestamp_offset in
-    let bytes = alone _ _ _ c.new-text.ensures c.push_onto.ensures.text in
+    let bytes = text-alone _ _ _ c.new-text.ensures c.push_onto.ensures.text in
     ap (date_time_or_timestamp unit behavior offset) bytes
     ∙ ap (or_number (date_time_number_answer unit behavior offset (number_answer (date_time_text (parts value)))))
     (date_time_text-reads behavior (parts value) (is_date_and_time value) whole)
 
 pub returns-clause-canonical : goal.returns-clause-canonical
 returns-clause-canonical c whole config =
-    let bytes = alone _ _ _ c.new-text.ensures c.push_onto.ensures.text in
+    let bytes = text-alone _ _ _ c.new-text.ensures c.push_onto.ensures.text in
     text-canonical date_time_text _ _ _ bytes (returns-clause-reads_back c whole config)
 
 pub returns-clause-canonical_with_config : goal.returns-clause-canonical_with_config
 returns-clause-canonical_with_config c whole config =
-    let bytes = alone _ _ _ c.new-text.ensures c.push_onto.ensures.text in
+    let bytes = text-alone _ _ _ c.new-text.ensures c.push_onto.ensures.text in
     text-canonical date_time_text _ _ _ bytes (returns-clause-reads_back_with_config c whole config)
 
 pub returns-clause-distinct : goal.returns-clause-distinct
 returns-clause-distinct c whole other other_whole =
     let value = c.args.self.now in
-    let bytes = alone _ _ _ c.new-text.ensures c.push_onto.ensures.text in (
+    let bytes = text-alone _ _ _ c.new-text.ensures c.push_onto.ensures.text in (
       λ same. date_time_text-distinct (parts value) (parts other) (is_date_and_time value) (is_date_and_time other) whole other_whole (sym bytes ∙ same),
       λ one. bytes ∙ ap date_time_text one,
     )
