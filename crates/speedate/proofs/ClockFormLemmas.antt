@@ -1,6 +1,7 @@
 -- Where the hours of a clock end.
-use Rattle.std.specs.Prelude.{◌≡◌, ℕ, ◌-◌, ◌^◌, ◌<◌, min, Bool, true, false, List, length, ◌==◌, ◌&&◌, nat_lt, nat_le, refl}
+use Rattle.std.specs.Prelude.{◌≡◌, ℕ, ◌-◌, ◌^◌, ◌<◌, min, Bool, true, false, List, length, take, ◌==◌, ◌&&◌, nat_lt, nat_le, refl}
 use Rattle.std.specs.Char.{is_ascii_digit}
+use Rattle.std.specs.List.{list_all}
 use Rattle.std.proofs.Common.{arith, ◌∙◌, ap, sym, get_or, inl, inr}
 use Rattle.std.proofs.lemmas.Bool.{cases_lt, eqb-true, and_parts, false≢true}
 use Rattle.std.proofs.lemmas.Bool.Decides.{nat_tests}
@@ -9,10 +10,15 @@ use Rattle.std.proofs.lemmas.List.Sums.{position_or_len_is, passes_at_first, pre
 use Rattle.speedate_base.specs.declared.config.MicrosecondsPrecisionOverflowBehavior.{MicrosecondsPrecisionOverflowBehavior}
 use Rattle.speedate_base.specs.Ascii.{colon}
 use Rattle.speedate_base.specs.DigitRuns.{run_length}
-use Rattle.speedate.specs.ClockForm.{colon_place, has_hours, after_hours}
+use Rattle.speedate_base.proofs.DigitRunLemmas.{run_length-ended}
+use Rattle.speedate_base.proofs.NumberLemmas.{run-digits}
+use Rattle.speedate.specs.ClockForm.{hours, colon_place, has_hours, after_hours}
 
 digit-no_colon : (byte : ℕ) → is_ascii_digit byte ≡ true → (byte == colon) ≡ false
 digit-no_colon byte digit = grind (arith, nat_tests)
+
+colon-no_digit : (byte : ℕ) → (byte == colon) ≡ true → is_ascii_digit byte ≡ false
+colon-no_digit byte same = grind (arith, nat_tests)
 
 -- where `:` follows the digits at the front, they are the hours
 pub colon_place-run : (text : List ℕ) → get_or text (run_length text 0) 0 ≡ colon → (run_length text 0 < length text) × (colon_place text ≡ run_length text 0)
@@ -27,14 +33,24 @@ colon_place-run text ends =
           (λ k before. digit-no_colon (get_or text k 0) (prefix_len_passes is_ascii_digit text k 0 before)) (λ _. ap (λ byte. byte == colon) ends),
     )
 
+-- where there is a `:`, the hours are digits if and only if the first digits end there
+pub hours-run : (text : List ℕ) → nat_lt (colon_place text) (length text) ≡ true → list_all is_ascii_digit (hours text) ≡ true → run_length text 0 ≡ colon_place text
+hours-run text some digits =
+    let within : colon_place text < length text = grind (arith, nat_tests, some) in
+    run_length-ended text (colon_place text) (omega (arith, within)) digits
+    (λ _. colon-no_digit (get_or text (colon_place text) 0) (passes_at_first (λ byte. byte == colon) text 0 within))
+
+pub hours-are_run : (text : List ℕ) → run_length text 0 ≡ colon_place text → list_all is_ascii_digit (hours text) ≡ true
+hours-are_run text same = ap (λ (n : ℕ). list_all is_ascii_digit (take n text)) (sym same) ∙ run-digits text
+
 -- otherwise no hours begin the text
 has_hours-none : (text : List ℕ) (has : Bool) → has_hours text ≡ has → (get_or text (run_length text 0) 0 == colon) ≡ false → has ≡ false
 has_hours-none text false same other = refl
 has_hours-none text true same other =
     let front = nat_lt (colon_place text) (length text) in
     let few = nat_le (colon_place text) 10 in
-    let parts = and_parts (front && few) (run_length text 0 == colon_place text) same in
-    let ends : run_length text 0 ≡ colon_place text = eqb-true (run_length text 0) (colon_place text) parts.1 in
+    let parts = and_parts (front && few) (list_all is_ascii_digit (hours text)) same in
+    let ends = hours-run text (and_parts front few parts.0).0 parts.1 in
     let within : colon_place text < length text = grind (arith, nat_tests, (and_parts front few parts.0).0) in
     absurd (false≢true (sym other ∙ ap (λ (n : ℕ). get_or text n 0 == colon) ends ∙ passes_at_first (λ byte. byte == colon) text 0 within))
 
@@ -51,7 +67,7 @@ has_hours-run text true ends =
     let end = run_length text 0 in
     let run = colon_place-run text (eqb-true _ _ ends) in
     let within : nat_lt (colon_place text) (length text) ≡ true = grind (arith, nat_tests, run.0, run.1) in
-    let same : (end == colon_place text) ≡ true = grind (arith, nat_tests, run.1) in
+    let same = hours-are_run text (sym run.1) in
     last-two _ (nat_le (colon_place text) 10) _ within same ∙ ap (λ (n : ℕ). nat_le n 10) run.1
 
 -- a number of hours that does not fit 64 bits is refused like the largest that does

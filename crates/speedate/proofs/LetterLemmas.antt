@@ -3,14 +3,14 @@ use Rattle.std.specs.Prelude.{◌≡◌, ℕ, ◌+◌, ◌<◌, Bool, true, fals
 use Rattle.std.specs.Char.{is_ascii_digit}
 use Rattle.std.specs.List.{list_all, list_any, prefix_len}
 use Rattle.std.proofs.Common.{arith, ap, ap₂, sym, ◌∙◌}
-use Rattle.std.proofs.lemmas.Bool.{and_parts, eqb-true, false≢true}
+use Rattle.std.proofs.lemmas.Bool.{and_parts, false≢true}
 use Rattle.std.proofs.lemmas.Bool.Decides.{nat_tests}
 use Rattle.std.proofs.lemmas.List.{take-append-drop, drop_more}
 use Rattle.std.proofs.lemmas.List.Sums.{passes_at_first}
 use Rattle.std.proofs.lemmas.List.Folds.{list_any-append}
 use Rattle.speedate_base.specs.Ascii.{colon}
 use Rattle.speedate_base.specs.Digits.{two_digits_at}
-use Rattle.speedate_base.specs.DigitRuns.{run_length, run_value}
+use Rattle.speedate_base.specs.DigitRuns.{run_length, digits_value}
 use Rattle.speedate_base.proofs.DigitRunLemmas.{run-whole}
 use Rattle.speedate_base.proofs.NumberLemmas.{run-digits}
 use Rattle.speedate_base.specs.declared.config.MicrosecondsPrecisionOverflowBehavior.{MicrosecondsPrecisionOverflowBehavior}
@@ -18,7 +18,8 @@ use Rattle.speedate_base.specs.declared.faults.ParseError.{ParseError}
 use Rattle.speedate_base.specs.Requirement.{◌implies◌, result_and_then}
 use Rattle.speedate_base.proofs.RequirementLemmas.{meets-ok, meets-value}
 use Rattle.speedate_civil.specs.ClockText.{Clock, has_point, has_second, minute_clock, minute_digits, minute_table, minute_front, clock_answer}
-use Rattle.speedate.specs.ClockForm.{colon_place, from_minute, hours_table, hours_range, end_table, clock_numbers, whole_clock, after_hours, clock_form}
+use Rattle.speedate.specs.ClockForm.{hours, colon_place, from_minute, hours_table, hours_range, end_table, clock_numbers, whole_clock, after_hours, clock_form}
+use Rattle.speedate.proofs.ClockFormLemmas.{hours-run}
 use Rattle.speedate.specs.DayForm.{is_day_letter}
 use Rattle.speedate.specs.DurationForm.{has_days}
 use Rattle.speedate.specs.DurationNumbers.{UnsignedDuration}
@@ -95,19 +96,19 @@ pub clock-no_letter : (behavior : MicrosecondsPrecisionOverflowBehavior) (text :
     → has_days text ≡ false
 unfolding clock_form
 clock-no_letter behavior text value same =
-    let hours = colon_place text in
+    let first = colon_place text in
     let rest : List ℕ = from_minute text in
-    let front = meets-ok (hours_table text) (after_hours behavior (run_value text 0) rest) value same in
-    let ranges = meets-ok (hours_range behavior (run_value text 0) rest) (result_and_then (whole_clock (run_value text 0) rest) (minute_front behavior rest)) value front.1 in
-    let read = both-ok (whole_clock (run_value text 0) rest) (minute_front behavior rest) value ranges.1 in
+    let front = meets-ok (hours_table text) (after_hours behavior (digits_value (hours text)) rest) value same in
+    let ranges = meets-ok (hours_range behavior (digits_value (hours text)) rest) (result_and_then (whole_clock (digits_value (hours text)) rest) (minute_front behavior rest)) value front.1 in
+    let read = both-ok (whole_clock (digits_value (hours text)) rest) (minute_front behavior rest) value ranges.1 in
     let minute = meets-ok (minute_digits rest) (clock_answer behavior rest) read.0 read.1 in
     let clock = meets-value (minute_table behavior rest) (minute_clock rest) read.0 minute.1 in
-    let whole = meets-ok (end_table rest read.0) (Ok (clock_numbers (run_value text 0) read.0)) value read.2 in
+    let whole = meets-ok (end_table rest read.0) (Ok (clock_numbers (digits_value (hours text)) read.0)) value read.2 in
     let sized = ap (λ (clock : Clock). clock.size == length rest) clock.1 ∙ whole.0.0 in
     let none = minute-no_letter rest minute.0.0 clock.0.1.0 sized in
-    let within : hours < length text = grind (arith, nat_tests, front.0.1.0) in
+    let within : first < length text = grind (arith, nat_tests, front.0.1.0) in
     let at_colon = passes_at_first (λ byte. byte == colon) text 0 within in
     let long : nat_lt (length text) 5 ≡ false = grind (arith, nat_tests, front.0.0) in
-    let letters = sym (letter-after_digits text) ∙ ap (λ (n : ℕ). list_any is_day_letter (drop n text)) (eqb-true (run_length text 0) hours front.0.1.1.1.0)
-    ∙ ap (list_any is_day_letter) (drop_more text hours 0 within) ∙ ap₂ (λ (one others : Bool). one || others) (colon-no_letter _ at_colon) none in
+    let letters = sym (letter-after_digits text) ∙ ap (λ (n : ℕ). list_any is_day_letter (drop n text)) (hours-run text front.0.1.0 front.0.1.1.1.0)
+    ∙ ap (list_any is_day_letter) (drop_more text first 0 within) ∙ ap₂ (λ (one others : Bool). one || others) (colon-no_letter _ at_colon) none in
     ap₂ (λ (one others : Bool). one || others) long letters

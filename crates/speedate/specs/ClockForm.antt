@@ -1,12 +1,13 @@
 -- A duration as a clock shows it: hours, a minute, and a second with a fraction. This form is the library's own.
 -- `text` begins with the hours; from the minute on it is a time of day.
-use Rattle.std.specs.Prelude.{ℕ, ◌+◌, ◌*◌, ◌/◌, ◌%◌, Bool, ◌&&◌, List, [], ◌∷◌, length, drop, nat_le, nat_lt, ◌==◌, Result, Ok}
-use Rattle.std.specs.List.{position_or_len}
+use Rattle.std.specs.Prelude.{ℕ, ◌+◌, ◌*◌, ◌/◌, ◌%◌, Bool, ◌&&◌, List, [], ◌∷◌, length, take, drop, nat_le, nat_lt, ◌==◌, Result, Ok}
+use Rattle.std.specs.Char.{is_ascii_digit}
+use Rattle.std.specs.List.{list_all, position_or_len}
 use Rattle.speedate_base.specs.declared.config.MicrosecondsPrecisionOverflowBehavior.{MicrosecondsPrecisionOverflowBehavior}
 use Rattle.speedate_base.specs.declared.faults.ParseError.{ParseError}
 use Rattle.speedate_base.specs.declared.faults.ParseError.TheVariants as fault
 use Rattle.speedate_base.specs.Ascii.{colon}
-use Rattle.speedate_base.specs.DigitRuns.{run_length, run_value}
+use Rattle.speedate_base.specs.DigitRuns.{digits_value}
 use Rattle.speedate_base.specs.Refusal.{refuses_digits}
 use Rattle.speedate_base.specs.Requirement.{Requirement, ◌else_fault◌, ◌implies◌, meets, result_and_then}
 use Rattle.speedate_civil.specs.ClockText.{Clock, minute_front}
@@ -16,13 +17,16 @@ use Rattle.speedate.specs.DurationNumbers.{UnsignedDuration}
 abbrev pub colon_place : List ℕ → ℕ
 colon_place text = position_or_len (λ byte. byte == colon) text
 
--- what follows that `:`
+-- a text is its hours, `:`, and what follows from its minute on; all of a text without a `:` is hours
+abbrev pub hours : List ℕ → List ℕ
+hours text = take (colon_place text) text
+
 abbrev pub from_minute : List ℕ → List ℕ
 from_minute text = drop (colon_place text + 1) text
 
 -- at most ten digits, or none, and `:` begin a text
 abbrev pub has_hours : List ℕ → Bool
-has_hours text = nat_lt (colon_place text) (length text) && nat_le (colon_place text) 10 && (run_length text 0 == colon_place text)
+has_hours text = nat_lt (colon_place text) (length text) && nat_le (colon_place text) 10 && list_all is_ascii_digit (hours text)
 
 -- what a text has to meet to begin with hours: at most ten digits, or none, and `:`
 abbrev pub hours_table : List ℕ → List Requirement
@@ -30,7 +34,7 @@ hours_table text =
     (nat_le 5 (length text) else_fault fault.TooShort)
     ∷ (nat_lt (colon_place text) (length text) else_fault fault.InvalidCharHour)
     ∷ (nat_le (colon_place text) 10 else_fault fault.DurationHourValueTooLarge)
-    ∷ ((run_length text 0 == colon_place text) else_fault fault.InvalidCharHour)
+    ∷ (list_all is_ascii_digit (hours text) else_fault fault.InvalidCharHour)
     ∷ []
 
 -- and then to go on to the minute: there are at most 2,400,000,000 hours, and what follows them has at least two bytes,
@@ -66,4 +70,4 @@ after_hours behavior hours rest =
 -- the duration that a text is in this form, or the text's fault
 unfoldable pub clock_form : MicrosecondsPrecisionOverflowBehavior → List ℕ → Result UnsignedDuration ParseError
 clock_form behavior text =
-    meets (hours_table text) (after_hours behavior (run_value text 0) (from_minute text))
+    meets (hours_table text) (after_hours behavior (digits_value (hours text)) (from_minute text))

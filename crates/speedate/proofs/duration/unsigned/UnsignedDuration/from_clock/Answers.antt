@@ -1,17 +1,17 @@
-use Rattle.std.proofs.Common.{◌∙◌, ap, ap₂, ℕ, ◌+◌, drop}
+use Rattle.std.proofs.Common.{◌∙◌, sym, ap, ap₂, ℕ, ◌+◌, ◌-◌, ◌^◌, min, take, drop}
 use Rattle.std.proofs.lemmas.Result.{err_from_is_err_and}
 use Rattle.std.proofs.lemmas.List.{take_rest}
-use Rattle.speedate_base.specs.DigitRuns.{run_value}
-use Rattle.speedate_base.proofs.RequirementLemmas.{meets-next}
-use Rattle.speedate.specs.ClockForm.{clock_form, hours_table, colon_place, after_hours, from_minute}
-use Rattle.speedate.proofs.ClockFormLemmas.{after_hours-saturated}
+use Rattle.speedate_base.specs.DigitRuns.{digits_value}
+use Rattle.speedate_base.proofs.RequirementLemmas.{meets-next, meets-value}
+use Rattle.speedate.specs.ClockForm.{hours, clock_form, hours_table, colon_place, after_hours, from_minute}
+use Rattle.speedate.proofs.ClockFormLemmas.{hours-run, after_hours-saturated}
 use Rattle.speedate.proofs.duration.unsigned.UnsignedDuration.from_clock.Goals as goal
 
 pub returns-in_err-end : goal.returns-in_err-end
 unfolding clock_form
 returns-in_err-end c =
     let text = c.args.bytes.now in
-    let next = after_hours c.args.behavior (run_value text 0) (from_minute text) in
+    let next = after_hours c.args.behavior (digits_value (hours text)) (from_minute text) in
     let p = err_from_is_err_and c.from_residual.result c.from_residual.ensures.1 in
     rw (p.1, p.2) (record { answer = meets-next (hours_table text) (colon_place text) _ next c.in_err-end.ensures.answer })
 
@@ -19,11 +19,13 @@ pub returns : goal.returns
 unfolding clock_form
 returns c =
     let text = c.args.bytes.now in
-    let next = after_hours c.args.behavior (run_value text 0) (from_minute text) in
+    let next = after_hours c.args.behavior (digits_value (hours text)) (from_minute text) in
+    let held = meets-value (hours_table text) (colon_place text) _ (sym c.in_ok-end.ensures.answer) in
+    let number = ap (λ (n : ℕ). digits_value (take n text)) (hours-run text held.0.1.0 held.0.1.1.1.0) in
     let rest = take_rest text _ ∙ ap (λ (n : ℕ). drop (n + 1) text) c.in_ok-end.ensures.len in
     record {
       answer =
-          c.after_hours.ensures.answer ∙ ap₂ (after_hours c.args.behavior) c.requires.value rest
-          ∙ after_hours-saturated c.args.behavior (run_value text 0) (from_minute text)
+          c.after_hours.ensures.answer ∙ ap₂ (after_hours c.args.behavior) (c.requires.value ∙ ap (λ (n : ℕ). min n (2 ^ 64 - 1)) number) rest
+          ∙ after_hours-saturated c.args.behavior (digits_value (hours text)) (from_minute text)
           ∙ meets-next (hours_table text) (colon_place text) _ next c.in_ok-end.ensures.answer;
     }
