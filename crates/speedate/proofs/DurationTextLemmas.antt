@@ -1,27 +1,12 @@
--- What is printed of a duration is short, and is ASCII.
-use Rattle.std.specs.Prelude.{◌≡◌, ◌≢◌, ℕ, suc, ◌+◌, ◌/◌, ◌%◌, ◌^◌, ◌<◌, ◌≤◌, Bool, true, false, ◌&&◌, ◌==◌, List, [], ◌∷◌, ◌++◌, length, if◌then◌else◌, refl}
+-- What is printed of a duration is short.
+use Rattle.std.specs.Prelude.{◌≡◌, ℕ, suc, ◌+◌, ◌/◌, ◌%◌, ◌^◌, ◌<◌, ◌≤◌, Bool, true, false, ◌&&◌, ◌==◌, List, [], ◌∷◌, ◌++◌, length, if◌then◌else◌, refl}
 use Rattle.std.specs.Fmt.{decimal}
-use Rattle.std.proofs.Common.{arith, ap, ◌∙◌, lit<}
-use Rattle.std.proofs.lemmas.Bool.{ne_eqb}
+use Rattle.std.proofs.Common.{arith, lit<}
 use Rattle.std.proofs.lemmas.List.{length-append}
 use Rattle.std.proofs.lemmas.Fmt.{length-decimal-le}
 use Rattle.speedate_base.specs.Ascii.{digit_zero, full_stop, capital_d, capital_h, capital_m, capital_s, capital_y}
 use Rattle.speedate_base.specs.Digits.{six_digit_text}
 use Rattle.speedate.specs.DurationText.{counted_text, kept_digit, without_last_zeros, short_fraction_text, seconds_text, start_text}
-
--- a zero at the end goes
-pub without-zero : (digits : List ℕ) → without_last_zeros (digits ++ digit_zero ∷ []) ≡ without_last_zeros digits
-without-zero [] = refl
-without-zero (digit ∷ digits) = ap (kept_digit digit) (without-zero digits)
-
-kept-some : (digit : ℕ) (digits : List ℕ) (last : ℕ) → kept_digit digit (digits ++ last ∷ []) ≡ digit ∷ digits ++ last ∷ []
-kept-some digit [] last = refl
-kept-some digit (next ∷ digits) last = refl
-
--- and another digit stays, with all before it
-pub without-other : (digits : List ℕ) (last : ℕ) → last ≢ digit_zero → without_last_zeros (digits ++ last ∷ []) ≡ digits ++ last ∷ []
-without-other [] last other = ap (λ (test : Bool). if test then [] else last ∷ []) (ne_eqb last digit_zero other)
-without-other (digit ∷ digits) last other = ap (kept_digit digit) (without-other digits last other) ∙ kept-some digit digits last
 
 -- what stays is no more than there was
 kept-length : (digit : ℕ) (test : Bool) (rest : List ℕ) → (digit == digit_zero) ≡ test → length (kept_digit digit rest) ≤ suc (length rest)
