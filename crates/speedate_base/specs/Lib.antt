@@ -20,7 +20,6 @@ pub mod DateTimeConfig
 pub mod Choice
 pub mod RequirementLaws
 pub mod TextLaws
-pub mod FaultLaws
 pub mod DigitLaws
 pub mod DigitRunLaws
 pub mod NumberLaws
