@@ -1,6 +1,5 @@
 pub mod DigitLemmas
 pub mod DigitRunLemmas
-mod FaultLemmas
 pub mod NearestLemmas
 pub mod NumberLemmas
 pub mod RequirementLemmas
