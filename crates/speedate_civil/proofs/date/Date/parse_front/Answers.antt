@@ -110,3 +110,16 @@ returns c =
       front = answered text _ _ _ _ front c.if-bytes-lt-TEXT_LENGTH.false (sym c.in-Some.is ∙ c.two_digits.ensures.value)
           (omega (arith, front.year_is, c.from.ensures, c.from-2.ensures)) front.month_is (grind (arith, nat_tests)) (sym c.if-not-is_day.ensures);
     }
+
+-- two digits that were not read are not there
+day_missing : (test : Bool) (value : ℕ) → None ≡ (if test then Some value else None) → test ≡ false
+day_missing true value given = absurd (cc)
+day_missing false value given = refl
+
+pub returns-in_default-two_digits : goal.returns-in_default-two_digits
+returns-in_default-two_digits c =
+    let text = c.args.bytes.now in
+    let front = read text _ _ _ c.eight_bytes-front.ensures.bytes c.fitting-place.ensures.count c.if-place-lt-LANES.false c.pairs.ensures.numbers in
+    let enough : nat_le 10 (length text) ≡ true = le-leb 10 (length text) c.if-bytes-lt-TEXT_LENGTH.false in
+    let missing : two_digits_at text 8 ≡ false = day_missing (two_digits_at text 8) (two_digit_value text 8) c.in_default-two_digits.ensures.value in
+    rw (enough, front.year, front.first, front.month, front.second, missing) (record { front = refl })
