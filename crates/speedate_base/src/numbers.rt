@@ -13,7 +13,7 @@ use digits::spelled_number;
 pub use digits::{DigitRun, digit_run, few_digits, run_end};
 pub use int_float::{Decimal, IntFloat};
 pub use lanes::{LANES, eight_bytes, fitting, pairs};
-pub use places::{byte_at, two_digits, two_digits_there};
+pub use places::{byte_at, two_digits};
 
 /// The whole number that a text is, or `None`: -12 for `"-012"`.
 ///

@@ -1,6 +1,6 @@
 //! Digits and bytes at fixed places of a text.
 
-ghost use Rattle.std.specs.Prelude.{◌≡◌, ◌+◌, ◌≤◌, IfSome, Some, None, length, slice_index, if◌then◌else◌};
+ghost use Rattle.std.specs.Prelude.{◌≡◌, ◌+◌, ◌≤◌, Some, None, length, slice_index, if◌then◌else◌};
 ghost use Rattle.std.specs.Char.{is_ascii_digit};
 ghost use Rattle.speedate_base.specs.Digits.{one_digit_value, two_digits_at, two_digit_value};
 
@@ -15,20 +15,6 @@ pub fn two_digits(bytes: &[u8], place: usize) -> Option<u8>
     let tens = digit(bytes[place])?;
     let ones = digit(bytes[place + 1])?;
     Some(10 * tens + ones)
-}
-
-/// The number that two digits at a place spell, or `None` where a byte is no digit or the text ends before
-/// them: `None` for `b"07"` at place 1.
-#[inline]
-pub fn two_digits_there(bytes: &[u8], place: usize) -> Option<u8>
-    ensures value { result ≡ (if two_digits_at bytes.now place
-        then Some (two_digit_value bytes.now place) else None) }
-    ensures there { IfSome result (λ _. place + 2 ≤ length bytes.now) }
-{
-    if place >= bytes.len() || bytes.len() - place < 2 {
-        return None;
-    }
-    two_digits(bytes, place)
 }
 
 /// What a digit stands for, or `None` where the byte is no digit.
