@@ -2,10 +2,11 @@
 
 ghost use Rattle.std.specs.Prelude.{◌≡◌, ◌+◌, ◌≤◌, length, [], ◌∷◌, ◌++◌};
 ghost use Rattle.arrayvec.specs.ArrayString.{array_string_len};
-ghost use Rattle.speedate.specs.declared.IsoOrder.TheVariants as order;
 ghost use Rattle.speedate.specs.declared.MicrosecondsPrecisionOverflowBehavior.TheVariants as behavior;
 ghost use Rattle.speedate.specs.Ascii.{line_feed};
-ghost use Rattle.speedate_lines.specs.Answer.{line_answer, err_answer, date_kind, time_kind, date_time_kind, duration_kind, strict_duration_kind};
+ghost use Rattle.speedate.specs.DurationAnswer.{duration_answer};
+ghost use Rattle.speedate.specs.DurationText.{duration_text};
+ghost use Rattle.speedate_lines.specs.Answer.{line_answer, reply, err_answer, date_kind, time_kind, date_time_kind};
 
 use arrayvec::ArrayString;
 use speedate::{Date, DateTime, Duration, IsoOrder, Time, TimeConfig};
@@ -44,9 +45,9 @@ pub fn answer_line(line: &[u8], pending: &mut Pending)
     } else if let Some(text) = line.strip_prefix(b"datetime ") {
         answer_date_time(text, pending)
     } else if let Some(text) = line.strip_prefix(b"duration ") {
-        answer_duration(text, pending)
+        answer_duration(text, IsoOrder::Lax, pending)
     } else if let Some(text) = line.strip_prefix(b"duration-strict ") {
-        answer_strict_duration(text, pending)
+        answer_duration(text, IsoOrder::Strict, pending)
     } else {
         refuse("unknown_kind", pending)
     }
@@ -103,14 +104,14 @@ fn answer_date_time(text: &[u8], pending: &mut Pending)
     }
 }
 
-/// Appends the answer to the text of a duration.
+/// Appends the answer to the text of a duration whose components have to come in this order.
 #[inline]
-fn answer_duration(text: &[u8], pending: &mut Pending)
+fn answer_duration(text: &[u8], order: IsoOrder, pending: &mut Pending)
     requires { array_string_len pending.old + ANSWER_MAX ≤ PENDING_MAX }
     ensures answered { pending.new.bytes ≡ pending.old.bytes
-        ++ (duration_kind.reply_to text.now ++ line_feed ∷ []) }
+        ++ (reply duration_text (duration_answer order behavior.Error text.now) ++ line_feed ∷ []) }
 {
-    match Duration::parse_bytes(text) {
+    match Duration::parse_bytes_with_config(text, &order_config(order)) {
         Ok(duration) => {
             pending.push_str(ACCEPTED);
             duration.push_onto(pending);
@@ -120,30 +121,13 @@ fn answer_duration(text: &[u8], pending: &mut Pending)
     }
 }
 
-/// Appends the answer to the text of a duration whose quantities have to come in order.
+/// The default configuration, but for the order of components.
 #[inline]
-fn answer_strict_duration(text: &[u8], pending: &mut Pending)
-    requires { array_string_len pending.old + ANSWER_MAX ≤ PENDING_MAX }
-    ensures answered { pending.new.bytes ≡ pending.old.bytes
-        ++ (strict_duration_kind.reply_to text.now ++ line_feed ∷ []) }
-{
-    match Duration::parse_bytes_with_config(text, &strict_config()) {
-        Ok(duration) => {
-            pending.push_str(ACCEPTED);
-            duration.push_onto(pending);
-            pending.push('\n');
-        }
-        Err(fault) => refuse(fault.name(), pending),
-    }
-}
-
-/// The default configuration, but that quantities have to come in order.
-#[inline]
-fn strict_config() -> TimeConfig
-    ensures order { result.iso_order ≡ order.Strict }
+fn order_config(order: IsoOrder) -> TimeConfig
+    ensures order { result.iso_order ≡ order }
     ensures behavior { result.microseconds_precision_overflow_behavior ≡ behavior.Error }
 {
-    TimeConfig::builder().iso_order(IsoOrder::Strict).build()
+    TimeConfig::builder().iso_order(order).build()
 }
 
 /// Appends the answer to a line that was refused: the name of the reason.

@@ -60,7 +60,7 @@ returns-in-Some-strip_prefix-4 c =
     ∙ answer_by_kind-others date_time_kind _ line c.in_default-strip_prefix-2.ensures.cases
     ∙ answer_by_kind-others duration_kind _ line c.in_default-strip_prefix-3.ensures.cases
     ∙ answer_by_kind-first strict_duration_kind _ line _ duration.0 duration.1 in
-    record { answered = appended _ _ _ _ c.answer_strict_duration.ensures.answered same }
+    record { answered = appended _ _ _ _ c.answer_duration-in-Some-strip_prefix-4.ensures.answered same }
 
 pub returns-in_default-strip_prefix-4 : goal.returns-in_default-strip_prefix-4
 returns-in_default-strip_prefix-4 c =
