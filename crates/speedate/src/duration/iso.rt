@@ -83,7 +83,7 @@ impl DurationUnit {
         (whole as u32, (all - 1_000_000 * whole) as u32)
     }
 
-    /// The same of any number of digits.
+    /// The whole seconds and the microseconds of a fraction of this unit that has any number of digits.
     #[inline(never)]
     fn long_fraction(&self, digits: &[u8]) -> (u32, u32)
         requires { IsTrue (list_all is_ascii_digit digits.now) }

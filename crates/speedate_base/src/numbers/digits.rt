@@ -58,7 +58,7 @@ pub fn few_digits(bytes: &[u8], place: usize) -> Option<(u32, usize)>
     Some((value, end))
 }
 
-/// The same of any number of digits.
+/// The run of digits at the front of bytes, of any length: eight digits at a time.
 fn long_run(bytes: &[u8]) -> DigitRun
     ensures length { result.length ≡ run_length bytes.now 0 }
     ensures value { result.value ≡ min (run_value bytes.now 0) (2 ^ 64 - 1) }
@@ -128,7 +128,8 @@ pub(crate) fn spelled_number(digits: &[u8]) -> Result<u64, usize>
     Ok(value)
 }
 
-/// The same of fewer digits than fill a vector.
+/// The number that fewer than eight bytes spell where they are digits; as an error the place of the
+/// first byte that is no digit.
 #[inline]
 pub(crate) fn one_by_one(digits: &[u8]) -> Result<u64, usize>
     requires { length digits.now < LANES }

@@ -1,4 +1,4 @@
-//! Offsets from UTC, behind a time.
+//! Offsets from UTC, after a time.
 
 ghost use Rattle.std.specs.Prelude.{◌≡◌, ◌≤◌, ◌+◌, ◌<◌, ◌∷◌, ◌*◌, ◌++◌, ◌-ℤ◌, ◌==◌, ◌||◌, IfOk, Ok, IsTrue, length, drop, codes, if◌then◌else◌, pos, unsigned_abs};
 ghost use Rattle.speedate_base.specs.Digits.{two_digit_value};
@@ -95,7 +95,7 @@ fn hour_and_minute(front: u8x8) -> Result<(u8, u8, usize), ParseError>
     hour_then_minute(front)
 }
 
-/// The same of an offset that has no `:` behind the two digits of its hour.
+/// The hour, the minute and the length of an offset that has no `:` after the two digits of its hour.
 #[inline(always)]
 fn hour_then_minute(front: u8x8) -> Result<(u8, u8, usize), ParseError>
     requires { fit_length (codes "00:00:00") front ≡ 2 }

@@ -80,7 +80,7 @@ impl PureTime {
     /// Reads a time of hour 0 from its minute on, which begins at `place`, whatever follows it: 13
     /// minutes and 14 seconds, in five bytes, from `b"12:13:14"` at place 3. The faults are
     /// `InvalidCharMinute`, where two digits are not there too, and those of
-    /// [`PureTime::parse`] behind it but for the hour's.
+    /// [`PureTime::parse`] after it but for the hour's.
     #[inline(always)]
     pub fn parse_from_minute(
         bytes: &[u8],
