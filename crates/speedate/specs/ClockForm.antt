@@ -28,7 +28,7 @@ from_minute text = drop (colon_place text + 1) text
 abbrev pub has_hours : List ℕ → Bool
 has_hours text = nat_lt (colon_place text) (length text) && nat_le (colon_place text) 10 && list_all is_ascii_digit (hours text)
 
--- what a text has to meet to begin with hours: at most ten digits, or none, and `:`
+-- what a text has to meet to begin with hours: it has at least five bytes, and begins with at most ten digits, or none, and `:`
 abbrev pub hours_table : List ℕ → List Requirement
 hours_table text =
     (nat_le 5 (length text) else_fault fault.TooShort)

@@ -36,7 +36,8 @@ ending_letters = codes "a" ∷ codes "A" ∷ []
 abbrev pub gaps : List (List ℕ)
 gaps = codes ", " ∷ codes "," ∷ codes " " ∷ []
 
--- a text is a number, a space or none, the letter of a day, an ending or none, a gap or none, and then a clock or nothing
+-- a text is a number, a space or none, the letter of a day, an ending or none, a gap or none, and then a clock or nothing:
+-- what is left of it after each of the first five, in turn
 abbrev pub after_number : List ℕ → List ℕ
 after_number text = drop (run_length text 0) text
 

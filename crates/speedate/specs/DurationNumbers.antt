@@ -19,7 +19,7 @@ pub record UnsignedDuration : Type 0 where
   pub second : ℕ
   pub microsecond : ℕ
 
--- a duration's, and the duration that it is with a sign
+-- the length of a duration, and the duration that a length is with a sign
 abbrev pub length_of : DurationNumbers → UnsignedDuration
 length_of numbers = record { day = numbers.day; second = numbers.second; microsecond = numbers.microsecond }
 
@@ -39,7 +39,7 @@ length_seconds numbers = numbers.day * seconds_per_day + numbers.second
 abbrev pub length_microseconds : DurationNumbers → ℕ
 length_microseconds numbers = length_seconds numbers * 1000000 + numbers.microsecond
 
--- the numbers in their ranges, but for the days, that have a length in microseconds
+-- the numbers that have this length in microseconds: seconds and microseconds in their ranges, and days of any size
 abbrev pub of_length : Bool → ℕ → DurationNumbers
 of_length positive length = record {
   positive = positive;
@@ -55,7 +55,8 @@ carried_second numbers = numbers.second + numbers.microsecond / 1000000
 abbrev pub carried_day : DurationNumbers → ℕ
 carried_day numbers = numbers.day + carried_second numbers / seconds_per_day
 
--- what numbers of any size have to meet to be brought into their ranges: sums are counted in 32 bits
+-- what numbers of any size have to meet to be brought into their ranges: the sums are counted in 32 bits, and then the days
+-- are at most 999,999,999
 abbrev pub normal_table : DurationNumbers → List Requirement
 normal_table numbers =
     (nat_le (carried_second numbers) 4294967295 else_fault fault.DurationValueTooLarge)

@@ -1,4 +1,4 @@
--- The order of durations is total: each two durations stand in it in one way.
+-- The order of durations is total: any two durations stand in it in exactly one way.
 use Rattle.std.specs.Prelude.{◌≡◌, Bool, true, false, refl}
 use Rattle.std.specs.declared.cmp.Ordering.{Ordering}
 use Rattle.std.specs.declared.cmp.Ordering.TheVariants as ordering

@@ -43,7 +43,7 @@ hours_text numbers =
     counted_text (numbers.second / 3600) capital_h ++ counted_text (numbers.second / 60 % 60) capital_m
     ++ seconds_text (numbers.second % 60) numbers.microsecond
 
--- what stands after the days: a clock, and no seconds where there are no days either
+-- what stands after the days: `T` and the hours, minutes and seconds; nothing after whole days; `T0S` where there is nothing else
 abbrev pub rest_text : DurationNumbers → List ℕ
 rest_text numbers =
     if is_whole_days numbers then (if numbers.day == 0 then codes "T0S" else []) else capital_t ∷ hours_text numbers

@@ -1,4 +1,4 @@
--- ISO 8601 durations that are one but for the order of two neighbouring components of one side.
+-- ISO 8601 durations that differ only in the order of two neighbouring components of one side.
 use Rattle.std.specs.Prelude.{◌≡◌, ℕ, Bool, true, false, List, [], ◌∷◌, ◌++◌, length, nat_lt}
 use Rattle.std.specs.List.{flat_map}
 use Rattle.std.specs.Option.{is_some}
@@ -7,7 +7,7 @@ use Rattle.speedate_base.specs.Ascii.{capital_p}
 use Rattle.speedate_base.specs.Numbers.{IsSign}
 use Rattle.speedate.specs.IsoForm.{units, unit_in, ComponentText, Item, Component, item_text, IsItem, TimeDesignator, Sums, no_sums, with_item, with_items}
 
--- a component has a fraction, if only its decimal mark
+-- a component has a fraction, even if it is only a decimal mark
 abbrev pub has_fraction : ComponentText → Bool
 has_fraction component = nat_lt 0 (length component.fraction)
 
@@ -22,7 +22,8 @@ abbrev pub AreWhole : Sums → List Item → Type 0
 AreWhole sums [] = Unit {0}
 AreWhole sums (item ∷ items) = IsWhole sums item × AreWhole (with_item item sums) items
 
--- a component can be refused for its size alone, where components may come in any order: no decimal mark is in it or before it
+-- a component is whole and no decimal mark is in it or before it: in any order it can be refused for its size alone. That of
+-- `is_plain` in `IsoSums.antt` is shorter: one to six digits
 abbrev pub IsPlain : Sums → ComponentText → Type 0
 IsPlain sums component = IsWhole sums (Component component) × (has_fraction component ≡ false) × (sums.fraction ≡ false)
 
@@ -31,7 +32,7 @@ abbrev pub pair_text : List ℕ → List Item → ComponentText → ComponentTex
 pair_text sign items first second rest =
     sign ++ capital_p ∷ (flat_map item_text items ++ (item_text (Component first) ++ (item_text (Component second) ++ rest)))
 
--- two texts are one but for the order of two neighbouring components of one side, which have no decimal mark
+-- two texts differ only in the order of two neighbouring components of one side, with no decimal mark in them or before them
 pub record AreExchanged (one two : List ℕ) : Type 0 where
   pub negative : Bool
   pub sign : List ℕ

@@ -1,8 +1,9 @@
--- ISO 8601 durations after their `P`: years, months, weeks and days, and after a `T` hours, minutes and seconds.
+-- The durations of ISO 8601-1:2019 5.5.2 after their `P`, in the format with designators: years, months, weeks and days, and
+-- after a `T` hours, minutes and seconds.
 -- Departs from it: components may come in any order on their side and more than once, unless a configuration asks for the
--- order of the standard, and weeks beside others; the last
--- one may have a fraction whatever its unit; a `T` may come last; a year has 365 days and a month 30; a sign may come
--- before the `P`.
+-- order of the standard; weeks may come beside other components; a decimal mark may have no digits after it; a `T` may come
+-- last; a year has 365 days and a month 30; a sign may come before the `P`; numbers and sums are at most 4,294,967,295; the
+-- alternative format, as in `P0001-02-03T04:05:06`, is refused.
 use Rattle.std.specs.Prelude.{◌≡◌, ℕ, ◌+◌, ◌-◌, ◌*◌, ◌/◌, ◌%◌, ◌^◌, Bool, true, false, not, IsTrue, ◌&&◌, ◌||◌, List, [], ◌∷◌, ◌++◌, length, take, drop, slice_index, nat_le, nat_lt, ◌==◌, if◌then◌else◌, Option, Some, None, pos, unsigned_abs, Result, Ok, Err}
 use Rattle.std.specs.Char.{is_ascii_digit}
 use Rattle.std.specs.List.{list_all, flat_map}
@@ -67,7 +68,7 @@ abbrev pub IsFraction : List ℕ → Type 0
 IsFraction [] = Unit {0}
 IsFraction (mark ∷ digits) = IsTrue (is_decimal_mark mark) × IsTrue (list_all is_ascii_digit digits)
 
--- the bytes of an item are what they are called
+-- the number of a component is digits, and its fraction is one; its designator may be any byte
 abbrev pub IsItem : Item → Type 0
 IsItem TimeDesignator = Unit {0}
 IsItem (Component component) = IsTrue (list_all is_ascii_digit component.number) × IsFraction component.fraction
@@ -120,7 +121,7 @@ unit_seconds unit = seconds_per_day * unit.day + unit.second
 abbrev pub fraction_seconds : DurationUnit → List ℕ → ℕ
 fraction_seconds unit digits = digits_value digits * unit_seconds unit / 10 ^ length digits
 
--- the microseconds that are nearest to it, without those seconds: a second of them where it is rounded up to one
+-- the nearest microseconds of a fraction of a unit, less those whole seconds: 1,000,000 where it is rounded up to a second
 abbrev pub fraction_microseconds : DurationUnit → List ℕ → ℕ
 fraction_microseconds unit digits =
     unsigned_abs (nearest (pos (digits_value digits * (1000000 * unit_seconds unit))) (10 ^ length digits))
@@ -146,7 +147,7 @@ with_amount unit number fraction sums =
       microsecond = sums.microsecond + fraction_microseconds unit digits;
     }
 
--- sums are counted in 32 bits
+-- the days and the seconds of sums are each counted in 32 bits; their microseconds, of one fraction at most, are not tested
 abbrev pub are_counted : Sums → Bool
 are_counted sums = nat_le sums.day 4294967295 && nat_le sums.second 4294967295
 
@@ -164,8 +165,9 @@ abbrev pub unit_fault : Bool → ParseError
 unit_fault false = fault.DurationInvalidDateUnit
 unit_fault true = fault.DurationInvalidTimeUnit
 
--- what an item has to meet after others: at most one `T`; a number; at most one fraction, and nothing after it; a unit
--- of its side, and one that may still come; and sums that are counted in 32 bits
+-- what an item has to meet after others. A `T`: it is the first one, also after a fraction. A component: it has digits; its
+-- number is counted in 32 bits; no component before it has a fraction; its unit is one of its side, and one that may still
+-- come; and the sums with it are counted in 32 bits
 abbrev pub item_table : Sums → Item → List Requirement
 item_table sums TimeDesignator = (not sums.is_time else_fault fault.DurationTRepeated) ∷ []
 item_table sums (Component component) =

@@ -26,12 +26,12 @@ use unsigned::UnsignedDuration;
 const DAYS_MAX: u32 = 999_999_999;
 
 /// A length of time: days of 86,400 seconds, seconds of a day, and microseconds of a second, with a
-/// sign. A length of nothing may have either sign.
+/// sign. Zero may have either sign.
 ///
 /// The ranges of the fields are part of the type; [`Duration::new`] brings other numbers into them.
 #[derive(Clone, Copy, Debug, PartialEq, Eq)]
 pub struct Duration {
-    /// Whether it goes forward in time.
+    /// Whether it is positive: false for `-PT1S` and for `-PT0S`.
     pub positive: bool,
     /// The days, 0 to 999,999,999.
     pub day: u32,
@@ -103,10 +103,10 @@ impl Duration {
     ///   their number is over 4,294,967,295, `DurationInvalidDays` where no `d`, `day` or `days`
     ///   follows it, all small or all in capitals but for the `d`; then those of a clock after
     ///   them, and `DurationHourValueTooLarge` where that has 24 hours or more;
-    /// - of a clock: `TooShort` where it has less than five bytes; `InvalidCharHour` where it has no
+    /// - of a clock: `TooShort` where it has fewer than five bytes; `InvalidCharHour` where it has no
     ///   `:`, or something else than digits before it, and `DurationHourValueTooLarge` where
     ///   that has over ten bytes or is over 2,400,000,000; `SecondFractionTooLong` where more than
-    ///   12 bytes follow the `:`, and `TooShort` where less than two do; those of a time of day
+    ///   12 bytes follow the `:`, and `TooShort` where fewer than two do; those of a time of day
     ///   from its minute on; and `ExtraCharacters` where something follows;
     /// - `DurationValueTooLarge` and `DurationDaysTooLarge` as [`Duration::new`] has them, last.
     #[inline(always)]

@@ -20,7 +20,7 @@ decimal_scale decimal = 10 ^ length decimal.fraction
 abbrev pub decimal_row : TimestampUnit → DecimalParts → UnitRow
 decimal_row unit decimal = unit_row unit (nat_le (decimal_digits decimal) (inferred_seconds_max * decimal_scale decimal))
 
--- the microseconds of its unit in all its digits, over its scale
+-- a decimal in microseconds, with its sign: the numerator of a fraction whose denominator is its scale
 abbrev pub decimal_size : UnitRow → DecimalParts → ℤ
 decimal_size row decimal = with_sign decimal.negative (decimal_digits decimal * (1000000 / row.per_second))
 

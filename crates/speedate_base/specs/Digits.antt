@@ -1,5 +1,5 @@
 -- Numbers of two and of four digits at fixed places of a text (RFC 3339 5.6, DIGIT: std's `is_ascii_digit`).
--- Behind the end of a text `slice_index` is 0, which is no digit, no sign and no separator.
+-- After the end of a text `slice_index` is 0, which is no digit, no sign and no separator.
 use Rattle.std.specs.Prelude.{ℕ, ◌+◌, ◌-◌, ◌*◌, ◌/◌, ◌%◌, Bool, ◌&&◌, List, [], ◌∷◌, ◌++◌, slice_index}
 use Rattle.std.specs.Char.{is_ascii_digit}
 use Rattle.speedate_base.specs.Ascii.{digit_zero}

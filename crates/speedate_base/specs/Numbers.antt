@@ -59,7 +59,7 @@ decimal_parts text = record {
   fraction = run_digits text (point_place text + 1);
 }
 
--- a number as a text: a whole one, a decimal, or none
+-- what a text is as a number: a whole one, a decimal, or none
 pub data Number : Type 0 where
   Whole : ℤ → Number
   Fractional : DecimalParts → Number

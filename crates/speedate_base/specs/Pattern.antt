@@ -19,14 +19,15 @@ fit_length [] bytes = 0
 fit_length (form ∷ forms) [] = 0
 fit_length (form ∷ forms) (byte ∷ bytes) = if fits_byte form byte then 1 + fit_length forms bytes else 0
 
--- what the first bytes stand for, so many of them: a digit for its value; any other byte, and those past them, for 0
+-- what the first bytes stand for, so many of them, where they fit the pattern: a digit for its value, any other byte for 0;
+-- each byte past them stands for 0
 abbrev pub fit_digits : ℕ → List ℕ → List ℕ → List ℕ
 fit_digits count [] bytes = []
 fit_digits count (form ∷ forms) [] = []
 fit_digits zero (form ∷ forms) (byte ∷ bytes) = 0 ∷ fit_digits zero forms bytes
 fit_digits (suc count) (form ∷ forms) (byte ∷ bytes) = (byte - form) ∷ fit_digits count forms bytes
 
--- the numbers that each two neighbours spell: 12, 23 and 30 for the digits 1, 2 and 3
+-- the numbers that any two neighbours spell, and the last one before a 0: 12, 23 and 30 for the digits 1, 2 and 3
 abbrev pub neighbours : List ℕ → List ℕ
 neighbours [] = []
 neighbours (tens ∷ []) = 10 * tens ∷ []

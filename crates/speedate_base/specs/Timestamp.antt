@@ -51,7 +51,7 @@ instant_at count timestamp = record {
   microsecond = unsigned_abs (int_rem_euclid timestamp (pos count)) * (1000000 / count);
 }
 
--- the lowest number of 64 bits has a size that does not fit them, by which no unit is inferred
+-- a timestamp has a unit: one is inferred only where the timestamp without its sign is below 2^63, which `i64::MIN` is not
 abbrev pub has_unit : TimestampUnit → ℤ → Bool
 has_unit unit.Infer timestamp = nat_lt (unsigned_abs timestamp) (2 ^ 63)
 has_unit given timestamp = true

@@ -49,7 +49,8 @@ pub enum IsoOrder {
     Strict,
 }
 
-/// Whether so many digits are taken where `most` of them reach the microsecond: not 7 of 6 by `Error`.
+/// Whether a text may have `count` digits where `most` of them reach the microsecond: 7 where `most`
+/// is 6 with `Truncate`, and not with `Error`.
 #[inline]
 pub fn takes_digits(
     behavior: MicrosecondsPrecisionOverflowBehavior,

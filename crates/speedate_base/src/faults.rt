@@ -50,7 +50,7 @@ pub enum ParseError {
     OutOfRangeTz,
     /// A value without offset cannot be moved to another one.
     TzRequired,
-    /// The clock has no time to tell.
+    /// The clock tells no moment: it stands before 1970.
     SystemTimeError,
     /// The month is not 1 to 12.
     OutOfRangeMonth,
@@ -64,7 +64,7 @@ pub enum ParseError {
     OutOfRangeSecond,
     /// A fraction of a second has more than six digits, and the configuration refuses them.
     SecondFractionTooLong,
-    /// No digit follows the point after a second.
+    /// No digit follows the decimal mark after a second.
     SecondFractionMissing,
     /// A fraction of a millisecond has more than three digits, and the configuration refuses them.
     MillisecondFractionTooLong,
@@ -74,9 +74,9 @@ pub enum ParseError {
     DurationTRepeated,
     /// A component follows one with a fraction.
     DurationInvalidFraction,
-    /// A component after `T` has no unit of time.
+    /// A component after `T` has no designator of hours, minutes or seconds.
     DurationInvalidTimeUnit,
-    /// A component before `T` has no unit of days.
+    /// A component before `T` has no designator of years, months, weeks or days.
     DurationInvalidDateUnit,
     /// The days of a duration are not followed by a form of `day`.
     DurationInvalidDays,

@@ -10,7 +10,7 @@ is_leap_year year = if year % 100 == 0 then year % 400 == 0 else year % 4 == 0
 abbrev pub february_length : ℕ → ℕ
 february_length year = if is_leap_year year then 29 else 28
 
--- the days of a month: thirty have April, June, September and November (RFC 3339 5.7)
+-- the days of a month: April, June, September and November have 30 (RFC 3339 5.7)
 abbrev pub month_length : ℕ → ℕ → ℕ
 month_length year month =
     if month == 2 then february_length year

@@ -1,6 +1,6 @@
 -- A clock at the front of a text: an hour, a minute, and a second with a fraction (RFC 3339 5.6, partial-time; the
 -- ranges are those of its 5.7). `text` begins with the hour, and `rest` with the minute.
--- Departs from it: the second may be left out, with its fraction; the point may be a comma, as in ISO 8601; there is no
+-- Departs from it: the second may be left out, with its fraction; the decimal mark may be a comma, as in ISO 8601; there is no
 -- second 60; a fraction has at most six digits, or further ones are dropped.
 use Rattle.std.specs.Prelude.{ℕ, ◌+◌, Bool, ◌&&◌, ◌||◌, List, [], ◌∷◌, ◌++◌, length, drop, nat_le, nat_lt, ◌==◌, slice_index, if◌then◌else◌, Option, Some, None, Result, Ok}
 use Rattle.speedate_base.specs.declared.config.MicrosecondsPrecisionOverflowBehavior.{MicrosecondsPrecisionOverflowBehavior}
@@ -29,7 +29,7 @@ abbrev pub second_there : List ℕ → Option (Option ℕ)
 second_there rest =
     if has_second rest then Some (if two_digits_at rest 3 then Some (two_digit_value rest 3) else None) else None
 
--- a point or a comma stands where the second ends
+-- a decimal mark, `.` or `,`, stands where the second ends
 abbrev pub has_point : List ℕ → Bool
 has_point rest = (slice_index rest 5 == full_stop) || (slice_index rest 5 == comma)
 
@@ -77,7 +77,7 @@ minute_table behavior rest =
     ∷ (((has_fraction rest && refuses_digits behavior) implies nat_le (run_length rest 6) 6) else_fault fault.SecondFractionTooLong)
     ∷ []
 
--- the clock with whose minute, in digits, a text begins, or the text's fault
+-- the clock whose minute begins a text, where that is known to be two digits, or the text's fault
 abbrev pub clock_answer : MicrosecondsPrecisionOverflowBehavior → List ℕ → Result Clock ParseError
 clock_answer behavior rest = meets (minute_table behavior rest) (Ok (minute_clock rest))
 

@@ -19,11 +19,11 @@ pub record IsDateAndTime (value : DateAndTime) : Type 0 where
 abbrev pub local_second : DateAndTime → ℤ
 local_second value = midnight_second value.date +ℤ pos (second_of_day value.time)
 
--- its second in UTC: the offset is subtracted, and an absent one is 0 (RFC 3339 4.1)
+-- its second in UTC: the offset is subtracted (RFC 3339 4.2); an absent one counts as 0, which is the library's own rule
 abbrev pub utc_second : DateAndTime → ℤ
 utc_second value = local_second value -ℤ unwrap_or value.time.offset (pos 0)
 
--- the millisecond, rounded down, that its microsecond reaches in a second
+-- the millisecond of a second, given apart, and of the value's microsecond, rounded down
 abbrev pub millisecond_in : ℤ → DateAndTime → ℤ
 millisecond_in second value = pos 1000 *ℤ second +ℤ pos (value.time.microsecond / 1000)
 

@@ -1,4 +1,4 @@
--- The order of dates is total: each two dates stand in it in one way.
+-- The order of dates is total: any two dates stand in it in exactly one way.
 use Rattle.std.specs.Cmp.{IsTotalOrder, nat_cmp_total, on_total, then_total}
 use Rattle.speedate_civil.specs.Calendar.{Ymd}
 use Rattle.speedate_civil.specs.DateOrder.{date_order}

@@ -1,5 +1,5 @@
 -- The text of a date-time: a date, a separator, and a time of day (RFC 3339 5.6, date-time).
--- Departs from it: the separator may be `_` too (its note allows small letters and a space); the time departs as times do.
+-- Departs from it: the separator may be `_` too (the notes of 5.6 allow `t` and a space); the time departs as times do.
 use Rattle.std.specs.Prelude.{ℕ, Bool, ◌||◌, ◌==◌, List, [], ◌∷◌, ◌++◌, drop, slice_index, Result}
 use Rattle.speedate_base.specs.declared.config.MicrosecondsPrecisionOverflowBehavior.{MicrosecondsPrecisionOverflowBehavior}
 use Rattle.speedate_base.specs.declared.faults.ParseError.{ParseError}

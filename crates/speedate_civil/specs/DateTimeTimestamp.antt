@@ -40,7 +40,8 @@ date_time_at offset instant = record {
   time = time_at (second_at instant.second) instant.microsecond offset;
 }
 
--- a clock at an offset shows an instant as a date-time
+-- a date-time's clock shows the second and the microsecond of an instant as they are, with the offset attached: nothing is
+-- shifted
 pub record IsShownAt (offset : Option ℤ) (instant : Instant) (value : DateAndTime) : Type 0 where
   pub second : local_second value ≡ instant.second
   pub microsecond : value.time.microsecond ≡ instant.microsecond

@@ -32,16 +32,16 @@ day_after date =
     else (if nat_lt date.month 12 then record { year = date.year; month = date.month + 1; day = 1 }
     else record { year = date.year + 1; month = 1; day = 1 })
 
--- the day after a date of the years to 9999, which 9999-12-31 has not
+-- the day after a date, up to the year 9999; 9999-12-31 has none
 abbrev pub next_date : Ymd → Option Ymd
 next_date date = if nat_le (day_after date).year 9999 then Some (day_after date) else None
 
--- the date to which so many steps from a day to the day after lead from 0000-01-01
+-- the date so many days after 0000-01-01, counted one by one
 unfoldable pub date_after : ℕ → Ymd
 date_after zero = record { year = 0; month = 1; day = 1 }
 date_after (suc days) = day_after (date_after days)
 
--- the date of a day number, which 9999-12-31 ends
+-- the date of a day number up to 3,652,424, which is that of 9999-12-31
 abbrev pub date_numbered : ℕ → Option Ymd
 date_numbered number = if nat_le number 3652424 then Some (date_after number) else None
 

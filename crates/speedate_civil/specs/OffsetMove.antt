@@ -13,7 +13,7 @@ use Rattle.speedate_civil.specs.TimeOfDay.{TimeOfDay, utc_second_of_day, time_at
 abbrev pub is_offset : ℤ → Bool
 is_offset offset = nat_lt (unsigned_abs offset) seconds_per_day
 
--- what an offset has to meet that is asked for, or none
+-- what the offset that is asked for has to meet; where none is asked for there is nothing to meet
 abbrev pub offset_table : Option ℤ → List Requirement
 offset_table offset = (option_map_or is_offset offset true else_fault fault.OutOfRangeTz) ∷ []
 
@@ -25,7 +25,7 @@ time_with_offset offset time = meets (offset_table offset) (Ok (record time { of
 abbrev pub date_time_with_offset : Option ℤ → DateAndTime → Result DateAndTime ParseError
 date_time_with_offset offset value = meets (offset_table offset) (Ok (record value { time = record value.time { offset = offset } }))
 
--- what an offset has to meet at which an instant is to be shown, and the offset at which a clock shows it now
+-- what the offset that is asked for has to meet, and the old one, at which a clock shows the instant now: it is there
 abbrev pub move_table : ℤ → Option ℤ → List Requirement
 move_table offset old =
     (is_offset offset else_fault fault.OutOfRangeTz)

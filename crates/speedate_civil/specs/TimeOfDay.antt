@@ -26,8 +26,8 @@ pub record IsTime (time : TimeOfDay) : Type 0 where
 abbrev pub second_of_day : TimeOfDay → ℕ
 second_of_day time = 3600 * time.hour + 60 * time.minute + time.second
 
--- the seconds since midnight in UTC: the offset is subtracted, and an absent one is 0 (RFC 3339 4.1); a time at an offset can
--- lie on the day before, or on the day after
+-- the seconds since midnight in UTC: the offset is subtracted (RFC 3339 4.2), and an absent one counts as 0, which is the
+-- library's own rule; a time at an offset can lie on the day before, or on the day after
 abbrev pub utc_second_of_day : TimeOfDay → ℤ
 utc_second_of_day time = pos (second_of_day time) -ℤ unwrap_or time.offset (pos 0)
 

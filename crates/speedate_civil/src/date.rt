@@ -85,13 +85,13 @@ impl Date {
     /// The form is RFC 3339's full-date, `YYYY-MM-DD`. The faults, in the order in which they are
     /// looked for:
     ///
-    /// - `TooShort` where the text has less than ten bytes;
+    /// - `TooShort` where the text has fewer than ten bytes;
     /// - `InvalidCharYear`, `InvalidCharDateSep`, `InvalidCharMonth`, `InvalidCharDateSep` and
     ///   `InvalidCharDay` for the first part, from the left, that is not made of digits or is not
     ///   a `-`;
     /// - `OutOfRangeMonth` where the month is not 1 to 12;
     /// - `OutOfRangeDay` where the month has no such day;
-    /// - `ExtraCharacters` where more than ten bytes are there.
+    /// - `ExtraCharacters` where it has more than ten bytes.
     #[inline]
     pub fn parse_str_rfc3339(text: &str) -> Result<Self, ParseError>
         ensures answer { result_map parts result ≡ date_answer text.now }

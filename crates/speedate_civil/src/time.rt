@@ -62,14 +62,14 @@ impl Time {
     /// six digits, and there is no second 60. The faults, in the order in which they are looked
     /// for:
     ///
-    /// - `TooShort` where the text has less than five bytes;
+    /// - `TooShort` where the text has fewer than five bytes;
     /// - `InvalidCharHour`, `InvalidCharTimeSep` and `InvalidCharMinute` for the first part, from
     ///   the left, that is not two digits or is not a `:`;
     /// - `OutOfRangeHour` where the hour is over 23, and `OutOfRangeMinute` where the minute is
     ///   over 59;
     /// - `InvalidCharSecond` where a `:` follows the minute and two digits do not follow it, and
     ///   `OutOfRangeSecond` where they are over 59;
-    /// - `SecondFractionMissing` where no digit follows a point, and `SecondFractionTooLong` where
+    /// - `SecondFractionMissing` where a decimal mark has no digit, and `SecondFractionTooLong` where
     ///   more than six do;
     /// - `InvalidCharTzSign` where what follows the clock begins no offset;
     /// - `InvalidCharTzHour` and `InvalidCharTzMinute` where the sign of an offset is not followed

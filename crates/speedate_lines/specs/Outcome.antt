@@ -3,7 +3,7 @@ use Rattle.std.specs.Prelude.{◌≡◌, ℕ, Bool, true, false, List, codes, Re
 use Rattle.speedate_lines.specs.declared.run.RunError.{RunError}
 use Rattle.speedate_lines.specs.declared.run.RunError.TheVariants.{Read, Write}
 
--- which end of a run has failed: the input, the output or none, and never both
+-- which of the input and the output of a run has failed: one of them or neither, and never both
 abbrev pub EndsBy : Result (Unit {0}) RunError → Bool → Bool → Type 0
 EndsBy (Ok ended) input output = (input ≡ false) × (output ≡ false)
 EndsBy (Err Read) input output = (input ≡ true) × (output ≡ false)

@@ -5,7 +5,7 @@ use Rattle.speedate_lines.specs.Lines.{complete_lines, lines}
 use Rattle.speedate_lines.specs.Answer.{answers}
 use Rattle.speedate_lines.specs.Block.{longest_read}
 
--- some bytes have been written up to an end of them, which is left
+-- some bytes have been written but for the last of them, which are left
 pub record AppendsBut (left : List ℕ) (old new : Option (List ℕ)) (bytes : List ℕ) : Type 0 where
   pub written : List ℕ
   pub sent : Appends old new written

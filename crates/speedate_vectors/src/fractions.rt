@@ -40,7 +40,7 @@ fn joined(alloc: Global, front: &str, digits: &[u8], back: &str) -> Result<Vec<u
     Ok(text)
 }
 
-/// Compares timestamps of both signs in each unit: of two microseconds that are as near, the later one.
+/// Compares timestamps of both signs in each unit: of two that are equally near, the later one.
 fn expect_timestamps<R: AllocGlobal + Abort>(rt: &R, digits: &[u8]) -> Result<(), Fail> {
     for (places, unit) in UNITS {
         let config = date_time_config(rt, unit);
@@ -57,7 +57,7 @@ fn expect_timestamps<R: AllocGlobal + Abort>(rt: &R, digits: &[u8]) -> Result<()
     Ok(())
 }
 
-/// Compares seconds of durations of both signs: a half goes away from nothing.
+/// Compares seconds of durations of both signs: a half goes away from zero.
 fn expect_durations<R: AllocGlobal + Abort>(rt: &R, digits: &[u8]) -> Result<(), Fail> {
     for (front, sign) in [("PT3.", 1), ("-PT3.", -1)] {
         let text = joined(rt.alloc(), front, digits, "S")?;

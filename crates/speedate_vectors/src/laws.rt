@@ -130,7 +130,7 @@ pub fn same_moment(first: &Moment, second: &Moment) -> bool
     first == second
 }
 
-/// Whether two durations are one: false for nothing that is positive and nothing that is negative.
+/// Whether two durations are one: false for `PT0S` and `-PT0S`.
 pub fn same_duration(first: &Duration, second: &Duration) -> bool
     ensures same { IsTrue result ↔ (duration_parts first.now ≡ duration_parts second.now) }
 {

@@ -204,7 +204,7 @@ impl Sums {
     }
 
     /// The sums with the plain component at a place, and where it ends: a number of few digits, and
-    /// the designator of its unit. `None` where no such stands there, where the unit is out of order, or
+    /// the designator of its unit. `None` where none stands there, where the unit is out of order, or
     /// where the sums grow too large.
     #[inline(always)]
     fn with_next(self, body: &[u8], place: usize) -> Option<(Self, usize)>

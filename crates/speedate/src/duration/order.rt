@@ -35,8 +35,8 @@ impl Ord for Duration {
     ghost matches_eq = { Prim.search (comparing, rules) };
 
     /// Which of two durations is the smaller one: a negative one before a positive one, the shorter
-    /// of two positive ones, and the longer of two negative ones. A negative duration of nothing is
-    /// before the positive one: -PT2S, -PT1S, -PT0S, PT0S and PT1S are in order.
+    /// of two positive ones, and the longer of two negative ones. Negative zero is before positive
+    /// zero: -PT2S, -PT1S, -PT0S, PT0S and PT1S are in order.
     #[inline]
     fn cmp(&self, other: &Duration) -> Ordering
         ensures order { result ≡ duration_order (parts self.now) (parts other.now) }
@@ -55,7 +55,7 @@ impl PartialOrd for Duration {
 
     ghost laws = { po (on_total parts duration_order-total) (Prim.search (comparing, rules)) };
 
-    /// What [`Duration::cmp`] answers, since each two durations have an order:
+    /// What [`Duration::cmp`] answers, since any two durations have an order:
     /// `Some(Ordering::Less)` for -PT0S and PT0S.
     #[inline]
     fn partial_cmp(&self, other: &Duration) -> Option<Ordering>

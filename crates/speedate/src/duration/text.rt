@@ -162,8 +162,8 @@ impl Duration {
 
     /// The canonical text: a sign where the duration is negative, `P`, and the years of 365 days,
     /// the days, and after a `T` the hours, minutes and seconds that are not 0, as
-    /// `-P1Y2DT3H4M5.06S`. The fraction of a second has no zeros at its end. A duration of nothing
-    /// is `PT0S` or `-PT0S`. Every configuration reads it back as the duration.
+    /// `-P1Y2DT3H4M5.06S`. The fraction of a second has no zeros at its end. Zero is
+    /// `PT0S` or `-PT0S`. Every configuration reads it back as the duration.
     #[inline]
     pub fn to_text(&self) -> ArrayString<TEXT_MAX>
         ensures text { result.bytes ≡ duration_text (parts self.now) }

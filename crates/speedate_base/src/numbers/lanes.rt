@@ -41,7 +41,7 @@ fn last_bytes(bytes: &[u8], left: usize) -> u8x8
     u64x1::splat(word >> 8 >> (8 * (LANES - 1 - left))).to_le_bytes()
 }
 
-/// Less than eight bytes, and 0 after them.
+/// Fewer than eight bytes, and 0 after them.
 #[inline(always)]
 fn short_bytes(bytes: &[u8]) -> u8x8
     requires few { length bytes.now < LANES }

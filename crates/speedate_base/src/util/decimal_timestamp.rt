@@ -82,7 +82,7 @@ fn are_zeros(digits: &[u8]) -> bool
 }
 
 /// The instant of a decimal timestamp, to the nearest microsecond: second -1 and 999,999
-/// microseconds for `"-0.0000006"` in seconds. Where two microseconds are as near it is the later
+/// microseconds for `"-0.0000006"` in seconds. Where two microseconds are equally near it is the later
 /// one.
 ///
 /// `DateTooSmall` where that microsecond lies before the year 0000, `DateTooLarge` where it lies

@@ -17,7 +17,7 @@ pub const LARGEST_UNIT: u64 = 31_536_000_000_000;
 const _: () = prove!(LARGEST_UNIT == 365 * 86_400 * 1_000_000);
 
 /// The microseconds of a fraction of a unit, to the nearest: 500,000 for the digits `5` of a second.
-/// The unit is given by its microseconds. Where two numbers are as near, it is the later one: the
+/// The unit is given by its microseconds. Where two numbers are equally near it is the later one: the
 /// smaller where the fraction is that of a negative number.
 #[inline]
 pub fn nearest_microseconds(digits: &[u8], unit: u64, negative: bool) -> u64

@@ -46,7 +46,7 @@ impl PartialOrd for Date {
 
     ghost laws = { po (on_total parts date_order-total) (Prim.search (comparing, rules)) };
 
-    /// What [`Date::cmp`] answers, since each two dates have an order: `Some(Ordering::Less)` for
+    /// What [`Date::cmp`] answers, since any two dates have an order: `Some(Ordering::Less)` for
     /// 2020-02-29 and 2020-03-01.
     #[inline]
     fn partial_cmp(&self, other: &Date) -> Option<Ordering>

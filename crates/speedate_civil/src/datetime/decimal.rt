@@ -24,7 +24,7 @@ impl DateTime {
     /// `"-125.5"` in milliseconds. The offset is attached and shifts nothing.
     ///
     /// A timestamp counts from 1970-01-01T00:00:00, with 86,400 seconds in each day (Unix time). All
-    /// digits count, however many there are. Where two microseconds are as near it is the later one.
+    /// digits count, however many there are. Where two are equally near it is the later one.
     /// An inferred unit is seconds where the size of the decimal is at most 20,000,000,000, otherwise
     /// milliseconds.
     ///

@@ -185,7 +185,7 @@ fn second_there(front: u8x8, fits: usize) -> Option<Option<u8>>
     if fits == 5 { None } else { Some(None) }
 }
 
-/// Whether a point or a comma follows the second of a time that is given from its minute on.
+/// Whether a decimal mark, `.` or `,`, follows the second of a time that is given from its minute on.
 #[inline]
 fn has_point(rest: &[u8]) -> bool
     ensures value { result ≡ has_point rest.now }
