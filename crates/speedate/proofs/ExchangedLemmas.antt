@@ -17,7 +17,7 @@ use Rattle.speedate_base.specs.Requirement.{meets, result_and_then}
 use Rattle.speedate.specs.DurationAnswer.{iso_answer, duration_answer}
 use Rattle.speedate.proofs.DurationAnswerLemmas.{iso_answer-item, duration_answer-iso}
 use Rattle.speedate.specs.DurationNumbers.{UnsignedDuration, signed_form}
-use Rattle.speedate.specs.Exchanged.{has_fraction, IsWhole, AreWhole, IsPlain, AreExchanged}
+use Rattle.speedate.specs.Exchanged.{has_decimal_mark, IsWhole, AreWhole, IsPlain, AreExchanged}
 use Rattle.speedate.specs.IsoForm.{DurationUnit, units, unit_in, ComponentText, Item, TimeDesignator, Component, item_text, IsItem, item_at, item_table, Sums, no_sums, next_units_after, with_component, with_item, with_items}
 use Rattle.speedate.proofs.IsoFormLemmas.{item_at-amount}
 
@@ -75,10 +75,10 @@ amount-side None component sums = refl
 amount-side (Some unit) component sums = refl
 
 -- without a fraction it brings none
-amount-fraction : (unit : Option DurationUnit) (component : ComponentText) (sums : Sums) → has_fraction component ≡ false → sums.fraction ≡ false
+amount-fraction : (unit : Option DurationUnit) (component : ComponentText) (sums : Sums) → has_decimal_mark component ≡ false → sums.fraction ≡ false
     → (with_component unit component sums).fraction ≡ false
 amount-fraction None component sums none whole = whole
-amount-fraction (Some unit) component sums none whole = or_from sums.fraction (has_fraction component) whole none
+amount-fraction (Some unit) component sums none whole = or_from sums.fraction (has_decimal_mark component) whole none
 
 -- and it takes nothing from the sums
 amount-grows : (unit : Option DurationUnit) (component : ComponentText) (sums : Sums)
@@ -101,7 +101,7 @@ amounts-swap (Some one) None first second sums free = refl
 amounts-swap (Some one) (Some two) first second sums free =
     let later = λ (unit : DurationUnit) (next : List DurationUnit). ap (λ (order : IsoOrder). next_units_after order sums.is_time unit.designator next) free.0 in
     let both = later two (next_units_after sums.order sums.is_time one.designator sums.next_units) ∙ sym (later one (next_units_after sums.order sums.is_time two.designator sums.next_units)) in
-    let fractions = or-swap sums.fraction (has_fraction first) (has_fraction second) in
+    let fractions = or-swap sums.fraction (has_decimal_mark first) (has_decimal_mark second) in
     let days = add-swap sums.day _ _ _ _ in
     let seconds = add-swap sums.second _ _ _ _ in
     let microseconds = add_right_comm sums.microsecond _ _ in

@@ -67,12 +67,12 @@ days_table text =
     ∷ []
 
 -- what the clock after them has to meet: it has fewer than 24 hours
-abbrev pub day_table : UnsignedDuration → List Requirement
-day_table clock = ((clock.day == 0) else_fault fault.DurationHourValueTooLarge) ∷ []
+abbrev pub day_limit : UnsignedDuration → List Requirement
+day_limit clock = ((clock.day == 0) else_fault fault.DurationHourValueTooLarge) ∷ []
 
 -- the duration of a clock of fewer than 24 hours
 abbrev pub under_a_day : UnsignedDuration → Result UnsignedDuration ParseError
-under_a_day clock = meets (day_table clock) (Ok clock)
+under_a_day clock = meets (day_limit clock) (Ok clock)
 
 -- the duration of what follows the days: of nothing, or of such a clock
 abbrev pub rest_answer : MicrosecondsPrecisionOverflowBehavior → List ℕ → Result UnsignedDuration ParseError

@@ -8,8 +8,8 @@ use Rattle.speedate_base.specs.Numbers.{IsSign}
 use Rattle.speedate.specs.IsoForm.{units, unit_in, ComponentText, Item, Component, item_text, IsItem, TimeDesignator, Sums, no_sums, with_item, with_items}
 
 -- a component has a fraction, even if it is only a decimal mark
-abbrev pub has_fraction : ComponentText → Bool
-has_fraction component = nat_lt 0 (length component.fraction)
+abbrev pub has_decimal_mark : ComponentText → Bool
+has_decimal_mark component = nat_lt 0 (length component.fraction)
 
 -- an item is whole: a `T`, or a component that has digits and the designator of a unit of its side
 abbrev pub IsWhole : Sums → Item → Type 0
@@ -25,7 +25,7 @@ AreWhole sums (item ∷ items) = IsWhole sums item × AreWhole (with_item item s
 -- a component is whole and no decimal mark is in it or before it: in any order it can be refused for its size alone. That of
 -- `is_plain` in `IsoSums.antt` is shorter: one to six digits
 abbrev pub IsPlain : Sums → ComponentText → Type 0
-IsPlain sums component = IsWhole sums (Component component) × (has_fraction component ≡ false) × (sums.fraction ≡ false)
+IsPlain sums component = IsWhole sums (Component component) × (has_decimal_mark component ≡ false) × (sums.fraction ≡ false)
 
 -- the text of a duration that has two components, one next to the other, after items and before a rest
 abbrev pub pair_text : List ℕ → List Item → ComponentText → ComponentText → List ℕ → List ℕ

@@ -27,10 +27,7 @@ digit_zero = 48
 abbrev pub colon : ℕ
 colon = 58
 
--- `A`, `D`, `H`, `M`, `P` and `S`
-abbrev pub capital_a : ℕ
-capital_a = 65
-
+-- `D`, `H`, `M`, `P` and `S`
 abbrev pub capital_d : ℕ
 capital_d = 68
 
@@ -65,10 +62,7 @@ capital_z = 90
 abbrev pub low_line : ℕ
 low_line = 95
 
--- `a` and `d`
-abbrev pub small_a : ℕ
-small_a = 97
-
+-- `d`
 abbrev pub small_d : ℕ
 small_d = 100
 

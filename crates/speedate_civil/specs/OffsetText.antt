@@ -39,15 +39,15 @@ abbrev pub offset_size : List ℕ → ℕ
 offset_size numbers = 3600 * two_digit_value numbers 0 + 60 * offset_minute numbers
 
 -- what its digits after the sign have to be
-abbrev pub digits_table : List ℕ → List Requirement
-digits_table numbers =
+abbrev pub offset_digits : List ℕ → List Requirement
+offset_digits numbers =
     (two_digits_at numbers 0 else_fault fault.InvalidCharTzHour)
     ∷ (two_digits_at numbers (offset_minute_place numbers) else_fault fault.InvalidCharTzMinute)
     ∷ []
 
 -- then the ranges of its numbers, and that nothing follows it
-abbrev pub size_table : List ℕ → List Requirement
-size_table numbers =
+abbrev pub offset_ranges : List ℕ → List Requirement
+offset_ranges numbers =
     (nat_le (offset_minute numbers) 59 else_fault fault.OutOfRangeTzMinute)
     ∷ (nat_lt (offset_size numbers) seconds_per_day else_fault fault.OutOfRangeTz)
     ∷ (length numbers == offset_minute_place numbers + 2 else_fault fault.ExtraCharacters)
@@ -67,7 +67,7 @@ unsigned_table rest =
 -- the offset that stands after a sign, or the fault
 abbrev pub signed_answer : Bool → List ℕ → Result (Option ℤ) ParseError
 signed_answer west numbers =
-    meets (digits_table numbers) (meets (size_table numbers) (Ok (Some (with_sign west (offset_size numbers)))))
+    meets (offset_digits numbers) (meets (offset_ranges numbers) (Ok (Some (with_sign west (offset_size numbers)))))
 
 -- the offset that a text without a sign is, if any, or the fault
 abbrev pub unsigned_answer : List ℕ → Result (Option ℤ) ParseError

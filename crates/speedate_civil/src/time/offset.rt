@@ -11,7 +11,7 @@ ghost use Rattle.speedate_base.specs.Numbers.{with_sign};
 ghost use Rattle.speedate_base.specs.Offset.{IsOffset, seconds_per_day};
 ghost use Rattle.speedate_base.specs.Requirement.{meets};
 ghost use Rattle.speedate_civil.specs.OffsetMove.{is_offset, move_table};
-ghost use Rattle.speedate_civil.specs.OffsetText.{digits_table, offset_answer, signed_answer, offset_minute, offset_minute_place, offset_size_text, offset_text};
+ghost use Rattle.speedate_civil.specs.OffsetText.{offset_digits, offset_answer, signed_answer, offset_minute, offset_minute_place, offset_size_text, offset_text};
 
 use crate::text::two_digit_text;
 use arrayvec::ArrayString;
@@ -76,7 +76,7 @@ fn signed_offset(west: bool, bytes: &[u8], place: usize) -> Result<Option<i32>, 
 /// `HH:MM` or `HHMM`.
 #[inline(always)]
 fn hour_and_minute(front: u8x8) -> Result<(u8, u8, usize), ParseError>
-    ensures numbers { result ≡ meets (digits_table front)
+    ensures numbers { result ≡ meets (offset_digits front)
         (Ok (two_digit_value front 0, offset_minute front, offset_minute_place front + 2)) }
     ensures small { IfOk result (λ numbers. (numbers.0 ≤ 99) × (numbers.1 ≤ 99)) }
 {
@@ -99,7 +99,7 @@ fn hour_and_minute(front: u8x8) -> Result<(u8, u8, usize), ParseError>
 #[inline(always)]
 fn hour_then_minute(front: u8x8) -> Result<(u8, u8, usize), ParseError>
     requires { fit_length (codes "00:00:00") front ≡ 2 }
-    ensures numbers { result ≡ meets (digits_table front)
+    ensures numbers { result ≡ meets (offset_digits front)
         (Ok (two_digit_value front 0, offset_minute front, offset_minute_place front + 2)) }
     ensures small { IfOk result (λ numbers. (numbers.0 ≤ 99) × (numbers.1 ≤ 99)) }
 {

@@ -15,12 +15,12 @@ use Rattle.speedate_base.specs.Pattern.{eight_at}
 use Rattle.speedate_base.specs.Requirement.{◌else_fault◌, meets}
 use Rattle.speedate_base.proofs.RequirementLemmas.{meets-all, meets-next, meets-value}
 use Rattle.speedate_base.proofs.PatternLemmas.{eight_at-drop}
-use Rattle.speedate_civil.specs.OffsetText.{digits_table, size_table, signed_answer, offset_minute, offset_minute_place, offset_size}
+use Rattle.speedate_civil.specs.OffsetText.{offset_digits, offset_ranges, signed_answer, offset_minute, offset_minute_place, offset_size}
 use Rattle.speedate_civil.proofs.time.offset.signed_offset.Goals as goal
 
 -- hour, minute and length of an offset behind its sign, or the fault of its digits
 abbrev numbers_of : List ℕ → Result (ℕ × ℕ × ℕ) ParseError
-numbers_of rest = meets (digits_table rest) (Ok (two_digit_value rest 0, offset_minute rest, offset_minute_place rest + 2))
+numbers_of rest = meets (offset_digits rest) (Ok (two_digit_value rest 0, offset_minute rest, offset_minute_place rest + 2))
 
 -- the same, with the minute at a place
 abbrev numbers_at : ℕ → List ℕ → Result (ℕ × ℕ × ℕ) ParseError
@@ -55,16 +55,16 @@ known : (west : Bool) (text front : List ℕ) (place : ℕ) (numbers : ℕ × �
     → decided west (length (drop place text)) numbers ≡ signed_answer west (drop place text)
 known west text front place numbers from is =
     let rest : List ℕ = drop place text in
-    let value = meets-value (digits_table rest) _ numbers (sym (read text front place _ from is)) in
+    let value = meets-value (offset_digits rest) _ numbers (sym (read text front place _ from is)) in
     ap (decided west (length rest)) (sym value.1)
-    ∙ sym (meets-all (digits_table rest) (meets (size_table rest) (Ok (Some (with_sign west (offset_size rest))))) value.0)
+    ∙ sym (meets-all (offset_digits rest) (meets (offset_ranges rest) (Ok (Some (with_sign west (offset_size rest))))) value.0)
 
 pub returns-in_err-hour-clause-answer : goal.returns-in_err-hour-clause-answer
 returns-in_err-hour-clause-answer c =
     let rest : List ℕ = drop c.args.place c.args.bytes.now in
     let p = err_from_is_err_and c.from_residual.result c.from_residual.ensures.1 in
     let refused = read c.args.bytes.now _ c.args.place _ c.eight_bytes.ensures.bytes c.in_err-hour.ensures.numbers in
-    rw (p.1, p.2) (meets-next (digits_table rest) _ _ (meets (size_table rest) (Ok (Some (with_sign c.args.west (offset_size rest))))) refused)
+    rw (p.1, p.2) (meets-next (offset_digits rest) _ _ (meets (offset_ranges rest) (Ok (Some (with_sign c.args.west (offset_size rest))))) refused)
 
 pub returns-then-minute-gt59-clause-answer : goal.returns-then-minute-gt59-clause-answer
 returns-then-minute-gt59-clause-answer c =
