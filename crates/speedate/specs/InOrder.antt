@@ -1,5 +1,5 @@
 -- Components of an ISO 8601 duration that come in the order of the standard: years, months, weeks and days, and after the `T`
--- hours, minutes and seconds, each at most once (ISO 8601-1:2019 5.5.2.2, which has no weeks beside other components).
+-- hours, minutes and seconds, each at most once. The standard has no weeks beside other components.
 use Rattle.std.specs.Prelude.{◌≡◌, ◌⊎◌, ℕ, Bool, true, false, ◌&&◌, List, [], ◌∷◌, ◌++◌, drop, slice_index, ◌==◌, if◌then◌else◌, Result, Ok, Err}
 use Rattle.std.specs.List.{flat_map}
 use Rattle.std.specs.Option.{is_some}

@@ -1,5 +1,5 @@
--- The durations of ISO 8601-1:2019 5.5.2 after their `P`, in the format with designators: years, months, weeks and days, and
--- after a `T` hours, minutes and seconds.
+-- The durations of ISO 8601 after their `P`, in the format with designators: years, months, weeks and days, and after a `T`
+-- hours, minutes and seconds.
 -- Departs from it: components may come in any order on their side and more than once, unless a configuration asks for the
 -- order of the standard; weeks may come beside other components; a decimal mark may have no digits after it; a `T` may come
 -- last; a year has 365 days and a month 30; a sign may come before the `P`; numbers and sums are at most 4,294,967,295; the
