@@ -1,9 +1,10 @@
 -- How tables chain.
-use Rattle.std.specs.Prelude.{◌≡◌, Bool, true, false, List, [], ◌∷◌, Result, Ok, Err, if◌then◌else◌, refl}
+use Rattle.std.specs.Prelude.{◌≡◌, ◌↔◌, ℕ, Bool, true, false, List, [], ◌∷◌, length, ◌==◌, Result, Ok, Err, if◌then◌else◌, refl}
 use Rattle.std.specs.Result.{result_and}
-use Rattle.std.proofs.Common.{◌∙◌, ap, sym}
+use Rattle.std.proofs.Common.{◌∙◌, ap, ap₂, sym}
+use Rattle.std.proofs.lemmas.Bool.{eq-eqb, eqb-true, eqb-false}
 use Rattle.speedate_base.specs.declared.faults.ParseError.{ParseError}
-use Rattle.speedate_base.specs.Requirement.{Requirement, meets, AllHold, result_and_then}
+use Rattle.speedate_base.specs.Requirement.{Requirement, meets, AllHold, alone, result_and_then}
 
 row-chain : {A B : Type 0} (holds : Bool) (fault : ParseError) (first : Result A ParseError) (second next : Result B ParseError)
     → second ≡ result_and first next → (if holds then second else Err fault) ≡ result_and (if holds then first else Err fault) next
@@ -33,6 +34,39 @@ pub meets-and_then : {A B : Type 0} (step : A → Result B ParseError) (rows : L
 meets-and_then step [] next = refl
 meets-and_then step (row ∷ rows) next =
     row-and_then step row.holds row.fault (meets rows next) (meets rows (result_and_then step next)) (meets-and_then step rows next)
+
+-- what is done with an answer in two steps is done in one
+pub and_then-chain : {A B C : Type 0} (first : A → Result B ParseError) (second : B → Result C ParseError) (answer : Result A ParseError)
+    → result_and_then second (result_and_then first answer) ≡ result_and_then (λ value. result_and_then second (first value)) answer
+and_then-chain first second (Ok value) = refl
+and_then-chain first second (Err fault) = refl
+
+-- two fronts that are read are one
+taken : {A : Type 0} (first second : A) (one two : ℕ) → ◌≡◌ {A = Result (A × ℕ) ParseError} (Ok (first, one)) (Ok (second, two))
+    → ◌≡◌ {A = A × ℕ} (first, one) (second, two)
+taken first second one two same = cc
+
+-- a value is alone in a text if and only if it takes all bytes
+ends-iff : {A : Type 0} (fault : ParseError) (first value : A) (size long : ℕ) (same : Bool) → (long == size) ≡ same
+    → ((if same then Ok first else Err fault) ≡ Ok value) ↔ (◌≡◌ {A = Result (A × ℕ) ParseError} (Ok (first, size)) (Ok (value, long)))
+ends-iff {A = A} fault first value size long true is = (
+  λ one. let value_is : first ≡ value = cc in ap₂ (λ (v : A) (n : ℕ). Ok (v, n)) value_is (sym (eqb-true long size is)),
+  λ one. ap (λ (front : A × ℕ). Ok front.0) (taken first value size long one),
+)
+ends-iff {A = A} fault first value size long false is = (
+  λ one. absurd (cc),
+  λ one. absurd (eqb-false long size is (sym (ap (λ (front : A × ℕ). front.1) (taken first value size long one)))),
+)
+
+pub alone-iff : {A : Type 0} (fault : A → ParseError) (text : List ℕ) (front : Result (A × ℕ) ParseError) (value : A)
+    → (result_and_then (alone fault text) front ≡ Ok value) ↔ (front ≡ Ok (value, length text))
+alone-iff fault text (Ok front) value = ends-iff (fault front.0) front.0 value front.1 (length text) (length text == front.1) refl
+alone-iff fault text (Err refused) value = (λ one. absurd (cc), λ one. absurd (cc))
+
+-- so one that does is the answer
+pub alone-whole : {A : Type 0} (fault : A → ParseError) (text : List ℕ) (value : A) (size : ℕ) → length text ≡ size
+    → alone fault text (value, size) ≡ Ok value
+alone-whole fault text value size same = rw (eq-eqb (length text) size same) refl
 
 -- where every row holds, what comes next is the answer
 pub meets-all : {A : Type 0} (rows : List Requirement) (next : Result A ParseError) → AllHold rows → meets rows next ≡ next

@@ -1,5 +1,5 @@
 -- A grammar as an ordered table: each row is a test of the text and the fault of a text that fails it.
-use Rattle.std.specs.Prelude.{◌≡◌, Bool, true, List, [], ◌∷◌, Result, Err, if◌then◌else◌}
+use Rattle.std.specs.Prelude.{◌≡◌, ℕ, Bool, true, List, [], ◌∷◌, length, ◌==◌, Result, Ok, Err, if◌then◌else◌}
 use Rattle.std.specs.Result.{result_map_both, result_flatten}
 use Rattle.speedate_base.specs.declared.faults.ParseError.{ParseError}
 
@@ -31,6 +31,14 @@ AllHold (row ∷ rows) = (row.holds ≡ true) × AllHold rows
 -- an answer with its value seen in another way, as a `Date` in numbers; a fault stays
 abbrev pub result_map : {A B : Type 0} → (A → B) → Result A ParseError → Result B ParseError
 result_map view answer = result_map_both view (λ fault. fault) answer
+
+-- a value and how many bytes of a text it takes, with the value seen in another way
+abbrev pub with_size : {A B : Type 0} → (A → B) → A × ℕ → B × ℕ
+with_size view front = (view front.0, front.1)
+
+-- the value at the front of a text, with how many bytes it takes, where the text ends with it; otherwise its fault
+abbrev pub alone : {A : Type 0} → (A → ParseError) → List ℕ → A × ℕ → Result A ParseError
+alone fault text front = meets ((length text == front.1 else_fault fault front.0) ∷ []) (Ok front.0)
 
 -- what is answered to a value that was read; a fault stays
 abbrev pub result_and_then : {A B : Type 0} → (A → Result B ParseError) → Result A ParseError → Result B ParseError

@@ -6,12 +6,13 @@ use Rattle.std.proofs.Common.{arith, ◌∙◌, ap, sym, subst}
 use Rattle.std.proofs.lemmas.Bool.{le-leb}
 use Rattle.std.proofs.lemmas.Bool.Decides.{nat_tests}
 use Rattle.speedate_base.specs.declared.faults.ParseError.{ParseError}
+use Rattle.speedate_base.specs.declared.faults.ParseError.TheVariants as fault
 use Rattle.speedate_base.proofs.DigitLemmas.{two_digits-printed, four_digits-printed, two_digit_value-printed, four_digit_value-printed}
-use Rattle.speedate_base.specs.Requirement.{meets}
-use Rattle.speedate_base.proofs.RequirementLemmas.{meets-all, meets-chain}
+use Rattle.speedate_base.specs.Requirement.{alone, result_and_then}
+use Rattle.speedate_base.proofs.RequirementLemmas.{meets-all}
 use Rattle.speedate_base.proofs.TextLemmas.{text-distinct}
 use Rattle.speedate_civil.specs.Calendar.{Ymd, IsDate, month_length}
-use Rattle.speedate_civil.specs.DateText.{date_text, date_front, date_answer, date_numbers, date_table, date_end}
+use Rattle.speedate_civil.specs.DateText.{date_text, date_front, date_answer, date_numbers, date_table}
 
 -- no month is longer than 31 days
 pub month_length-small : (year month : ℕ) → month_length year month ≤ 31
@@ -29,7 +30,7 @@ date_numbers-printed date tail = λ i. record {
 }
 
 -- the text by which a date is printed, at the front of another, is read as that date
-pub date_text-front : (date : Ymd) (tail : List ℕ) → IsDate date → date_front (date_text date ++ tail) ≡ Ok date
+pub date_text-front : (date : Ymd) (tail : List ℕ) → IsDate date → date_front (date_text date ++ tail) ≡ Ok (date, 10)
 date_text-front date tail valid =
     let text = date_text date ++ tail in
     let numbers = date_numbers-printed date tail in
@@ -60,16 +61,12 @@ date_text-front date tail valid =
         ),
       ),
     )
-    ∙ ap Ok numbers
+    ∙ ap (λ (read : Ymd). Ok (read, 10)) numbers
 
 -- and alone it is that date
 pub date_text-reads : (date : Ymd) → IsDate date → date_answer (date_text date) ≡ Ok date
 date_text-reads date valid =
-    let text = date_text date in
-    let ended : Result Ymd ParseError = meets (date_end text) (Ok (date_numbers text)) in
-    meets-chain (date_table text) (date_numbers text) ended
-    ∙ ap (λ (front : Result Ymd ParseError). result_and front ended) (date_text-front date [] valid)
-    ∙ ap Ok (date_numbers-printed date [])
+    ap (result_and_then (alone (λ date. fault.ExtraCharacters) (date_text date))) (date_text-front date [] valid)
 
 -- two dates with one text are one date
 pub date_text-distinct : (first second : Ymd) → IsDate first → IsDate second → date_text first ≡ date_text second → first ≡ second

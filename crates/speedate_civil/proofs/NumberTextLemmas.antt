@@ -10,10 +10,9 @@ use Rattle.speedate_base.specs.Ascii.{hyphen, full_stop}
 use Rattle.speedate_base.specs.Digits.{four_digits_at}
 use Rattle.speedate_base.proofs.NumberLemmas.{number_answer-other}
 use Rattle.speedate_base.specs.Numbers.{Number, NoNumber, number_answer, whole_number, whole_or, decimal_answer}
-use Rattle.speedate_base.specs.Requirement.{meets, result_and_then}
-use Rattle.speedate_base.proofs.RequirementLemmas.{meets-chain}
+use Rattle.speedate_base.specs.Requirement.{alone, result_and_then}
 use Rattle.speedate_civil.specs.Calendar.{Ymd}
-use Rattle.speedate_civil.specs.DateText.{date_front, date_answer, date_table, date_end, date_numbers}
+use Rattle.speedate_civil.specs.DateText.{date_front, date_answer}
 use Rattle.speedate_civil.specs.NumberText.{may_be_number}
 
 -- a text that meets the first three rows of a table meets the first and the third
@@ -33,7 +32,7 @@ hyphen-no_number text long is =
     number_answer-other text 4 (omega arith) within (ap is_ascii_digit byte) (ap (λ (n : ℕ). n == full_stop) byte)
 
 -- so is one that begins with a date
-pub number_answer-date : (text : List ℕ) (date : Ymd) → date_front text ≡ Ok date → number_answer text ≡ NoNumber
+pub number_answer-date : (text : List ℕ) (date : Ymd × ℕ) → date_front text ≡ Ok date → number_answer text ≡ NoNumber
 number_answer-date text date read =
     let rows = rows-met (nat_le 10 (length text)) (four_digits_at text 0) (slice_index text 4 == hyphen)
     fault.TooShort fault.InvalidCharYear fault.InvalidCharDateSep _ (Ok date) read (λ other. cc) (λ other. cc) (λ other. cc) in
@@ -46,7 +45,7 @@ other-fault refused fault answer behind number one two =
     false≢true (sym behind ∙ ap may_be_number same ∙ number)
 
 -- and one that is refused by a fault after the first hyphen, whatever is asked of a date at its front
-pub number_answer-refused : {A : Type 0} (next : Ymd → Result A ParseError) (text : List ℕ) (fault : ParseError)
+pub number_answer-refused : {A : Type 0} (next : Ymd × ℕ → Result A ParseError) (text : List ℕ) (fault : ParseError)
     → result_and_then next (date_front text) ≡ Err fault → may_be_number fault ≡ false → number_answer text ≡ NoNumber
 number_answer-refused next text refused read behind =
     let front = date_front text in
@@ -65,14 +64,6 @@ no-whole None decimal none = refl
 pub whole_number-none : (text : List ℕ) → number_answer text ≡ NoNumber → whole_number text ≡ None
 whole_number-none text none = no-whole (whole_number text) (decimal_answer text) none
 
--- what follows a date's front
-next-of : (front : Result Ymd ParseError) (ended : Result Ymd ParseError) → result_and front ended ≡ result_and_then (λ (date : Ymd). ended) front
-next-of (Ok date) ended = refl
-next-of (Err fault) ended = refl
-
--- the table of a date ends with the row that nothing follows
 pub whole_number-refused : (text : List ℕ) (fault : ParseError) → date_answer text ≡ Err fault → may_be_number fault ≡ false → whole_number text ≡ None
 whole_number-refused text refused read behind =
-    let ended : Result Ymd ParseError = meets (date_end text) (Ok (date_numbers text)) in
-    let chained = sym (next-of (date_front text) ended) ∙ sym (meets-chain (date_table text) (date_numbers text) ended) ∙ read in
-    whole_number-none text (number_answer-refused (λ (date : Ymd). ended) text refused chained behind)
+    whole_number-none text (number_answer-refused (alone (λ date. fault.ExtraCharacters) text) text refused read behind)

@@ -86,8 +86,8 @@ abbrev pub minute_front : MicrosecondsPrecisionOverflowBehavior → List ℕ →
 minute_front behavior rest = meets (minute_digits rest) (clock_answer behavior rest)
 
 -- the clock, from its hour on, at the front of a text, or the text's fault
-abbrev pub time_front : MicrosecondsPrecisionOverflowBehavior → List ℕ → Result Clock ParseError
-time_front behavior text =
+abbrev pub clock_front : MicrosecondsPrecisionOverflowBehavior → List ℕ → Result Clock ParseError
+clock_front behavior text =
     let rest = drop 3 text in
     meets (hour_table text) (meets (minute_digits rest) (meets (hour_range text)
     (result_map (at_hour (two_digit_value text 0)) (clock_answer behavior rest))))

@@ -5,7 +5,7 @@ use Rattle.std.specs.Int.{is_in_range}
 use Rattle.speedate_base.specs.declared.faults.ParseError.{ParseError}
 use Rattle.speedate_base.specs.declared.faults.ParseError.TheVariants as fault
 use Rattle.speedate_base.specs.Ascii.{hyphen}
-use Rattle.speedate_base.specs.Requirement.{Requirement, ◌else_fault◌, meets}
+use Rattle.speedate_base.specs.Requirement.{Requirement, ◌else_fault◌, meets, alone, result_and_then}
 use Rattle.speedate_base.specs.Digits.{four_digits_at, four_digit_value, four_digit_text, two_digits_at, two_digit_value, two_digit_text}
 use Rattle.speedate_civil.specs.Calendar.{Ymd, month_length}
 
@@ -30,17 +30,13 @@ date_table text = let date = date_numbers text in
     ∷ (is_in_range 1 (month_length date.year date.month) date.day else_fault fault.OutOfRangeDay)
     ∷ []
 
--- what a text has to meet to end with its date
-abbrev pub date_end : List ℕ → List Requirement
-date_end text = ((length text == 10) else_fault fault.ExtraCharacters) ∷ []
-
--- the date that stands at the front of a text, or the text's fault
-abbrev pub date_front : List ℕ → Result Ymd ParseError
-date_front text = meets (date_table text) (Ok (date_numbers text))
+-- the date at the front of a text, and how many bytes it takes, or the text's fault
+abbrev pub date_front : List ℕ → Result (Ymd × ℕ) ParseError
+date_front text = meets (date_table text) (Ok (date_numbers text, 10))
 
 -- the date that a text is, or the text's fault
 abbrev pub date_answer : List ℕ → Result Ymd ParseError
-date_answer text = meets (date_table text) (meets (date_end text) (Ok (date_numbers text)))
+date_answer text = result_and_then (alone (λ date. fault.ExtraCharacters) text) (date_front text)
 
 -- the one text by which a date is printed
 abbrev pub date_text : Ymd → List ℕ

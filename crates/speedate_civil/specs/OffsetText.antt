@@ -3,6 +3,7 @@
 -- Departs from it: the offset may be left out, and so may its `:`; the sign may be U+2212, as in ISO 8601; `-00:00` is the
 -- offset 0, where RFC 3339 4.3 has it for an unknown one.
 use Rattle.std.specs.Prelude.{ℕ, ◌+◌, ◌*◌, ◌/◌, ◌%◌, Bool, ◌&&◌, ◌||◌, List, [], ◌∷◌, ◌++◌, length, drop, nat_le, nat_lt, ◌==◌, slice_index, if◌then◌else◌, Option, Some, None, ℤ, pos, unsigned_abs, Result, Ok}
+use Rattle.std.specs.Option.{is_some}
 use Rattle.std.specs.Int.{is_negative}
 use Rattle.speedate_base.specs.declared.faults.ParseError.{ParseError}
 use Rattle.speedate_base.specs.declared.faults.ParseError.TheVariants as fault
@@ -30,6 +31,10 @@ offset_sign_length rest =
 abbrev pub offset_minute_place : List ℕ → ℕ
 offset_minute_place numbers = if slice_index numbers 2 == colon then 3 else 2
 
+-- how many bytes its hour and minute take
+abbrev pub offset_digits_length : List ℕ → ℕ
+offset_digits_length numbers = offset_minute_place numbers + 2
+
 -- its minute
 abbrev pub offset_minute : List ℕ → ℕ
 offset_minute numbers = two_digit_value numbers (offset_minute_place numbers)
@@ -45,39 +50,41 @@ offset_digits numbers =
     ∷ (two_digits_at numbers (offset_minute_place numbers) else_fault fault.InvalidCharTzMinute)
     ∷ []
 
--- then the ranges of its numbers, and that nothing follows it
+-- then the ranges of its numbers
 abbrev pub offset_ranges : List ℕ → List Requirement
 offset_ranges numbers =
     (nat_le (offset_minute numbers) 59 else_fault fault.OutOfRangeTzMinute)
     ∷ (nat_lt (offset_size numbers) seconds_per_day else_fault fault.OutOfRangeTz)
-    ∷ (length numbers == offset_minute_place numbers + 2 else_fault fault.ExtraCharacters)
     ∷ []
 
 -- the offset is UTC itself, `Z` or `z`
 abbrev pub is_utc : List ℕ → Bool
 is_utc rest = (slice_index rest 0 == capital_z) || (slice_index rest 0 == small_z)
 
--- what a text without a sign has to meet
-abbrev pub unsigned_table : List ℕ → List Requirement
-unsigned_table rest =
-    ((length rest == 0) || is_utc rest else_fault fault.InvalidCharTzSign)
-    ∷ (nat_le (length rest) 1 else_fault fault.ExtraCharacters)
-    ∷ []
+-- the offset after a sign of so many bytes, and how many both take, or the fault
+abbrev pub signed_front : Bool → ℕ → List ℕ → Result (Option ℤ × ℕ) ParseError
+signed_front west sign numbers =
+    meets (offset_digits numbers) (meets (offset_ranges numbers)
+    (Ok (Some (with_sign west (offset_size numbers)), sign + offset_digits_length numbers)))
 
--- the offset that stands after a sign, or the fault
-abbrev pub signed_answer : Bool → List ℕ → Result (Option ℤ) ParseError
-signed_answer west numbers =
-    meets (offset_digits numbers) (meets (offset_ranges numbers) (Ok (Some (with_sign west (offset_size numbers)))))
+-- the offset at the front of a text without a sign, if any, and how many bytes it takes
+abbrev pub unsigned_front : List ℕ → Option ℤ × ℕ
+unsigned_front rest = if is_utc rest then (Some (pos 0), 1) else (None, 0)
 
--- the offset that a text without a sign is, if any, or the fault
-abbrev pub unsigned_answer : List ℕ → Result (Option ℤ) ParseError
-unsigned_answer rest = meets (unsigned_table rest) (Ok (if is_utc rest then Some (pos 0) else None))
+-- the offset that follows a time, if any, and how many bytes it takes, or the fault of what follows it
+abbrev pub offset_front : List ℕ → Result (Option ℤ × ℕ) ParseError
+offset_front rest =
+    if nat_lt 0 (offset_sign_length rest)
+    then signed_front (is_west rest) (offset_sign_length rest) (drop (offset_sign_length rest) rest)
+    else Ok (unsigned_front rest)
 
--- the offset that follows a time, if any, or the fault of what follows it
-abbrev pub offset_answer : List ℕ → Result (Option ℤ) ParseError
-offset_answer rest =
-    if nat_lt 0 (offset_sign_length rest) then signed_answer (is_west rest) (drop (offset_sign_length rest) rest)
-    else unsigned_answer rest
+-- an offset begins a text: a sign, `Z` or `z`
+abbrev pub begins_offset : List ℕ → Bool
+begins_offset rest = nat_lt 0 (offset_sign_length rest) || is_utc rest
+
+-- the fault of a text that goes on after this offset, or where one was due
+abbrev pub end_fault : Option ℤ → ParseError
+end_fault offset = if is_some offset then fault.ExtraCharacters else fault.InvalidCharTzSign
 
 -- hours and minutes in print
 abbrev pub offset_size_text : ℕ → List ℕ

@@ -1,14 +1,16 @@
 -- The text of a time of day, `HH:MM:SS` with a fraction and an offset (RFC 3339 5.6, full-time).
 -- Departs from it: as a clock and an offset do.
-use Rattle.std.specs.Prelude.{ℕ, List, ◌∷◌, ◌++◌, drop, Option, ℤ, Result}
+use Rattle.std.specs.Prelude.{ℕ, ◌+◌, Bool, not, ◌&&◌, ◌||◌, ◌==◌, List, ◌∷◌, ◌++◌, drop, slice_index, if◌then◌else◌, Option, ℤ, Result, Ok}
+use Rattle.std.specs.Char.{is_ascii_digit}
+use Rattle.std.specs.Option.{is_some}
 use Rattle.speedate_base.specs.declared.config.MicrosecondsPrecisionOverflowBehavior.{MicrosecondsPrecisionOverflowBehavior}
 use Rattle.speedate_base.specs.declared.faults.ParseError.{ParseError}
-use Rattle.speedate_base.specs.Ascii.{colon}
-use Rattle.speedate_base.specs.Requirement.{result_map, result_and_then}
+use Rattle.speedate_base.specs.Ascii.{colon, comma, full_stop}
+use Rattle.speedate_base.specs.Requirement.{alone, result_map, result_and_then}
 use Rattle.speedate_base.specs.Digits.{two_digit_text}
 use Rattle.speedate_civil.specs.TimeOfDay.{TimeOfDay}
-use Rattle.speedate_civil.specs.ClockText.{Clock, time_front, minute_text, fraction_text}
-use Rattle.speedate_civil.specs.OffsetText.{offset_answer, offset_text}
+use Rattle.speedate_civil.specs.ClockText.{Clock, clock_front, minute_text, fraction_text}
+use Rattle.speedate_civil.specs.OffsetText.{begins_offset, offset_front, end_fault, offset_text}
 
 -- the time of a clock and an offset
 abbrev pub time_of : Clock → Option ℤ → TimeOfDay
@@ -20,13 +22,21 @@ time_of clock offset = record {
   offset = offset;
 }
 
+-- the time of a clock and an offset, each with how many bytes it takes
+abbrev pub joined : Clock → Option ℤ × ℕ → TimeOfDay × ℕ
+joined clock offset = (time_of clock offset.0, clock.size + offset.1)
+
 -- the time of a clock at the front of a text, and of the offset that follows it there
-abbrev pub with_offset : List ℕ → Clock → Result TimeOfDay ParseError
-with_offset text clock = result_map (time_of clock) (offset_answer (drop clock.size text))
+abbrev pub with_offset : List ℕ → Clock → Result (TimeOfDay × ℕ) ParseError
+with_offset text clock = result_map (joined clock) (offset_front (drop clock.size text))
+
+-- the time at the front of a text, and how many bytes it takes, or the text's fault
+abbrev pub time_front : MicrosecondsPrecisionOverflowBehavior → List ℕ → Result (TimeOfDay × ℕ) ParseError
+time_front behavior text = result_and_then (with_offset text) (clock_front behavior text)
 
 -- the time that a text is, or the text's fault
 abbrev pub time_answer : MicrosecondsPrecisionOverflowBehavior → List ℕ → Result TimeOfDay ParseError
-time_answer behavior text = result_and_then (with_offset text) (time_front behavior text)
+time_answer behavior text = result_and_then (alone (λ time. end_fault time.offset) text) (time_front behavior text)
 
 -- an hour, a minute and a second in print
 abbrev pub clock_text : TimeOfDay → List ℕ
@@ -35,3 +45,14 @@ clock_text time = two_digit_text time.hour ++ colon ∷ minute_text time.minute 
 -- the one text by which a time is printed
 abbrev pub time_text : TimeOfDay → List ℕ
 time_text time = clock_text time ++ fraction_text time.microsecond ++ offset_text time.offset
+
+-- a text goes on with a fraction after such a microsecond in print: with a decimal mark after none, with a digit after six
+abbrev pub continues_fraction : ℕ → List ℕ → Bool
+continues_fraction microsecond rest =
+    if microsecond == 0 then (slice_index rest 0 == full_stop) || (slice_index rest 0 == comma)
+    else is_ascii_digit (slice_index rest 0)
+
+-- a text that follows a time in print is no part of it: an offset ends it, otherwise neither a fraction nor an offset begins
+abbrev pub is_after_time : TimeOfDay → List ℕ → Bool
+is_after_time time rest =
+    is_some time.offset || (not (continues_fraction time.microsecond rest) && not (begins_offset rest))

@@ -1,6 +1,6 @@
 //! Dates of the Gregorian calendar, from 0000-01-01 to 9999-12-31.
 
-ghost use Rattle.std.specs.Prelude.{◌≡◌, ◌<◌, ◌≤◌, ◌↔◌, Ok, OnOk, Some, length, if◌then◌else◌};
+ghost use Rattle.std.specs.Prelude.{◌≡◌, ◌<◌, ◌≤◌, ◌↔◌, IfOk, Ok, OnOk, Some, length, if◌then◌else◌};
 ghost use Rattle.std.specs.Int.{is_in_range, IsInRange};
 ghost use Rattle.speedate_civil.specs.Calendar.{month_length, is_leap_year};
 
@@ -74,7 +74,7 @@ impl Date {
     ghost use Rattle.speedate_civil.specs.declared.date.Date.{Date};
     ghost use Rattle.speedate_base.specs.declared.config.DateConfig.{DateConfig};
     ghost use Rattle.speedate_base.specs.Numbers.{NoNumber, number_answer};
-    ghost use Rattle.speedate_base.specs.Requirement.{result_map};
+    ghost use Rattle.speedate_base.specs.Requirement.{result_map, with_size};
     ghost use Rattle.speedate_civil.specs.DateTimestamp.{date_or_timestamp};
     ghost use Rattle.speedate_civil.specs.Date.{parts};
     ghost use Rattle.speedate_civil.specs.DateText.{date_front, date_answer, date_text};
@@ -106,17 +106,18 @@ impl Date {
         ensures answer { result_map parts result ≡ date_answer bytes.now }
         ensures no_number { OnOk result (number_answer bytes.now ≡ NoNumber) }
     {
-        let date = Self::parse_front(bytes)?;
-        if bytes.len() > TEXT_LENGTH {
+        let (date, size) = Self::parse_front(bytes)?;
+        if size != bytes.len() {
             return Err(ParseError::ExtraCharacters);
         }
         Ok(date)
     }
 
-    /// Reads the date at the front of a text, whatever follows it.
+    /// Reads the date at the front of a text, whatever follows it, and how many bytes it takes.
     #[inline]
-    pub(crate) fn parse_front(bytes: &[u8]) -> Result<Self, ParseError>
-        ensures front { result_map parts result ≡ date_front bytes.now }
+    pub fn parse_front(bytes: &[u8]) -> Result<(Self, usize), ParseError>
+        ensures answer { result_map (with_size parts) result ≡ date_front bytes.now }
+        ensures within { IfOk result (λ front. front.1 ≤ length bytes.now) }
     {
         if bytes.len() < TEXT_LENGTH {
             return Err(ParseError::TooShort);
@@ -142,7 +143,7 @@ impl Date {
         if !is_day(year, month, day) {
             return Err(ParseError::OutOfRangeDay);
         }
-        Ok(Date { year, month, day })
+        Ok((Date { year, month, day }, TEXT_LENGTH))
     }
 
     /// The canonical text, `YYYY-MM-DD`: `2020-02-29` for 29 February 2020. It reads back as the

@@ -1,10 +1,10 @@
 //! Date-times: a date and a time of day, with or without an offset from UTC.
 
-ghost use Rattle.std.specs.Prelude.{◌≡◌, ◌≤◌, IsTrue, length, slice_index, OnOk};
+ghost use Rattle.std.specs.Prelude.{◌≡◌, ◌≤◌, IfOk, IsTrue, length, slice_index, OnOk};
 ghost use Rattle.speedate_base.specs.Numbers.{NoNumber, number_answer};
-ghost use Rattle.speedate_base.specs.Requirement.{result_map};
+ghost use Rattle.speedate_base.specs.Requirement.{result_map, with_size};
 ghost use Rattle.speedate_base.specs.declared.config.MicrosecondsPrecisionOverflowBehavior.TheVariants as behavior;
-ghost use Rattle.speedate_civil.specs.DateTimeText.{is_separator, date_time_answer};
+ghost use Rattle.speedate_civil.specs.DateTimeText.{is_separator, date_time_front, date_time_answer};
 
 mod decimal;
 mod now;
@@ -14,11 +14,14 @@ mod timestamp;
 mod timezone;
 
 use crate::date::Date;
-use crate::time::Time;
+use crate::time::{Time, end_fault};
 pub use now::Moment;
 use speedate_base::config::TimeConfig;
 use speedate_base::faults::ParseError;
 use speedate_base::numbers::byte_at;
+
+/// The place of the time, after the ten bytes of a date and a separator.
+const TIME_PLACE: usize = 11;
 
 /// A date and a time of day, with an offset from UTC or without one.
 ///
@@ -74,13 +77,28 @@ impl DateTime {
             ≡ date_time_answer config.now.microseconds_precision_overflow_behavior bytes.now }
         ensures no_number { OnOk result (number_answer bytes.now ≡ NoNumber) }
     {
-        let date = Date::parse_front(bytes)?;
+        let (value, size) = Self::parse_front(bytes, config)?;
+        if size != bytes.len() {
+            return Err(end_fault(value.time.tz_offset));
+        }
+        Ok(value)
+    }
+
+    /// Reads the date-time at the front of a text, whatever follows it, and how many bytes it takes.
+    #[inline(always)]
+    pub fn parse_front(bytes: &[u8], config: &TimeConfig) -> Result<(Self, usize), ParseError>
+        ensures answer { result_map (with_size parts) result
+            ≡ date_time_front config.now.microseconds_precision_overflow_behavior bytes.now }
+        ensures within { IfOk result (λ front. front.1 ≤ length bytes.now) }
+        ensures no_number { OnOk result (number_answer bytes.now ≡ NoNumber) }
+    {
+        let (date, _) = Date::parse_front(bytes)?;
         if !has_separator(bytes) {
             return Err(ParseError::InvalidCharDateTimeSep);
         }
         let behavior = config.microseconds_precision_overflow_behavior;
-        let time = Time::parse_at(bytes, 11, behavior)?;
-        Ok(DateTime { date, time })
+        let (time, size) = Time::front_at(bytes, TIME_PLACE, behavior)?;
+        Ok((DateTime { date, time }, TIME_PLACE + size))
     }
 }
 

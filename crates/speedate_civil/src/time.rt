@@ -13,7 +13,7 @@ mod timezone;
 
 pub use fraction::Fraction;
 use offset::read_offset;
-pub(crate) use offset::{clock_shift, is_offset};
+pub(crate) use offset::{clock_shift, end_fault, is_offset};
 pub use pure::PureTime;
 use speedate_base::config::{MicrosecondsPrecisionOverflowBehavior, TimeConfig};
 use speedate_base::faults::ParseError;
@@ -48,10 +48,10 @@ impl Time {
     ghost use Rattle.std.specs.Prelude.{◌+◌, ◌*◌, ◌<◌, IfOk, drop, length, None};
     ghost use Rattle.speedate_base.specs.Offset.{seconds_per_day};
     ghost use Rattle.speedate_base.specs.declared.config.MicrosecondsPrecisionOverflowBehavior.TheVariants as behavior;
-    ghost use Rattle.speedate_base.specs.Requirement.{result_map};
+    ghost use Rattle.speedate_base.specs.Requirement.{result_map, with_size};
     ghost use Rattle.speedate_civil.specs.Time.{parts};
     ghost use Rattle.speedate_civil.specs.TimeOfDay.{second_of_day, millisecond_of_day, microsecond_of_day, time_at, timestamp_answer};
-    ghost use Rattle.speedate_civil.specs.TimeText.{time_answer};
+    ghost use Rattle.speedate_civil.specs.TimeText.{time_front, time_answer};
 
     /// Reads a time from a text: the time that the text is, as 12:13:14 and a half, an hour east
     /// of UTC, for `"12:13:14.5+01:00"`, or the text's one fault.
@@ -90,7 +90,7 @@ impl Time {
     pub fn parse_bytes(bytes: &[u8]) -> Result<Self, ParseError>
         ensures answer { result_map parts result ≡ time_answer behavior.Error bytes.now }
     {
-        Self::parse_at(bytes, 0, MicrosecondsPrecisionOverflowBehavior::Error)
+        Self::parse_whole(bytes, MicrosecondsPrecisionOverflowBehavior::Error)
     }
 
     /// Reads a time from the bytes of a text, as [`Time::parse_str`] does, but for the digits of a
@@ -101,28 +101,45 @@ impl Time {
         ensures answer { result_map parts result
             ≡ time_answer config.now.microseconds_precision_overflow_behavior bytes.now }
     {
-        Self::parse_at(bytes, 0, config.microseconds_precision_overflow_behavior)
+        Self::parse_whole(bytes, config.microseconds_precision_overflow_behavior)
     }
 
-    /// Reads the time that begins at `place` and takes all the bytes from there on.
+    /// Reads the time that takes all the bytes.
     #[inline(always)]
-    pub(crate) fn parse_at(
+    fn parse_whole(
+        bytes: &[u8],
+        behavior: MicrosecondsPrecisionOverflowBehavior,
+    ) -> Result<Self, ParseError>
+        ensures answer { result_map parts result ≡ time_answer behavior bytes.now }
+    {
+        let (time, size) = Self::front_at(bytes, 0, behavior)?;
+        if size != bytes.len() {
+            return Err(end_fault(time.tz_offset));
+        }
+        Ok(time)
+    }
+
+    /// Reads the time that begins at `place`, and how many bytes it takes, whatever follows it.
+    #[inline(always)]
+    pub(crate) fn front_at(
         bytes: &[u8],
         place: usize,
         behavior: MicrosecondsPrecisionOverflowBehavior,
-    ) -> Result<Self, ParseError>
+    ) -> Result<(Self, usize), ParseError>
         requires { place ≤ length bytes.now }
-        ensures answer { result_map parts result ≡ time_answer behavior (drop place bytes.now) }
+        ensures answer { result_map (with_size parts) result ≡ time_front behavior (drop place bytes.now) }
+        ensures within { IfOk result (λ front. place + front.1 ≤ length bytes.now) }
     {
         let clock = PureTime::parse(bytes, place, behavior)?;
-        let tz_offset = read_offset(bytes, place + clock.size)?;
-        Ok(Time {
+        let (tz_offset, size) = read_offset(bytes, place + clock.size)?;
+        let time = Time {
             hour: clock.hour,
             minute: clock.minute,
             second: clock.second,
             microsecond: clock.microsecond,
             tz_offset,
-        })
+        };
+        Ok((time, clock.size + size))
     }
 
     /// The time so many seconds and microseconds after midnight, without an offset: 10:00:06.5 for

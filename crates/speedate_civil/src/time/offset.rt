@@ -6,12 +6,12 @@ ghost use Rattle.speedate_base.specs.Pattern.{fit_length};
 ghost use Rattle.std.specs.Int.{is_negative};
 ghost use Rattle.std.specs.Option.{ForSome, unwrap_or};
 ghost use Rattle.arrayvec.specs.ArrayString.{array_string_len};
-ghost use Rattle.speedate_base.specs.Ascii.{plus_sign, hyphen};
+ghost use Rattle.speedate_base.specs.Ascii.{plus_sign, hyphen, capital_z, small_z};
 ghost use Rattle.speedate_base.specs.Numbers.{with_sign};
 ghost use Rattle.speedate_base.specs.Offset.{IsOffset, seconds_per_day};
 ghost use Rattle.speedate_base.specs.Requirement.{meets};
 ghost use Rattle.speedate_civil.specs.OffsetMove.{is_offset, move_table};
-ghost use Rattle.speedate_civil.specs.OffsetText.{offset_digits, offset_answer, signed_answer, offset_minute, offset_minute_place, offset_size_text, offset_text};
+ghost use Rattle.speedate_civil.specs.OffsetText.{end_fault, has_minus_sign, offset_digits, offset_front, signed_front, offset_minute, offset_digits_length, offset_size_text, offset_text};
 
 use crate::text::two_digit_text;
 use arrayvec::ArrayString;
@@ -20,25 +20,35 @@ use speedate_base::numbers::{byte_at, eight_bytes, fitting, pairs};
 use speedate_base::util::SECONDS_PER_DAY;
 use std::simd::prelude::*;
 
-/// The offset in seconds that begins at `place` and takes all the bytes from there on: none for no
-/// bytes, 0 for `Z` or `z`, 5,400 for `+01:30`.
+/// The offset in seconds that begins at `place`, if one does, and how many bytes it takes, whatever
+/// follows it: 0 and one byte for `Z` or `z`, 5,400 and six bytes for `+01:30`, none and no byte for
+/// ` GET`.
 #[inline(always)]
-#[tactic(auto, using(std::proofs::lemmas::List::take_rest))]
-pub(crate) fn read_offset(bytes: &[u8], place: usize) -> Result<Option<i32>, ParseError>
+pub(crate) fn read_offset(bytes: &[u8], place: usize) -> Result<(Option<i32>, usize), ParseError>
     requires { place ≤ length bytes.now }
-    ensures answer { result ≡ offset_answer (drop place bytes.now) }
-    ensures range { IfOk result (λ offset. ForSome offset IsOffset) }
+    ensures answer { result ≡ offset_front (drop place bytes.now) }
+    ensures range { IfOk result (λ front. ForSome front.0 IsOffset) }
+    ensures within { IfOk result (λ front. place + front.1 ≤ length bytes.now) }
 {
     let first = byte_at(bytes, place);
     if is_plus_or_minus(first) {
-        return signed_offset(first == b'-', bytes, place + 1);
+        return signed_offset(first == b'-', 1, bytes, place + 1);
     }
-    match &bytes[place..] {
-        [] => Ok(None),
-        [b'Z' | b'z'] => Ok(Some(0)),
-        [b'Z' | b'z', ..] => Err(ParseError::ExtraCharacters),
-        [0xe2, 0x88, 0x92, ..] => signed_offset(true, bytes, place + 3),
-        _ => Err(ParseError::InvalidCharTzSign),
+    if has_minus_sign(bytes, place) {
+        return signed_offset(true, 3, bytes, place + 3);
+    }
+    Ok(if is_utc(first) { (Some(0), 1) } else { (None, 0) })
+}
+
+/// The fault of a text that goes on after a time with this offset, or after one without.
+#[inline(always)]
+pub(crate) fn end_fault(offset: Option<i32>) -> ParseError
+    ensures fault { result ≡ end_fault offset }
+{
+    if offset.is_some() {
+        ParseError::ExtraCharacters
+    } else {
+        ParseError::InvalidCharTzSign
     }
 }
 
@@ -51,12 +61,39 @@ fn is_plus_or_minus(byte: u8) -> bool
     byte.abs_diff(b',') == 1
 }
 
-/// The offset whose sign says whether it is west of UTC, and whose hour begins at `place`.
+/// Whether the three bytes of U+2212, the minus sign, begin at `place`.
 #[inline(always)]
-fn signed_offset(west: bool, bytes: &[u8], place: usize) -> Result<Option<i32>, ParseError>
+#[tactic(auto, using(std::proofs::lemmas::List::take_rest))]
+fn has_minus_sign(bytes: &[u8], place: usize) -> bool
     requires { place ≤ length bytes.now }
-    ensures answer { result ≡ signed_answer west (drop place bytes.now) }
-    ensures range { IfOk result (λ offset. ForSome offset IsOffset) }
+    ensures value { result ≡ has_minus_sign (drop place bytes.now) }
+    ensures there { IsTrue result → place + 3 ≤ length bytes.now }
+{
+    matches!(&bytes[place..], [0xe2, 0x88, 0x92, ..])
+}
+
+/// Whether a byte is UTC itself, `Z` or `z`.
+#[inline(always)]
+fn is_utc(byte: u8) -> bool
+    ensures value { result ≡ ((byte == capital_z) || (byte == small_z)) }
+{
+    byte == b'Z' || byte == b'z'
+}
+
+/// The offset whose hour begins at `place`, and how many bytes it takes with its sign, which has
+/// `sign` bytes and says whether the offset is west of UTC.
+#[inline(always)]
+fn signed_offset(
+    west: bool,
+    sign: usize,
+    bytes: &[u8],
+    place: usize,
+) -> Result<(Option<i32>, usize), ParseError>
+    requires place { place ≤ length bytes.now }
+    requires sign { sign ≤ place }
+    ensures answer { result ≡ signed_front west sign (drop place bytes.now) }
+    ensures range { IfOk result (λ front. ForSome front.0 IsOffset) }
+    ensures within { IfOk result (λ front. place + front.1 ≤ sign + length bytes.now) }
 {
     let (hour, minute, size) = hour_and_minute(eight_bytes(bytes, place))?;
     if minute > 59 {
@@ -66,10 +103,7 @@ fn signed_offset(west: bool, bytes: &[u8], place: usize) -> Result<Option<i32>, 
     if seconds >= SECONDS_PER_DAY {
         return Err(ParseError::OutOfRangeTz);
     }
-    if bytes.len() - place != size {
-        return Err(ParseError::ExtraCharacters);
-    }
-    Ok(Some(with_sign(west, seconds)))
+    Ok((Some(with_sign(west, seconds)), sign + size))
 }
 
 /// The hour and the minute at the front of an offset without its sign, and how many bytes they take:
@@ -77,7 +111,7 @@ fn signed_offset(west: bool, bytes: &[u8], place: usize) -> Result<Option<i32>, 
 #[inline(always)]
 fn hour_and_minute(front: u8x8) -> Result<(u8, u8, usize), ParseError>
     ensures numbers { result ≡ meets (offset_digits front)
-        (Ok (two_digit_value front 0, offset_minute front, offset_minute_place front + 2)) }
+        (Ok (two_digit_value front 0, offset_minute front, offset_digits_length front)) }
     ensures small { IfOk result (λ numbers. (numbers.0 ≤ 99) × (numbers.1 ≤ 99)) }
 {
     let form = u8x8::from_array(*b"00:00:00");
@@ -100,7 +134,7 @@ fn hour_and_minute(front: u8x8) -> Result<(u8, u8, usize), ParseError>
 fn hour_then_minute(front: u8x8) -> Result<(u8, u8, usize), ParseError>
     requires { fit_length (codes "00:00:00") front ≡ 2 }
     ensures numbers { result ≡ meets (offset_digits front)
-        (Ok (two_digit_value front 0, offset_minute front, offset_minute_place front + 2)) }
+        (Ok (two_digit_value front 0, offset_minute front, offset_digits_length front)) }
     ensures small { IfOk result (λ numbers. (numbers.0 ≤ 99) × (numbers.1 ≤ 99)) }
 {
     let form = u8x8::splat(b'0');

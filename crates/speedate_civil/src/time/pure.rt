@@ -32,7 +32,7 @@ pub struct PureTime {
 
 impl PureTime {
     ghost use Rattle.speedate_base.specs.Requirement.{result_map};
-    ghost use Rattle.speedate_civil.specs.ClockText.{at_hour, clock_answer, time_front, minute_front};
+    ghost use Rattle.speedate_civil.specs.ClockText.{at_hour, clock_answer, clock_front, minute_front};
     ghost use Rattle.speedate_civil.specs.PureTime.{parts};
 
     /// Reads the time that begins at `place`, whatever follows it: 12:13:14 and a half, in ten
@@ -46,7 +46,7 @@ impl PureTime {
         behavior: MicrosecondsPrecisionOverflowBehavior,
     ) -> Result<Self, ParseError>
         requires { place ≤ length bytes.now }
-        ensures answer { result_map parts result ≡ time_front behavior (drop place bytes.now) }
+        ensures answer { result_map parts result ≡ clock_front behavior (drop place bytes.now) }
         ensures within { IfOk result (λ time. place + time.size ≤ length bytes.now) }
     {
         let text = &bytes[place..];

@@ -63,13 +63,13 @@ day_there false value day given = absurd (cc)
 -- the rows of the table, and its value
 answered : (text numbers : List ℕ) (year month day : ℕ) → Front text numbers → 10 ≤ length text → Some day ≡ (if two_digits_at text 8 then Some (two_digit_value text 8) else None)
     → year ≡ four_digit_value text 0 → month ≡ two_digit_value text 5 → is_in_range 1 12 month ≡ true → is_in_range 1 (month_length year month) day ≡ true
-    → Ok (record { year = year; month = month; day = day }) ≡ date_front text
+    → Ok (record { year = year; month = month; day = day }, 10) ≡ date_front text
 answered text numbers year month day front long given year_is month_is months days =
     let there = day_there (two_digits_at text 8) (two_digit_value text 8) day given in
     let value : date_numbers text ≡ record { year = year; month = month; day = day } =
     λ i. record { year = (sym year_is) i; month = (sym month_is) i; day = there.1 i } in
     let enough : nat_le 10 (length text) ≡ true = le-leb 10 (length text) long in
-    sym (meets-all (date_table text) (Ok (date_numbers text)) (
+    sym (meets-all (date_table text) (Ok (date_numbers text, 10)) (
       enough,
       (
         front.year,
@@ -91,7 +91,7 @@ answered text numbers year month day front long given year_is month_is months da
         ),
       ),
     )
-    ∙ ap Ok value)
+    ∙ ap (λ (date : Ymd). Ok (date, 10)) value)
 
 pub invariant_of-result : goal.invariant_of-result
 invariant_of-result c =
@@ -102,24 +102,22 @@ invariant_of-result c =
       day_in_range = grind (arith, nat_tests, c.if-not-is_day.ensures);
     }
 
-pub returns : goal.returns
-returns c =
+pub returns-clause-answer : goal.returns-clause-answer
+returns-clause-answer c =
     let text = c.args.bytes.now in
     let front = read text _ _ _ c.eight_bytes-front.ensures.bytes c.fitting-place.ensures.count c.if-place-lt-LANES.false c.pairs.ensures.numbers in
-    record {
-      front = answered text _ _ _ _ front c.if-bytes-lt-TEXT_LENGTH.false (sym c.in-Some.is ∙ c.two_digits.ensures.value)
-          (omega (arith, front.year_is, c.from.ensures, c.from-2.ensures)) front.month_is (grind (arith, nat_tests)) (sym c.if-not-is_day.ensures);
-    }
+    answered text _ _ _ _ front c.if-bytes-lt-TEXT_LENGTH.false (sym c.in-Some.is ∙ c.two_digits.ensures.value)
+    (omega (arith, front.year_is, c.from.ensures, c.from-2.ensures)) front.month_is (grind (arith, nat_tests)) (sym c.if-not-is_day.ensures)
 
 -- two digits that were not read are not there
 day_missing : (test : Bool) (value : ℕ) → None ≡ (if test then Some value else None) → test ≡ false
 day_missing true value given = absurd (cc)
 day_missing false value given = refl
 
-pub returns-in_default-two_digits : goal.returns-in_default-two_digits
-returns-in_default-two_digits c =
+pub returns-in_default-two_digits-clause-answer : goal.returns-in_default-two_digits-clause-answer
+returns-in_default-two_digits-clause-answer c =
     let text = c.args.bytes.now in
     let front = read text _ _ _ c.eight_bytes-front.ensures.bytes c.fitting-place.ensures.count c.if-place-lt-LANES.false c.pairs.ensures.numbers in
     let enough : nat_le 10 (length text) ≡ true = le-leb 10 (length text) c.if-bytes-lt-TEXT_LENGTH.false in
     let missing : two_digits_at text 8 ≡ false = day_missing (two_digits_at text 8) (two_digit_value text 8) c.in_default-two_digits.ensures.value in
-    rw (enough, front.year, front.first, front.month, front.second, missing) (record { front = refl })
+    rw (enough, front.year, front.first, front.month, front.second, missing) refl

@@ -1,5 +1,5 @@
 use Rattle.std.proofs.Common.{◌≡◌, ◌∙◌, ap₂, sym, Result, rules}
-use Rattle.std.specs.Prelude.{Option, ℤ}
+use Rattle.std.specs.Prelude.{ℕ, Option, ℤ}
 use Rattle.std.proofs.lemmas.Int.{to_z-of_z}
 use mir.Syntax.{w64}
 use mir.Val.{SFits}
@@ -7,10 +7,15 @@ use Rattle.speedate_base.specs.declared.config.MicrosecondsPrecisionOverflowBeha
 use Rattle.speedate_base.specs.declared.config.TimestampUnit.{TimestampUnit}
 use Rattle.speedate_base.specs.declared.faults.ParseError.{ParseError}
 use Rattle.speedate_base.specs.Numbers.{Number}
+use Rattle.speedate_base.specs.Requirement.{alone, result_and_then}
+use Rattle.speedate_base.proofs.RequirementLemmas.{and_then-chain}
+use Rattle.speedate_civil.specs.Calendar.{Ymd}
 use Rattle.speedate_civil.specs.DateAndTime.{DateAndTime}
 use Rattle.speedate_civil.specs.DateTimeText.{with_time}
+use Rattle.speedate_civil.specs.DateText.{date_front}
 use Rattle.speedate_civil.specs.DateTimeTimestamp.{date_time_number_answer}
 use Rattle.speedate_civil.specs.NumberText.{or_number}
+use Rattle.speedate_civil.specs.OffsetText.{end_fault}
 use Rattle.speedate_civil.proofs.NumberTextLemmas.{number_answer-refused}
 use Rattle.speedate_civil.proofs.datetime.DateTime.parse_timestamp.Goals as goal
 
@@ -26,7 +31,10 @@ returns-then-not-may_be_number c =
     let text = c.args.bytes.now in
     let config = c.args.config.now in
     let behavior = config.time_config.microseconds_precision_overflow_behavior in
-    let none = number_answer-refused (with_time behavior text) text c.args.fault c.requires (sym c.may_be_number.ensures ∙ c.if-not-may_be_number.true) in
+    let fault = λ (value : DateAndTime). end_fault value.time.offset in
+    let step = λ (date : Ymd × ℕ). result_and_then (alone fault text) (with_time behavior text date) in
+    let refused = sym (and_then-chain (with_time behavior text) (alone fault text) (date_front text)) ∙ c.requires in
+    let none = number_answer-refused step text c.args.fault refused (sym c.may_be_number.ensures ∙ c.if-not-may_be_number.true) in
     record { answer = sym (known config.timestamp_unit behavior config.time_config.unix_timestamp_offset _ _ _ _ none c.requires) }
 
 pub returns-in-Int : goal.returns-in-Int

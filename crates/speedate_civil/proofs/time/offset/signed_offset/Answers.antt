@@ -15,12 +15,12 @@ use Rattle.speedate_base.specs.Pattern.{eight_at}
 use Rattle.speedate_base.specs.Requirement.{◌else_fault◌, meets}
 use Rattle.speedate_base.proofs.RequirementLemmas.{meets-all, meets-next, meets-value}
 use Rattle.speedate_base.proofs.PatternLemmas.{eight_at-drop}
-use Rattle.speedate_civil.specs.OffsetText.{offset_digits, offset_ranges, signed_answer, offset_minute, offset_minute_place, offset_size}
+use Rattle.speedate_civil.specs.OffsetText.{offset_digits, offset_ranges, signed_front, offset_minute, offset_digits_length, offset_size}
 use Rattle.speedate_civil.proofs.time.offset.signed_offset.Goals as goal
 
--- hour, minute and length of an offset behind its sign, or the fault of its digits
+-- hour, minute and length of an offset after its sign, or the fault of its digits
 abbrev numbers_of : List ℕ → Result (ℕ × ℕ × ℕ) ParseError
-numbers_of rest = meets (offset_digits rest) (Ok (two_digit_value rest 0, offset_minute rest, offset_minute_place rest + 2))
+numbers_of rest = meets (offset_digits rest) (Ok (two_digit_value rest 0, offset_minute rest, offset_digits_length rest))
 
 -- the same, with the minute at a place
 abbrev numbers_at : ℕ → List ℕ → Result (ℕ × ℕ × ℕ) ParseError
@@ -43,47 +43,42 @@ read : (text front : List ℕ) (place : ℕ) (answer : Result (ℕ × ℕ × ℕ
 read text front place answer from is = is ∙ ap numbers_of (from ∙ eight_at-drop place text) ∙ eight-enough (drop place text)
 
 -- what is left to decide once they are known
-abbrev decided : Bool → ℕ → ℕ × ℕ × ℕ → Result (Option ℤ) ParseError
-decided west size numbers = meets (
+abbrev decided : Bool → ℕ → ℕ × ℕ × ℕ → Result (Option ℤ × ℕ) ParseError
+decided west sign numbers = meets (
     (nat_le numbers.1 59 else_fault fault.OutOfRangeTzMinute)
     ∷ (nat_lt (3600 * numbers.0 + 60 * numbers.1) seconds_per_day else_fault fault.OutOfRangeTz)
-    ∷ ((size == numbers.2) else_fault fault.ExtraCharacters)
     ∷ []
-    ) (Ok (Some (with_sign west (3600 * numbers.0 + 60 * numbers.1))))
+    ) (Ok (Some (with_sign west (3600 * numbers.0 + 60 * numbers.1)), sign + numbers.2))
 
-known : (west : Bool) (text front : List ℕ) (place : ℕ) (numbers : ℕ × ℕ × ℕ) → front ≡ eight_at text place → Ok numbers ≡ numbers_of front
-    → decided west (length (drop place text)) numbers ≡ signed_answer west (drop place text)
-known west text front place numbers from is =
+known : (west : Bool) (sign : ℕ) (text front : List ℕ) (place : ℕ) (numbers : ℕ × ℕ × ℕ) → front ≡ eight_at text place → Ok numbers ≡ numbers_of front
+    → decided west sign numbers ≡ signed_front west sign (drop place text)
+known west sign text front place numbers from is =
     let rest : List ℕ = drop place text in
     let value = meets-value (offset_digits rest) _ numbers (sym (read text front place _ from is)) in
-    ap (decided west (length rest)) (sym value.1)
-    ∙ sym (meets-all (offset_digits rest) (meets (offset_ranges rest) (Ok (Some (with_sign west (offset_size rest))))) value.0)
+    ap (decided west sign) (sym value.1)
+    ∙ sym (meets-all (offset_digits rest) (meets (offset_ranges rest) (Ok (Some (with_sign west (offset_size rest)), sign + offset_digits_length rest))) value.0)
 
 pub returns-in_err-hour-clause-answer : goal.returns-in_err-hour-clause-answer
 returns-in_err-hour-clause-answer c =
     let rest : List ℕ = drop c.args.place c.args.bytes.now in
     let p = err_from_is_err_and c.from_residual.result c.from_residual.ensures.1 in
     let refused = read c.args.bytes.now _ c.args.place _ c.eight_bytes.ensures.bytes c.in_err-hour.ensures.numbers in
-    rw (p.1, p.2) (meets-next (offset_digits rest) _ _ (meets (offset_ranges rest) (Ok (Some (with_sign c.args.west (offset_size rest))))) refused)
+    let next : Result (Option ℤ × ℕ) ParseError = meets (offset_ranges rest) (Ok (Some (with_sign c.args.west (offset_size rest)), c.args.sign + offset_digits_length rest)) in
+    rw (p.1, p.2) (meets-next (offset_digits rest) _ _ next refused)
 
 pub returns-then-minute-gt59-clause-answer : goal.returns-then-minute-gt59-clause-answer
 returns-then-minute-gt59-clause-answer c =
-    let is = known c.args.west c.args.bytes.now _ c.args.place (c.in_ok-hour.hour, c.in_ok-hour.minute, c.in_ok-hour.size) c.eight_bytes.ensures.bytes c.in_ok-hour.ensures.numbers in
+    let is = known c.args.west c.args.sign c.args.bytes.now _ c.args.place (c.in_ok-hour.hour, c.in_ok-hour.minute, c.in_ok-hour.size) c.eight_bytes.ensures.bytes c.in_ok-hour.ensures.numbers in
     grind (arith, nat_tests) ∙ is
 
 pub returns-then-seconds-ge-SECONDS_PER_DAY-clause-answer : goal.returns-then-seconds-ge-SECONDS_PER_DAY-clause-answer
 returns-then-seconds-ge-SECONDS_PER_DAY-clause-answer c =
-    let is = known c.args.west c.args.bytes.now _ c.args.place (c.in_ok-hour.hour, c.in_ok-hour.minute, c.in_ok-hour.size) c.eight_bytes.ensures.bytes c.in_ok-hour.ensures.numbers in
+    let is = known c.args.west c.args.sign c.args.bytes.now _ c.args.place (c.in_ok-hour.hour, c.in_ok-hour.minute, c.in_ok-hour.size) c.eight_bytes.ensures.bytes c.in_ok-hour.ensures.numbers in
     grind (arith, nat_tests, c.from.ensures, c.from-2.ensures) ∙ is
-
-pub returns-then-bytes-place-clause-answer : goal.returns-then-bytes-place-clause-answer
-returns-then-bytes-place-clause-answer c =
-    let is = known c.args.west c.args.bytes.now _ c.args.place (c.in_ok-hour.hour, c.in_ok-hour.minute, c.in_ok-hour.size) c.eight_bytes.ensures.bytes c.in_ok-hour.ensures.numbers in
-    grind (arith, nat_tests, c.from.ensures, c.from-2.ensures, length-drop c.args.place c.args.bytes.now) ∙ is
 
 pub returns-clause-answer : goal.returns-clause-answer
 returns-clause-answer c =
-    let is = known c.args.west c.args.bytes.now _ c.args.place (c.in_ok-hour.hour, c.in_ok-hour.minute, c.in_ok-hour.size) c.eight_bytes.ensures.bytes c.in_ok-hour.ensures.numbers in
+    let is = known c.args.west c.args.sign c.args.bytes.now _ c.args.place (c.in_ok-hour.hour, c.in_ok-hour.minute, c.in_ok-hour.size) c.eight_bytes.ensures.bytes c.in_ok-hour.ensures.numbers in
     let fits : SFits w32 c.with_sign.result = search rules in
     let value = to_z-of_z w32 c.with_sign.result fits in
-    grind (arith, nat_tests, c.from.ensures, c.from-2.ensures, value, c.with_sign.ensures.value, length-drop c.args.place c.args.bytes.now) ∙ is
+    grind (arith, nat_tests, c.from.ensures, c.from-2.ensures, value, c.with_sign.ensures.value) ∙ is
