@@ -2,7 +2,7 @@
 use Rattle.std.specs.Prelude.{◌≡◌, ◌↔◌, ℕ, Bool, true, false, List, [], ◌∷◌, length, ◌==◌, Result, Ok, Err, if◌then◌else◌, refl}
 use Rattle.std.specs.Result.{result_and}
 use Rattle.std.proofs.Common.{◌∙◌, ap, ap₂, sym}
-use Rattle.std.proofs.lemmas.Bool.{eq-eqb, eqb-true, eqb-false}
+use Rattle.std.proofs.lemmas.Bool.{eq-eqb, eqb-true, eqb-false, ne_eqb}
 use Rattle.speedate_base.specs.declared.faults.ParseError.{ParseError}
 use Rattle.speedate_base.specs.Requirement.{Requirement, meets, AllHold, alone, result_and_then}
 
@@ -67,6 +67,11 @@ alone-iff fault text (Err refused) value = (λ one. absurd (cc), λ one. absurd 
 pub alone-whole : {A : Type 0} (fault : A → ParseError) (text : List ℕ) (value : A) (size : ℕ) → length text ≡ size
     → alone fault text (value, size) ≡ Ok value
 alone-whole fault text value size same = rw (eq-eqb (length text) size same) refl
+
+-- and where the text goes on, the fault is
+pub alone-longer : {A : Type 0} (fault : A → ParseError) (text : List ℕ) (value : A) (size : ℕ) → (length text ≡ size → ⊥)
+    → alone fault text (value, size) ≡ Err (fault value)
+alone-longer fault text value size other = rw (ne_eqb (length text) size other) refl
 
 -- where every row holds, what comes next is the answer
 pub meets-all : {A : Type 0} (rows : List Requirement) (next : Result A ParseError) → AllHold rows → meets rows next ≡ next

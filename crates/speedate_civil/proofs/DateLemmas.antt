@@ -1,11 +1,9 @@
 -- The text by which a date is printed is read as the date, whatever follows it.
-use Rattle.std.specs.Prelude.{◌≡◌, ℕ, List, [], ◌++◌, ◌≤◌, true, refl, length, Result, Ok}
+use Rattle.std.specs.Prelude.{◌≡◌, ℕ, List, [], ◌++◌, ◌≤◌, true, refl, length, Ok}
 use Rattle.std.specs.Int.{is_in_range, IsInRange}
-use Rattle.std.specs.Result.{result_and}
 use Rattle.std.proofs.Common.{arith, ◌∙◌, ap, sym, subst}
 use Rattle.std.proofs.lemmas.Bool.{le-leb}
 use Rattle.std.proofs.lemmas.Bool.Decides.{nat_tests}
-use Rattle.speedate_base.specs.declared.faults.ParseError.{ParseError}
 use Rattle.speedate_base.specs.declared.faults.ParseError.TheVariants as fault
 use Rattle.speedate_base.proofs.DigitLemmas.{two_digits-printed, four_digits-printed, two_digit_value-printed, four_digit_value-printed}
 use Rattle.speedate_base.specs.Requirement.{alone, result_and_then}

@@ -7,6 +7,7 @@ mod DateTimeInstantLemmas
 mod DateTimeLemmas
 mod DateTimeTimestampLemmas
 mod DayNumberLemmas
+mod FrontLemmas
 mod InstantOrderLemmas
 mod NumberTextLemmas
 mod OffsetLemmas

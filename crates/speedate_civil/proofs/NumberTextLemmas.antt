@@ -1,6 +1,5 @@
 -- No text that begins as a date is a number.
 use Rattle.std.specs.Prelude.{◌≡◌, ◌≢◌, ℕ, ◌<◌, Bool, true, false, ◌==◌, List, length, slice_index, nat_le, if◌then◌else◌, Option, Some, None, ℤ, Result, Ok, Err, refl}
-use Rattle.std.specs.Result.{result_and}
 use Rattle.std.specs.Char.{is_ascii_digit}
 use Rattle.std.proofs.Common.{arith, ap, sym, ◌∙◌}
 use Rattle.std.proofs.lemmas.Bool.{eqb-true, leb-true, false≢true}

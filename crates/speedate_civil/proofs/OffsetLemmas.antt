@@ -1,14 +1,53 @@
 -- A printed offset of whole minutes is read as itself.
-use Rattle.std.specs.Prelude.{◌≡◌, ℕ, zero, suc, ◌+◌, ◌*◌, ◌/◌, ◌%◌, ◌<◌, Bool, true, false, not, ◌||◌, List, ◌∷◌, ◌++◌, length, ◌==◌, slice_index, Option, Some, None, ℤ, pos, negsuc, Ok, refl}
+use Rattle.std.specs.Prelude.{◌≡◌, ℕ, zero, suc, ◌+◌, ◌*◌, ◌/◌, ◌%◌, ◌<◌, Bool, true, false, not, ◌||◌, List, ◌∷◌, ◌++◌, length, drop, nat_lt, if◌then◌else◌, ◌&&◌, ◌==◌, slice_index, Option, Some, None, ℤ, pos, negsuc, Result, Ok, refl}
 use Rattle.std.specs.Option.{ForSome, is_some}
 use Rattle.std.proofs.Common.{arith}
 use Rattle.std.proofs.lemmas.Bool.{le-leb, lt-ltb, le-ltb, ne_eqb, not-true}
 use Rattle.std.proofs.lemmas.Bool.Decides.{nat_tests}
-use Rattle.speedate_base.specs.Ascii.{plus_sign, hyphen, capital_z}
+use Rattle.speedate_base.specs.declared.faults.ParseError.{ParseError}
+use Rattle.speedate_base.specs.Ascii.{plus_sign, hyphen, capital_z, small_z}
 use Rattle.speedate_base.proofs.DigitLemmas.{two_digits-printed, two_digit_value-printed}
 use Rattle.speedate_base.specs.Numbers.{with_sign}
 use Rattle.speedate_base.specs.Offset.{IsOffset, IsWholeMinutes, seconds_per_day}
 use Rattle.speedate_civil.specs.OffsetText.{begins_offset, offset_front, offset_text, offset_size_text, signed_front}
+
+-- the offset without a sign, by whether it is UTC
+abbrev pub unsigned : Bool → Option ℤ × ℕ
+unsigned utc = if utc then (Some (pos 0), 1) else (None, 0)
+
+-- the offset by what a text begins with: U+2212, `+` or `-`, `Z` or `z`
+abbrev pub by_tests : Bool → Bool → Bool → Bool → List ℕ → Result (Option ℤ × ℕ) ParseError
+by_tests minus plus hyphen utc rest =
+    let length = if minus then 3 else (if plus || hyphen then 1 else 0) in
+    if nat_lt 0 length then signed_front (hyphen || minus) length (drop length rest) else Ok (unsigned utc)
+
+pub one_byte : (minus plus hyphen utc : Bool) (rest : List ℕ) → minus ≡ false → (plus || hyphen) ≡ true
+    → by_tests minus plus hyphen utc rest ≡ signed_front hyphen 1 (drop 1 rest)
+one_byte false true true utc rest none some = refl
+one_byte false true false utc rest none some = refl
+one_byte false false true utc rest none some = refl
+one_byte false false false utc rest none some = absurd (cc)
+one_byte true plus hyphen utc rest none some = absurd (cc)
+
+pub three_bytes : (minus plus hyphen utc : Bool) (rest : List ℕ) → minus ≡ true
+    → by_tests minus plus hyphen utc rest ≡ signed_front true 3 (drop 3 rest)
+three_bytes true plus true utc rest there = refl
+three_bytes true plus false utc rest there = refl
+three_bytes false plus hyphen utc rest there = absurd (cc)
+
+pub no_byte : (minus plus hyphen utc : Bool) (rest : List ℕ) → minus ≡ false → (plus || hyphen) ≡ false
+    → by_tests minus plus hyphen utc rest ≡ Ok (unsigned utc)
+no_byte false false false utc rest none nothing = refl
+no_byte false true hyphen utc rest none nothing = absurd (cc)
+no_byte false false true utc rest none nothing = absurd (cc)
+no_byte true plus hyphen utc rest none nothing = absurd (cc)
+
+-- neither `+` and `-` nor `Z` and `z` begin U+2212
+pub no_minus : (byte : ℕ) (second third : Bool) → ((byte == plus_sign) || (byte == hyphen)) ≡ true → ((byte == 0xe2) && second && third) ≡ false
+no_minus byte second third one = grind (arith, nat_tests)
+
+pub no_minus-utc : (byte : ℕ) (second third : Bool) → ((byte == capital_z) || (byte == small_z)) ≡ true → ((byte == 0xe2) && second && third) ≡ false
+no_minus-utc byte second third one = grind (arith, nat_tests)
 
 -- an offset other than 0 is printed with a sign
 offset_text-west : (size : ℕ) → offset_text (Some (negsuc size)) ≡ hyphen ∷ offset_size_text (suc size)

@@ -2,7 +2,7 @@
 -- and `numbers` what follows the sign.
 -- Departs from it: the offset may be left out, and so may its `:`; the sign may be U+2212, as in ISO 8601; `-00:00` is the
 -- offset 0, where RFC 3339 4.3 has it for an unknown one.
-use Rattle.std.specs.Prelude.{ℕ, ◌+◌, ◌*◌, ◌/◌, ◌%◌, Bool, ◌&&◌, ◌||◌, List, [], ◌∷◌, ◌++◌, length, drop, nat_le, nat_lt, ◌==◌, slice_index, if◌then◌else◌, Option, Some, None, ℤ, pos, unsigned_abs, Result, Ok}
+use Rattle.std.specs.Prelude.{ℕ, ◌+◌, ◌*◌, ◌/◌, ◌%◌, Bool, ◌&&◌, ◌||◌, List, [], ◌∷◌, ◌++◌, drop, nat_le, nat_lt, ◌==◌, slice_index, if◌then◌else◌, Option, Some, None, ℤ, pos, unsigned_abs, Result, Ok}
 use Rattle.std.specs.Option.{is_some}
 use Rattle.std.specs.Int.{is_negative}
 use Rattle.speedate_base.specs.declared.faults.ParseError.{ParseError}

@@ -1,6 +1,6 @@
 -- The text of a time of day, `HH:MM:SS` with a fraction and an offset (RFC 3339 5.6, full-time).
 -- Departs from it: as a clock and an offset do.
-use Rattle.std.specs.Prelude.{ℕ, ◌+◌, Bool, not, ◌&&◌, ◌||◌, ◌==◌, List, ◌∷◌, ◌++◌, drop, slice_index, if◌then◌else◌, Option, ℤ, Result, Ok}
+use Rattle.std.specs.Prelude.{ℕ, ◌+◌, Bool, not, ◌&&◌, ◌||◌, ◌==◌, List, ◌∷◌, ◌++◌, drop, slice_index, if◌then◌else◌, Option, ℤ, Result}
 use Rattle.std.specs.Char.{is_ascii_digit}
 use Rattle.std.specs.Option.{is_some}
 use Rattle.speedate_base.specs.declared.config.MicrosecondsPrecisionOverflowBehavior.{MicrosecondsPrecisionOverflowBehavior}

@@ -69,12 +69,13 @@ fn is_day(year: u16, month: u8, day: u8) -> bool
 }
 
 impl Date {
-    ghost use Rattle.std.specs.Prelude.{◌+◌, ◌++◌};
+    ghost use Rattle.std.specs.Prelude.{ℕ, ◌+◌, ◌++◌, List, take};
     ghost use Rattle.arrayvec.specs.ArrayString.{array_string_len};
     ghost use Rattle.speedate_civil.specs.declared.date.Date.{Date};
     ghost use Rattle.speedate_base.specs.declared.config.DateConfig.{DateConfig};
     ghost use Rattle.speedate_base.specs.Numbers.{NoNumber, number_answer};
     ghost use Rattle.speedate_base.specs.Requirement.{result_map, with_size};
+    ghost use Rattle.speedate_civil.specs.Calendar.{Ymd};
     ghost use Rattle.speedate_civil.specs.DateTimestamp.{date_or_timestamp};
     ghost use Rattle.speedate_civil.specs.Date.{parts};
     ghost use Rattle.speedate_civil.specs.DateText.{date_front, date_answer, date_text};
@@ -113,11 +114,16 @@ impl Date {
         Ok(date)
     }
 
-    /// Reads the date at the front of a text, whatever follows it, and how many bytes it takes.
+    /// Reads the date at the front of a text, whatever follows it, and how many bytes it takes, which
+    /// are ten: 22 November 2026 from `b"2026-11-22 opening balance"`. The faults are those of
+    /// [`Date::parse_str_rfc3339`] but for the last, `ExtraCharacters`, in that order.
     #[inline]
     pub fn parse_front(bytes: &[u8]) -> Result<(Self, usize), ParseError>
         ensures answer { result_map (with_size parts) result ≡ date_front bytes.now }
         ensures within { IfOk result (λ front. front.1 ≤ length bytes.now) }
+        ensures whole { (date : Ymd)
+            → (date_answer bytes.now ≡ Ok date) ↔ (result_map (with_size parts) result ≡ Ok (date, length bytes.now)) }
+        ensures alone { IfOk result (λ front. date_answer (take front.1 bytes.now) ≡ Ok (parts front.0)) }
     {
         if bytes.len() < TEXT_LENGTH {
             return Err(ParseError::TooShort);
@@ -147,13 +153,14 @@ impl Date {
     }
 
     /// The canonical text, `YYYY-MM-DD`: `2020-02-29` for 29 February 2020. It reads back as the
-    /// date, which no other date's text does.
+    /// date, which no other date's text does, and at the front of a text too, whatever follows it.
     #[inline]
     pub fn to_text(&self) -> ArrayString<TEXT_LENGTH>
         ensures text { result.bytes ≡ date_text (parts self.now) }
         ensures reads_back { date_answer result.bytes ≡ Ok (parts self.now) }
         ensures reads_back_with_config { (config : DateConfig)
             → date_or_timestamp config.timestamp_unit result.bytes ≡ Ok (parts self.now) }
+        ensures reads_front { (rest : List ℕ) → date_front (result.bytes ++ rest) ≡ Ok (parts self.now, length result.bytes) }
         ensures canonical { result_map date_text (date_answer result.bytes) ≡ Ok result.bytes }
         ensures canonical_with_config { (config : DateConfig)
             → result_map date_text (date_or_timestamp config.timestamp_unit result.bytes) ≡ Ok result.bytes }

@@ -1,9 +1,10 @@
 //! Date-times: a date and a time of day, with or without an offset from UTC.
 
-ghost use Rattle.std.specs.Prelude.{◌≡◌, ◌≤◌, IfOk, IsTrue, length, slice_index, OnOk};
+ghost use Rattle.std.specs.Prelude.{◌≡◌, ◌≤◌, ◌↔◌, IfOk, IsTrue, Ok, length, slice_index, take, OnOk};
 ghost use Rattle.speedate_base.specs.Numbers.{NoNumber, number_answer};
 ghost use Rattle.speedate_base.specs.Requirement.{result_map, with_size};
 ghost use Rattle.speedate_base.specs.declared.config.MicrosecondsPrecisionOverflowBehavior.TheVariants as behavior;
+ghost use Rattle.speedate_civil.specs.DateAndTime.{DateAndTime};
 ghost use Rattle.speedate_civil.specs.DateTimeText.{is_separator, date_time_front, date_time_answer};
 
 mod decimal;
@@ -84,12 +85,23 @@ impl DateTime {
         Ok(value)
     }
 
-    /// Reads the date-time at the front of a text, whatever follows it, and how many bytes it takes.
+    /// Reads the date-time at the front of a text, whatever follows it, and how many bytes it takes:
+    /// 12:13:14.5 on 22 November 2026, an hour east of UTC, and 27 bytes, from
+    /// `b"2026-11-22T12:13:14.5+01:00 GET /"`.
+    ///
+    /// The time goes as far as [`Time::parse_front`] reads on. The faults are those of
+    /// [`DateTime::parse_str_rfc3339`] but for `InvalidCharTzSign` and `ExtraCharacters` of the time,
+    /// in that order.
     #[inline(always)]
     pub fn parse_front(bytes: &[u8], config: &TimeConfig) -> Result<(Self, usize), ParseError>
         ensures answer { result_map (with_size parts) result
             ≡ date_time_front config.now.microseconds_precision_overflow_behavior bytes.now }
         ensures within { IfOk result (λ front. front.1 ≤ length bytes.now) }
+        ensures whole { (value : DateAndTime)
+            → (date_time_answer config.now.microseconds_precision_overflow_behavior bytes.now ≡ Ok value)
+            ↔ (result_map (with_size parts) result ≡ Ok (value, length bytes.now)) }
+        ensures alone { IfOk result (λ front.
+            date_time_answer config.now.microseconds_precision_overflow_behavior (take front.1 bytes.now) ≡ Ok (parts front.0)) }
         ensures no_number { OnOk result (number_answer bytes.now ≡ NoNumber) }
     {
         let (date, _) = Date::parse_front(bytes)?;

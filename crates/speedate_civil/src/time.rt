@@ -45,12 +45,12 @@ pub struct Time {
 }
 
 impl Time {
-    ghost use Rattle.std.specs.Prelude.{◌+◌, ◌*◌, ◌<◌, IfOk, drop, length, None};
+    ghost use Rattle.std.specs.Prelude.{◌+◌, ◌*◌, ◌<◌, ◌↔◌, IfOk, Ok, drop, take, length, None};
     ghost use Rattle.speedate_base.specs.Offset.{seconds_per_day};
     ghost use Rattle.speedate_base.specs.declared.config.MicrosecondsPrecisionOverflowBehavior.TheVariants as behavior;
     ghost use Rattle.speedate_base.specs.Requirement.{result_map, with_size};
     ghost use Rattle.speedate_civil.specs.Time.{parts};
-    ghost use Rattle.speedate_civil.specs.TimeOfDay.{second_of_day, millisecond_of_day, microsecond_of_day, time_at, timestamp_answer};
+    ghost use Rattle.speedate_civil.specs.TimeOfDay.{TimeOfDay, second_of_day, millisecond_of_day, microsecond_of_day, time_at, timestamp_answer};
     ghost use Rattle.speedate_civil.specs.TimeText.{time_front, time_answer};
 
     /// Reads a time from a text: the time that the text is, as 12:13:14 and a half, an hour east
@@ -102,6 +102,28 @@ impl Time {
             ≡ time_answer config.now.microseconds_precision_overflow_behavior bytes.now }
     {
         Self::parse_whole(bytes, config.microseconds_precision_overflow_behavior)
+    }
+
+    /// Reads the time at the front of a text, whatever follows it, and how many bytes it takes:
+    /// 12:13:14.5 an hour east of UTC, and 16 bytes, from `b"12:13:14.5+01:00 GET /"`.
+    ///
+    /// The time goes as far as [`Time::parse_bytes_with_config`] reads on: where a `:` follows the
+    /// minute, two digits have to follow it, where a decimal mark follows the second, a digit, and
+    /// where `+`, `-` or U+2212 follows the clock, an offset. `Z` or `z` is one too. Any other byte
+    /// after the clock, or none, ends a time without an offset. The faults are those of
+    /// [`Time::parse_str`] but for `InvalidCharTzSign` and `ExtraCharacters`, in that order.
+    #[inline(always)]
+    pub fn parse_front(bytes: &[u8], config: &TimeConfig) -> Result<(Self, usize), ParseError>
+        ensures answer { result_map (with_size parts) result
+            ≡ time_front config.now.microseconds_precision_overflow_behavior bytes.now }
+        ensures within { IfOk result (λ front. front.1 ≤ length bytes.now) }
+        ensures whole { (time : TimeOfDay)
+            → (time_answer config.now.microseconds_precision_overflow_behavior bytes.now ≡ Ok time)
+            ↔ (result_map (with_size parts) result ≡ Ok (time, length bytes.now)) }
+        ensures alone { IfOk result (λ front.
+            time_answer config.now.microseconds_precision_overflow_behavior (take front.1 bytes.now) ≡ Ok (parts front.0)) }
+    {
+        Self::front_at(bytes, 0, config.microseconds_precision_overflow_behavior)
     }
 
     /// Reads the time that takes all the bytes.

@@ -10,7 +10,7 @@ use std::fmt;
 const TEXT_MAX: usize = 32;
 
 impl DateTime {
-    ghost use Rattle.std.specs.Prelude.{◌≡◌, ◌≤◌, ◌+◌, ◌++◌, ◌↔◌, Ok};
+    ghost use Rattle.std.specs.Prelude.{ℕ, ◌≡◌, ◌≤◌, ◌+◌, ◌++◌, ◌↔◌, IsTrue, List, Ok, length};
     ghost use Rattle.arrayvec.specs.ArrayString.{array_string_len};
     ghost use Rattle.speedate_base.specs.Offset.{IsWholeMinutes};
     ghost use Rattle.speedate_base.specs.Requirement.{result_map};
@@ -18,14 +18,16 @@ impl DateTime {
     ghost use Rattle.speedate_base.specs.declared.config.date_time.DateTimeConfig.{DateTimeConfig};
     ghost use Rattle.speedate_civil.specs.declared.datetime.DateTime.{DateTime};
     ghost use Rattle.speedate_civil.specs.DateTime.{parts};
-    ghost use Rattle.speedate_civil.specs.DateTimeText.{date_time_answer, date_time_text};
+    ghost use Rattle.speedate_civil.specs.DateTimeText.{date_time_answer, date_time_front, date_time_text};
     ghost use Rattle.speedate_civil.specs.DateTimeTimestamp.{date_time_or_timestamp};
+    ghost use Rattle.speedate_civil.specs.TimeText.{is_after_time};
 
     /// The canonical text, `YYYY-MM-DDTHH:MM:SS`, with a point and six digits where the microsecond
     /// is not 0, and the offset where there is one: `2020-02-29T12:13:14.500000+01:30`.
     ///
     /// It reads back as the date-time, under every configuration, where the offset is absent or whole
-    /// minutes. The seconds of another offset are not printed.
+    /// minutes, and at the front of a text too, where what follows is no part of a time: neither a
+    /// digit, a decimal mark, `Z`, `z` nor a sign. The seconds of another offset are not printed.
     #[inline]
     pub fn to_text(&self) -> ArrayString<TEXT_MAX>
         ensures text { result.bytes ≡ date_time_text (parts self.now) }
@@ -35,6 +37,10 @@ impl DateTime {
             → date_time_or_timestamp config.timestamp_unit
             config.time_config.microseconds_precision_overflow_behavior
             config.time_config.unix_timestamp_offset result.bytes ≡ Ok (parts self.now) }
+        ensures reads_front { IsWholeMinutes self.now.time.tz_offset → (config : TimeConfig) (rest : List ℕ)
+            → IsTrue (is_after_time (parts self.now).time rest)
+            → date_time_front config.microseconds_precision_overflow_behavior (result.bytes ++ rest)
+            ≡ Ok (parts self.now, length result.bytes) }
         ensures canonical { IsWholeMinutes self.now.time.tz_offset → (config : TimeConfig)
             → result_map date_time_text (date_time_answer config.microseconds_precision_overflow_behavior result.bytes)
             ≡ Ok result.bytes }

@@ -37,7 +37,11 @@ pub(crate) fn read_offset(bytes: &[u8], place: usize) -> Result<(Option<i32>, us
     if has_minus_sign(bytes, place) {
         return signed_offset(true, 3, bytes, place + 3);
     }
-    Ok(if is_utc(first) { (Some(0), 1) } else { (None, 0) })
+    Ok(if is_utc(first) {
+        (Some(0), 1)
+    } else {
+        (None, 0)
+    })
 }
 
 /// The fault of a text that goes on after a time with this offset, or after one without.

@@ -12,25 +12,30 @@ use std::fmt;
 const TEXT_MAX: usize = 21;
 
 impl Time {
-    ghost use Rattle.std.specs.Prelude.{◌+◌, ◌++◌, ◌↔◌, Ok};
+    ghost use Rattle.std.specs.Prelude.{ℕ, ◌+◌, ◌++◌, ◌↔◌, IsTrue, List, Ok, length};
     ghost use Rattle.arrayvec.specs.ArrayString.{array_string_len};
     ghost use Rattle.speedate_base.specs.Offset.{IsWholeMinutes};
     ghost use Rattle.speedate_base.specs.Requirement.{result_map};
     ghost use Rattle.speedate_base.specs.declared.config.TimeConfig.{TimeConfig};
     ghost use Rattle.speedate_civil.specs.declared.time.Time.{Time};
     ghost use Rattle.speedate_civil.specs.Time.{parts};
-    ghost use Rattle.speedate_civil.specs.TimeText.{time_answer, clock_text, time_text};
+    ghost use Rattle.speedate_civil.specs.TimeText.{time_answer, time_front, clock_text, time_text, is_after_time};
 
     /// The canonical text, `HH:MM:SS`, a point and six digits where the microsecond is not 0, and
     /// the offset where there is one: `Z`, or a sign, hours and minutes, as `12:13:14.500000+01:30`.
     ///
     /// It reads back as the time, under every configuration, where the offset is absent or whole
-    /// minutes. The seconds of another offset are not printed.
+    /// minutes, and at the front of a text too, where what follows is no part of a time: neither a
+    /// digit, a decimal mark, `Z`, `z` nor a sign. The seconds of another offset are not printed.
     #[inline]
     pub fn to_text(&self) -> ArrayString<TEXT_MAX>
         ensures text { result.bytes ≡ time_text (parts self.now) }
         ensures reads_back { IsWholeMinutes self.now.tz_offset → (config : TimeConfig)
             → time_answer config.microseconds_precision_overflow_behavior result.bytes ≡ Ok (parts self.now) }
+        ensures reads_front { IsWholeMinutes self.now.tz_offset → (config : TimeConfig) (rest : List ℕ)
+            → IsTrue (is_after_time (parts self.now) rest)
+            → time_front config.microseconds_precision_overflow_behavior (result.bytes ++ rest)
+            ≡ Ok (parts self.now, length result.bytes) }
         ensures canonical { IsWholeMinutes self.now.tz_offset → (config : TimeConfig)
             → result_map time_text (time_answer config.microseconds_precision_overflow_behavior result.bytes)
             ≡ Ok result.bytes }

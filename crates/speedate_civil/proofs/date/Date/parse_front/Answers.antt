@@ -6,9 +6,11 @@ use Rattle.std.proofs.lemmas.Bool.Decides.{nat_tests}
 use Rattle.speedate_base.specs.Digits.{four_digits_at, four_digit_value, two_digits_at, two_digit_value}
 use Rattle.speedate_base.proofs.DigitRunLemmas.{one_digit_value-le}
 use Rattle.speedate_base.specs.Pattern.{eight_at, fit_length, fit_digits, neighbours}
-use Rattle.speedate_base.proofs.RequirementLemmas.{meets-all}
+use Rattle.speedate_base.proofs.RequirementLemmas.{alone-iff, meets-all}
 use Rattle.speedate_base.proofs.PatternLemmas.{fit_length-all}
 use Rattle.speedate_civil.specs.Calendar.{Ymd, month_length}
+use Rattle.speedate_base.specs.declared.faults.ParseError.TheVariants as fault
+use Rattle.speedate_civil.proofs.FrontLemmas.{date_front-alone}
 use Rattle.speedate_civil.specs.DateText.{date_table, date_numbers, date_front}
 use Rattle.speedate_civil.proofs.date.Date.parse_front.Goals as goal
 
@@ -121,3 +123,9 @@ returns-in_default-two_digits-clause-answer c =
     let enough : nat_le 10 (length text) ≡ true = le-leb 10 (length text) c.if-bytes-lt-TEXT_LENGTH.false in
     let missing : two_digits_at text 8 ≡ false = day_missing (two_digits_at text 8) (two_digit_value text 8) c.in_default-two_digits.ensures.value in
     rw (enough, front.year, front.first, front.month, front.second, missing) refl
+
+pub returns-clause-whole : goal.returns-clause-whole
+returns-clause-whole c = λ date. rw (returns-clause-answer c) (alone-iff (λ (read : Ymd). fault.ExtraCharacters) c.args.bytes.now _ date)
+
+pub returns-clause-alone : goal.returns-clause-alone
+returns-clause-alone c = date_front-alone c.args.bytes.now _ (sym (returns-clause-answer c)) c.if-bytes-lt-TEXT_LENGTH.false

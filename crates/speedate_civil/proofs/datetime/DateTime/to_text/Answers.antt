@@ -4,7 +4,7 @@ use Rattle.speedate_base.proofs.TextLemmas.{text-alone, text-canonical}
 use Rattle.speedate_civil.specs.DateTime.{parts}
 use Rattle.speedate_civil.specs.DateTimeText.{date_time_answer, date_time_text}
 use Rattle.speedate_civil.specs.DateTimeTimestamp.{date_time_number_answer, date_time_or_timestamp}
-use Rattle.speedate_civil.proofs.DateTimeLemmas.{date_time_text-reads, date_time_text-distinct}
+use Rattle.speedate_civil.proofs.DateTimeLemmas.{date_time_text-front, date_time_text-reads, date_time_text-distinct}
 use Rattle.speedate_civil.specs.NumberText.{or_number}
 use Rattle.speedate_civil.proofs.DateTimeValueLemmas.{is_date_and_time}
 use Rattle.speedate_civil.proofs.datetime.DateTime.to_text.Goals as goal
@@ -26,6 +26,13 @@ returns-clause-reads_back_with_config c whole config =
     ap (date_time_or_timestamp unit behavior offset) bytes
     ∙ ap (or_number (date_time_number_answer unit behavior offset (number_answer (date_time_text (parts value)))))
     (date_time_text-reads behavior (parts value) (is_date_and_time value) whole)
+
+pub returns-clause-reads_front : goal.returns-clause-reads_front
+returns-clause-reads_front c whole config rest after =
+    let value = parts c.args.self.now in
+    let behavior = config.microseconds_precision_overflow_behavior in
+    let bytes = text-alone _ _ _ c.new-text.ensures c.push_onto.ensures.text in
+    rw (bytes) (date_time_text-front behavior value rest (is_date_and_time c.args.self.now) whole after)
 
 pub returns-clause-canonical : goal.returns-clause-canonical
 returns-clause-canonical c whole config =

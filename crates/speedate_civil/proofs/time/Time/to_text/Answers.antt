@@ -2,7 +2,7 @@ use Rattle.std.proofs.Common.{◌∙◌, sym, ap}
 use Rattle.speedate_civil.specs.Time.{parts}
 use Rattle.speedate_base.proofs.TextLemmas.{text-alone, text-canonical}
 use Rattle.speedate_civil.specs.TimeText.{time_answer, time_text}
-use Rattle.speedate_civil.proofs.TimeLemmas.{time_text-reads, time_text-distinct}
+use Rattle.speedate_civil.proofs.TimeLemmas.{time_text-front, time_text-reads, time_text-distinct}
 use Rattle.speedate_civil.proofs.TimeValueLemmas.{is_time}
 use Rattle.speedate_civil.proofs.time.Time.to_text.Goals as goal
 
@@ -12,6 +12,13 @@ returns-clause-reads_back c whole config =
     let behavior = config.microseconds_precision_overflow_behavior in
     let bytes = text-alone _ _ _ c.new-text.ensures c.push_onto.ensures.text in
     ap (time_answer behavior) bytes ∙ time_text-reads behavior (parts time) (is_time time) whole
+
+pub returns-clause-reads_front : goal.returns-clause-reads_front
+returns-clause-reads_front c whole config rest after =
+    let time = parts c.args.self.now in
+    let behavior = config.microseconds_precision_overflow_behavior in
+    let bytes = text-alone _ _ _ c.new-text.ensures c.push_onto.ensures.text in
+    rw (bytes) (time_text-front behavior time rest (is_time c.args.self.now) whole after)
 
 pub returns-clause-canonical : goal.returns-clause-canonical
 returns-clause-canonical c whole config =

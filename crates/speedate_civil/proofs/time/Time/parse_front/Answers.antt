@@ -1,0 +1,27 @@
+use Rattle.std.proofs.Common.{◌≡◌, arith, sym}
+use Rattle.std.specs.Prelude.{ℕ, ◌+◌, ◌≤◌, IfOk, List, length, take, Result, Ok, Err}
+use Rattle.speedate_base.specs.declared.config.MicrosecondsPrecisionOverflowBehavior.{MicrosecondsPrecisionOverflowBehavior}
+use Rattle.speedate_base.specs.declared.faults.ParseError.{ParseError}
+use Rattle.speedate_base.specs.Requirement.{result_map, with_size}
+use Rattle.speedate_base.proofs.RequirementLemmas.{alone-iff}
+use Rattle.speedate_civil.specs.declared.time.Time.{Time}
+use Rattle.speedate_civil.specs.OffsetText.{end_fault}
+use Rattle.speedate_civil.specs.Time.{parts}
+use Rattle.speedate_civil.specs.TimeOfDay.{TimeOfDay}
+use Rattle.speedate_civil.specs.TimeText.{time_front, time_answer}
+use Rattle.speedate_civil.proofs.FrontLemmas.{time_front-alone}
+use Rattle.speedate_civil.proofs.time.Time.parse_front.Goals as goal
+
+pub returns-clause-whole : goal.returns-clause-whole
+returns-clause-whole c = λ time.
+    rw (c.front_at.ensures.answer) (alone-iff (λ (read : TimeOfDay). end_fault read.offset) c.args.bytes.now _ time)
+
+read-alone : (behavior : MicrosecondsPrecisionOverflowBehavior) (text : List ℕ) (result : Result (Time × ℕ) ParseError)
+    → result_map (with_size parts) result ≡ time_front behavior text → IfOk result (λ front. 0 + front.1 ≤ length text)
+    → IfOk result (λ front. time_answer behavior (take front.1 text) ≡ Ok (parts front.0))
+read-alone behavior text (Ok front) is within = time_front-alone behavior text (parts front.0, front.1) (sym is) (omega (arith, within))
+read-alone behavior text (Err fault) is within = tt
+
+pub returns-clause-alone : goal.returns-clause-alone
+returns-clause-alone c =
+    read-alone c.args.config.now.microseconds_precision_overflow_behavior c.args.bytes.now _ c.front_at.ensures.answer c.front_at.ensures.within
