@@ -31,7 +31,7 @@ pub type Pending = ArrayString<PENDING_MAX>;
 
 /// Appends the answer to a line, which is given without the line feed that ends it, and a
 /// line feed.
-#[inline]
+#[inline(always)]
 pub fn answer_line(line: &[u8], pending: &mut Pending)
     requires { array_string_len pending.old + ANSWER_MAX ≤ PENDING_MAX }
     ensures answered { pending.new.bytes ≡ pending.old.bytes ++ (line_answer line.now ++ line_feed ∷ []) }
