@@ -1,6 +1,6 @@
 //! The answer to a line.
 
-ghost use Rattle.std.specs.Prelude.{◌≡◌, ◌+◌, ◌≤◌, length, [], ◌∷◌, ◌++◌};
+ghost use Rattle.std.specs.Prelude.{◌≡◌, ◌+◌, ◌≤◌, true, false, length, take, drop, bytes_eq, MatchOption, [], ◌∷◌, ◌++◌};
 ghost use Rattle.arrayvec.specs.ArrayString.{array_string_len};
 ghost use Rattle.speedate.specs.declared.MicrosecondsPrecisionOverflowBehavior.TheVariants as behavior;
 ghost use Rattle.speedate.specs.Ascii.{line_feed};
@@ -31,25 +31,38 @@ pub type Pending = ArrayString<PENDING_MAX>;
 
 /// Appends the answer to a line, which is given without the line feed that ends it, and a
 /// line feed.
-#[inline]
+#[inline(always)]
 pub fn answer_line(line: &[u8], pending: &mut Pending)
     requires { array_string_len pending.old + ANSWER_MAX ≤ PENDING_MAX }
     ensures answered { pending.new.bytes ≡ pending.old.bytes ++ (line_answer line.now ++ line_feed ∷ []) }
 {
     if line.len() > LINE_MAX {
         refuse("line_too_long", pending)
-    } else if let Some(text) = line.strip_prefix(b"date ") {
+    } else if let Some(text) = text_after(line, b"date ") {
         answer_date(text, pending)
-    } else if let Some(text) = line.strip_prefix(b"time ") {
+    } else if let Some(text) = text_after(line, b"time ") {
         answer_time(text, pending)
-    } else if let Some(text) = line.strip_prefix(b"datetime ") {
+    } else if let Some(text) = text_after(line, b"datetime ") {
         answer_date_time(text, pending)
-    } else if let Some(text) = line.strip_prefix(b"duration ") {
+    } else if let Some(text) = text_after(line, b"duration ") {
         answer_duration(text, IsoOrder::Lax, pending)
-    } else if let Some(text) = line.strip_prefix(b"duration-strict ") {
+    } else if let Some(text) = text_after(line, b"duration-strict ") {
         answer_duration(text, IsoOrder::Strict, pending)
     } else {
         refuse("unknown_kind", pending)
+    }
+}
+
+/// The text after what a line has to begin with. With a known length the test is a comparison or two.
+#[inline(always)]
+fn text_after<'a, const LENGTH: usize>(line: &'a [u8], front: &[u8; LENGTH]) -> Option<&'a [u8]>
+    ensures cases { MatchOption result (bytes_eq (take LENGTH line.now) front.now ≡ false)
+        (λ text. (bytes_eq (take LENGTH line.now) front.now ≡ true)
+        × (text.now ≡ drop LENGTH line.now)) }
+{
+    match line.split_first_chunk::<LENGTH>() {
+        Some((first, text)) if first == front => Some(text),
+        _ => None,
     }
 }
 

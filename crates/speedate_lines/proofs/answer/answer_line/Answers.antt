@@ -20,56 +20,56 @@ returns-in-Some c =
     let same = line_answer-short line c.if-line-gt-LINE_MAX.false ∙ answer_by_kind-first date_kind _ line _ date.0 date.1 in
     record { answered = appended _ _ _ _ c.answer_date.ensures.answered same }
 
-pub returns-in-Some-strip_prefix : goal.returns-in-Some-strip_prefix
-returns-in-Some-strip_prefix c =
+pub returns-in-Some-text_after : goal.returns-in-Some-text_after
+returns-in-Some-text_after c =
     let line = c.args.line.now in
-    let time = c.in-Some-strip_prefix.ensures.cases in
+    let time = c.in-Some-text_after.ensures.cases in
     let same = line_answer-short line c.if-line-gt-LINE_MAX.false
     ∙ answer_by_kind-others date_kind _ line c.in_default.ensures.cases
     ∙ answer_by_kind-first time_kind _ line _ time.0 time.1 in
     record { answered = appended _ _ _ _ c.answer_time.ensures.answered same }
 
-pub returns-in-Some-strip_prefix-2 : goal.returns-in-Some-strip_prefix-2
-returns-in-Some-strip_prefix-2 c =
+pub returns-in-Some-text_after-2 : goal.returns-in-Some-text_after-2
+returns-in-Some-text_after-2 c =
     let line = c.args.line.now in
-    let value = c.in-Some-strip_prefix-2.ensures.cases in
+    let value = c.in-Some-text_after-2.ensures.cases in
     let same = line_answer-short line c.if-line-gt-LINE_MAX.false
     ∙ answer_by_kind-others date_kind _ line c.in_default.ensures.cases
-    ∙ answer_by_kind-others time_kind _ line c.in_default-strip_prefix.ensures.cases
+    ∙ answer_by_kind-others time_kind _ line c.in_default-text_after.ensures.cases
     ∙ answer_by_kind-first date_time_kind _ line _ value.0 value.1 in
     record { answered = appended _ _ _ _ c.answer_date_time.ensures.answered same }
 
-pub returns-in-Some-strip_prefix-3 : goal.returns-in-Some-strip_prefix-3
-returns-in-Some-strip_prefix-3 c =
+pub returns-in-Some-text_after-3 : goal.returns-in-Some-text_after-3
+returns-in-Some-text_after-3 c =
     let line = c.args.line.now in
-    let duration = c.in-Some-strip_prefix-3.ensures.cases in
+    let duration = c.in-Some-text_after-3.ensures.cases in
     let same = line_answer-short line c.if-line-gt-LINE_MAX.false
     ∙ answer_by_kind-others date_kind _ line c.in_default.ensures.cases
-    ∙ answer_by_kind-others time_kind _ line c.in_default-strip_prefix.ensures.cases
-    ∙ answer_by_kind-others date_time_kind _ line c.in_default-strip_prefix-2.ensures.cases
+    ∙ answer_by_kind-others time_kind _ line c.in_default-text_after.ensures.cases
+    ∙ answer_by_kind-others date_time_kind _ line c.in_default-text_after-2.ensures.cases
     ∙ answer_by_kind-first duration_kind _ line _ duration.0 duration.1 in
     record { answered = appended _ _ _ _ c.answer_duration.ensures.answered same }
 
-pub returns-in-Some-strip_prefix-4 : goal.returns-in-Some-strip_prefix-4
-returns-in-Some-strip_prefix-4 c =
+pub returns-in-Some-text_after-4 : goal.returns-in-Some-text_after-4
+returns-in-Some-text_after-4 c =
     let line = c.args.line.now in
-    let duration = c.in-Some-strip_prefix-4.ensures.cases in
+    let duration = c.in-Some-text_after-4.ensures.cases in
     let same = line_answer-short line c.if-line-gt-LINE_MAX.false
     ∙ answer_by_kind-others date_kind _ line c.in_default.ensures.cases
-    ∙ answer_by_kind-others time_kind _ line c.in_default-strip_prefix.ensures.cases
-    ∙ answer_by_kind-others date_time_kind _ line c.in_default-strip_prefix-2.ensures.cases
-    ∙ answer_by_kind-others duration_kind _ line c.in_default-strip_prefix-3.ensures.cases
+    ∙ answer_by_kind-others time_kind _ line c.in_default-text_after.ensures.cases
+    ∙ answer_by_kind-others date_time_kind _ line c.in_default-text_after-2.ensures.cases
+    ∙ answer_by_kind-others duration_kind _ line c.in_default-text_after-3.ensures.cases
     ∙ answer_by_kind-first strict_duration_kind _ line _ duration.0 duration.1 in
-    record { answered = appended _ _ _ _ c.answer_duration-in-Some-strip_prefix-4.ensures.answered same }
+    record { answered = appended _ _ _ _ c.answer_duration-in-Some-text_after-4.ensures.answered same }
 
-pub returns-in_default-strip_prefix-4 : goal.returns-in_default-strip_prefix-4
-returns-in_default-strip_prefix-4 c =
+pub returns-in_default-text_after-4 : goal.returns-in_default-text_after-4
+returns-in_default-text_after-4 c =
     let line = c.args.line.now in
     let same = line_answer-short line c.if-line-gt-LINE_MAX.false
     ∙ answer_by_kind-others date_kind _ line c.in_default.ensures.cases
-    ∙ answer_by_kind-others time_kind _ line c.in_default-strip_prefix.ensures.cases
-    ∙ answer_by_kind-others date_time_kind _ line c.in_default-strip_prefix-2.ensures.cases
-    ∙ answer_by_kind-others duration_kind _ line c.in_default-strip_prefix-3.ensures.cases
-    ∙ answer_by_kind-others strict_duration_kind _ line c.in_default-strip_prefix-4.ensures.cases
+    ∙ answer_by_kind-others time_kind _ line c.in_default-text_after.ensures.cases
+    ∙ answer_by_kind-others date_time_kind _ line c.in_default-text_after-2.ensures.cases
+    ∙ answer_by_kind-others duration_kind _ line c.in_default-text_after-3.ensures.cases
+    ∙ answer_by_kind-others strict_duration_kind _ line c.in_default-text_after-4.ensures.cases
     ∙ answer_by_kind-none line in
-    record { answered = appended _ _ _ _ c.refuse-in_default-strip_prefix-4.ensures.answered same }
+    record { answered = appended _ _ _ _ c.refuse-in_default-text_after-4.ensures.answered same }
