@@ -134,11 +134,12 @@ impl Time {
     ) -> Result<Self, ParseError>
         ensures answer { result_map parts result ≡ time_answer behavior bytes.now }
     {
-        let (time, size) = Self::front_at(bytes, 0, behavior)?;
-        if size != bytes.len() {
-            return Err(end_fault(time.tz_offset));
+        let clock = PureTime::parse(bytes, 0, behavior)?;
+        let (tz_offset, size) = read_offset(bytes, clock.size)?;
+        if clock.size + size != bytes.len() {
+            return Err(end_fault(tz_offset));
         }
-        Ok(time)
+        Ok(clock.at_offset(tz_offset))
     }
 
     /// Reads the time that begins at `place`, and how many bytes it takes, whatever follows it.
@@ -154,14 +155,7 @@ impl Time {
     {
         let clock = PureTime::parse(bytes, place, behavior)?;
         let (tz_offset, size) = read_offset(bytes, place + clock.size)?;
-        let time = Time {
-            hour: clock.hour,
-            minute: clock.minute,
-            second: clock.second,
-            microsecond: clock.microsecond,
-            tz_offset,
-        };
-        Ok((time, clock.size + size))
+        Ok((clock.at_offset(tz_offset), clock.size + size))
     }
 
     /// The time so many seconds and microseconds after midnight, without an offset: 10:00:06.5 for

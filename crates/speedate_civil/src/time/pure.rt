@@ -5,6 +5,7 @@ ghost use Rattle.speedate_base.specs.Digits.{two_digit_value};
 ghost use Rattle.speedate_base.specs.Pattern.{fit_length};
 ghost use Rattle.speedate_civil.specs.ClockText.{has_point, second_there};
 
+use crate::time::Time;
 use crate::time::fraction::Fraction;
 use speedate_base::config::{MicrosecondsPrecisionOverflowBehavior, takes_digits};
 use speedate_base::faults::ParseError;
@@ -33,7 +34,11 @@ pub struct PureTime {
 impl PureTime {
     ghost use Rattle.speedate_base.specs.Requirement.{result_map};
     ghost use Rattle.speedate_civil.specs.ClockText.{at_hour, clock_answer, clock_front, minute_front};
+    ghost use Rattle.speedate_base.specs.Offset.{IsOffset};
+    ghost use Rattle.std.specs.Option.{ForSome};
     ghost use Rattle.speedate_civil.specs.PureTime.{parts};
+    ghost use Rattle.speedate_civil.specs.Time.{parts as time_parts};
+    ghost use Rattle.speedate_civil.specs.TimeText.{time_of};
 
     /// Reads the time that begins at `place`, whatever follows it: 12:13:14 and a half, in ten
     /// bytes, from `b"P12:13:14.5Z"` at place 1. The faults are those of
@@ -105,6 +110,21 @@ impl PureTime {
             _ => Some(Some(second)),
         };
         Self::after_minute(minute, second, rest, 0, behavior)
+    }
+
+    /// The time of day with this offset, if there is one.
+    #[inline(always)]
+    pub(super) fn at_offset(self, tz_offset: Option<i32>) -> Time
+        requires { ForSome tz_offset IsOffset }
+        ensures time { time_parts result ≡ time_of (parts self) tz_offset }
+    {
+        Time {
+            hour: self.hour,
+            minute: self.minute,
+            second: self.second,
+            microsecond: self.microsecond,
+            tz_offset,
+        }
     }
 
     /// Tests the range of the minute that stands at `place`, and of the second, and reads the fraction

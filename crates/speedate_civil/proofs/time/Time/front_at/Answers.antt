@@ -7,6 +7,7 @@ use Rattle.speedate_base.specs.Requirement.{result_map, result_and_then}
 use Rattle.speedate_civil.specs.ClockText.{Clock}
 use Rattle.speedate_civil.specs.OffsetText.{offset_front}
 use Rattle.speedate_civil.specs.PureTime.{parts}
+use Rattle.speedate_civil.specs.TimeOfDay.{TimeOfDay}
 use Rattle.speedate_civil.specs.TimeText.{joined, with_offset}
 use Rattle.speedate_civil.proofs.time.Time.front_at.Goals as goal
 
@@ -27,4 +28,6 @@ returns-in_err-tz_offset-clause-answer c =
 pub returns-clause-answer : goal.returns-clause-answer
 returns-clause-answer c =
     let read = sym (ap (result_map parts) c.in_ok-clock.was) ∙ c.parse.ensures.answer in
-    known c.args.bytes.now c.args.place _ _ _ read c.in_ok-tz_offset.ensures.answer
+    let size = c.in_ok-clock.clock.size + c.in_ok-tz_offset.size in
+    ap (λ (time : TimeOfDay). Ok (time, size)) c.at_offset.ensures.time
+    ∙ known c.args.bytes.now c.args.place _ _ _ read c.in_ok-tz_offset.ensures.answer
