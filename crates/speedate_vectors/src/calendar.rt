@@ -1,6 +1,6 @@
 //! Day numbers, days of the year and midnights, and the walk over the calendar.
 
-use crate::rows::{value, words};
+use crate::rows::{same, value, words};
 use jiff::civil;
 use speedate::Date;
 use std::test::Fail;
@@ -41,8 +41,8 @@ fn day_numbers(rt: HostRuntime) {
     for row in NUMBERED.lines() {
         let [number, text, ..] = words(row);
         let (number, date): (u32, Date) = (value(&rt, number), value(&rt, text));
-        assert_eq!(rt; date.day_number(), number, "{row}");
-        assert_eq!(rt; Date::from_day_number(number), Some(date), "{row}");
+        same(&rt, date.day_number(), number, row);
+        same(&rt, Date::from_day_number(number), Some(date), row);
     }
     assert_eq!(rt; Date::from_day_number(3_652_425), None);
 }
@@ -52,7 +52,7 @@ fn next_days(rt: HostRuntime) {
     for row in NEXT.lines() {
         let [text, next, ..] = words(row);
         let date: Date = value(&rt, text);
-        assert_eq!(rt; date.next_day(), Some(value(&rt, next)), "{row}");
+        same(&rt, date.next_day(), Some(value(&rt, next)), row);
     }
 }
 
@@ -61,9 +61,9 @@ fn days_of_the_year_and_midnights(rt: HostRuntime) {
     for row in COUNTED.lines() {
         let [text, day, second, ..] = words(row);
         let (date, second): (Date, i64) = (value(&rt, text), value(&rt, second));
-        assert_eq!(rt; date.ordinal_day(), value(&rt, day), "{row}");
-        assert_eq!(rt; date.timestamp(), second, "{row}");
-        assert_eq!(rt; date.timestamp_ms(), second.saturating_mul(1000), "{row}");
+        same(&rt, date.ordinal_day(), value(&rt, day), row);
+        same(&rt, date.timestamp(), second, row);
+        same(&rt, date.timestamp_ms(), second.saturating_mul(1000), row);
     }
 }
 
@@ -75,9 +75,17 @@ fn each_day_of_the_calendar(rt: HostRuntime) -> Result<(), Fail> {
         let date = next.expect(&rt, "a date");
         let day = civil?;
         assert_eq!(rt; Date::from_day_number(number), Some(date), "{number}");
-        assert_eq!(rt; i32::from(date.year), i32::from(day.year()), "{date}");
-        assert_eq!(rt; i32::from(date.month), i32::from(day.month()), "{date}");
-        assert_eq!(rt; i32::from(date.day), i32::from(day.day()), "{date}");
+        let found = (
+            i32::from(date.year),
+            i32::from(date.month),
+            i32::from(date.day),
+        );
+        let want = (
+            i32::from(day.year()),
+            i32::from(day.month()),
+            i32::from(day.day()),
+        );
+        assert_eq!(rt; found, want, "{number}");
         next = date.next_day();
         civil = day.tomorrow();
     }

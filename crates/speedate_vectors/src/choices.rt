@@ -1,6 +1,6 @@
 //! Units and behaviors by their names.
 
-use crate::rows::quoted;
+use crate::rows::{quoted, same};
 use arrayvec::ArrayString;
 use speedate::{ConfigError, MicrosecondsPrecisionOverflowBehavior, TimestampUnit};
 use std::fmt::{Debug, Write};
@@ -44,9 +44,9 @@ fn expect_each<T: FromStr<Err = ConfigError> + Debug + Copy, R: Abort>(rt: &R, t
             Ok(choice) => {
                 let mut name = ArrayString::<64>::new();
                 assert!(rt; write!(name, "{choice:?}").is_ok(), "{row}");
-                assert_eq!(rt; name.as_str(), want, "{row}");
+                same(rt, name.as_str(), want, row);
             }
-            Err(fault) => assert_eq!(rt; fault.name(), want, "{row}"),
+            Err(fault) => same(rt, fault.name(), want, row),
         }
     }
 }

@@ -1,7 +1,7 @@
 //! Date-times from texts and from timestamps, and their timestamps.
 
 use crate::configs::{date_time_config, time_config};
-use crate::rows::{bytes, expect, quoted, value, words};
+use crate::rows::{bytes, expect, quoted, same, value, words};
 use speedate::{DateTime, DateTimeConfig, IntFloat, ParseError, float_parse_str};
 use std::test::Fail;
 
@@ -358,13 +358,10 @@ fn counted(rt: HostRuntime) {
     for row in COUNTED.lines() {
         let [text, second, millisecond, utc_second, utc_millisecond] = words(row);
         let shown: DateTime = value(&rt, text);
-        assert_eq!(rt; shown.timestamp(), value(&rt, second), "{row}");
-        assert_eq!(rt; shown.timestamp_ms(), value(&rt, millisecond), "{row}");
-        assert_eq!(rt; shown.timestamp_tz(), value(&rt, utc_second), "{row}");
-        assert_eq!(rt;
-            shown.timestamp_tz_ms(),
-            value(&rt, utc_millisecond),
-            "{row}"
-        );
+        same(&rt, shown.timestamp(), value(&rt, second), row);
+        same(&rt, shown.timestamp_ms(), value(&rt, millisecond), row);
+        same(&rt, shown.timestamp_tz(), value(&rt, utc_second), row);
+        let found = shown.timestamp_tz_ms();
+        same(&rt, found, value(&rt, utc_millisecond), row);
     }
 }

@@ -1,7 +1,7 @@
 //! Durations from texts and from numbers, and their totals.
 
 use crate::configs::time_config;
-use crate::rows::{bytes, expect, quoted, value, words};
+use crate::rows::{bytes, expect, quoted, same, value, words};
 use speedate::{Duration, IsoOrder, TimeConfig};
 use std::test::Fail;
 
@@ -379,11 +379,8 @@ fn ordered_texts(rt: HostRuntime) {
 fn exchanged_texts(rt: HostRuntime) {
     for row in EXCHANGED.lines() {
         let [first, second, ..] = words(row);
-        assert_eq!(rt;
-            Duration::parse_str(first),
-            Duration::parse_str(second),
-            "{row}"
-        );
+        let found = Duration::parse_str(first);
+        same(&rt, found, Duration::parse_str(second), row);
     }
 }
 
@@ -410,20 +407,23 @@ fn totals(rt: HostRuntime) {
     for row in TOTALS.lines() {
         let [text, second, microsecond, millisecond, ..] = words(row);
         let duration: Duration = value(&rt, text);
-        assert_eq!(rt;
+        same(
+            &rt,
             duration.signed_total_seconds(),
             value(&rt, second),
-            "{row}"
+            row,
         );
-        assert_eq!(rt;
+        same(
+            &rt,
             duration.signed_microseconds(),
             value(&rt, microsecond),
-            "{row}"
+            row,
         );
-        assert_eq!(rt;
+        same(
+            &rt,
             duration.signed_total_ms(),
             value(&rt, millisecond),
-            "{row}"
+            row,
         );
     }
 }

@@ -1,5 +1,6 @@
 //! The faults by name, and their documentation texts.
 
+use crate::rows::same;
 use crate::shown::{expect_debug, expect_shown};
 use speedate::{ConfigError, ParseError};
 
@@ -99,8 +100,9 @@ fn of_texts_that_are_read(rt: HostRuntime) {
     for (fault, row) in FAULTS.iter().zip(TEXTS.lines()) {
         let (variant, texts) = row.split_once(' ').expect(&rt, row);
         let (name, documentation) = texts.trim_start().split_once(' ').expect(&rt, row);
-        assert_eq!(rt; fault.name(), name);
-        assert_eq!(rt; fault.get_documentation(), Some(documentation.trim_start()));
+        same(&rt, fault.name(), name, row);
+        let documentation = documentation.trim_start();
+        same(&rt, fault.get_documentation(), Some(documentation), row);
         expect_shown(&rt, fault, name);
         expect_debug(&rt, fault, variant);
     }

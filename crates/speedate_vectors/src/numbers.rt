@@ -1,6 +1,6 @@
 //! Whole numbers and decimals.
 
-use crate::rows::{bytes, quoted, value};
+use crate::rows::{bytes, quoted, same, value};
 use speedate::{IntFloat, float_parse_bytes, float_parse_str, int_parse_bytes, int_parse_str};
 use std::process::Abort;
 use std::test::Fail;
@@ -77,9 +77,9 @@ fn whole_numbers(rt: HostRuntime) -> Result<(), Fail> {
             Some(value(&rt, want))
         };
         let bytes = bytes(&rt, text)?;
-        assert_eq!(rt; int_parse_bytes(&bytes), want, "{row}");
+        same(&rt, int_parse_bytes(&bytes), want, row);
         if !text.contains('<') {
-            assert_eq!(rt; int_parse_str(text), want, "{row}");
+            same(&rt, int_parse_str(text), want, row);
         }
     }
     Ok(())
@@ -87,18 +87,15 @@ fn whole_numbers(rt: HostRuntime) -> Result<(), Fail> {
 
 /// A number that was read is to be the one that is written so.
 fn expect_number<R: Abort>(rt: &R, read: IntFloat<'_>, want: &str, row: &str) {
-    assert_eq!(rt; read.is_err(), want == "none", "{row}");
+    same(rt, read.is_err(), want == "none", row);
     match read {
-        IntFloat::Int(number) => assert_eq!(rt; number, value(rt, want), "{row}"),
+        IntFloat::Int(number) => same(rt, number, value(rt, want), row),
         IntFloat::Float(decimal) => {
-            assert_eq!(rt; decimal.negative, want.starts_with('-'), "{row}");
+            same(rt, decimal.negative, want.starts_with('-'), row);
             let (whole, fraction) = want.split_once('.').expect(rt, row);
-            assert_eq!(rt;
-                decimal.whole,
-                whole.trim_start_matches('-').as_bytes(),
-                "{row}"
-            );
-            assert_eq!(rt; decimal.fraction, fraction.as_bytes(), "{row}");
+            let whole = whole.trim_start_matches('-');
+            same(rt, decimal.whole, whole.as_bytes(), row);
+            same(rt, decimal.fraction, fraction.as_bytes(), row);
         }
         IntFloat::Err => {}
     }

@@ -1,6 +1,6 @@
 //! The orders of dates, of times and date-times by instant, and of durations.
 
-use crate::rows::{value, words};
+use crate::rows::{same, value, words};
 use speedate::{Date, DateTime, Duration, Time};
 use std::cmp::Ordering;
 use std::process::Abort;
@@ -48,18 +48,18 @@ fn expect_order<R: Abort>(rt: &R, sign: &str, found: Ordering, turned: Ordering,
     } else {
         Ordering::Equal
     };
-    assert_eq!(rt; found, want, "{row}");
-    assert_eq!(rt; turned, want.reverse(), "{row}");
+    same(rt, found, want, row);
+    same(rt, turned, want.reverse(), row);
 }
 
 #[test]
 fn dates(rt: HostRuntime) {
     for row in DATES.lines() {
         let [one, sign, two, ..] = words(row);
-        assert_eq!(rt; one.cmp(two).is_lt(), sign == "<", "{row}");
+        same(&rt, one.cmp(two).is_lt(), sign == "<", row);
         let (one, two): (Date, Date) = (value(&rt, one), value(&rt, two));
         expect_order(&rt, sign, one.cmp(&two), two.cmp(&one), row);
-        assert_eq!(rt; one < two, sign == "<", "{row}");
+        same(&rt, one < two, sign == "<", row);
     }
 }
 
@@ -88,7 +88,7 @@ fn durations(rt: HostRuntime) {
         let [one, sign, two, ..] = words(row);
         let (one, two): (Duration, Duration) = (value(&rt, one), value(&rt, two));
         expect_order(&rt, sign, one.cmp(&two), two.cmp(&one), row);
-        assert_eq!(rt; one < two, sign == "<", "{row}");
-        assert_eq!(rt; one == two, sign == "=", "{row}");
+        same(&rt, one < two, sign == "<", row);
+        same(&rt, one == two, sign == "=", row);
     }
 }

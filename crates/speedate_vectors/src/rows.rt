@@ -4,7 +4,7 @@
 use arrayvec::ArrayString;
 use speedate::ParseError;
 use std::alloc::AllocError;
-use std::fmt::{Display, Write};
+use std::fmt::{Debug, Display, Write};
 use std::process::Abort;
 use std::str::FromStr;
 
@@ -34,6 +34,11 @@ where
     word.parse().ok().expect(rt, word)
 }
 
+/// What was found is to be what the row wants.
+pub fn same<T: PartialEq + Debug + Copy, R: Abort>(rt: &R, found: T, want: T, row: &str) {
+    assert_eq!(rt; found, want, "{row}");
+}
+
 /// The bytes of a text in quotes.
 pub fn bytes<R: AllocGlobal + Abort>(rt: &R, text: &str) -> Result<Vec<u8>, AllocError> {
     let mut bytes = Vec::new(rt.alloc());
@@ -59,8 +64,8 @@ pub fn expect<T: Display + Copy, R: Abort>(
         Ok(value) => {
             let mut text = ArrayString::<64>::new();
             assert!(rt; write!(text, "{value}").is_ok(), "{row}");
-            assert_eq!(rt; text.as_str(), want, "{row}");
+            same(rt, text.as_str(), want, row);
         }
-        Err(fault) => assert_eq!(rt; fault.name(), want, "{row}"),
+        Err(fault) => same(rt, fault.name(), want, row),
     }
 }

@@ -1,7 +1,7 @@
 //! Times of day from texts and from timestamps, and what has gone by since midnight.
 
 use crate::configs::{offset, time_config};
-use crate::rows::{expect, quoted, value, words};
+use crate::rows::{expect, quoted, same, value, words};
 use speedate::{Time, TimeConfig};
 
 /// Texts, and the answer of each reader under both behaviors.
@@ -183,7 +183,7 @@ fn since_midnight(rt: HostRuntime) {
     for row in SINCE_MIDNIGHT.lines() {
         let [time, second, millisecond, ..] = words(row);
         let time: Time = value(&rt, time);
-        assert_eq!(rt; time.total_seconds(), value(&rt, second), "{row}");
-        assert_eq!(rt; time.total_ms(), value(&rt, millisecond), "{row}");
+        same(&rt, time.total_seconds(), value(&rt, second), row);
+        same(&rt, time.total_ms(), value(&rt, millisecond), row);
     }
 }
