@@ -1,13 +1,14 @@
 mod CalendarFacts
+mod DaysLemmas
 mod ClockLemmas
 mod DateLemmas
 mod DateNumberedLemmas
 pub mod DateOrderLemmas
-mod DateTimeInstantLemmas
+pub mod DateTimeInstantLemmas
 mod DateTimeLemmas
 mod DateTimeTimestampLemmas
 mod DayNumberLemmas
-mod InstantOrderLemmas
+pub mod InstantOrderLemmas
 mod NumberTextLemmas
 mod OffsetLemmas
 mod OffsetMoveLemmas
@@ -15,6 +16,6 @@ mod StandardFacts
 mod TimeLemmas
 pub mod DateValueLemmas
 mod TimeValueLemmas
-mod DateTimeValueLemmas
+pub mod DateTimeValueLemmas
 mod MonthLemmas
 mod YearLemmas

@@ -7,6 +7,7 @@ ghost use Rattle.speedate_base.specs.declared.config.MicrosecondsPrecisionOverfl
 ghost use Rattle.speedate_civil.specs.DateTimeText.{is_separator, date_time_answer};
 
 mod decimal;
+mod instant;
 mod now;
 mod order;
 mod text;
@@ -15,6 +16,7 @@ mod timezone;
 
 use crate::date::Date;
 use crate::time::Time;
+pub use instant::of_instant;
 pub use now::Moment;
 use speedate_base::config::TimeConfig;
 use speedate_base::faults::ParseError;
