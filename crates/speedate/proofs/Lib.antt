@@ -2,6 +2,7 @@ mod ClockFormLemmas
 mod DurationAnswerLemmas
 mod StandardFacts
 mod DurationLemmas
+mod DurationMoveLemmas
 pub mod DurationTextLemmas
 mod ExchangedLemmas
 mod InOrderLemmas

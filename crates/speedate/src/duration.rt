@@ -11,6 +11,7 @@ ghost use Rattle.speedate.specs.DurationNumbers.{length_seconds, length_microsec
 mod clock;
 mod days;
 mod iso;
+mod moved;
 mod order;
 mod text;
 mod unsigned;

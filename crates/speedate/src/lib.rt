@@ -13,6 +13,6 @@ pub use speedate_base::faults::{ConfigError, ParseError};
 pub use speedate_base::numbers::{
     Decimal, IntFloat, float_parse_bytes, float_parse_str, int_parse_bytes, int_parse_str,
 };
-pub use speedate_civil::date::Date;
+pub use speedate_civil::date::{Date, is_leap_year, month_length};
 pub use speedate_civil::datetime::{DateTime, Moment};
 pub use speedate_civil::time::Time;

@@ -1,6 +1,8 @@
--- The texts by which a unit of timestamps and a behavior are chosen: names, in letters of any case.
+-- The texts by which a unit of timestamps, a behavior and an order are chosen: names, in letters of any case.
 use Rattle.std.specs.Prelude.{ℕ, List, [], ◌∷◌, codes, if◌then◌else◌, Result, Ok, Err}
 use Rattle.std.specs.Str.{str_eq_ignore_ascii_case}
+use Rattle.speedate_base.specs.declared.config.IsoOrder.{IsoOrder}
+use Rattle.speedate_base.specs.declared.config.IsoOrder.TheVariants as order
 use Rattle.speedate_base.specs.declared.config.MicrosecondsPrecisionOverflowBehavior.{MicrosecondsPrecisionOverflowBehavior}
 use Rattle.speedate_base.specs.declared.config.MicrosecondsPrecisionOverflowBehavior.TheVariants as behavior
 use Rattle.speedate_base.specs.declared.config.TimestampUnit.{TimestampUnit}
@@ -44,3 +46,11 @@ behavior_choices = (codes "truncate" chooses behavior.Truncate) ∷ (codes "erro
 -- the behavior that a text names, or the fault
 abbrev pub behavior_answer : List ℕ → Result MicrosecondsPrecisionOverflowBehavior ConfigError
 behavior_answer text = choice_answer behavior_choices fault.UnknownMicrosecondsPrecisionOverflowBehaviorString text
+
+-- the orders of components by their names
+abbrev pub order_choices : List (Choice IsoOrder)
+order_choices = (codes "lax" chooses order.Lax) ∷ (codes "strict" chooses order.Strict) ∷ []
+
+-- the order that a text names, or the fault
+abbrev pub order_answer : List ℕ → Result IsoOrder ConfigError
+order_answer text = choice_answer order_choices fault.UnknownIsoOrderString text

@@ -1,5 +1,7 @@
 -- Whole numbers and decimals, as texts. This grammar is the library's own.
 use Rattle.std.specs.Prelude.{◌≡◌, ◌⊎◌, MatchBool, codes, ℕ, ◌+◌, ◌^◌, Bool, ◌&&◌, ◌||◌, List, [], ◌∷◌, ◌++◌, length, slice_index, nat_lt, nat_le, ◌==◌, if◌then◌else◌, Option, Some, None, ℤ, pos, neg_ℤ}
+use Rattle.std.specs.Char.{is_ascii_digit}
+use Rattle.std.specs.List.{list_all}
 use Rattle.speedate_base.specs.Ascii.{plus_sign, hyphen, full_stop}
 use Rattle.speedate_base.specs.DigitRuns.{run_length, run_digits, run_value}
 
@@ -38,6 +40,12 @@ pub record DecimalParts : Type 0 where
   pub negative : Bool
   pub whole : List ℕ
   pub fraction : List ℕ
+
+-- the decimal of a sign and digits on both sides of the point, of which there is one at least
+abbrev pub decimal_of_digits : DecimalParts → Option DecimalParts
+decimal_of_digits decimal =
+    if list_all is_ascii_digit decimal.whole && list_all is_ascii_digit decimal.fraction && nat_lt 0 (length decimal.whole + length decimal.fraction)
+    then Some decimal else None
 
 -- the place of a decimal's point, after its sign and the digits before it
 abbrev pub point_place : List ℕ → ℕ

@@ -1,6 +1,8 @@
 -- Offsets from UTC, in seconds.
-use Rattle.std.specs.Prelude.{◌≡◌, ◌%◌, ◌<◌, ℕ, Option, ℤ, unsigned_abs}
-use Rattle.std.specs.Option.{ForSome}
+use Rattle.std.specs.Prelude.{◌≡◌, ◌%◌, ◌<◌, ℕ, Bool, true, List, [], ◌∷◌, nat_lt, Option, ℤ, unsigned_abs}
+use Rattle.std.specs.Option.{ForSome, option_map_or}
+use Rattle.speedate_base.specs.declared.faults.ParseError.TheVariants as fault
+use Rattle.speedate_base.specs.Requirement.{Requirement, ◌else_fault◌}
 
 -- the seconds of a day
 abbrev pub seconds_per_day : ℕ
@@ -9,6 +11,14 @@ seconds_per_day = 86400
 -- an offset is less than 24 hours (RFC 3339 5.6, time-hour and time-minute of time-numoffset)
 abbrev pub IsOffset : ℤ → Type 0
 IsOffset offset = unsigned_abs offset < seconds_per_day
+
+-- and the test of it
+abbrev pub is_offset : ℤ → Bool
+is_offset offset = nat_lt (unsigned_abs offset) seconds_per_day
+
+-- what an offset that is asked for has to meet; where none is asked for there is nothing to meet
+abbrev pub offset_table : Option ℤ → List Requirement
+offset_table offset = (option_map_or is_offset offset true else_fault fault.OutOfRangeTz) ∷ []
 
 -- an offset, if there is one, is whole minutes (RFC 3339 4.2)
 abbrev pub IsWholeMinutes : Option ℤ → Type 0

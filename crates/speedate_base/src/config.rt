@@ -1,15 +1,17 @@
 //! Configurations: the unit of timestamps, how times are read, and which offset the values of
 //! timestamps get.
 
-ghost use Rattle.std.specs.Prelude.{◌≡◌, nat_le};
+ghost use Rattle.std.specs.Prelude.{◌≡◌, IfOk, IsTrue, Ok, nat_le};
 ghost use Rattle.std.specs.Option.{ForSome};
-ghost use Rattle.speedate_base.specs.Offset.{IsOffset};
-ghost use Rattle.speedate_base.specs.Requirement.{◌implies◌};
+ghost use Rattle.speedate_base.specs.Offset.{IsOffset, is_offset, offset_table};
+ghost use Rattle.speedate_base.specs.Requirement.{◌implies◌, meets, result_map};
 ghost use Rattle.speedate_base.specs.Refusal.{refuses_digits};
 
 mod choice;
 mod date_time;
 
+use crate::faults::ParseError;
+use crate::util::SECONDS_PER_DAY;
 pub use date_time::{DateTimeConfig, DateTimeConfigBuilder};
 use std::marker::Model;
 
@@ -63,6 +65,15 @@ pub fn takes_digits(
         MicrosecondsPrecisionOverflowBehavior::Truncate => true,
         MicrosecondsPrecisionOverflowBehavior::Error => count <= most,
     }
+}
+
+/// Whether an offset in seconds is less than 24 hours: false for 86,400 and for `i32::MIN`.
+#[inline]
+pub fn is_offset(offset: i32) -> bool
+    ensures value { result ≡ is_offset offset }
+    ensures range { IsTrue result → IsOffset offset }
+{
+    offset.unsigned_abs() < SECONDS_PER_DAY
 }
 
 /// The unit of the timestamps that are read as dates. The default infers it;
@@ -265,6 +276,21 @@ impl TimeConfigBuilder {
                 unix_timestamp_offset: offset,
                 iso_order: self.config.iso_order,
             },
+        }
+    }
+
+    /// Sets the offset, in seconds, that a timestamp's value gets, as
+    /// [`TimeConfigBuilder::unix_timestamp_offset`] does, or refuses it: `OutOfRangeTz` where it is of
+    /// 24 hours or more, as `Some(86_400)`.
+    pub fn try_unix_timestamp_offset(self, offset: Option<i32>) -> Result<Self, ParseError>
+        ensures offset { result_map (λ builder. builder.unix_timestamp_offset) result ≡ meets (offset_table offset) (Ok offset) }
+        ensures behavior { IfOk result (λ builder. builder.microseconds_precision_overflow_behavior
+            ≡ self.microseconds_precision_overflow_behavior) }
+        ensures order { IfOk result (λ builder. builder.iso_order ≡ self.iso_order) }
+    {
+        match offset {
+            Some(seconds) if !is_offset(seconds) => Err(ParseError::OutOfRangeTz),
+            _ => Ok(self.unix_timestamp_offset(offset)),
         }
     }
 

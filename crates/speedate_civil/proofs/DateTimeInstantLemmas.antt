@@ -34,7 +34,7 @@ mapped-value view (Ok first) value same = (first, refl, cc)
 mapped-value view (Err fault) value same = absurd (cc)
 
 -- the instant of microseconds
-million-each : (timestamp : ℤ) → instant_microsecond (instant_at 1000000 timestamp) ≡ timestamp
+pub million-each : (timestamp : ℤ) → instant_microsecond (instant_at 1000000 timestamp) ≡ timestamp
 million-each (pos n) = omega (arith, ints)
 million-each (negsuc n) = omega (arith, ints)
 
@@ -66,6 +66,14 @@ local-is offset instant after =
 pub date_time_at-shown : (offset : Option ℤ) (instant : Instant) → int_le first_second instant.second ≡ true
     → IsShownAt offset instant (date_time_at offset instant)
 date_time_at-shown offset instant after = record { second = local-is offset instant after; microsecond = refl; attached = refl }
+
+-- the date-time at an instant is shown at it
+pub instant_date_time-shown : (offset : Option ℤ) (instant : Instant) (value : DateAndTime) → instant_date_time offset instant ≡ Ok value
+    → IsShownAt offset instant value
+instant_date_time-shown offset instant value same =
+    let mapped = mapped-value (date_time_at offset) (range_answer instant) value same in
+    let in_range = meets-value (range_table instant) instant mapped.0 mapped.1 in
+    subst (IsShownAt offset instant) (ap (date_time_at offset) in_range.1 ∙ mapped.2) (date_time_at-shown offset instant in_range.0.0)
 
 -- the date-time at an instant is at that instant
 instant_date_time-is : (offset : Option ℤ) (instant : Instant) (value : DateAndTime) → instant_date_time offset instant ≡ Ok value

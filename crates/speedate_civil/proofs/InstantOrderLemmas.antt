@@ -32,7 +32,7 @@ instant_order-total =
     then_total (on_total (λ (instant : Instant). instant.second) int_cmp_total) (on_total (λ (instant : Instant). instant.microsecond) nat_cmp_total)
 
 -- the order of whole numbers that are not negative
-pos-order : (first second : ℕ) → int_cmp (pos first) (pos second) ≡ nat_cmp first second
+pub pos-order : (first second : ℕ) → int_cmp (pos first) (pos second) ≡ nat_cmp first second
 pos-order first second = grind (arith, nat_tests)
 
 -- two numbers are ordered as what is left of them
@@ -42,7 +42,7 @@ left-ranked first second less Less before = int_cmp_is (first -ℤ less) (second
 left-ranked first second less Equal same = int_cmp_is (first -ℤ less) (second -ℤ less) Equal (ap (λ (number : ℤ). number -ℤ less) same)
 left-ranked first second less Greater after = int_cmp_is (first -ℤ less) (second -ℤ less) Greater (omega (arith, ints))
 
-left-order : (first second less : ℤ) → int_cmp (first -ℤ less) (second -ℤ less) ≡ int_cmp first second
+pub left-order : (first second less : ℤ) → int_cmp (first -ℤ less) (second -ℤ less) ≡ int_cmp first second
 left-order first second less = sym (left-ranked first second less (int_cmp first second) (int_ranks first second))
 
 -- days and then seconds of the day are ordered as the seconds

@@ -1,14 +1,15 @@
 mod CalendarFacts
+mod DaysLemmas
 mod ClockLemmas
 mod DateLemmas
 mod DateNumberedLemmas
 pub mod DateOrderLemmas
-mod DateTimeInstantLemmas
+pub mod DateTimeInstantLemmas
 mod DateTimeLemmas
 mod DateTimeTimestampLemmas
 mod DayNumberLemmas
 mod FrontLemmas
-mod InstantOrderLemmas
+pub mod InstantOrderLemmas
 mod NumberTextLemmas
 mod OffsetLemmas
 mod OffsetMoveLemmas
@@ -16,6 +17,6 @@ mod StandardFacts
 mod TimeLemmas
 pub mod DateValueLemmas
 mod TimeValueLemmas
-mod DateTimeValueLemmas
+pub mod DateTimeValueLemmas
 mod MonthLemmas
 mod YearLemmas

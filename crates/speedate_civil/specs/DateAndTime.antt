@@ -38,3 +38,7 @@ utc_millisecond value = millisecond_in (utc_second value) value
 -- its microsecond as a clock shows it
 abbrev pub local_microsecond : DateAndTime → ℤ
 local_microsecond value = pos 1000000 *ℤ local_second value +ℤ pos value.time.microsecond
+
+-- its microsecond in UTC
+abbrev pub utc_microsecond : DateAndTime → ℤ
+utc_microsecond value = pos 1000000 *ℤ utc_second value +ℤ pos value.time.microsecond

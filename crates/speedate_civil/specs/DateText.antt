@@ -1,13 +1,13 @@
 -- The text of a date, `YYYY-MM-DD` (RFC 3339 5.6, full-date; the ranges of month and day are those of its 5.7).
 -- Departs from it nowhere.
 use Rattle.std.specs.Prelude.{ℕ, List, [], ◌∷◌, ◌++◌, length, nat_le, ◌==◌, slice_index, Result, Ok}
-use Rattle.std.specs.Int.{is_in_range}
 use Rattle.speedate_base.specs.declared.faults.ParseError.{ParseError}
 use Rattle.speedate_base.specs.declared.faults.ParseError.TheVariants as fault
 use Rattle.speedate_base.specs.Ascii.{hyphen}
 use Rattle.speedate_base.specs.Requirement.{Requirement, ◌else_fault◌, meets, alone, result_and_then}
 use Rattle.speedate_base.specs.Digits.{four_digits_at, four_digit_value, four_digit_text, two_digits_at, two_digit_value, two_digit_text}
-use Rattle.speedate_civil.specs.Calendar.{Ymd, month_length}
+use Rattle.speedate_civil.specs.Calendar.{Ymd}
+use Rattle.speedate_civil.specs.FromNumbers.{day_table}
 
 -- the numbers at the places of a date
 abbrev pub date_numbers : List ℕ → Ymd
@@ -26,9 +26,7 @@ date_table text = let date = date_numbers text in
     ∷ (two_digits_at text 5 else_fault fault.InvalidCharMonth)
     ∷ (slice_index text 7 == hyphen else_fault fault.InvalidCharDateSep)
     ∷ (two_digits_at text 8 else_fault fault.InvalidCharDay)
-    ∷ (is_in_range 1 12 date.month else_fault fault.OutOfRangeMonth)
-    ∷ (is_in_range 1 (month_length date.year date.month) date.day else_fault fault.OutOfRangeDay)
-    ∷ []
+    ∷ day_table date
 
 -- the date at the front of a text, and how many bytes it takes, or the text's fault
 abbrev pub date_front : List ℕ → Result (Ymd × ℕ) ParseError

@@ -1,5 +1,5 @@
 -- Days counted from 0000-01-01, and the day after a day.
-use Rattle.std.specs.Prelude.{ℕ, zero, suc, ◌+◌, ◌-◌, nat_lt, nat_le, if◌then◌else◌, Option, Some, None, ℤ, pos, ◌-ℤ◌, ◌*ℤ◌}
+use Rattle.std.specs.Prelude.{ℕ, zero, suc, ◌+◌, ◌-◌, nat_lt, nat_le, if◌then◌else◌, Option, Some, None, ℤ, pos, negsuc, ◌+ℤ◌, ◌-ℤ◌, ◌*ℤ◌}
 use Rattle.speedate_base.specs.Offset.{seconds_per_day}
 use Rattle.speedate_civil.specs.Calendar.{Ymd, month_length}
 
@@ -44,6 +44,19 @@ date_after (suc days) = day_after (date_after days)
 -- the date of a day number up to 3,652,424, which is that of 9999-12-31
 abbrev pub date_numbered : ℕ → Option Ymd
 date_numbered number = if nat_le number 3652424 then Some (date_after number) else None
+
+-- the date so many days after 0000-01-01, or before it where there are fewer than none: none outside the years 0000 to 9999
+abbrev pub date_counted : ℤ → Option Ymd
+date_counted (pos number) = date_numbered number
+date_counted (negsuc before) = None
+
+-- the date so many days after a date, or before it for a negative number
+abbrev pub date_added : ℤ → Ymd → Option Ymd
+date_added days date = date_counted (pos (day_number date) +ℤ days)
+
+-- the days from the one date to the other, negative where that is the earlier one
+abbrev pub days_between : Ymd → Ymd → ℤ
+days_between earlier later = pos (day_number later) -ℤ pos (day_number earlier)
 
 -- the day number of 1970-01-01 (Unix time)
 abbrev pub epoch_day : ℕ

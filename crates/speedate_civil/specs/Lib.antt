@@ -1,6 +1,7 @@
 pub mod Calendar
 pub mod DayNumber
 pub mod DateOrder
+pub mod FromNumbers
 pub mod DateText
 pub mod Date
 pub mod NumberText

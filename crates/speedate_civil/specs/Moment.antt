@@ -3,12 +3,16 @@ use Rattle.std.specs.Prelude.{List, [], ◌∷◌, Option, Some, None, ℤ, pos,
 use Rattle.speedate_base.specs.declared.faults.ParseError.{ParseError}
 use Rattle.speedate_base.specs.declared.faults.ParseError.TheVariants as fault
 use Rattle.speedate_base.specs.Requirement.{Requirement, ◌else_fault◌, meets, result_map}
-use Rattle.speedate_base.specs.Timestamp.{last_second}
+use Rattle.speedate_base.specs.Timestamp.{Instant, last_second}
 use Rattle.speedate_civil.specs.declared.datetime.now.Moment.{Moment}
 use Rattle.speedate_civil.specs.Calendar.{Ymd}
 use Rattle.speedate_civil.specs.DateAndTime.{DateAndTime}
 use Rattle.speedate_civil.specs.DateTimeTimestamp.{instant_date_time}
 use Rattle.speedate_civil.specs.OffsetMove.{is_offset}
+
+-- a moment as an instant
+abbrev pub moment_instant : Moment → Instant
+moment_instant moment = record { second = pos moment.second; microsecond = moment.microsecond }
 
 -- what a moment has to meet, and the offset at which it is to be shown
 abbrev pub moment_table : ℤ → Moment → List Requirement

@@ -1,21 +1,14 @@
 -- Times and date-times at other offsets: the same clock with another offset, or the same instant as another clock shows it.
-use Rattle.std.specs.Prelude.{Bool, true, List, [], ◌∷◌, nat_lt, ◌&&◌, Option, Some, ℤ, pos, ◌+ℤ◌, int_le, int_lt, unsigned_abs, Result, Ok}
-use Rattle.std.specs.Option.{is_some, option_map_or}
+use Rattle.std.specs.Prelude.{List, [], ◌∷◌, ◌&&◌, Option, Some, ℤ, pos, ◌+ℤ◌, int_le, int_lt, unsigned_abs, Result, Ok}
+use Rattle.std.specs.Option.{is_some}
 use Rattle.speedate_base.specs.declared.faults.ParseError.{ParseError}
 use Rattle.speedate_base.specs.declared.faults.ParseError.TheVariants as fault
-use Rattle.speedate_base.specs.Offset.{seconds_per_day}
+use Rattle.speedate_base.specs.Offset.{seconds_per_day, offset_table}
+pub use Rattle.speedate_base.specs.Offset.{is_offset}
 use Rattle.speedate_base.specs.Requirement.{Requirement, ◌else_fault◌, meets}
 use Rattle.speedate_civil.specs.DateAndTime.{DateAndTime, utc_second}
 use Rattle.speedate_civil.specs.DateTimeTimestamp.{instant_date_time}
 use Rattle.speedate_civil.specs.TimeOfDay.{TimeOfDay, utc_second_of_day, time_at}
-
--- an offset is less than 24 hours (RFC 3339 5.6, time-hour and time-minute of time-numoffset)
-abbrev pub is_offset : ℤ → Bool
-is_offset offset = nat_lt (unsigned_abs offset) seconds_per_day
-
--- what the offset that is asked for has to meet; where none is asked for there is nothing to meet
-abbrev pub offset_table : Option ℤ → List Requirement
-offset_table offset = (option_map_or is_offset offset true else_fault fault.OutOfRangeTz) ∷ []
 
 -- a time with that offset, or with none: what the clock shows stays
 abbrev pub time_with_offset : Option ℤ → TimeOfDay → Result TimeOfDay ParseError

@@ -5,6 +5,8 @@ ghost use Rattle.std.specs.Int.{is_in_range, IsInRange};
 ghost use Rattle.speedate_civil.specs.Calendar.{month_length, is_leap_year};
 
 mod day_number;
+mod days;
+mod new;
 mod order;
 pub(crate) mod timestamp;
 
@@ -35,10 +37,10 @@ pub struct Date {
     pub ghost day_in_range: { IsInRange 1 (month_length year month) day },
 }
 
-/// Whether the year has a 29 February.
+/// Whether a year has a 29 February: true for 2020 and 2000, false for 2021 and 1900.
 #[inline]
-fn is_leap_year(year: u16) -> bool
-    ensures { result ≡ is_leap_year year }
+pub fn is_leap_year(year: u16) -> bool
+    ensures leap { result ≡ is_leap_year year }
 {
     if year % 100 == 0 {
         year % 400 == 0
@@ -47,10 +49,11 @@ fn is_leap_year(year: u16) -> bool
     }
 }
 
-/// The number of days of a month of a year.
+/// The number of days of a month, 1 to 12, of a year: 29 for 2020 and 2, 30 for 2020 and 4. It is 31 for
+/// a number that is no month.
 #[inline]
-fn month_length(year: u16, month: u8) -> u8
-    ensures { result ≡ month_length year month }
+pub fn month_length(year: u16, month: u8) -> u8
+    ensures length { result ≡ month_length year month }
 {
     match month {
         2 => if is_leap_year(year) { 29 } else { 28 },

@@ -5,6 +5,7 @@ ghost use Rattle.std.specs.Option.{ForSome};
 ghost use Rattle.speedate_base.specs.Offset.{IsOffset};
 
 mod fraction;
+mod new;
 mod offset;
 mod order;
 mod pure;

@@ -69,7 +69,8 @@ fn days_of_the_year_and_midnights(rt: HostRuntime) {
 
 #[test]
 fn each_day_of_the_calendar(rt: HostRuntime) -> Result<(), Fail> {
-    let mut next = Some(value::<Date, _>(&rt, "0000-01-01"));
+    let first = value::<Date, _>(&rt, "0000-01-01");
+    let mut next = Some(first);
     let mut civil = civil::Date::new(0, 1, 1);
     for number in 0..3_652_425 {
         let date = next.expect(&rt, "a date");
@@ -86,6 +87,8 @@ fn each_day_of_the_calendar(rt: HostRuntime) -> Result<(), Fail> {
             i32::from(day.day()),
         );
         assert_eq!(rt; found, want, "{number}");
+        assert_eq!(rt; date.days_since(&first), number as i32, "{date}");
+        assert_eq!(rt; first.checked_add_days(number as i32), Some(date), "{date}");
         next = date.next_day();
         civil = day.tomorrow();
     }

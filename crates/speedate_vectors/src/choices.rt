@@ -1,8 +1,8 @@
-//! Units and behaviors by their names.
+//! Units, behaviors and orders by their names.
 
 use crate::rows::{quoted, same};
 use arrayvec::ArrayString;
-use speedate::{ConfigError, MicrosecondsPrecisionOverflowBehavior, TimestampUnit};
+use speedate::{ConfigError, IsoOrder, MicrosecondsPrecisionOverflowBehavior, TimestampUnit};
 use std::fmt::{Debug, Write};
 use std::process::Abort;
 use std::str::FromStr;
@@ -36,6 +36,15 @@ const BEHAVIORS: &str = "\
 ' error'    unknown_microseconds_precision_overflow_behavior_string
 'infer'     unknown_microseconds_precision_overflow_behavior_string";
 
+/// Texts, and the order that each names.
+const ORDERS: &str = "\
+'lax'       Lax
+'Strict'    Strict
+'STRICT'    Strict
+''          unknown_iso_order_string
+'strict '   unknown_iso_order_string
+'strictly'  unknown_iso_order_string";
+
 /// Each text is to name the value that is written so, or to have the fault of that name.
 fn expect_each<T: FromStr<Err = ConfigError> + Debug + Copy, R: Abort>(rt: &R, table: &str) {
     for row in table.lines() {
@@ -52,7 +61,18 @@ fn expect_each<T: FromStr<Err = ConfigError> + Debug + Copy, R: Abort>(rt: &R, t
 }
 
 #[test]
-fn names(rt: HostRuntime) {
+fn choices_of_names(rt: HostRuntime) {
     expect_each::<TimestampUnit, _>(&rt, UNITS);
     expect_each::<MicrosecondsPrecisionOverflowBehavior, _>(&rt, BEHAVIORS);
+    expect_each::<IsoOrder, _>(&rt, ORDERS);
+}
+
+#[test]
+fn names_of_choices(rt: HostRuntime) {
+    assert_eq!(rt; TimestampUnit::Microsecond.name(), "us");
+    assert_eq!(rt;
+        MicrosecondsPrecisionOverflowBehavior::Truncate.name(),
+        "truncate"
+    );
+    assert_eq!(rt; IsoOrder::Strict.name(), "strict");
 }

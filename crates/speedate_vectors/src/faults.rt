@@ -126,4 +126,8 @@ fn of_choices(rt: HostRuntime) {
         &behavior,
         "UnknownMicrosecondsPrecisionOverflowBehaviorString",
     );
+    let order = ConfigError::UnknownIsoOrderString;
+    assert_eq!(rt; order.get_documentation(), None);
+    expect_shown(&rt, &order, "unknown_iso_order_string");
+    expect_debug(&rt, &order, "UnknownIsoOrderString");
 }

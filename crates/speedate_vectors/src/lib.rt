@@ -22,6 +22,8 @@ mod faults;
 mod fractions;
 pub mod laws;
 #[cfg(test)]
+mod moved;
+#[cfg(test)]
 mod numbers;
 #[cfg(test)]
 mod offsets;
@@ -29,9 +31,12 @@ mod offsets;
 mod orders;
 #[cfg(test)]
 mod rows;
+pub mod schedules;
 #[cfg(test)]
 mod shown;
 #[cfg(test)]
 mod surface;
 #[cfg(test)]
 mod times;
+#[cfg(test)]
+mod values;

@@ -5,6 +5,7 @@ use speedate::{
     DateTimeConfigBuilder, Decimal, Duration, IntFloat, IsoOrder,
     MicrosecondsPrecisionOverflowBehavior, Moment, ParseError, Time, TimeConfig, TimeConfigBuilder,
     TimestampUnit, float_parse_bytes, float_parse_str, int_parse_bytes, int_parse_str,
+    is_leap_year, month_length,
 };
 use std::error::Error;
 use std::fmt::{Debug, Display};
@@ -52,12 +53,24 @@ fn each_type_has_its_traits() {
     is_read::<Duration>();
     is_read::<TimestampUnit>();
     is_read::<MicrosecondsPrecisionOverflowBehavior>();
+    is_read::<IsoOrder>();
     is_written::<Date>();
     is_written::<Time>();
     is_written::<DateTime>();
     is_written::<Duration>();
     is_ordered::<Date>();
     is_ordered::<Duration>();
+}
+
+#[test]
+fn the_calendar_is_there(rt: HostRuntime) {
+    assert!(rt;
+        is_leap_year(2020) && !is_leap_year(2021) && !is_leap_year(1900) && is_leap_year(2000)
+    );
+    assert_eq!(rt; month_length(2020, 2), 29);
+    assert_eq!(rt; month_length(2021, 2), 28);
+    assert_eq!(rt; month_length(2021, 4), 30);
+    assert_eq!(rt; month_length(2021, 12), 31);
 }
 
 #[test]

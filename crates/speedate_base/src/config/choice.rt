@@ -1,12 +1,29 @@
-//! The texts by which a unit of timestamps and a behavior are chosen.
+//! The texts by which a unit of timestamps, a behavior and an order of components are chosen, and
+//! their names.
 
-ghost use Rattle.std.specs.Prelude.{◌≡◌};
+ghost use Rattle.std.specs.Prelude.{◌≡◌, Contains, Ok};
 ghost use Rattle.std.specs.Str.{str_eq_ignore_ascii_case};
-ghost use Rattle.speedate_base.specs.Choice.{unit_answer, behavior_answer};
+ghost use Rattle.speedate_base.specs.Choice.{◌chooses◌, unit_choices, unit_answer, behavior_choices, behavior_answer, order_choices, order_answer};
 
-use super::{MicrosecondsPrecisionOverflowBehavior, TimestampUnit};
+use super::{IsoOrder, MicrosecondsPrecisionOverflowBehavior, TimestampUnit};
 use crate::faults::ConfigError;
 use std::str::FromStr;
+
+impl TimestampUnit {
+    /// The name, in small letters: `ms` for `TimestampUnit::Millisecond`. It reads back as the unit.
+    #[inline]
+    pub fn name(&self) -> &'static str
+        ensures name { Contains unit_choices (result.now chooses self.now) }
+        ensures reads_back { unit_answer result.now ≡ Ok self.now }
+    {
+        match self {
+            TimestampUnit::Second => "s",
+            TimestampUnit::Millisecond => "ms",
+            TimestampUnit::Microsecond => "us",
+            TimestampUnit::Infer => "infer",
+        }
+    }
+}
 
 impl FromStr for TimestampUnit {
     type Err = ConfigError;
@@ -31,6 +48,21 @@ impl FromStr for TimestampUnit {
     }
 }
 
+impl MicrosecondsPrecisionOverflowBehavior {
+    /// The name, in small letters: `truncate` for `MicrosecondsPrecisionOverflowBehavior::Truncate`.
+    /// It reads back as the behavior.
+    #[inline]
+    pub fn name(&self) -> &'static str
+        ensures name { Contains behavior_choices (result.now chooses self.now) }
+        ensures reads_back { behavior_answer result.now ≡ Ok self.now }
+    {
+        match self {
+            MicrosecondsPrecisionOverflowBehavior::Truncate => "truncate",
+            MicrosecondsPrecisionOverflowBehavior::Error => "error",
+        }
+    }
+}
+
 impl FromStr for MicrosecondsPrecisionOverflowBehavior {
     type Err = ConfigError;
 
@@ -46,6 +78,39 @@ impl FromStr for MicrosecondsPrecisionOverflowBehavior {
             Ok(MicrosecondsPrecisionOverflowBehavior::Error)
         } else {
             Err(ConfigError::UnknownMicrosecondsPrecisionOverflowBehaviorString)
+        }
+    }
+}
+
+impl IsoOrder {
+    /// The name, in small letters: `strict` for `IsoOrder::Strict`. It reads back as the order.
+    #[inline]
+    pub fn name(&self) -> &'static str
+        ensures name { Contains order_choices (result.now chooses self.now) }
+        ensures reads_back { order_answer result.now ≡ Ok self.now }
+    {
+        match self {
+            IsoOrder::Lax => "lax",
+            IsoOrder::Strict => "strict",
+        }
+    }
+}
+
+impl FromStr for IsoOrder {
+    type Err = ConfigError;
+
+    ghost from_str_gives = { λ text result. result ≡ order_answer text };
+
+    /// The order that a text names, in letters of any case: `Lax` for `"lax"`, and `Strict` for
+    /// `"strict"`. `UnknownIsoOrderString` for another text.
+    #[inline]
+    fn from_str(text: &str) -> Result<Self, ConfigError> {
+        if names(text, "lax") {
+            Ok(IsoOrder::Lax)
+        } else if names(text, "strict") {
+            Ok(IsoOrder::Strict)
+        } else {
+            Err(ConfigError::UnknownIsoOrderString)
         }
     }
 }

@@ -16,11 +16,13 @@ pub enum ConfigError {
     UnknownMicrosecondsPrecisionOverflowBehaviorString,
     /// The text names no unit of timestamps.
     UnknownTimestampUnitString,
+    /// The text names no order of the components of a duration.
+    UnknownIsoOrderString,
 }
 
 impl ConfigError {
     /// The snake-case name, as `unknown_timestamp_unit_string` for
-    /// `ConfigError::UnknownTimestampUnitString`. The other fault has another one.
+    /// `ConfigError::UnknownTimestampUnitString`. No other fault has it.
     #[inline]
     pub fn name(&self) -> &'static str
         ensures name { result.now ≡ config_error_name self.now }
@@ -31,6 +33,7 @@ impl ConfigError {
                 "unknown_microseconds_precision_overflow_behavior_string"
             }
             ConfigError::UnknownTimestampUnitString => "unknown_timestamp_unit_string",
+            ConfigError::UnknownIsoOrderString => "unknown_iso_order_string",
         }
     }
 

@@ -1,6 +1,6 @@
 //! Numbers as they stand in texts.
 
-ghost use Rattle.std.specs.Prelude.{◌+◌, ◌<◌, length, IsTrue};
+ghost use Rattle.std.specs.Prelude.{◌≡◌, ◌+◌, ◌<◌, length, IsTrue};
 ghost use Rattle.std.specs.Char.{is_ascii_digit};
 ghost use Rattle.std.specs.List.{list_all};
 
@@ -19,6 +19,40 @@ pub struct Decimal<'a> {
     pub ghost some_digit: { 0 < length whole.now + length fraction.now },
 }
 
+impl<'a> Decimal<'a> {
+    ghost use Rattle.std.specs.Option.{option_map};
+    ghost use Rattle.speedate_base.specs.IntFloat.{parts};
+    ghost use Rattle.speedate_base.specs.Numbers.{decimal_of_digits};
+
+    /// The decimal of a sign and the digits before and after its point: that of `"-1.50"` for `true`,
+    /// `b"1"` and `b"50"`. `None` where a byte is no digit, or where there is no digit at all.
+    #[inline]
+    pub fn new(negative: bool, whole: &'a [u8], fraction: &'a [u8]) -> Option<Self>
+        ensures answer { option_map parts result
+            ≡ decimal_of_digits (record { negative = negative; whole = whole.now; fraction = fraction.now }) }
+    {
+        if !are_digits(whole)
+            || !are_digits(fraction)
+            || (whole.is_empty() && fraction.is_empty())
+        {
+            return None;
+        }
+        Some(Decimal {
+            negative,
+            whole,
+            fraction,
+        })
+    }
+}
+
+/// Whether all bytes are digits.
+#[inline]
+fn are_digits(bytes: &[u8]) -> bool
+    ensures { result ≡ list_all is_ascii_digit bytes.now }
+{
+    bytes.iter().all(|byte| byte.is_ascii_digit())
+}
+
 /// A number as it stands in a text: see [`float_parse_str`](super::float_parse_str).
 #[derive(Clone, Copy, Debug)]
 pub enum IntFloat<'a> {
@@ -31,7 +65,6 @@ pub enum IntFloat<'a> {
 }
 
 impl IntFloat<'_> {
-    ghost use Rattle.std.specs.Prelude.{◌≡◌};
     ghost use Rattle.speedate_base.specs.IntFloat.{is_no_number};
 
     /// Whether the text was no number that is read: true for the answer to `"1.5e3"`.

@@ -20,6 +20,26 @@ pub struct Moment {
     pub ghost microsecond_in_range: { microsecond ≤ 999999 },
 }
 
+impl Moment {
+    ghost use Rattle.speedate_civil.specs.FromNumbers.{new_moment_answer};
+    ghost use Rattle.speedate_civil.specs.Moment.{moment_instant};
+
+    /// The moment of seconds since 1970-01-01T00:00:00 and the microseconds that are left: half a second
+    /// after midnight for 0 and 500,000. `TimeTooLarge` where the microseconds are over 999,999.
+    #[inline]
+    pub fn new(second: u64, microsecond: u32) -> Result<Self, ParseError>
+        ensures answer { result_map moment_instant result ≡ new_moment_answer second microsecond }
+    {
+        if microsecond > 999_999 {
+            return Err(ParseError::TimeTooLarge);
+        }
+        Ok(Moment {
+            second,
+            microsecond,
+        })
+    }
+}
+
 impl DateTime {
     ghost use Rattle.speedate_civil.specs.declared.datetime.now.Moment.{Moment};
     ghost use Rattle.speedate_civil.specs.DateTime.{parts};

@@ -7,9 +7,9 @@ use Rattle.speedate_civil.proofs.date.Date.next_day.Goals as goal
 pub returns-then-self-lt12-clause-number : goal.returns-then-self-lt12-clause-number
 returns-then-self-lt12-clause-number c =
     let date = c.args.self.now in
-    day_number-next_month (parts date) (is_day date) (omega (arith, c.month_length.ensures))
+    day_number-next_month (parts date) (is_day date) (omega (arith, c.month_length.ensures.length))
 
 pub returns-then-self-lt9999-clause-number : goal.returns-then-self-lt9999-clause-number
 returns-then-self-lt9999-clause-number c =
     let date = c.args.self.now in
-    day_number-next_year (parts date) (is_day date) (omega (arith, c.month_length.ensures)) c.if-self-lt12.false
+    day_number-next_year (parts date) (is_day date) (omega (arith, c.month_length.ensures.length)) c.if-self-lt12.false

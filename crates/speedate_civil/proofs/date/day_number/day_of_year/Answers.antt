@@ -10,7 +10,7 @@ overflow_add-long_day c = omega (arith, year_length-is c.args.year, leap_day-sma
 
 long_day-is : (c : goal.After-row_known-1) → c.if-day-february.long_day ≡ long_day c.args.year c.args.day
 long_day-is c =
-    let february = c.from-february.ensures ∙ c.month_length.ensures in
+    let february = c.from-february.ensures ∙ c.month_length.ensures.length in
     elim c.if-day-february.branch [
       | then-day-february w ↦ grind (arith, nat_tests)
       | else-day-february w ↦ grind (arith, nat_tests)
@@ -35,7 +35,7 @@ invariant_of-result c =
 
 pub returns-clause-day : goal.returns-clause-day
 returns-clause-day c =
-    let february = c.from-february.ensures ∙ c.month_length.ensures in
+    let february = c.from-february.ensures ∙ c.month_length.ensures.length in
     let is : c.if-day-february.long_day ≡ long_day c.args.year c.args.day =
     elim c.if-day-february.branch [
       | then-day-february w ↦ grind (arith, nat_tests)

@@ -1,0 +1,168 @@
+-- The duration between two values, and the value so long after another: lengths with their sign, and the instants that they lead to.
+use Rattle.std.specs.Prelude.{◌≡◌, ℕ, zero, suc, ◌+◌, ◌*◌, ◌<◌, Bool, true, false, not, ◌||◌, ◌==◌, ℤ, pos, negsuc, neg_ℤ, ◌+ℤ◌, ◌-ℤ◌, ◌*ℤ◌, Option, Result, Ok, Err, IfOk, unsigned_abs, refl}
+use Rattle.std.specs.Option.{unwrap_or}
+use Rattle.std.specs.Ordering.{int_cmp}
+use Rattle.std.proofs.Common.{arith, ◌∙◌, ap, sym}
+use Rattle.std.proofs.lemmas.Bool.Decides.{nat_tests}
+use Rattle.std.proofs.lemmas.Int.{ints}
+use Rattle.speedate_base.specs.declared.faults.ParseError.{ParseError}
+use Rattle.speedate_base.specs.Numbers.{with_sign}
+use Rattle.speedate_base.specs.Timestamp.{Instant, instant_at}
+use Rattle.speedate_base.proofs.TimestampLemmas.{instant_microsecond}
+use Rattle.speedate_civil.specs.declared.datetime.DateTime.{DateTime}
+use Rattle.speedate_civil.specs.DateAndTime.{DateAndTime, local_second, local_microsecond, utc_microsecond}
+use Rattle.speedate_civil.specs.DateTime.{parts as date_time_parts}
+use Rattle.speedate_civil.specs.DateTimeTimestamp.{IsShownAt}
+use Rattle.speedate_civil.proofs.DateTimeInstantLemmas.{million-each, instant_date_time-shown}
+use Rattle.speedate_civil.proofs.InstantOrderLemmas.{left-order}
+use Rattle.speedate.specs.DurationNumbers.{DurationNumbers, IsDuration, length_seconds, length_microseconds, of_length, signed_seconds, signed_microsecond}
+use Rattle.speedate.specs.DurationMove.{signed_length, duration_of_length, plain, duration_between, date_time_after}
+use Rattle.speedate.proofs.DurationLemmas.{of_length-only}
+
+-- seconds and microseconds with one sign, joined
+signs-joined : (negative : Bool) (seconds microseconds : ℕ)
+    → with_sign negative (seconds * 1000000 + microseconds) ≡ pos 1000000 *ℤ with_sign negative seconds +ℤ with_sign negative microseconds
+signs-joined true seconds microseconds = omega (arith, ints)
+signs-joined false seconds microseconds = omega (arith, ints)
+
+pub signed_length-joined : (numbers : DurationNumbers)
+    → signed_length numbers ≡ pos 1000000 *ℤ signed_seconds numbers +ℤ signed_microsecond numbers
+signed_length-joined numbers = signs-joined (not numbers.positive) (length_seconds numbers) numbers.microsecond
+
+-- the numbers of a length have it
+length-kept : (positive : Bool) (length : ℕ) → length_microseconds (of_length positive length) ≡ length
+length-kept positive length = omega arith
+
+pub signed_length-kept : (length : ℤ) → signed_length (duration_of_length length) ≡ length
+signed_length-kept (pos length) = ap pos (length-kept true length)
+signed_length-kept (negsuc below) = ap (λ (n : ℕ). neg_ℤ (pos n)) (length-kept false (suc below))
+
+pub length-of : (numbers : DurationNumbers) (length wanted : ℤ) → numbers ≡ duration_of_length length → length ≡ wanted → signed_length numbers ≡ wanted
+length-of numbers length wanted is same = ap signed_length is ∙ signed_length-kept length ∙ same
+
+-- the duration of a length with its sign: none has the positive one
+signed-kept : (positive : Bool) (size : ℕ) → duration_of_length (with_sign (not positive) size) ≡ of_length (positive || (size == 0)) size
+signed-kept true size = refl
+signed-kept false zero = refl
+signed-kept false (suc size) =
+    let some : (suc size == 0) ≡ false = grind (arith, nat_tests) in
+    ap (λ (none : Bool). of_length (false || none) (suc size)) (sym some)
+
+pub duration_of_length-plain : (numbers : DurationNumbers) → IsDuration numbers → duration_of_length (signed_length numbers) ≡ plain numbers
+duration_of_length-plain numbers valid =
+    let positive = numbers.positive || (length_microseconds numbers == 0) in
+    signed-kept numbers.positive (length_microseconds numbers)
+    ∙ ap (λ (found : DurationNumbers). record found { positive = positive }) (of_length-only numbers valid)
+
+-- how large the seconds of a duration are
+signs-small : (negative : Bool) (size : ℕ) → size < 86400000000000 → unsigned_abs (with_sign negative size) < 86400000000000
+signs-small true size small = omega (arith, ints, small)
+signs-small false size small = small
+
+small-sign : (negative : Bool) (size : ℕ) → size < 1000000 → unsigned_abs (with_sign negative size) < 1000000
+small-sign true size small = omega (arith, ints, small)
+small-sign false size small = small
+
+pub signed_seconds-small : (numbers : DurationNumbers) → IsDuration numbers → unsigned_abs (signed_seconds numbers) < 86400000000000
+signed_seconds-small numbers valid = signs-small (not numbers.positive) (length_seconds numbers) (omega (arith, valid.day, valid.second))
+
+pub signed_microsecond-small : (numbers : DurationNumbers) → IsDuration numbers → unsigned_abs (signed_microsecond numbers) < 1000000
+signed_microsecond-small numbers valid = small-sign (not numbers.positive) numbers.microsecond valid.microsecond
+
+-- the instant of the seconds of both and of the microseconds that are left of both
+sums-joined : (second length seconds microseconds : ℤ) (own : ℕ) → length ≡ pos 1000000 *ℤ seconds +ℤ microseconds
+    → pos 1000000 *ℤ (second +ℤ seconds) +ℤ (pos own +ℤ microseconds) ≡ (pos 1000000 *ℤ second +ℤ pos own) +ℤ length
+sums-joined second length seconds microseconds own same = omega (arith, ints, same)
+
+pub ended-at : (instant : Instant) (start : DateAndTime) (numbers : DurationNumbers) (second microsecond : ℤ)
+    → instant ≡ instant_at 1000000 (pos 1000000 *ℤ second +ℤ microsecond)
+    → second ≡ local_second start +ℤ signed_seconds numbers → microsecond ≡ pos start.time.microsecond +ℤ signed_microsecond numbers
+    → instant ≡ instant_at 1000000 (local_microsecond start +ℤ signed_length numbers)
+ended-at instant start numbers second microsecond is seconds microseconds =
+    is
+    ∙ ap (λ (n : ℤ). instant_at 1000000 (pos 1000000 *ℤ n +ℤ microsecond)) seconds
+    ∙ ap (λ (n : ℤ). instant_at 1000000 (pos 1000000 *ℤ (local_second start +ℤ signed_seconds numbers) +ℤ n)) microseconds
+    ∙ ap (instant_at 1000000)
+    (sums-joined (local_second start) (signed_length numbers) (signed_seconds numbers) (signed_microsecond numbers) start.time.microsecond (signed_length-joined numbers))
+
+-- a clock that shows an instant so much later lies so much later
+moved : (second local offset length : ℤ) (microsecond own : ℕ)
+    → pos 1000000 *ℤ second +ℤ pos microsecond ≡ (pos 1000000 *ℤ local +ℤ pos own) +ℤ length
+    → pos 1000000 *ℤ (second -ℤ offset) +ℤ pos microsecond ≡ (pos 1000000 *ℤ (local -ℤ offset) +ℤ pos own) +ℤ length
+moved second local offset length microsecond own same = omega (arith, ints, same)
+
+shown-later : (start value : DateAndTime) (instant : Instant) (length : ℤ) → instant ≡ instant_at 1000000 (local_microsecond start +ℤ length)
+    → IsShownAt start.time.offset instant value → utc_microsecond value ≡ utc_microsecond start +ℤ length
+shown-later start value instant length same shown =
+    let offset = unwrap_or start.time.offset (pos 0) in
+    let joined = ap instant_microsecond same ∙ million-each (local_microsecond start +ℤ length) in
+    ap (λ (n : ℤ). pos 1000000 *ℤ (n -ℤ unwrap_or value.time.offset (pos 0)) +ℤ pos value.time.microsecond) shown.second
+    ∙ ap (λ (n : ℕ). pos 1000000 *ℤ (instant.second -ℤ unwrap_or value.time.offset (pos 0)) +ℤ pos n) shown.microsecond
+    ∙ ap (λ (given : Option ℤ). pos 1000000 *ℤ (instant.second -ℤ unwrap_or given (pos 0)) +ℤ pos instant.microsecond) shown.attached
+    ∙ moved instant.second (local_second start) offset length instant.microsecond start.time.microsecond joined
+
+ended : (answer : Result DateAndTime ParseError) (length : ℤ) (start : DateAndTime)
+    → ((value : DateAndTime) → answer ≡ Ok value → date_time_after length start ≡ Ok value)
+    → IfOk answer (λ end. utc_microsecond end ≡ utc_microsecond start +ℤ length)
+ended (Ok value) length start same =
+    let instant = instant_at 1000000 (local_microsecond start +ℤ length) in
+    shown-later start value instant length refl (instant_date_time-shown start.time.offset instant value (same value refl))
+ended (Err fault) length start same = tt
+
+-- so the answer to a length lies so much later
+pub date_time_after-ends : (length : ℤ) (start : DateAndTime) → IfOk (date_time_after length start) (λ end. utc_microsecond end ≡ utc_microsecond start +ℤ length)
+date_time_after-ends length start = ended (date_time_after length start) length start (λ value same. same)
+
+pub shown-ends : (result : Result DateTime ParseError) (length : ℤ) (start : DateAndTime) (instant : Instant)
+    → instant ≡ instant_at 1000000 (local_microsecond start +ℤ length)
+    → IfOk result (λ value. IsShownAt start.time.offset instant (date_time_parts value))
+    → IfOk result (λ end. utc_microsecond (date_time_parts end) ≡ utc_microsecond start +ℤ length)
+shown-ends (Ok value) length start instant same shown = shown-later start (date_time_parts value) instant length same shown
+shown-ends (Err fault) length start instant same shown = tt
+
+-- from a start to the end of a duration after it is that duration
+between-again : (start end length : ℤ) → end ≡ start +ℤ length → end -ℤ start ≡ length
+between-again start end length same = omega (arith, ints, same)
+
+pub ends-between : (result : Result DateTime ParseError) (start : DateAndTime) (numbers : DurationNumbers) → IsDuration numbers
+    → IfOk result (λ end. utc_microsecond (date_time_parts end) ≡ utc_microsecond start +ℤ signed_length numbers)
+    → IfOk result (λ end. duration_between start (date_time_parts end) ≡ plain numbers)
+ends-between (Ok end) start numbers valid same =
+    ap duration_of_length (between-again (utc_microsecond start) (utc_microsecond (date_time_parts end)) (signed_length numbers) same)
+    ∙ duration_of_length-plain numbers valid
+ends-between (Err fault) start numbers valid same = tt
+
+-- the end of a longer duration is later
+sum-order : (start one two : ℤ) → int_cmp (start +ℤ one) (start +ℤ two) ≡ int_cmp one two
+sum-order start one two =
+    let first : start +ℤ one ≡ one -ℤ neg_ℤ start = omega (arith, ints) in
+    let second : start +ℤ two ≡ two -ℤ neg_ℤ start = omega (arith, ints) in
+    ap (λ (n : ℤ). int_cmp n (start +ℤ two)) first ∙ ap (int_cmp (one -ℤ neg_ℤ start)) second ∙ left-order one two (neg_ℤ start)
+
+order-after : (end : ℤ) (answer : Result DateAndTime ParseError) (start one two : ℤ) → end ≡ start +ℤ one
+    → IfOk answer (λ next. utc_microsecond next ≡ start +ℤ two)
+    → IfOk answer (λ next. int_cmp end (utc_microsecond next) ≡ int_cmp one two)
+order-after end (Ok next) start one two same later =
+    ap (λ (n : ℤ). int_cmp n (utc_microsecond next)) same ∙ ap (int_cmp (start +ℤ one)) later ∙ sum-order start one two
+order-after end (Err fault) start one two same later = tt
+
+pub ends-order : (result : Result DateTime ParseError) (start : DateAndTime) (one two : ℤ)
+    → IfOk result (λ end. utc_microsecond (date_time_parts end) ≡ utc_microsecond start +ℤ one)
+    → IfOk result (λ end. IfOk (date_time_after two start) (λ next. int_cmp (utc_microsecond (date_time_parts end)) (utc_microsecond next) ≡ int_cmp one two))
+ends-order (Ok end) start one two same =
+    order-after (utc_microsecond (date_time_parts end)) (date_time_after two start) (utc_microsecond start) one two same (date_time_after-ends two start)
+ends-order (Err fault) start one two same = tt
+
+-- after the duration between two date-times comes the instant of the second
+back : (earlier later length : ℤ) → length ≡ later -ℤ earlier → earlier +ℤ length ≡ later
+back earlier later length same = omega (arith, ints, same)
+
+reached : (answer : Result DateAndTime ParseError) (earlier later length : ℤ) → length ≡ later -ℤ earlier
+    → IfOk answer (λ end. utc_microsecond end ≡ earlier +ℤ length) → IfOk answer (λ end. utc_microsecond end ≡ later)
+reached (Ok end) earlier later length same ends = ends ∙ back earlier later length same
+reached (Err fault) earlier later length same ends = tt
+
+pub between-ends : (earlier later : DateAndTime) (length : ℤ) → length ≡ utc_microsecond later -ℤ utc_microsecond earlier
+    → IfOk (date_time_after length earlier) (λ end. utc_microsecond end ≡ utc_microsecond later)
+between-ends earlier later length same =
+    reached (date_time_after length earlier) (utc_microsecond earlier) (utc_microsecond later) length same (date_time_after-ends length earlier)

@@ -1,0 +1,61 @@
+-- The duration between two values, and the value so long after another, by microseconds of any size.
+use Rattle.std.specs.Prelude.{suc, Bool, true, false, not, ◌&&◌, ◌||◌, ◌==◌, if◌then◌else◌, [], ◌∷◌, Option, Some, None, ℤ, pos, negsuc, ◌+ℤ◌, ◌-ℤ◌, int_le, unsigned_abs, Result, Ok, Err}
+use Rattle.speedate_base.specs.declared.faults.ParseError.{ParseError}
+use Rattle.speedate_base.specs.declared.faults.ParseError.TheVariants as fault
+use Rattle.speedate_base.specs.Numbers.{with_sign}
+use Rattle.speedate_base.specs.Requirement.{◌else_fault◌, meets}
+use Rattle.speedate_base.specs.Timestamp.{instant_at}
+use Rattle.speedate_civil.specs.Calendar.{Ymd}
+use Rattle.speedate_civil.specs.DateAndTime.{DateAndTime, local_microsecond, utc_microsecond}
+use Rattle.speedate_civil.specs.DateTimeTimestamp.{instant_date_time}
+use Rattle.speedate_civil.specs.DayNumber.{date_added, days_between}
+use Rattle.speedate.specs.DurationNumbers.{DurationNumbers, length_microseconds, of_length}
+
+-- the length of a duration in microseconds, with its sign
+abbrev pub signed_length : DurationNumbers → ℤ
+signed_length numbers = with_sign (not numbers.positive) (length_microseconds numbers)
+
+-- the duration of so many microseconds; of none it is positive
+abbrev pub duration_of_length : ℤ → DurationNumbers
+duration_of_length (pos length) = of_length true length
+duration_of_length (negsuc below) = of_length false (suc below)
+
+-- a duration with the other sign
+abbrev pub turned : DurationNumbers → DurationNumbers
+turned numbers = record numbers { positive = not numbers.positive }
+
+-- a duration, but for the negative one of no length, which is the positive one here
+abbrev pub plain : DurationNumbers → DurationNumbers
+plain numbers = record numbers { positive = numbers.positive || (length_microseconds numbers == 0) }
+
+-- the duration from one date-time to another, by their instants in UTC; it is negative where the other one is earlier
+abbrev pub duration_between : DateAndTime → DateAndTime → DurationNumbers
+duration_between earlier later = duration_of_length (utc_microsecond later -ℤ utc_microsecond earlier)
+
+-- the date-time so many microseconds after another, as a clock at its offset shows it, or the fault of one outside the years 0000
+-- to 9999 of that clock
+abbrev pub date_time_after : ℤ → DateAndTime → Result DateAndTime ParseError
+date_time_after length start = instant_date_time start.time.offset (instant_at 1000000 (local_microsecond start +ℤ length))
+
+-- the duration of so many days; of none it is positive
+abbrev pub duration_of_days : ℤ → DurationNumbers
+duration_of_days days = record { positive = int_le (pos 0) days; day = unsigned_abs days; second = 0; microsecond = 0 }
+
+-- the duration from one date to another
+abbrev pub duration_between_dates : Ymd → Ymd → DurationNumbers
+duration_between_dates earlier later = duration_of_days (days_between earlier later)
+
+-- a duration is whole days
+abbrev pub is_whole_days : DurationNumbers → Bool
+is_whole_days numbers = (numbers.second == 0) && (numbers.microsecond == 0)
+
+-- a date, or the fault of one outside the years 0000 to 9999: before them where it is counted back
+abbrev pub date_or_fault : Bool → Option Ymd → Result Ymd ParseError
+date_or_fault onward (Some date) = Ok date
+date_or_fault onward None = Err (if onward then fault.DateTooLarge else fault.DateTooSmall)
+
+-- the date so long after another, or the fault: that of a duration which is not whole days comes first
+abbrev pub date_after_days : DurationNumbers → Ymd → Result Ymd ParseError
+date_after_days numbers start =
+    meets ((is_whole_days numbers else_fault fault.DateNotExact) ∷ [])
+    (date_or_fault numbers.positive (date_added (with_sign (not numbers.positive) numbers.day) start))

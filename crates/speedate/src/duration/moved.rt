@@ -1,0 +1,179 @@
+//! The duration between two values, and the value so long after another or before it.
+
+ghost use Rattle.std.specs.Prelude.{◌≡◌, ◌<◌, ◌+ℤ◌, ◌-ℤ◌, ◌*ℤ◌, IfOk, Ok, pos, neg_ℤ, unsigned_abs};
+ghost use Rattle.std.specs.Ordering.{int_cmp};
+ghost use Rattle.speedate_base.specs.Requirement.{result_map};
+ghost use Rattle.speedate_base.specs.Timestamp.{instant_at};
+ghost use Rattle.speedate_base.specs.UnixTime.{parts as instant_parts};
+ghost use Rattle.speedate_civil.specs.Date.{parts as date_parts};
+ghost use Rattle.speedate_civil.specs.DateAndTime.{local_microsecond, utc_microsecond};
+ghost use Rattle.speedate_civil.specs.DateTime.{parts as date_time_parts};
+ghost use Rattle.speedate_civil.specs.DayNumber.{days_between};
+ghost use Rattle.speedate.specs.declared.duration.Duration.{Duration};
+ghost use Rattle.speedate.specs.Duration.{parts};
+ghost use Rattle.speedate.specs.DurationMove.{signed_length, duration_of_length, turned, plain, duration_between, date_time_after, duration_between_dates, date_after_days};
+
+use super::Duration;
+use speedate_base::faults::ParseError;
+use speedate_base::util::{SECONDS_PER_DAY, UnixTime};
+use speedate_civil::date::Date;
+use speedate_civil::datetime::{DateTime, of_instant};
+
+impl Duration {
+    /// The duration from one date-time to another, by their instants in UTC: an hour from
+    /// 2020-01-01T12:00:00Z to 2020-01-01T12:00:00-01:00. It is negative where `later` is the earlier
+    /// one. A date-time without an offset is taken to be in UTC.
+    #[inline]
+    pub fn between(earlier: &DateTime, later: &DateTime) -> Duration
+        ensures answer { parts result ≡ duration_between (date_time_parts earlier.now) (date_time_parts later.now) }
+        ensures length { signed_length (parts result)
+            ≡ utc_microsecond (date_time_parts later.now) -ℤ utc_microsecond (date_time_parts earlier.now) }
+        ensures ends { IfOk (date_time_after (signed_length (parts result)) (date_time_parts earlier.now))
+            (λ end. utc_microsecond end ≡ utc_microsecond (date_time_parts later.now)) }
+    {
+        Self::of_microseconds(utc_microsecond(later) - utc_microsecond(earlier))
+    }
+
+    /// The date-time so long after another, or before it where the duration is negative, at the same
+    /// offset: 2020-03-01T00:30:00+01:00 for an hour and 2020-02-29T23:30:00+01:00. `DateTooSmall`
+    /// where the date that a clock at the offset shows is before the year 0000, `DateTooLarge` where it
+    /// is after the year 9999.
+    #[inline]
+    pub fn after(&self, start: &DateTime) -> Result<DateTime, ParseError>
+        ensures answer { result_map date_time_parts result ≡ date_time_after (signed_length (parts self.now)) (date_time_parts start.now) }
+        ensures ends { IfOk result (λ end. utc_microsecond (date_time_parts end)
+            ≡ utc_microsecond (date_time_parts start.now) +ℤ signed_length (parts self.now)) }
+        ensures offset { IfOk result (λ end. end.time.tz_offset ≡ start.now.time.tz_offset) }
+        ensures between { IfOk result (λ end. duration_between (date_time_parts start.now) (date_time_parts end) ≡ plain (parts self.now)) }
+        ensures order { (other : Duration) → IfOk result (λ end. IfOk (date_time_after (signed_length (parts other)) (date_time_parts start.now))
+            (λ next. int_cmp (utc_microsecond (date_time_parts end)) (utc_microsecond next)
+            ≡ int_cmp (signed_length (parts self.now)) (signed_length (parts other)))) }
+    {
+        of_instant(self.end(start), start.time.tz_offset)
+    }
+
+    /// The date-time so long before another, or after it where the duration is negative, at the same
+    /// offset: 2020-02-29T23:30:00+01:00 for an hour and 2020-03-01T00:30:00+01:00. The faults are those
+    /// of [`Duration::after`].
+    #[inline]
+    pub fn before(&self, start: &DateTime) -> Result<DateTime, ParseError>
+        ensures answer { result_map date_time_parts result
+            ≡ date_time_after (neg_ℤ (signed_length (parts self.now))) (date_time_parts start.now) }
+        ensures ends { IfOk result (λ end. utc_microsecond (date_time_parts end)
+            ≡ utc_microsecond (date_time_parts start.now) -ℤ signed_length (parts self.now)) }
+        ensures offset { IfOk result (λ end. end.time.tz_offset ≡ start.now.time.tz_offset) }
+    {
+        self.negated().after(start)
+    }
+
+    /// The duration with the other sign: -PT1S for PT1S, and PT0S for -PT0S.
+    #[inline]
+    pub fn negated(&self) -> Duration
+        ensures numbers { parts result ≡ turned (parts self.now) }
+        ensures length { signed_length (parts result) ≡ neg_ℤ (signed_length (parts self.now)) }
+    {
+        Duration {
+            positive: !self.positive,
+            day: self.day,
+            second: self.second,
+            microsecond: self.microsecond,
+        }
+    }
+
+    /// The duration from one date to another, whole days: two days from 2020-02-28 to 2020-03-01. It is
+    /// negative where `later` is the earlier one.
+    #[inline]
+    pub fn between_dates(earlier: &Date, later: &Date) -> Duration
+        ensures answer { parts result ≡ duration_between_dates (date_parts earlier.now) (date_parts later.now) }
+        ensures leads_back { date_after_days (parts result) (date_parts earlier.now) ≡ Ok (date_parts later.now) }
+    {
+        let days = later.days_since(earlier);
+        Duration {
+            positive: days >= 0,
+            day: days.unsigned_abs(),
+            second: 0,
+            microsecond: 0,
+        }
+    }
+
+    /// The date so many days after another, or before it where the duration is negative: 2020-03-01 for
+    /// two days and 2020-02-28.
+    ///
+    /// The faults, in the order in which they are looked for:
+    ///
+    /// - `DateNotExact` where the duration is not whole days;
+    /// - `DateTooSmall` where the date is before the year 0000, `DateTooLarge` where it is after the year
+    ///   9999.
+    #[inline]
+    pub fn after_date(&self, start: &Date) -> Result<Date, ParseError>
+        ensures answer { result_map date_parts result ≡ date_after_days (parts self.now) (date_parts start.now) }
+    {
+        if self.second != 0 || self.microsecond != 0 {
+            return Err(ParseError::DateNotExact);
+        }
+        let days = self.day as i32;
+        let (days, fault) = if self.positive {
+            (days, ParseError::DateTooLarge)
+        } else {
+            (-days, ParseError::DateTooSmall)
+        };
+        start.checked_add_days(days).ok_or(fault)
+    }
+
+    /// The date so many days before another, or after it where the duration is negative: 2020-02-28 for
+    /// two days and 2020-03-01. The faults are those of [`Duration::after_date`].
+    #[inline]
+    pub fn before_date(&self, start: &Date) -> Result<Date, ParseError>
+        ensures answer { result_map date_parts result ≡ date_after_days (turned (parts self.now)) (date_parts start.now) }
+    {
+        self.negated().after_date(start)
+    }
+
+    /// The duration of so many microseconds.
+    #[inline]
+    fn of_microseconds(length: i64) -> Duration
+        ensures numbers { parts result ≡ duration_of_length length }
+    {
+        let size = length.unsigned_abs();
+        let (seconds, per_day) = (size / 1_000_000, u64::from(SECONDS_PER_DAY));
+        Duration {
+            positive: length >= 0,
+            day: (seconds / per_day) as u32,
+            second: (seconds % per_day) as u32,
+            microsecond: (size % 1_000_000) as u32,
+        }
+    }
+
+    /// The instant so long after a date-time, as a clock at its offset shows it.
+    #[inline]
+    fn end(&self, start: &DateTime) -> UnixTime
+        ensures instant { instant_parts result
+            ≡ instant_at 1000000 (local_microsecond (date_time_parts start.now) +ℤ signed_length (parts self.now)) }
+    {
+        carried(
+            start.timestamp() + self.signed_total_seconds(),
+            start.time.microsecond as i32 + self.signed_microseconds(),
+        )
+    }
+}
+
+/// The instant of seconds and microseconds of any size since 1970-01-01T00:00:00.
+#[inline]
+fn carried(second: i64, microsecond: i32) -> UnixTime
+    requires { unsigned_abs second < 100000000000000 }
+    ensures instant { instant_parts result ≡ instant_at 1000000 (pos 1000000 *ℤ second +ℤ microsecond) }
+{
+    UnixTime {
+        second: second + i64::from(microsecond.div_euclid(1_000_000)),
+        microsecond: microsecond.rem_euclid(1_000_000) as u32,
+    }
+}
+
+/// The microsecond since 1970-01-01T00:00:00 in UTC at which a date-time lies.
+#[inline]
+fn utc_microsecond(value: &DateTime) -> i64
+    ensures microsecond { result ≡ utc_microsecond (date_time_parts value.now) }
+    ensures small { unsigned_abs result < 500000000000000000 }
+{
+    1_000_000 * value.timestamp_tz() + i64::from(value.time.microsecond)
+}

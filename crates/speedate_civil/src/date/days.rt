@@ -1,0 +1,41 @@
+//! Days added to a date, and the days between two dates.
+
+ghost use Rattle.std.specs.Prelude.{◌≡◌, ◌≤◌, IfSome, Some, pos, unsigned_abs};
+ghost use Rattle.std.specs.Option.{option_map};
+ghost use Rattle.std.specs.Ordering.{int_cmp};
+ghost use Rattle.speedate_civil.specs.Date.{parts};
+ghost use Rattle.speedate_civil.specs.DateOrder.{date_order};
+ghost use Rattle.speedate_civil.specs.DayNumber.{date_added, days_between};
+
+use super::Date;
+
+impl Date {
+    /// The date so many days later, or earlier for a negative number: 2020-03-01 for 2020-02-28 and 2.
+    /// `None` where that is before 0000-01-01 or after 9999-12-31.
+    ///
+    /// [`Date::days_since`] counts the days again.
+    #[inline]
+    pub fn checked_add_days(&self, days: i32) -> Option<Self>
+        ensures date { option_map parts result ≡ date_added days (parts self.now) }
+        ensures counted { IfSome result (λ date. days_between (parts self.now) (parts date) ≡ days) }
+    {
+        let number = i64::from(self.day_number()) + i64::from(days);
+        let number = u32::try_from(number).ok()?;
+        Self::from_day_number(number)
+    }
+
+    /// The days from an earlier date to this one: 2 for 2020-03-01 and the earlier 2020-02-28. They are
+    /// negative where `earlier` is the later one.
+    ///
+    /// Added to `earlier` by [`Date::checked_add_days`] they lead to this date. They are negative, none
+    /// or positive as this date is before `earlier`, equal to it or after it.
+    #[inline]
+    pub fn days_since(&self, earlier: &Date) -> i32
+        ensures days { result ≡ days_between (parts earlier.now) (parts self.now) }
+        ensures leads_back { date_added result (parts earlier.now) ≡ Some (parts self.now) }
+        ensures small { unsigned_abs result ≤ 3652424 }
+        ensures order { int_cmp result (pos 0) ≡ date_order (parts self.now) (parts earlier.now) }
+    {
+        self.day_number() as i32 - earlier.day_number() as i32
+    }
+}

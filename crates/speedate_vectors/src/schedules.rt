@@ -1,0 +1,24 @@
+//! Callers that keep time, as a crate outside this workspace would write them.
+
+ghost use Rattle.std.specs.Prelude.{◌≡◌, Some, None, if◌then◌else◌, unsigned_abs};
+ghost use Rattle.speedate.specs.declared.IsoOrder.TheVariants as order;
+ghost use Rattle.speedate.specs.declared.MicrosecondsPrecisionOverflowBehavior.TheVariants as behavior;
+ghost use Rattle.speedate.specs.DurationAnswer.{duration_answer};
+ghost use Rattle.speedate.specs.DurationNumbers.{signed_milliseconds};
+ghost use Rattle.speedate.specs.Requirement.{result_map};
+
+use speedate::{Duration, ParseError};
+
+/// The whole milliseconds of a timeout, as a configuration has it: 30,000 for `"PT30S"`. There are none
+/// where it has the negative sign.
+pub fn timeout_ms(text: &str) -> Result<Option<u64>, ParseError>
+    ensures timeout { result ≡ result_map
+        (λ timeout. if timeout.positive then Some (unsigned_abs (signed_milliseconds timeout)) else None)
+        (duration_answer order.Lax behavior.Error text.now) }
+{
+    let timeout = Duration::parse_str(text)?;
+    if !timeout.positive {
+        return Ok(None);
+    }
+    Ok(Some(timeout.signed_total_ms().unsigned_abs()))
+}
