@@ -4,7 +4,7 @@ use Rattle.std.specs.Result.{result_and}
 use Rattle.std.proofs.Common.{◌∙◌, ap, ap₂, sym}
 use Rattle.std.proofs.lemmas.Bool.{eq-eqb, eqb-true, eqb-false, ne_eqb}
 use Rattle.speedate_base.specs.declared.faults.ParseError.{ParseError}
-use Rattle.speedate_base.specs.Requirement.{Requirement, meets, AllHold, alone, result_and_then}
+use Rattle.speedate_base.specs.Requirement.{Requirement, ◌implies◌, meets, AllHold, alone, result_and_then}
 
 row-chain : {A B : Type 0} (holds : Bool) (fault : ParseError) (first : Result A ParseError) (second next : Result B ParseError)
     → second ≡ result_and first next → (if holds then second else Err fault) ≡ result_and (if holds then first else Err fault) next
@@ -72,6 +72,11 @@ alone-whole fault text value size same = rw (eq-eqb (length text) size same) ref
 pub alone-longer : {A : Type 0} (fault : A → ParseError) (text : List ℕ) (value : A) (size : ℕ) → (length text ≡ size → ⊥)
     → alone fault text (value, size) ≡ Err (fault value)
 alone-longer fault text value size other = rw (ne_eqb (length text) size other) refl
+
+-- what holds anyway holds where it is asked for
+pub implies-true : (there : Bool) → (there implies true) ≡ true
+implies-true true = refl
+implies-true false = refl
 
 -- where every row holds, what comes next is the answer
 pub meets-all : {A : Type 0} (rows : List Requirement) (next : Result A ParseError) → AllHold rows → meets rows next ≡ next

@@ -9,6 +9,7 @@ pub mod Numbers
 pub mod IntFloat
 pub mod Offset
 pub mod Refusal
+pub mod Form
 pub mod Nearest
 pub mod Timestamp
 pub mod DecimalTimestamp

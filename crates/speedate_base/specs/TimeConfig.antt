@@ -2,11 +2,14 @@
 use Rattle.std.specs.Prelude.{◌≡◌, None}
 use Rattle.speedate_base.specs.declared.config.IsoOrder.TheVariants as order
 use Rattle.speedate_base.specs.declared.config.MicrosecondsPrecisionOverflowBehavior.TheVariants as behavior
+use Rattle.speedate_base.specs.declared.config.Rfc3339Form.TheVariants as rfc3339
 use Rattle.speedate_base.specs.declared.config.TimeConfig.{TimeConfig}
 
--- further digits are refused, timestamps get no offset, and the components of a duration may come in any order
+-- further digits are refused, timestamps get no offset, the components of a duration may come in any order, and texts are
+-- relaxed
 abbrev pub IsDefault : TimeConfig → Type 0
 IsDefault config =
     (config.microseconds_precision_overflow_behavior ≡ behavior.Error)
     × (config.unix_timestamp_offset ≡ None)
     × (config.iso_order ≡ order.Lax)
+    × (config.rfc3339_form ≡ rfc3339.Relaxed)

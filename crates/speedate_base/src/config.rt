@@ -3,6 +3,7 @@
 
 ghost use Rattle.std.specs.Prelude.{◌≡◌, IfOk, IsTrue, Ok, nat_le};
 ghost use Rattle.std.specs.Option.{ForSome};
+ghost use Rattle.speedate_base.specs.Form.{is_strict};
 ghost use Rattle.speedate_base.specs.Offset.{IsOffset, is_offset, offset_table};
 ghost use Rattle.speedate_base.specs.Requirement.{◌implies◌, meets, result_map};
 ghost use Rattle.speedate_base.specs.Refusal.{refuses_digits};
@@ -49,6 +50,30 @@ pub enum IsoOrder {
     /// Each comes at most once, years before months, weeks and days, and after the `T` hours before
     /// minutes and seconds.
     Strict,
+}
+
+/// Which texts are times and date-times: those of RFC 3339 and forms beside them, or those alone.
+#[derive(Clone, Copy, Debug, PartialEq, Eq, Default)]
+pub enum Rfc3339Form {
+    /// The second, the offset and the `:` in it may be left out, the decimal mark may be a comma, the
+    /// sign of an offset U+2212, and a space or `_` may part date and time.
+    #[default]
+    Relaxed,
+    /// The texts of RFC 3339, but for those with a second 60.
+    Strict,
+}
+
+impl Rfc3339Form {
+    /// Whether it is `Strict`.
+    #[inline]
+    pub fn is_strict(self) -> bool
+        ensures strict { result ≡ is_strict self }
+    {
+        match self {
+            Rfc3339Form::Relaxed => false,
+            Rfc3339Form::Strict => true,
+        }
+    }
 }
 
 /// Whether a text may have `count` digits where `most` of them reach the microsecond: 7 where `most`
@@ -182,6 +207,8 @@ pub struct TimeConfig {
     pub unix_timestamp_offset: Option<i32>,
     /// Whether the components of an ISO 8601 duration have to come in order.
     pub iso_order: IsoOrder,
+    /// Which texts are times and date-times.
+    pub rfc3339_form: Rfc3339Form,
     pub ghost offset_in_range: { ForSome unix_timestamp_offset IsOffset },
 }
 
@@ -207,6 +234,7 @@ impl Default for TimeConfig {
             microseconds_precision_overflow_behavior: MicrosecondsPrecisionOverflowBehavior::default(),
             unix_timestamp_offset: None,
             iso_order: IsoOrder::default(),
+            rfc3339_form: Rfc3339Form::default(),
         }
     }
 }
@@ -249,14 +277,11 @@ impl TimeConfigBuilder {
         ensures behavior { result.microseconds_precision_overflow_behavior ≡ behavior }
         ensures offset { result.unix_timestamp_offset ≡ self.unix_timestamp_offset }
         ensures order { result.iso_order ≡ self.iso_order }
+        ensures form { result.rfc3339_form ≡ self.rfc3339_form }
     {
-        TimeConfigBuilder {
-            config: TimeConfig {
-                microseconds_precision_overflow_behavior: behavior,
-                unix_timestamp_offset: self.config.unix_timestamp_offset,
-                iso_order: self.config.iso_order,
-            },
-        }
+        let mut config = self.config;
+        config.microseconds_precision_overflow_behavior = behavior;
+        TimeConfigBuilder { config }
     }
 
     /// Sets the offset, in seconds, that a timestamp's value gets: none, or one of less than 24
@@ -267,16 +292,11 @@ impl TimeConfigBuilder {
         ensures behavior { result.microseconds_precision_overflow_behavior
             ≡ self.microseconds_precision_overflow_behavior }
         ensures order { result.iso_order ≡ self.iso_order }
+        ensures form { result.rfc3339_form ≡ self.rfc3339_form }
     {
-        TimeConfigBuilder {
-            config: TimeConfig {
-                microseconds_precision_overflow_behavior: self
-                    .config
-                    .microseconds_precision_overflow_behavior,
-                unix_timestamp_offset: offset,
-                iso_order: self.config.iso_order,
-            },
-        }
+        let mut config = self.config;
+        config.unix_timestamp_offset = offset;
+        TimeConfigBuilder { config }
     }
 
     /// Sets the offset, in seconds, that a timestamp's value gets, as
@@ -287,6 +307,7 @@ impl TimeConfigBuilder {
         ensures behavior { IfOk result (λ builder. builder.microseconds_precision_overflow_behavior
             ≡ self.microseconds_precision_overflow_behavior) }
         ensures order { IfOk result (λ builder. builder.iso_order ≡ self.iso_order) }
+        ensures form { IfOk result (λ builder. builder.rfc3339_form ≡ self.rfc3339_form) }
     {
         match offset {
             Some(seconds) if !is_offset(seconds) => Err(ParseError::OutOfRangeTz),
@@ -301,16 +322,24 @@ impl TimeConfigBuilder {
         ensures behavior { result.microseconds_precision_overflow_behavior
             ≡ self.microseconds_precision_overflow_behavior }
         ensures offset { result.unix_timestamp_offset ≡ self.unix_timestamp_offset }
+        ensures form { result.rfc3339_form ≡ self.rfc3339_form }
     {
-        TimeConfigBuilder {
-            config: TimeConfig {
-                microseconds_precision_overflow_behavior: self
-                    .config
-                    .microseconds_precision_overflow_behavior,
-                unix_timestamp_offset: self.config.unix_timestamp_offset,
-                iso_order: order,
-            },
-        }
+        let mut config = self.config;
+        config.iso_order = order;
+        TimeConfigBuilder { config }
+    }
+
+    /// Sets which texts are times and date-times: `12:13` is refused with `Strict`.
+    pub fn rfc3339_form(self, form: Rfc3339Form) -> Self
+        ensures form { result.rfc3339_form ≡ form }
+        ensures behavior { result.microseconds_precision_overflow_behavior
+            ≡ self.microseconds_precision_overflow_behavior }
+        ensures offset { result.unix_timestamp_offset ≡ self.unix_timestamp_offset }
+        ensures order { result.iso_order ≡ self.iso_order }
+    {
+        let mut config = self.config;
+        config.rfc3339_form = form;
+        TimeConfigBuilder { config }
     }
 
     /// The configuration of the values that were set last, and of defaults for the others: no offset

@@ -1,46 +1,73 @@
 -- A printed offset of whole minutes is read as itself.
-use Rattle.std.specs.Prelude.{◌≡◌, ℕ, zero, suc, ◌+◌, ◌*◌, ◌/◌, ◌%◌, ◌<◌, Bool, true, false, not, ◌||◌, List, ◌∷◌, ◌++◌, length, drop, nat_lt, if◌then◌else◌, ◌&&◌, ◌==◌, slice_index, Option, Some, None, ℤ, pos, negsuc, Result, Ok, refl}
+use Rattle.std.specs.Prelude.{◌≡◌, ℕ, zero, suc, ◌+◌, ◌*◌, ◌/◌, ◌%◌, ◌<◌, Bool, true, false, not, ◌||◌, List, [], ◌∷◌, ◌++◌, length, drop, nat_lt, if◌then◌else◌, ◌&&◌, ◌==◌, slice_index, Option, Some, None, ℤ, pos, negsuc, Result, Ok, Err, refl}
 use Rattle.std.specs.Option.{ForSome, is_some}
-use Rattle.std.proofs.Common.{arith}
+use Rattle.std.proofs.Common.{arith, ◌∙◌}
 use Rattle.std.proofs.lemmas.Bool.{le-leb, lt-ltb, le-ltb, ne_eqb, not-true}
 use Rattle.std.proofs.lemmas.Bool.Decides.{nat_tests}
 use Rattle.speedate_base.specs.declared.faults.ParseError.{ParseError}
+use Rattle.speedate_base.specs.declared.config.Rfc3339Form.{Rfc3339Form}
+use Rattle.speedate_base.specs.declared.config.Rfc3339Form.TheVariants as rfc3339
+use Rattle.speedate_base.specs.declared.faults.ParseError.TheVariants as fault
+use Rattle.speedate_base.specs.Requirement.{meets}
+use Rattle.speedate_base.specs.Form.{is_strict}
+use Rattle.speedate_base.proofs.RequirementLemmas.{implies-true}
+use Rattle.speedate_civil.specs.TimeText.{is_of_form}
 use Rattle.speedate_base.specs.Ascii.{plus_sign, hyphen, capital_z, small_z}
 use Rattle.speedate_base.proofs.DigitLemmas.{two_digits-printed, two_digit_value-printed}
 use Rattle.speedate_base.specs.Numbers.{with_sign}
 use Rattle.speedate_base.specs.Offset.{IsOffset, IsWholeMinutes, seconds_per_day}
-use Rattle.speedate_civil.specs.OffsetText.{begins_offset, offset_front, offset_text, offset_size_text, signed_front}
+use Rattle.speedate_civil.specs.OffsetText.{begins_offset, offset_front, offset_text, offset_size_text, signed_front, is_utc, unsigned_table, unsigned_front}
 
--- the offset without a sign, by whether it is UTC
-abbrev pub unsigned : Bool → Option ℤ × ℕ
-unsigned utc = if utc then (Some (pos 0), 1) else (None, 0)
-
--- the offset by what a text begins with: U+2212, `+` or `-`, `Z` or `z`
-abbrev pub by_tests : Bool → Bool → Bool → Bool → List ℕ → Result (Option ℤ × ℕ) ParseError
-by_tests minus plus hyphen utc rest =
+-- the offset by what a text begins with: U+2212, `+` or `-`, or no sign
+abbrev pub by_tests : Rfc3339Form → Bool → Bool → Bool → Result (Option ℤ × ℕ) ParseError → List ℕ → Result (Option ℤ × ℕ) ParseError
+by_tests form minus plus hyphen other rest =
     let length = if minus then 3 else (if plus || hyphen then 1 else 0) in
-    if nat_lt 0 length then signed_front (hyphen || minus) length (drop length rest) else Ok (unsigned utc)
+    if nat_lt 0 length then signed_front form (hyphen || minus) length (drop length rest) else other
 
-pub one_byte : (minus plus hyphen utc : Bool) (rest : List ℕ) → minus ≡ false → (plus || hyphen) ≡ true
-    → by_tests minus plus hyphen utc rest ≡ signed_front hyphen 1 (drop 1 rest)
-one_byte false true true utc rest none some = refl
-one_byte false true false utc rest none some = refl
-one_byte false false true utc rest none some = refl
-one_byte false false false utc rest none some = absurd (cc)
-one_byte true plus hyphen utc rest none some = absurd (cc)
+pub one_byte : (form : Rfc3339Form) (minus plus hyphen : Bool) (other : Result (Option ℤ × ℕ) ParseError) (rest : List ℕ) → minus ≡ false → (plus || hyphen) ≡ true
+    → by_tests form minus plus hyphen other rest ≡ signed_front form hyphen 1 (drop 1 rest)
+one_byte form false true true other rest none some = refl
+one_byte form false true false other rest none some = refl
+one_byte form false false true other rest none some = refl
+one_byte form false false false other rest none some = absurd (cc)
+one_byte form true plus hyphen other rest none some = absurd (cc)
 
-pub three_bytes : (minus plus hyphen utc : Bool) (rest : List ℕ) → minus ≡ true
-    → by_tests minus plus hyphen utc rest ≡ signed_front true 3 (drop 3 rest)
-three_bytes true plus true utc rest there = refl
-three_bytes true plus false utc rest there = refl
-three_bytes false plus hyphen utc rest there = absurd (cc)
+pub three_bytes : (form : Rfc3339Form) (minus plus hyphen : Bool) (other : Result (Option ℤ × ℕ) ParseError) (rest : List ℕ) → minus ≡ true
+    → by_tests form minus plus hyphen other rest ≡ signed_front form true 3 (drop 3 rest)
+three_bytes form true plus true other rest there = refl
+three_bytes form true plus false other rest there = refl
+three_bytes form false plus hyphen other rest there = absurd (cc)
 
-pub no_byte : (minus plus hyphen utc : Bool) (rest : List ℕ) → minus ≡ false → (plus || hyphen) ≡ false
-    → by_tests minus plus hyphen utc rest ≡ Ok (unsigned utc)
-no_byte false false false utc rest none nothing = refl
-no_byte false true hyphen utc rest none nothing = absurd (cc)
-no_byte false false true utc rest none nothing = absurd (cc)
-no_byte true plus hyphen utc rest none nothing = absurd (cc)
+pub no_byte : (form : Rfc3339Form) (minus plus hyphen : Bool) (other : Result (Option ℤ × ℕ) ParseError) (rest : List ℕ) → minus ≡ false → (plus || hyphen) ≡ false
+    → by_tests form minus plus hyphen other rest ≡ other
+no_byte form false false false other rest none nothing = refl
+no_byte form false true hyphen other rest none nothing = absurd (cc)
+no_byte form false false true other rest none nothing = absurd (cc)
+no_byte form true plus hyphen other rest none nothing = absurd (cc)
+
+-- `Z` and `z` are read in both forms
+pub utc-read : (form : Rfc3339Form) (rest : List ℕ) → is_utc rest ≡ true → meets (unsigned_table form rest) (Ok (unsigned_front rest)) ≡ Ok (Some (pos 0), 1)
+utc-read form [] utc = absurd (cc)
+utc-read form (byte ∷ rest) utc =
+    rw (utc, lt-ltb 0 (length (byte ∷ rest)) (omega arith), implies-true (is_strict form)) refl
+
+-- in the strict form an offset is due
+chosen : {A : Type 0} (test : Bool) (first second : ParseError) → ◌≡◌ {A = Result A ParseError} (if test then Err first else Err second) (Err (if test then first else second))
+chosen true first second = refl
+chosen false first second = refl
+
+pub strict-unsigned : (form : Rfc3339Form) (rest : List ℕ) → is_strict form ≡ true → is_utc rest ≡ false
+    → meets (unsigned_table form rest) (Ok (unsigned_front rest)) ≡ Err (if nat_lt 0 (length rest) then fault.InvalidCharTzSign else fault.TzRequired)
+strict-unsigned form rest strict other = rw (strict, other) (chosen (nat_lt 0 (length rest)) fault.InvalidCharTzSign fault.TzRequired)
+
+pub relaxed-unsigned : (form : Rfc3339Form) (rest : List ℕ) → is_strict form ≡ false → is_utc rest ≡ false
+    → meets (unsigned_table form rest) (Ok (unsigned_front rest)) ≡ Ok (None, 0)
+relaxed-unsigned form rest relaxed other = rw (relaxed, other) refl
+
+-- U+2212 is no sign of the strict form
+pub no_minus_sign : (form : Rfc3339Form) (there : Bool) → there ≡ false → (not (is_strict form) && there) ≡ false
+no_minus_sign rfc3339.Relaxed there none = none
+no_minus_sign rfc3339.Strict there none = refl
 
 -- neither `+` and `-` nor `Z` and `z` begin U+2212
 pub no_minus : (byte : ℕ) (second third : Bool) → ((byte == plus_sign) || (byte == hyphen)) ≡ true → ((byte == 0xe2) && second && third) ≡ false
@@ -50,10 +77,10 @@ pub no_minus-utc : (byte : ℕ) (second third : Bool) → ((byte == capital_z) |
 no_minus-utc byte second third one = grind (arith, nat_tests)
 
 -- an offset other than 0 is printed with a sign
-offset_text-west : (size : ℕ) → offset_text (Some (negsuc size)) ≡ hyphen ∷ offset_size_text (suc size)
+pub offset_text-west : (size : ℕ) → offset_text (Some (negsuc size)) ≡ hyphen ∷ offset_size_text (suc size)
 offset_text-west size = rw (ne_eqb (suc size) 0 (λ same. absurd (omega arith))) refl
 
-offset_text-east : (size : ℕ) → offset_text (Some (pos (suc size))) ≡ plus_sign ∷ offset_size_text (suc size)
+pub offset_text-east : (size : ℕ) → offset_text (Some (pos (suc size))) ≡ plus_sign ∷ offset_size_text (suc size)
 offset_text-east size = rw (ne_eqb (suc size) 0 (λ same. absurd (omega arith)), le-ltb (suc size) 0 (omega arith)) refl
 
 -- a test that neither a sign nor `Z` passes tells of what follows only where no offset is printed
@@ -65,25 +92,39 @@ offset_text-first test (Some (pos (suc size))) rest utc west east ends = rw (off
 offset_text-first test (Some (negsuc size)) rest utc west east ends = rw (offset_text-west size) west
 
 -- the hours and minutes of an offset of whole minutes are read as its size
-signed-printed : (west : Bool) (size : ℕ) (tail : List ℕ) → size < seconds_per_day → size % 60 ≡ 0
-    → signed_front west 1 (offset_size_text size ++ tail) ≡ Ok (Some (with_sign west size), 6)
-signed-printed west size tail small whole =
+signed-printed : (form : Rfc3339Form) (west : Bool) (size : ℕ) (rest : List ℕ) → size < seconds_per_day → size % 60 ≡ 0
+    → signed_front form west 1 (offset_size_text size ++ rest) ≡ Ok (Some (with_sign west size), 6)
+signed-printed form west size rest small whole =
     let hour_is = two_digit_value-printed (size / 3600) in
     let minute_is = two_digit_value-printed (size / 60 % 60) in
     let size_is : 3600 * (size / 3600) + 60 * (size / 60 % 60) ≡ size = omega arith in
-    rw (two_digits-printed (size / 3600) (omega arith), two_digits-printed (size / 60 % 60) (omega arith), hour_is, minute_is, size_is, le-leb (size / 60 % 60) 59 (omega arith), lt-ltb size seconds_per_day small) refl
+    rw (two_digits-printed (size / 3600) (omega arith), two_digits-printed (size / 60 % 60) (omega arith), implies-true (is_strict form), hour_is, minute_is, size_is, le-leb (size / 60 % 60) 59 (omega arith), lt-ltb size seconds_per_day small) refl
+
+-- what a sign begins is read as such in both forms
+hyphen-signed : (form : Rfc3339Form) (rest : List ℕ) → offset_front form (hyphen ∷ rest) ≡ signed_front form true 1 rest
+hyphen-signed rfc3339.Relaxed rest = refl
+hyphen-signed rfc3339.Strict rest = refl
+
+plus-signed : (form : Rfc3339Form) (rest : List ℕ) → offset_front form (plus_sign ∷ rest) ≡ signed_front form false 1 rest
+plus-signed rfc3339.Relaxed rest = refl
+plus-signed rfc3339.Strict rest = refl
+
+utc-unsigned : (form : Rfc3339Form) (rest : List ℕ) → offset_front form (capital_z ∷ rest) ≡ Ok (Some (pos 0), 1)
+utc-unsigned rfc3339.Relaxed rest = refl
+utc-unsigned rfc3339.Strict rest = rw (lt-ltb 0 (length (capital_z ∷ rest)) (omega arith)) refl
 
 -- where no offset begins, none is read
-no_offset : (rest : List ℕ) → not (begins_offset rest) ≡ true → offset_front rest ≡ Ok (None, 0)
-no_offset rest none = grind (arith, nat_tests)
+no_offset : (form : Rfc3339Form) (rest : List ℕ) → is_of_form form None ≡ true → not (begins_offset rest) ≡ true → offset_front form rest ≡ Ok (None, 0)
+no_offset rfc3339.Relaxed rest relaxed none = grind (arith, nat_tests)
+no_offset rfc3339.Strict rest relaxed none = absurd (cc)
 
 -- a printed offset of whole minutes is read as itself, whatever follows it, and so is none where no offset follows
-pub offset_text-front : (offset : Option ℤ) (rest : List ℕ) → ForSome offset IsOffset → IsWholeMinutes offset
+pub offset_text-front : (form : Rfc3339Form) (offset : Option ℤ) (rest : List ℕ) → is_of_form form offset ≡ true → ForSome offset IsOffset → IsWholeMinutes offset
     → (is_some offset || not (begins_offset rest)) ≡ true
-    → offset_front (offset_text offset ++ rest) ≡ Ok (offset, length (offset_text offset))
-offset_text-front None rest valid whole ends = no_offset rest ends
-offset_text-front (Some (pos zero)) rest valid whole ends = refl
-offset_text-front (Some (pos (suc size))) rest valid whole ends =
-    rw (offset_text-east size) (signed-printed false (suc size) rest (valid (pos (suc size)) refl) (whole (pos (suc size)) refl))
-offset_text-front (Some (negsuc size)) rest valid whole ends =
-    rw (offset_text-west size) (signed-printed true (suc size) rest (valid (negsuc size) refl) (whole (negsuc size) refl))
+    → offset_front form (offset_text offset ++ rest) ≡ Ok (offset, length (offset_text offset))
+offset_text-front form None rest given valid whole ends = no_offset form rest given ends
+offset_text-front form (Some (pos zero)) rest given valid whole ends = utc-unsigned form rest
+offset_text-front form (Some (pos (suc size))) rest given valid whole ends =
+    rw (offset_text-east size) (plus-signed form (offset_size_text (suc size) ++ rest) ∙ signed-printed form false (suc size) rest (valid (pos (suc size)) refl) (whole (pos (suc size)) refl))
+offset_text-front form (Some (negsuc size)) rest given valid whole ends =
+    rw (offset_text-west size) (hyphen-signed form (offset_size_text (suc size) ++ rest) ∙ signed-printed form true (suc size) rest (valid (negsuc size) refl) (whole (negsuc size) refl))

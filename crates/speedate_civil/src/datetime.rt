@@ -4,6 +4,7 @@ ghost use Rattle.std.specs.Prelude.{◌≡◌, ◌≤◌, ◌↔◌, IfOk, IsTru
 ghost use Rattle.speedate_base.specs.Numbers.{NoNumber, number_answer};
 ghost use Rattle.speedate_base.specs.Requirement.{result_map, with_size};
 ghost use Rattle.speedate_base.specs.declared.config.MicrosecondsPrecisionOverflowBehavior.TheVariants as behavior;
+ghost use Rattle.speedate_base.specs.declared.config.Rfc3339Form.TheVariants as rfc3339;
 ghost use Rattle.speedate_civil.specs.DateAndTime.{DateAndTime};
 ghost use Rattle.speedate_civil.specs.DateTimeText.{is_separator, date_time_front, date_time_answer};
 
@@ -19,7 +20,7 @@ use crate::date::Date;
 use crate::time::{Time, end_fault};
 pub use instant::of_instant;
 pub use now::Moment;
-use speedate_base::config::TimeConfig;
+use speedate_base::config::{Rfc3339Form, TimeConfig};
 use speedate_base::faults::ParseError;
 use speedate_base::numbers::byte_at;
 
@@ -52,7 +53,7 @@ impl DateTime {
     /// - those of [`Time::parse_str`] for what follows the separator.
     #[inline(always)]
     pub fn parse_str_rfc3339(text: &str) -> Result<Self, ParseError>
-        ensures answer { result_map parts result ≡ date_time_answer behavior.Error text.now }
+        ensures answer { result_map parts result ≡ date_time_answer rfc3339.Relaxed behavior.Error text.now }
     {
         Self::parse_bytes_rfc3339(text.as_bytes())
     }
@@ -61,7 +62,7 @@ impl DateTime {
     /// 1 January 2020 from `b"2020-01-01_12:13"`. The bytes need not be text.
     #[inline(always)]
     pub fn parse_bytes_rfc3339(bytes: &[u8]) -> Result<Self, ParseError>
-        ensures answer { result_map parts result ≡ date_time_answer behavior.Error bytes.now }
+        ensures answer { result_map parts result ≡ date_time_answer rfc3339.Relaxed behavior.Error bytes.now }
         ensures no_number { OnOk result (number_answer bytes.now ≡ NoNumber) }
     {
         Self::parse_bytes_rfc3339_with_config(bytes, &TimeConfig::default())
@@ -77,7 +78,7 @@ impl DateTime {
         config: &TimeConfig,
     ) -> Result<Self, ParseError>
         ensures answer { result_map parts result
-            ≡ date_time_answer config.now.microseconds_precision_overflow_behavior bytes.now }
+            ≡ date_time_answer config.now.rfc3339_form config.now.microseconds_precision_overflow_behavior bytes.now }
         ensures no_number { OnOk result (number_answer bytes.now ≡ NoNumber) }
     {
         let (value, size) = Self::parse_front(bytes, config)?;
@@ -97,31 +98,32 @@ impl DateTime {
     #[inline(always)]
     pub fn parse_front(bytes: &[u8], config: &TimeConfig) -> Result<(Self, usize), ParseError>
         ensures answer { result_map (with_size parts) result
-            ≡ date_time_front config.now.microseconds_precision_overflow_behavior bytes.now }
+            ≡ date_time_front config.now.rfc3339_form config.now.microseconds_precision_overflow_behavior bytes.now }
         ensures within { IfOk result (λ front. front.1 ≤ length bytes.now) }
         ensures whole { (value : DateAndTime)
-            → (date_time_answer config.now.microseconds_precision_overflow_behavior bytes.now ≡ Ok value)
+            → (date_time_answer config.now.rfc3339_form config.now.microseconds_precision_overflow_behavior bytes.now ≡ Ok value)
             ↔ (result_map (with_size parts) result ≡ Ok (value, length bytes.now)) }
         ensures alone { IfOk result (λ front.
-            date_time_answer config.now.microseconds_precision_overflow_behavior (take front.1 bytes.now) ≡ Ok (parts front.0)) }
+            date_time_answer config.now.rfc3339_form config.now.microseconds_precision_overflow_behavior (take front.1 bytes.now) ≡ Ok (parts front.0)) }
         ensures no_number { OnOk result (number_answer bytes.now ≡ NoNumber) }
     {
         let (date, _) = Date::parse_front(bytes)?;
-        if !has_separator(bytes) {
+        if !has_separator(bytes, config.rfc3339_form) {
             return Err(ParseError::InvalidCharDateTimeSep);
         }
         let behavior = config.microseconds_precision_overflow_behavior;
-        let (time, size) = Time::front_at(bytes, TIME_PLACE, behavior)?;
+        let (time, size) = Time::front_at(bytes, TIME_PLACE, config.rfc3339_form, behavior)?;
         Ok((DateTime { date, time }, TIME_PLACE + size))
     }
 }
 
-/// Whether a separator follows the ten bytes of a date.
+/// Whether a separator follows the ten bytes of a date: `T` or `t`, and in the relaxed form a space or
+/// `_`.
 #[inline(always)]
-fn has_separator(bytes: &[u8]) -> bool
-    ensures value { result ≡ is_separator (slice_index bytes.now 10) }
+fn has_separator(bytes: &[u8], form: Rfc3339Form) -> bool
+    ensures value { result ≡ is_separator form (slice_index bytes.now 10) }
     ensures there { IsTrue result → 11 ≤ length bytes.now }
 {
     let byte = byte_at(bytes, 10);
-    byte == b'T' || byte == b't' || byte == b' ' || byte == b'_'
+    byte == b'T' || byte == b't' || (byte == b' ' || byte == b'_') && !form.is_strict()
 }

@@ -16,7 +16,7 @@ pub use fraction::Fraction;
 use offset::read_offset;
 pub(crate) use offset::{clock_shift, end_fault, is_offset};
 pub use pure::PureTime;
-use speedate_base::config::{MicrosecondsPrecisionOverflowBehavior, TimeConfig};
+use speedate_base::config::{MicrosecondsPrecisionOverflowBehavior, Rfc3339Form, TimeConfig};
 use speedate_base::faults::ParseError;
 use speedate_base::util::SECONDS_PER_DAY;
 use std::str::FromStr;
@@ -49,6 +49,7 @@ impl Time {
     ghost use Rattle.std.specs.Prelude.{◌+◌, ◌*◌, ◌<◌, ◌↔◌, IfOk, Ok, drop, take, length, None};
     ghost use Rattle.speedate_base.specs.Offset.{seconds_per_day};
     ghost use Rattle.speedate_base.specs.declared.config.MicrosecondsPrecisionOverflowBehavior.TheVariants as behavior;
+    ghost use Rattle.speedate_base.specs.declared.config.Rfc3339Form.TheVariants as rfc3339;
     ghost use Rattle.speedate_base.specs.Requirement.{result_map, with_size};
     ghost use Rattle.speedate_civil.specs.Time.{parts};
     ghost use Rattle.speedate_civil.specs.TimeOfDay.{TimeOfDay, second_of_day, millisecond_of_day, microsecond_of_day, time_at, timestamp_answer};
@@ -80,7 +81,7 @@ impl Time {
     /// - `ExtraCharacters` where something follows the offset.
     #[inline(always)]
     pub fn parse_str(text: &str) -> Result<Self, ParseError>
-        ensures answer { result_map parts result ≡ time_answer behavior.Error text.now }
+        ensures answer { result_map parts result ≡ time_answer rfc3339.Relaxed behavior.Error text.now }
     {
         Self::parse_bytes(text.as_bytes())
     }
@@ -89,9 +90,9 @@ impl Time {
     /// `b"12:13"`. The bytes need not be text.
     #[inline(always)]
     pub fn parse_bytes(bytes: &[u8]) -> Result<Self, ParseError>
-        ensures answer { result_map parts result ≡ time_answer behavior.Error bytes.now }
+        ensures answer { result_map parts result ≡ time_answer rfc3339.Relaxed behavior.Error bytes.now }
     {
-        Self::parse_whole(bytes, MicrosecondsPrecisionOverflowBehavior::Error)
+        Self::parse_whole(bytes, Rfc3339Form::Relaxed, MicrosecondsPrecisionOverflowBehavior::Error)
     }
 
     /// Reads a time from the bytes of a text, as [`Time::parse_str`] does, but for the digits of a
@@ -100,9 +101,9 @@ impl Time {
     #[inline(always)]
     pub fn parse_bytes_with_config(bytes: &[u8], config: &TimeConfig) -> Result<Self, ParseError>
         ensures answer { result_map parts result
-            ≡ time_answer config.now.microseconds_precision_overflow_behavior bytes.now }
+            ≡ time_answer config.now.rfc3339_form config.now.microseconds_precision_overflow_behavior bytes.now }
     {
-        Self::parse_whole(bytes, config.microseconds_precision_overflow_behavior)
+        Self::parse_whole(bytes, config.rfc3339_form, config.microseconds_precision_overflow_behavior)
     }
 
     /// Reads the time at the front of a text, whatever follows it, and how many bytes it takes:
@@ -116,27 +117,28 @@ impl Time {
     #[inline(always)]
     pub fn parse_front(bytes: &[u8], config: &TimeConfig) -> Result<(Self, usize), ParseError>
         ensures answer { result_map (with_size parts) result
-            ≡ time_front config.now.microseconds_precision_overflow_behavior bytes.now }
+            ≡ time_front config.now.rfc3339_form config.now.microseconds_precision_overflow_behavior bytes.now }
         ensures within { IfOk result (λ front. front.1 ≤ length bytes.now) }
         ensures whole { (time : TimeOfDay)
-            → (time_answer config.now.microseconds_precision_overflow_behavior bytes.now ≡ Ok time)
+            → (time_answer config.now.rfc3339_form config.now.microseconds_precision_overflow_behavior bytes.now ≡ Ok time)
             ↔ (result_map (with_size parts) result ≡ Ok (time, length bytes.now)) }
         ensures alone { IfOk result (λ front.
-            time_answer config.now.microseconds_precision_overflow_behavior (take front.1 bytes.now) ≡ Ok (parts front.0)) }
+            time_answer config.now.rfc3339_form config.now.microseconds_precision_overflow_behavior (take front.1 bytes.now) ≡ Ok (parts front.0)) }
     {
-        Self::front_at(bytes, 0, config.microseconds_precision_overflow_behavior)
+        Self::front_at(bytes, 0, config.rfc3339_form, config.microseconds_precision_overflow_behavior)
     }
 
     /// Reads the time that takes all the bytes.
     #[inline(always)]
     fn parse_whole(
         bytes: &[u8],
+        form: Rfc3339Form,
         behavior: MicrosecondsPrecisionOverflowBehavior,
     ) -> Result<Self, ParseError>
-        ensures answer { result_map parts result ≡ time_answer behavior bytes.now }
+        ensures answer { result_map parts result ≡ time_answer form behavior bytes.now }
     {
-        let clock = PureTime::parse(bytes, 0, behavior)?;
-        let (tz_offset, size) = read_offset(bytes, clock.size)?;
+        let clock = PureTime::parse(bytes, 0, form, behavior)?;
+        let (tz_offset, size) = read_offset(bytes, clock.size, form)?;
         if clock.size + size != bytes.len() {
             return Err(end_fault(tz_offset));
         }
@@ -148,14 +150,15 @@ impl Time {
     pub(crate) fn front_at(
         bytes: &[u8],
         place: usize,
+        form: Rfc3339Form,
         behavior: MicrosecondsPrecisionOverflowBehavior,
     ) -> Result<(Self, usize), ParseError>
         requires { place ≤ length bytes.now }
-        ensures answer { result_map (with_size parts) result ≡ time_front behavior (drop place bytes.now) }
+        ensures answer { result_map (with_size parts) result ≡ time_front form behavior (drop place bytes.now) }
         ensures within { IfOk result (λ front. place + front.1 ≤ length bytes.now) }
     {
-        let clock = PureTime::parse(bytes, place, behavior)?;
-        let (tz_offset, size) = read_offset(bytes, place + clock.size)?;
+        let clock = PureTime::parse(bytes, place, form, behavior)?;
+        let (tz_offset, size) = read_offset(bytes, place + clock.size, form)?;
         Ok((clock.at_offset(tz_offset), clock.size + size))
     }
 
@@ -241,11 +244,12 @@ impl FromStr for Time {
     type Err = ParseError;
 
     ghost use Rattle.speedate_base.specs.declared.config.MicrosecondsPrecisionOverflowBehavior.TheVariants as behavior;
+    ghost use Rattle.speedate_base.specs.declared.config.Rfc3339Form.TheVariants as rfc3339;
     ghost use Rattle.speedate_base.specs.Requirement.{result_map};
     ghost use Rattle.speedate_civil.specs.Time.{parts};
     ghost use Rattle.speedate_civil.specs.TimeText.{time_answer};
 
-    ghost from_str_gives = { λ text result. result_map parts result ≡ time_answer behavior.Error text };
+    ghost from_str_gives = { λ text result. result_map parts result ≡ time_answer rfc3339.Relaxed behavior.Error text };
 
     /// Reads a time from a text, as [`Time::parse_str`] does: `"12:13Z".parse()` gives 12:13:00 in UTC.
     #[inline]

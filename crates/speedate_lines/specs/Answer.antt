@@ -38,12 +38,12 @@ abbrev pub date_kind : Kind
 date_kind = record { word = codes "date"; reply_to = λ text. reply date_text (date_or_timestamp unit.Infer text) }
 
 abbrev pub time_kind : Kind
-time_kind = record { word = codes "time"; reply_to = λ text. reply time_text (time_answer behavior.Error text) }
+time_kind = record { word = codes "time"; reply_to = λ text. reply time_text (time_answer rfc3339.Relaxed behavior.Error text) }
 
 abbrev pub date_time_kind : Kind
 date_time_kind = record {
   word = codes "datetime";
-  reply_to = λ text. reply date_time_text (date_time_or_timestamp unit.Infer behavior.Error None text);
+  reply_to = λ text. reply date_time_text (date_time_or_timestamp unit.Infer rfc3339.Relaxed behavior.Error None text);
 }
 
 abbrev pub duration_kind : Kind

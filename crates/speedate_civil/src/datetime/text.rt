@@ -20,7 +20,7 @@ impl DateTime {
     ghost use Rattle.speedate_civil.specs.DateTime.{parts};
     ghost use Rattle.speedate_civil.specs.DateTimeText.{date_time_answer, date_time_front, date_time_text};
     ghost use Rattle.speedate_civil.specs.DateTimeTimestamp.{date_time_or_timestamp};
-    ghost use Rattle.speedate_civil.specs.TimeText.{is_after_time};
+    ghost use Rattle.speedate_civil.specs.TimeText.{is_after_time, is_of_form};
 
     /// The canonical text, `YYYY-MM-DDTHH:MM:SS`, with a point and six digits where the microsecond
     /// is not 0, and the offset where there is one: `2020-02-29T12:13:14.500000+01:30`.
@@ -31,21 +31,21 @@ impl DateTime {
     #[inline]
     pub fn to_text(&self) -> ArrayString<TEXT_MAX>
         ensures text { result.bytes ≡ date_time_text (parts self.now) }
-        ensures reads_back { IsWholeMinutes self.now.time.tz_offset → (config : TimeConfig)
-            → date_time_answer config.microseconds_precision_overflow_behavior result.bytes ≡ Ok (parts self.now) }
-        ensures reads_back_with_config { IsWholeMinutes self.now.time.tz_offset → (config : DateTimeConfig)
-            → date_time_or_timestamp config.timestamp_unit
+        ensures reads_back { IsWholeMinutes self.now.time.tz_offset → (config : TimeConfig) → IsTrue (is_of_form config.rfc3339_form self.now.time.tz_offset)
+            → date_time_answer config.rfc3339_form config.microseconds_precision_overflow_behavior result.bytes ≡ Ok (parts self.now) }
+        ensures reads_back_with_config { IsWholeMinutes self.now.time.tz_offset → (config : DateTimeConfig) → IsTrue (is_of_form config.time_config.rfc3339_form self.now.time.tz_offset)
+            → date_time_or_timestamp config.timestamp_unit config.time_config.rfc3339_form
             config.time_config.microseconds_precision_overflow_behavior
             config.time_config.unix_timestamp_offset result.bytes ≡ Ok (parts self.now) }
-        ensures reads_front { IsWholeMinutes self.now.time.tz_offset → (config : TimeConfig) (rest : List ℕ)
+        ensures reads_front { IsWholeMinutes self.now.time.tz_offset → (config : TimeConfig) (rest : List ℕ) → IsTrue (is_of_form config.rfc3339_form self.now.time.tz_offset)
             → IsTrue (is_after_time (parts self.now).time rest)
-            → date_time_front config.microseconds_precision_overflow_behavior (result.bytes ++ rest)
+            → date_time_front config.rfc3339_form config.microseconds_precision_overflow_behavior (result.bytes ++ rest)
             ≡ Ok (parts self.now, length result.bytes) }
-        ensures canonical { IsWholeMinutes self.now.time.tz_offset → (config : TimeConfig)
-            → result_map date_time_text (date_time_answer config.microseconds_precision_overflow_behavior result.bytes)
+        ensures canonical { IsWholeMinutes self.now.time.tz_offset → (config : TimeConfig) → IsTrue (is_of_form config.rfc3339_form self.now.time.tz_offset)
+            → result_map date_time_text (date_time_answer config.rfc3339_form config.microseconds_precision_overflow_behavior result.bytes)
             ≡ Ok result.bytes }
-        ensures canonical_with_config { IsWholeMinutes self.now.time.tz_offset → (config : DateTimeConfig)
-            → result_map date_time_text (date_time_or_timestamp config.timestamp_unit
+        ensures canonical_with_config { IsWholeMinutes self.now.time.tz_offset → (config : DateTimeConfig) → IsTrue (is_of_form config.time_config.rfc3339_form self.now.time.tz_offset)
+            → result_map date_time_text (date_time_or_timestamp config.timestamp_unit config.time_config.rfc3339_form
             config.time_config.microseconds_precision_overflow_behavior
             config.time_config.unix_timestamp_offset result.bytes) ≡ Ok result.bytes }
         ensures distinct { IsWholeMinutes self.now.time.tz_offset → (other : DateTime) → IsWholeMinutes other.time.tz_offset

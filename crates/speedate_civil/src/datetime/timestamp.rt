@@ -7,6 +7,7 @@ ghost use Rattle.speedate_base.specs.Requirement.{result_map};
 ghost use Rattle.speedate_base.specs.Timestamp.{IsInYears};
 ghost use Rattle.speedate_base.specs.UnixTime.{parts as instant_parts};
 ghost use Rattle.speedate_base.specs.declared.config.MicrosecondsPrecisionOverflowBehavior.TheVariants as behavior;
+ghost use Rattle.speedate_base.specs.declared.config.Rfc3339Form.TheVariants as rfc3339;
 ghost use Rattle.speedate_base.specs.declared.config.TimestampUnit.TheVariants as unit;
 ghost use Rattle.speedate_civil.specs.DateAndTime.{local_second, utc_second, local_millisecond, utc_millisecond, local_microsecond};
 ghost use Rattle.speedate_civil.specs.DateTime.{parts};
@@ -38,7 +39,7 @@ impl DateTime {
     /// - those of [`DateTime::from_decimal_with_config`].
     #[inline(always)]
     pub fn parse_str(text: &str) -> Result<Self, ParseError>
-        ensures answer { result_map parts result ≡ date_time_or_timestamp unit.Infer behavior.Error None text.now }
+        ensures answer { result_map parts result ≡ date_time_or_timestamp unit.Infer rfc3339.Relaxed behavior.Error None text.now }
     {
         Self::parse_bytes(text.as_bytes())
     }
@@ -47,7 +48,7 @@ impl DateTime {
     /// 1970-01-01T00:00:00 from `b"1"`. The bytes need not be text.
     #[inline(always)]
     pub fn parse_bytes(bytes: &[u8]) -> Result<Self, ParseError>
-        ensures answer { result_map parts result ≡ date_time_or_timestamp unit.Infer behavior.Error None bytes.now }
+        ensures answer { result_map parts result ≡ date_time_or_timestamp unit.Infer rfc3339.Relaxed behavior.Error None bytes.now }
     {
         Self::parse_bytes_with_config(bytes, &DateTimeConfig::default())
     }
@@ -61,7 +62,7 @@ impl DateTime {
     #[inline(always)]
     pub fn parse_str_with_config(text: &str, config: &DateTimeConfig) -> Result<Self, ParseError>
         ensures answer { result_map parts result
-            ≡ date_time_or_timestamp config.now.timestamp_unit
+            ≡ date_time_or_timestamp config.now.timestamp_unit config.now.time_config.rfc3339_form
             config.now.time_config.microseconds_precision_overflow_behavior
             config.now.time_config.unix_timestamp_offset text.now }
     {
@@ -76,7 +77,7 @@ impl DateTime {
         config: &DateTimeConfig,
     ) -> Result<Self, ParseError>
         ensures answer { result_map parts result
-            ≡ date_time_or_timestamp config.now.timestamp_unit
+            ≡ date_time_or_timestamp config.now.timestamp_unit config.now.time_config.rfc3339_form
             config.now.time_config.microseconds_precision_overflow_behavior
             config.now.time_config.unix_timestamp_offset bytes.now }
     {
@@ -93,9 +94,9 @@ impl DateTime {
         fault: ParseError,
         config: &DateTimeConfig,
     ) -> Result<Self, ParseError>
-        requires { date_time_answer config.now.time_config.microseconds_precision_overflow_behavior bytes.now ≡ Err fault }
+        requires { date_time_answer config.now.time_config.rfc3339_form config.now.time_config.microseconds_precision_overflow_behavior bytes.now ≡ Err fault }
         ensures answer { result_map parts result
-            ≡ date_time_or_timestamp config.now.timestamp_unit
+            ≡ date_time_or_timestamp config.now.timestamp_unit config.now.time_config.rfc3339_form
             config.now.time_config.microseconds_precision_overflow_behavior
             config.now.time_config.unix_timestamp_offset bytes.now }
     {
@@ -226,7 +227,7 @@ impl FromStr for DateTime {
     type Err = ParseError;
 
     ghost from_str_gives = { λ text result. result_map parts result
-        ≡ date_time_or_timestamp unit.Infer behavior.Error None text };
+        ≡ date_time_or_timestamp unit.Infer rfc3339.Relaxed behavior.Error None text };
 
     /// Reads a date-time from a text, as [`DateTime::parse_str`] does: `"1654560000".parse()` gives
     /// midnight on 7 June 2022.

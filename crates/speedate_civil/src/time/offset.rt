@@ -1,6 +1,6 @@
 //! Offsets from UTC, after a time.
 
-ghost use Rattle.std.specs.Prelude.{◌≡◌, ◌≤◌, ◌+◌, ◌<◌, ◌∷◌, ◌*◌, ◌++◌, ◌-ℤ◌, ◌==◌, ◌||◌, IfOk, Ok, IsTrue, length, drop, codes, if◌then◌else◌, pos, unsigned_abs};
+ghost use Rattle.std.specs.Prelude.{◌≡◌, ◌≤◌, ◌+◌, ◌<◌, ◌∷◌, ◌*◌, ◌++◌, ◌-ℤ◌, ◌==◌, ◌||◌, IfOk, Ok, IsTrue, length, drop, codes, if◌then◌else◌, nat_lt, pos, unsigned_abs};
 ghost use Rattle.speedate_base.specs.Digits.{two_digit_value};
 ghost use Rattle.speedate_base.specs.Pattern.{fit_length};
 ghost use Rattle.std.specs.Int.{is_negative};
@@ -10,11 +10,14 @@ ghost use Rattle.speedate_base.specs.Ascii.{plus_sign, hyphen, capital_z, small_
 ghost use Rattle.speedate_base.specs.Numbers.{with_sign};
 ghost use Rattle.speedate_base.specs.Offset.{IsOffset, seconds_per_day};
 ghost use Rattle.speedate_base.specs.Requirement.{meets};
+ghost use Rattle.speedate_base.specs.declared.config.Rfc3339Form.TheVariants as rfc3339;
+ghost use Rattle.speedate_base.specs.declared.faults.ParseError.TheVariants as fault;
 ghost use Rattle.speedate_civil.specs.OffsetMove.{is_offset, move_table};
 ghost use Rattle.speedate_civil.specs.OffsetText.{end_fault, has_minus_sign, offset_digits, offset_front, signed_front, offset_minute, offset_digits_length, offset_size_text, offset_text};
 
 use crate::text::two_digit_text;
 use arrayvec::ArrayString;
+use speedate_base::config::Rfc3339Form;
 use speedate_base::faults::ParseError;
 use speedate_base::numbers::{byte_at, eight_bytes, fitting, pairs};
 use speedate_base::util::SECONDS_PER_DAY;
@@ -24,24 +27,30 @@ use std::simd::prelude::*;
 /// follows it: 0 and one byte for `Z` or `z`, 5,400 and six bytes for `+01:30`, none and no byte for
 /// ` GET`.
 #[inline(always)]
-pub(crate) fn read_offset(bytes: &[u8], place: usize) -> Result<(Option<i32>, usize), ParseError>
+pub(crate) fn read_offset(
+    bytes: &[u8],
+    place: usize,
+    form: Rfc3339Form,
+) -> Result<(Option<i32>, usize), ParseError>
     requires { place ≤ length bytes.now }
-    ensures answer { result ≡ offset_front (drop place bytes.now) }
+    ensures answer { result ≡ offset_front form (drop place bytes.now) }
     ensures range { IfOk result (λ front. ForSome front.0 IsOffset) }
     ensures within { IfOk result (λ front. place + front.1 ≤ length bytes.now) }
 {
     let first = byte_at(bytes, place);
     if is_plus_or_minus(first) {
-        return signed_offset(first == b'-', 1, bytes, place + 1);
+        return signed_offset(first == b'-', 1, bytes, place + 1, form);
+    }
+    if is_utc(first) {
+        return Ok((Some(0), 1));
+    }
+    if form.is_strict() {
+        return Err(unsigned_fault(bytes, place));
     }
     if has_minus_sign(bytes, place) {
-        return signed_offset(true, 3, bytes, place + 3);
+        return signed_offset(true, 3, bytes, place + 3, form);
     }
-    Ok(if is_utc(first) {
-        (Some(0), 1)
-    } else {
-        (None, 0)
-    })
+    Ok((None, 0))
 }
 
 /// The fault of a text that goes on after a time with this offset, or after one without.
@@ -65,12 +74,25 @@ fn is_plus_or_minus(byte: u8) -> bool
     byte.abs_diff(b',') == 1
 }
 
+/// The fault of a text in which an offset is due at `place` and none begins there.
+#[inline]
+fn unsigned_fault(bytes: &[u8], place: usize) -> ParseError
+    requires { place ≤ length bytes.now }
+    ensures fault { result ≡ (if nat_lt 0 (length (drop place bytes.now)) then fault.InvalidCharTzSign else fault.TzRequired) }
+{
+    if place < bytes.len() {
+        ParseError::InvalidCharTzSign
+    } else {
+        ParseError::TzRequired
+    }
+}
+
 /// Whether the three bytes of U+2212, the minus sign, begin at `place`.
 #[inline(always)]
 #[tactic(auto, using(std::proofs::lemmas::List::take_rest))]
 fn has_minus_sign(bytes: &[u8], place: usize) -> bool
     requires { place ≤ length bytes.now }
-    ensures value { result ≡ has_minus_sign (drop place bytes.now) }
+    ensures value { result ≡ has_minus_sign rfc3339.Relaxed (drop place bytes.now) }
     ensures there { IsTrue result → place + 3 ≤ length bytes.now }
 {
     matches!(&bytes[place..], [0xe2, 0x88, 0x92, ..])
@@ -92,14 +114,15 @@ fn signed_offset(
     sign: usize,
     bytes: &[u8],
     place: usize,
+    form: Rfc3339Form,
 ) -> Result<(Option<i32>, usize), ParseError>
     requires place { place ≤ length bytes.now }
     requires sign { sign ≤ place }
-    ensures answer { result ≡ signed_front west sign (drop place bytes.now) }
+    ensures answer { result ≡ signed_front form west sign (drop place bytes.now) }
     ensures range { IfOk result (λ front. ForSome front.0 IsOffset) }
     ensures within { IfOk result (λ front. place + front.1 ≤ sign + length bytes.now) }
 {
-    let (hour, minute, size) = hour_and_minute(eight_bytes(bytes, place))?;
+    let (hour, minute, size) = hour_and_minute(eight_bytes(bytes, place), form)?;
     if minute > 59 {
         return Err(ParseError::OutOfRangeTzMinute);
     }
@@ -111,23 +134,23 @@ fn signed_offset(
 }
 
 /// The hour and the minute at the front of an offset without its sign, and how many bytes they take:
-/// `HH:MM` or `HHMM`.
+/// `HH:MM`, or in the relaxed form `HHMM`.
 #[inline(always)]
-fn hour_and_minute(front: u8x8) -> Result<(u8, u8, usize), ParseError>
-    ensures numbers { result ≡ meets (offset_digits front)
+fn hour_and_minute(front: u8x8, form: Rfc3339Form) -> Result<(u8, u8, usize), ParseError>
+    ensures numbers { result ≡ meets (offset_digits form front)
         (Ok (two_digit_value front 0, offset_minute front, offset_digits_length front)) }
     ensures small { IfOk result (λ numbers. (numbers.0 ≤ 99) × (numbers.1 ≤ 99)) }
 {
-    let form = u8x8::from_array(*b"00:00:00");
-    let fits = fitting(front, form);
+    let pattern = u8x8::from_array(*b"00:00:00");
+    let fits = fitting(front, pattern);
     if fits < 2 {
         return Err(ParseError::InvalidCharTzHour);
     }
     if fits >= 5 {
-        let [hour, _, _, minute, _, _, _, _] = pairs(front, form, 5);
+        let [hour, _, _, minute, _, _, _, _] = pairs(front, pattern, 5);
         return Ok((hour, minute, 5));
     }
-    if fits > 2 {
+    if fits > 2 || form.is_strict() {
         return Err(ParseError::InvalidCharTzMinute);
     }
     hour_then_minute(front)
@@ -137,15 +160,15 @@ fn hour_and_minute(front: u8x8) -> Result<(u8, u8, usize), ParseError>
 #[inline(always)]
 fn hour_then_minute(front: u8x8) -> Result<(u8, u8, usize), ParseError>
     requires { fit_length (codes "00:00:00") front ≡ 2 }
-    ensures numbers { result ≡ meets (offset_digits front)
+    ensures numbers { result ≡ meets (offset_digits rfc3339.Relaxed front)
         (Ok (two_digit_value front 0, offset_minute front, offset_digits_length front)) }
     ensures small { IfOk result (λ numbers. (numbers.0 ≤ 99) × (numbers.1 ≤ 99)) }
 {
-    let form = u8x8::splat(b'0');
-    if fitting(front, form) < 4 {
+    let pattern = u8x8::splat(b'0');
+    if fitting(front, pattern) < 4 {
         return Err(ParseError::InvalidCharTzMinute);
     }
-    let [hour, _, minute, _, _, _, _, _] = pairs(front, form, 4);
+    let [hour, _, minute, _, _, _, _, _] = pairs(front, pattern, 4);
     Ok((hour, minute, 4))
 }
 

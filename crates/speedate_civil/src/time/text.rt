@@ -19,7 +19,7 @@ impl Time {
     ghost use Rattle.speedate_base.specs.declared.config.TimeConfig.{TimeConfig};
     ghost use Rattle.speedate_civil.specs.declared.time.Time.{Time};
     ghost use Rattle.speedate_civil.specs.Time.{parts};
-    ghost use Rattle.speedate_civil.specs.TimeText.{time_answer, time_front, clock_text, time_text, is_after_time};
+    ghost use Rattle.speedate_civil.specs.TimeText.{time_answer, time_front, clock_text, time_text, is_after_time, is_of_form};
 
     /// The canonical text, `HH:MM:SS`, a point and six digits where the microsecond is not 0, and
     /// the offset where there is one: `Z`, or a sign, hours and minutes, as `12:13:14.500000+01:30`.
@@ -30,14 +30,14 @@ impl Time {
     #[inline]
     pub fn to_text(&self) -> ArrayString<TEXT_MAX>
         ensures text { result.bytes ≡ time_text (parts self.now) }
-        ensures reads_back { IsWholeMinutes self.now.tz_offset → (config : TimeConfig)
-            → time_answer config.microseconds_precision_overflow_behavior result.bytes ≡ Ok (parts self.now) }
-        ensures reads_front { IsWholeMinutes self.now.tz_offset → (config : TimeConfig) (rest : List ℕ)
+        ensures reads_back { IsWholeMinutes self.now.tz_offset → (config : TimeConfig) → IsTrue (is_of_form config.rfc3339_form self.now.tz_offset)
+            → time_answer config.rfc3339_form config.microseconds_precision_overflow_behavior result.bytes ≡ Ok (parts self.now) }
+        ensures reads_front { IsWholeMinutes self.now.tz_offset → (config : TimeConfig) (rest : List ℕ) → IsTrue (is_of_form config.rfc3339_form self.now.tz_offset)
             → IsTrue (is_after_time (parts self.now) rest)
-            → time_front config.microseconds_precision_overflow_behavior (result.bytes ++ rest)
+            → time_front config.rfc3339_form config.microseconds_precision_overflow_behavior (result.bytes ++ rest)
             ≡ Ok (parts self.now, length result.bytes) }
-        ensures canonical { IsWholeMinutes self.now.tz_offset → (config : TimeConfig)
-            → result_map time_text (time_answer config.microseconds_precision_overflow_behavior result.bytes)
+        ensures canonical { IsWholeMinutes self.now.tz_offset → (config : TimeConfig) → IsTrue (is_of_form config.rfc3339_form self.now.tz_offset)
+            → result_map time_text (time_answer config.rfc3339_form config.microseconds_precision_overflow_behavior result.bytes)
             ≡ Ok result.bytes }
         ensures distinct { IsWholeMinutes self.now.tz_offset → (other : Time) → IsWholeMinutes other.tz_offset
             → (result.bytes ≡ time_text (parts other)) ↔ (parts self.now ≡ parts other) }

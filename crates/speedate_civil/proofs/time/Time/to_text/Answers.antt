@@ -7,23 +7,25 @@ use Rattle.speedate_civil.proofs.TimeValueLemmas.{is_time}
 use Rattle.speedate_civil.proofs.time.Time.to_text.Goals as goal
 
 pub returns-clause-reads_back : goal.returns-clause-reads_back
-returns-clause-reads_back c whole config =
+returns-clause-reads_back c whole config given =
     let time = c.args.self.now in
+    let form = config.rfc3339_form in
     let behavior = config.microseconds_precision_overflow_behavior in
     let bytes = text-alone _ _ _ c.new-text.ensures c.push_onto.ensures.text in
-    ap (time_answer behavior) bytes ∙ time_text-reads behavior (parts time) (is_time time) whole
+    ap (time_answer form behavior) bytes ∙ time_text-reads form behavior (parts time) given (is_time time) whole
 
 pub returns-clause-reads_front : goal.returns-clause-reads_front
-returns-clause-reads_front c whole config rest after =
+returns-clause-reads_front c whole config rest given after =
     let time = parts c.args.self.now in
+    let form = config.rfc3339_form in
     let behavior = config.microseconds_precision_overflow_behavior in
     let bytes = text-alone _ _ _ c.new-text.ensures c.push_onto.ensures.text in
-    rw (bytes) (time_text-front behavior time rest (is_time c.args.self.now) whole after)
+    rw (bytes) (time_text-front form behavior time rest given (is_time c.args.self.now) whole after)
 
 pub returns-clause-canonical : goal.returns-clause-canonical
-returns-clause-canonical c whole config =
+returns-clause-canonical c whole config given =
     let bytes = text-alone _ _ _ c.new-text.ensures c.push_onto.ensures.text in
-    text-canonical time_text _ _ _ bytes (returns-clause-reads_back c whole config)
+    text-canonical time_text _ _ _ bytes (returns-clause-reads_back c whole config given)
 
 pub returns-clause-distinct : goal.returns-clause-distinct
 returns-clause-distinct c whole other other_whole =
