@@ -106,7 +106,7 @@ clock-no_letter behavior text value same =
     let clock = meets-value (minute_table rfc3339.Relaxed behavior rest) (minute_clock rfc3339.Relaxed rest) read.0 minute.1 in
     let whole = meets-ok (end_table rest read.0) (Ok (clock_numbers (digits_value (hours text)) read.0)) value read.2 in
     let sized = ap (λ (clock : Clock). clock.size == length rest) clock.1 ∙ whole.0.0 in
-    let none = minute-no_letter rest minute.0.0 clock.0.1.0 sized in
+    let none = minute-no_letter rest minute.0.0 clock.0.1.1.0 sized in
     let within : first < length text = grind (arith, nat_tests, front.0.1.0) in
     let at_colon = passes_at_first (λ byte. byte == colon) text 0 within in
     let long : nat_lt (length text) 5 ≡ false = grind (arith, nat_tests, front.0.0) in

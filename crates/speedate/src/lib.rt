@@ -7,7 +7,8 @@ mod duration;
 pub use duration::Duration;
 pub use speedate_base::config::{
     DateConfig, DateConfigBuilder, DateTimeConfig, DateTimeConfigBuilder, IsoOrder,
-    MicrosecondsPrecisionOverflowBehavior, TimeConfig, TimeConfigBuilder, TimestampUnit,
+    MicrosecondsPrecisionOverflowBehavior, Rfc3339Form, TimeConfig, TimeConfigBuilder,
+    TimestampUnit,
 };
 pub use speedate_base::faults::{ConfigError, ParseError};
 pub use speedate_base::numbers::{

@@ -1,10 +1,12 @@
--- The texts by which a unit of timestamps, a behavior and an order are chosen: names, in letters of any case.
+-- The texts by which a unit of timestamps, a behavior, an order and a form are chosen: names, in letters of any case.
 use Rattle.std.specs.Prelude.{ℕ, List, [], ◌∷◌, codes, if◌then◌else◌, Result, Ok, Err}
 use Rattle.std.specs.Str.{str_eq_ignore_ascii_case}
 use Rattle.speedate_base.specs.declared.config.IsoOrder.{IsoOrder}
 use Rattle.speedate_base.specs.declared.config.IsoOrder.TheVariants as order
 use Rattle.speedate_base.specs.declared.config.MicrosecondsPrecisionOverflowBehavior.{MicrosecondsPrecisionOverflowBehavior}
 use Rattle.speedate_base.specs.declared.config.MicrosecondsPrecisionOverflowBehavior.TheVariants as behavior
+use Rattle.speedate_base.specs.declared.config.Rfc3339Form.{Rfc3339Form}
+use Rattle.speedate_base.specs.declared.config.Rfc3339Form.TheVariants as rfc3339
 use Rattle.speedate_base.specs.declared.config.TimestampUnit.{TimestampUnit}
 use Rattle.speedate_base.specs.declared.config.TimestampUnit.TheVariants as unit
 use Rattle.speedate_base.specs.declared.faults.config_error.ConfigError.{ConfigError}
@@ -54,3 +56,11 @@ order_choices = (codes "lax" chooses order.Lax) ∷ (codes "strict" chooses orde
 -- the order that a text names, or the fault
 abbrev pub order_answer : List ℕ → Result IsoOrder ConfigError
 order_answer text = choice_answer order_choices fault.UnknownIsoOrderString text
+
+-- the forms of times and date-times by their names
+abbrev pub form_choices : List (Choice Rfc3339Form)
+form_choices = (codes "relaxed" chooses rfc3339.Relaxed) ∷ (codes "strict" chooses rfc3339.Strict) ∷ []
+
+-- the form that a text names, or the fault
+abbrev pub form_answer : List ℕ → Result Rfc3339Form ConfigError
+form_answer text = choice_answer form_choices fault.UnknownRfc3339FormString text

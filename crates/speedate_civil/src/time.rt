@@ -14,7 +14,7 @@ mod timezone;
 
 pub use fraction::Fraction;
 use offset::read_offset;
-pub(crate) use offset::{clock_shift, end_fault, is_offset};
+pub(crate) use offset::{clock_shift, end_fault};
 pub use pure::PureTime;
 use speedate_base::config::{MicrosecondsPrecisionOverflowBehavior, Rfc3339Form, TimeConfig};
 use speedate_base::faults::ParseError;
@@ -92,7 +92,11 @@ impl Time {
     pub fn parse_bytes(bytes: &[u8]) -> Result<Self, ParseError>
         ensures answer { result_map parts result ≡ time_answer rfc3339.Relaxed behavior.Error bytes.now }
     {
-        Self::parse_whole(bytes, Rfc3339Form::Relaxed, MicrosecondsPrecisionOverflowBehavior::Error)
+        Self::parse_whole(
+            bytes,
+            Rfc3339Form::Relaxed,
+            MicrosecondsPrecisionOverflowBehavior::Error,
+        )
     }
 
     /// Reads a time from the bytes of a text, as [`Time::parse_str`] does, but for the digits of a
@@ -103,7 +107,11 @@ impl Time {
         ensures answer { result_map parts result
             ≡ time_answer config.now.rfc3339_form config.now.microseconds_precision_overflow_behavior bytes.now }
     {
-        Self::parse_whole(bytes, config.rfc3339_form, config.microseconds_precision_overflow_behavior)
+        Self::parse_whole(
+            bytes,
+            config.rfc3339_form,
+            config.microseconds_precision_overflow_behavior,
+        )
     }
 
     /// Reads the time at the front of a text, whatever follows it, and how many bytes it takes:
@@ -125,7 +133,12 @@ impl Time {
         ensures alone { IfOk result (λ front.
             time_answer config.now.rfc3339_form config.now.microseconds_precision_overflow_behavior (take front.1 bytes.now) ≡ Ok (parts front.0)) }
     {
-        Self::front_at(bytes, 0, config.rfc3339_form, config.microseconds_precision_overflow_behavior)
+        Self::front_at(
+            bytes,
+            0,
+            config.rfc3339_form,
+            config.microseconds_precision_overflow_behavior,
+        )
     }
 
     /// Reads the time that takes all the bytes.

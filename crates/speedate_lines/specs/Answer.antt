@@ -5,6 +5,7 @@ use Rattle.speedate.specs.declared.ParseError.{ParseError}
 use Rattle.speedate.specs.Fault.{fault_name}
 use Rattle.speedate.specs.declared.IsoOrder.TheVariants as order
 use Rattle.speedate.specs.declared.MicrosecondsPrecisionOverflowBehavior.TheVariants as behavior
+use Rattle.speedate.specs.declared.Rfc3339Form.TheVariants as rfc3339
 use Rattle.speedate.specs.declared.TimestampUnit.TheVariants as unit
 use Rattle.speedate.specs.DateText.{date_text}
 use Rattle.speedate.specs.DateTimestamp.{date_or_timestamp}

@@ -1,13 +1,14 @@
 //! Callers of the library, as a crate outside this workspace would write them. `docs/CALLING.md`
 //! shows them word for word.
 
-ghost use Rattle.std.specs.Prelude.{◌≡◌, ◌↔◌, ◌-◌, ◌%◌, ◌≤◌, ◌*ℤ◌, IfSome, IsSome, IsSomeAnd, Ok, Some, pos, slice_get, unsigned_abs};
+ghost use Rattle.std.specs.Prelude.{◌≡◌, ◌↔◌, ◌-◌, ◌%◌, ◌≤◌, ◌*ℤ◌, IfSome, IsSome, IsSomeAnd, IsTrue, Ok, Some, pos, slice_get, unsigned_abs};
 ghost use Rattle.std.specs.Result.{result_map_both};
 ghost use Rattle.speedate.specs.Choice.{unit_answer};
 ghost use Rattle.speedate.specs.Requirement.{result_map};
 ghost use Rattle.speedate.specs.DateText.{date_answer};
 ghost use Rattle.speedate.specs.Offset.{IsWholeMinutes};
 ghost use Rattle.speedate.specs.Time.{parts};
+ghost use Rattle.speedate.specs.TimeText.{is_of_form};
 
 use speedate::{ConfigError, Date, DateConfig, ParseError, Time, TimeConfig};
 
@@ -57,9 +58,11 @@ pub fn with_offset(hours: i8) -> Option<TimeConfig>
     )
 }
 
-/// The time that is read from a text that was stored: the same one, under any configuration.
+/// The time that is read from a text that was stored: the same one, under any configuration whose form
+/// it is of.
 pub fn stored_and_read(time: &Time, config: &TimeConfig) -> Result<Time, ParseError>
-    requires { IsWholeMinutes time.now.tz_offset }
+    requires offset { IsWholeMinutes time.now.tz_offset }
+    requires form { IsTrue (is_of_form config.now.rfc3339_form time.now.tz_offset) }
     ensures same { result_map parts result ≡ Ok (parts time.now) }
 {
     let stored = time.to_text();

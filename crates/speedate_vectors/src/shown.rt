@@ -142,24 +142,24 @@ fn debug_texts(rt: HostRuntime) {
         &rt,
         &TimeConfig::default(),
         "TimeConfig { microseconds_precision_overflow_behavior: Error, unix_timestamp_offset: None, \
-        iso_order: Lax }",
+        iso_order: Lax, rfc3339_form: Relaxed }",
     );
     expect_debug(
         &rt,
         &TimeConfig::builder(),
         "TimeConfigBuilder { config: TimeConfig { microseconds_precision_overflow_behavior: Error, \
-        unix_timestamp_offset: None, iso_order: Lax } }",
+        unix_timestamp_offset: None, iso_order: Lax, rfc3339_form: Relaxed } }",
     );
     expect_debug(
         &rt,
         &DateTimeConfig::default(),
         "DateTimeConfig { timestamp_unit: Infer, time_config: TimeConfig { \
-        microseconds_precision_overflow_behavior: Error, unix_timestamp_offset: None, iso_order: Lax } }",
+        microseconds_precision_overflow_behavior: Error, unix_timestamp_offset: None, iso_order: Lax, rfc3339_form: Relaxed } }",
     );
     expect_debug(
         &rt,
         &DateTimeConfig::builder(),
         "DateTimeConfigBuilder { config: DateTimeConfig { timestamp_unit: Infer, time_config: TimeConfig { \
-        microseconds_precision_overflow_behavior: Error, unix_timestamp_offset: None, iso_order: Lax } } }",
+        microseconds_precision_overflow_behavior: Error, unix_timestamp_offset: None, iso_order: Lax, rfc3339_form: Relaxed } } }",
     );
 }

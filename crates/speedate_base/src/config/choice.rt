@@ -1,11 +1,11 @@
-//! The texts by which a unit of timestamps, a behavior and an order of components are chosen, and
-//! their names.
+//! The texts by which a unit of timestamps, a behavior, an order of components and a form of texts are
+//! chosen, and their names.
 
 ghost use Rattle.std.specs.Prelude.{◌≡◌, Contains, Ok};
 ghost use Rattle.std.specs.Str.{str_eq_ignore_ascii_case};
-ghost use Rattle.speedate_base.specs.Choice.{◌chooses◌, unit_choices, unit_answer, behavior_choices, behavior_answer, order_choices, order_answer};
+ghost use Rattle.speedate_base.specs.Choice.{◌chooses◌, unit_choices, unit_answer, behavior_choices, behavior_answer, order_choices, order_answer, form_choices, form_answer};
 
-use super::{IsoOrder, MicrosecondsPrecisionOverflowBehavior, TimestampUnit};
+use super::{IsoOrder, MicrosecondsPrecisionOverflowBehavior, Rfc3339Form, TimestampUnit};
 use crate::faults::ConfigError;
 use std::str::FromStr;
 
@@ -111,6 +111,39 @@ impl FromStr for IsoOrder {
             Ok(IsoOrder::Strict)
         } else {
             Err(ConfigError::UnknownIsoOrderString)
+        }
+    }
+}
+
+impl Rfc3339Form {
+    /// The name, in small letters: `strict` for `Rfc3339Form::Strict`. It reads back as the form.
+    #[inline]
+    pub fn name(&self) -> &'static str
+        ensures name { Contains form_choices (result.now chooses self.now) }
+        ensures reads_back { form_answer result.now ≡ Ok self.now }
+    {
+        match self {
+            Rfc3339Form::Relaxed => "relaxed",
+            Rfc3339Form::Strict => "strict",
+        }
+    }
+}
+
+impl FromStr for Rfc3339Form {
+    type Err = ConfigError;
+
+    ghost from_str_gives = { λ text result. result ≡ form_answer text };
+
+    /// The form that a text names, in letters of any case: `Relaxed` for `"relaxed"`, and `Strict`
+    /// for `"strict"`. `UnknownRfc3339FormString` for another text.
+    #[inline]
+    fn from_str(text: &str) -> Result<Self, ConfigError> {
+        if names(text, "relaxed") {
+            Ok(Rfc3339Form::Relaxed)
+        } else if names(text, "strict") {
+            Ok(Rfc3339Form::Strict)
+        } else {
+            Err(ConfigError::UnknownRfc3339FormString)
         }
     }
 }

@@ -18,6 +18,8 @@ pub enum ConfigError {
     UnknownTimestampUnitString,
     /// The text names no order of the components of a duration.
     UnknownIsoOrderString,
+    /// The text names no form of times and date-times.
+    UnknownRfc3339FormString,
 }
 
 impl ConfigError {
@@ -34,6 +36,7 @@ impl ConfigError {
             }
             ConfigError::UnknownTimestampUnitString => "unknown_timestamp_unit_string",
             ConfigError::UnknownIsoOrderString => "unknown_iso_order_string",
+            ConfigError::UnknownRfc3339FormString => "unknown_rfc3339_form_string",
         }
     }
 

@@ -6,7 +6,7 @@ ghost use Rattle.speedate_base.specs.Requirement.{result_map};
 use super::DateTime;
 use super::timezone::shifted;
 use crate::date::Date;
-use crate::time::is_offset;
+use speedate_base::config::is_offset;
 use speedate_base::faults::ParseError;
 use speedate_base::util::{LAST_SECOND, UnixTime};
 

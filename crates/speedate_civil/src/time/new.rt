@@ -5,7 +5,8 @@ ghost use Rattle.speedate_base.specs.Requirement.{result_map};
 ghost use Rattle.speedate_civil.specs.FromNumbers.{new_time_answer};
 ghost use Rattle.speedate_civil.specs.Time.{parts};
 
-use super::{Time, is_offset};
+use super::Time;
+use speedate_base::config::is_offset;
 use speedate_base::faults::ParseError;
 
 impl Time {

@@ -17,7 +17,7 @@ ghost use Rattle.speedate_civil.specs.OffsetText.{end_fault, has_minus_sign, off
 
 use crate::text::two_digit_text;
 use arrayvec::ArrayString;
-use speedate_base::config::Rfc3339Form;
+use speedate_base::config::{Rfc3339Form, is_offset};
 use speedate_base::faults::ParseError;
 use speedate_base::numbers::{byte_at, eight_bytes, fitting, pairs};
 use speedate_base::util::SECONDS_PER_DAY;
@@ -180,15 +180,6 @@ fn with_sign(west: bool, size: u32) -> i32
     ensures range { IsOffset result }
 {
     if west { -(size as i32) } else { size as i32 }
-}
-
-/// Whether an offset in seconds is less than 24 hours: false for 86,400 and for `i32::MIN`.
-#[inline]
-pub(crate) fn is_offset(offset: i32) -> bool
-    ensures value { result ≡ is_offset offset }
-    ensures range { IsTrue result → IsOffset offset }
-{
-    offset.unsigned_abs() < SECONDS_PER_DAY
 }
 
 /// The seconds by which a clock moves from the offset at which it shows a time to another one: 3,600

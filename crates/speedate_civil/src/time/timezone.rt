@@ -5,7 +5,8 @@ ghost use Rattle.speedate_base.specs.Offset.{seconds_per_day};
 ghost use Rattle.speedate_base.specs.Requirement.{result_map};
 
 use super::Time;
-use super::offset::{clock_shift, is_offset};
+use super::offset::clock_shift;
+use speedate_base::config::is_offset;
 use speedate_base::faults::ParseError;
 use speedate_base::util::SECONDS_PER_DAY;
 
