@@ -18,7 +18,7 @@ use Rattle.speedate_base.specs.Requirement.{AllHold, alone, meets, result_map, r
 use Rattle.speedate_civil.specs.ClockText.{Clock, at_hour, is_decimal_mark, least_length, clock_answer, clock_front, hour_table, hour_range, minute_clock, minute_digits, minute_table, has_second, has_point, has_fraction}
 use Rattle.speedate_base.specs.Numbers.{with_sign}
 use Rattle.speedate_base.proofs.RequirementLemmas.{alone-whole, meets-all, meets-ok, meets-value}
-use Rattle.speedate_civil.proofs.OffsetLemmas.{one_byte, three_bytes, no_byte, no_minus, no_minus-utc, no_minus_sign, utc-read, strict-unsigned, relaxed-unsigned}
+use Rattle.speedate_civil.proofs.OffsetLemmas.{without_sign, one_byte, three_bytes, no_byte, no_minus, no_minus-utc, no_minus_sign, utc-read, strict-unsigned, relaxed-unsigned}
 use Rattle.speedate_civil.specs.OffsetText.{end_fault, has_minus_sign, is_utc, unsigned_table, unsigned_front, offset_front, offset_digits, offset_ranges, offset_size, signed_front, offset_digits_length}
 use Rattle.speedate_civil.specs.Calendar.{Ymd}
 use Rattle.speedate_civil.specs.DateAndTime.{DateAndTime}
@@ -134,9 +134,6 @@ no-offset form rest front false relaxed other read =
     ap (λ (pair : Option ℤ × ℕ). offset_front form (take pair.1 rest)) (sym front_is) ∙ nothing-read form relaxed ∙ is
 
 -- the offset, by what it begins with: U+2212, `+` or `-`, `Z` or `z`
-abbrev without_sign : Rfc3339Form → List ℕ → Result (Option ℤ × ℕ) ParseError
-without_sign form rest = meets (unsigned_table form rest) (Ok (unsigned_front rest))
-
 offset-by : (form : Rfc3339Form) (rest : List ℕ) (front : Option ℤ × ℕ) (minus signed utc : Bool) → has_minus_sign form rest ≡ minus
     → ((slice_index rest 0 == plus_sign) || (slice_index rest 0 == hyphen)) ≡ signed → is_utc rest ≡ utc
     → offset_front form rest ≡ Ok front → offset_front form (take front.1 rest) ≡ Ok front
@@ -190,7 +187,7 @@ minute-clock form behavior rest hour (Ok minute) clock read is =
     ap (λ (m : Clock). 3 + m.size) (meets-value (minute_table form behavior rest) (minute_clock form rest) minute read).1 ∙ ap (λ (m : Clock). m.size) same
 minute-clock form behavior rest hour (Err fault) clock read is = absurd (cc)
 
-clock-size : (form : Rfc3339Form) (behavior : MicrosecondsPrecisionOverflowBehavior) (text : List ℕ) (clock : Clock) → clock_front form behavior text ≡ Ok clock
+pub clock-size : (form : Rfc3339Form) (behavior : MicrosecondsPrecisionOverflowBehavior) (text : List ℕ) (clock : Clock) → clock_front form behavior text ≡ Ok clock
     → 3 + (minute_clock form (drop 3 text)).size ≡ clock.size
 clock-size form behavior text clock read =
     let rest : List ℕ = drop 3 text in
@@ -208,7 +205,7 @@ second-there behavior rest hour (Ok minute) clock read is =
     (meets-value (minute_table rfc3339.Strict behavior rest) (minute_clock rfc3339.Strict rest) minute read).0.1.0
 second-there behavior rest hour (Err fault) clock read is = absurd (cc)
 
-clock-second : (behavior : MicrosecondsPrecisionOverflowBehavior) (text : List ℕ) (clock : Clock) → clock_front rfc3339.Strict behavior text ≡ Ok clock
+pub clock-second : (behavior : MicrosecondsPrecisionOverflowBehavior) (text : List ℕ) (clock : Clock) → clock_front rfc3339.Strict behavior text ≡ Ok clock
     → has_second (drop 3 text) ≡ true
 clock-second behavior text clock read =
     let rest : List ℕ = drop 3 text in

@@ -14,6 +14,7 @@ mod NumberTextLemmas
 mod OffsetLemmas
 mod OffsetMoveLemmas
 mod StandardFacts
+mod StrictLemmas
 mod TimeLemmas
 pub mod DateValueLemmas
 mod TimeValueLemmas

@@ -45,8 +45,12 @@ no_byte form false true hyphen other rest none nothing = absurd (cc)
 no_byte form false false true other rest none nothing = absurd (cc)
 no_byte form true plus hyphen other rest none nothing = absurd (cc)
 
+-- a text that begins with no sign
+abbrev pub without_sign : Rfc3339Form → List ℕ → Result (Option ℤ × ℕ) ParseError
+without_sign form rest = meets (unsigned_table form rest) (Ok (unsigned_front rest))
+
 -- `Z` and `z` are read in both forms
-pub utc-read : (form : Rfc3339Form) (rest : List ℕ) → is_utc rest ≡ true → meets (unsigned_table form rest) (Ok (unsigned_front rest)) ≡ Ok (Some (pos 0), 1)
+pub utc-read : (form : Rfc3339Form) (rest : List ℕ) → is_utc rest ≡ true → without_sign form rest ≡ Ok (Some (pos 0), 1)
 utc-read form [] utc = absurd (cc)
 utc-read form (byte ∷ rest) utc =
     rw (utc, lt-ltb 0 (length (byte ∷ rest)) (omega arith), implies-true (is_strict form)) refl
@@ -57,11 +61,11 @@ chosen true first second = refl
 chosen false first second = refl
 
 pub strict-unsigned : (form : Rfc3339Form) (rest : List ℕ) → is_strict form ≡ true → is_utc rest ≡ false
-    → meets (unsigned_table form rest) (Ok (unsigned_front rest)) ≡ Err (if nat_lt 0 (length rest) then fault.InvalidCharTzSign else fault.TzRequired)
+    → without_sign form rest ≡ Err (if nat_lt 0 (length rest) then fault.InvalidCharTzSign else fault.TzRequired)
 strict-unsigned form rest strict other = rw (strict, other) (chosen (nat_lt 0 (length rest)) fault.InvalidCharTzSign fault.TzRequired)
 
 pub relaxed-unsigned : (form : Rfc3339Form) (rest : List ℕ) → is_strict form ≡ false → is_utc rest ≡ false
-    → meets (unsigned_table form rest) (Ok (unsigned_front rest)) ≡ Ok (None, 0)
+    → without_sign form rest ≡ Ok (None, 0)
 relaxed-unsigned form rest relaxed other = rw (relaxed, other) refl
 
 -- U+2212 is no sign of the strict form
