@@ -1,7 +1,7 @@
 //! Values at the fronts of texts, and how many bytes they take.
 
 use crate::configs::time_config;
-use crate::logs::{is_between, is_in_order};
+use crate::logs::{are_in_order, is_between, is_in_order};
 use crate::rows::{bytes, expect_front, quoted, value, words};
 use arrayvec::ArrayString;
 use speedate::{Date, DateTime, ParseError, Time, TimeConfig};
@@ -403,4 +403,12 @@ fn lines_of_a_ledger(rt: HostRuntime) {
         let found = is_in_order(line.as_bytes(), next.as_bytes());
         assert_eq!(rt; found, ordered == "yes", "{row}");
     }
+    let lines: [&[u8]; 3] = [
+        b"2026-11-22 opening balance",
+        b"2026-11-22 rent",
+        b"2026-12-01 rent",
+    ];
+    assert!(rt; are_in_order(&lines));
+    assert!(rt; !are_in_order(&[lines[0], lines[2], lines[1]]));
+    assert!(rt; !are_in_order(&[lines[0], lines[1], b"rent"]));
 }

@@ -2,12 +2,11 @@
 //! them. `docs/CALLING.md` shows them word for word.
 
 ghost use Rattle.std.specs.Prelude.{◌≡◌, ◌≤ℤ◌, ◌↔◌, IsTrue};
+ghost use Rattle.std.specs.List.{IsAllAdjacentAnswer};
 ghost use Rattle.std.specs.Result.{IsOkAnd};
 ghost use Rattle.speedate.specs.DateAndTime.{utc_second};
-ghost use Rattle.speedate.specs.DateOrder.{date_order};
-ghost use Rattle.speedate.specs.DateText.{date_front};
 ghost use Rattle.speedate.specs.DateTimeText.{date_time_front};
-ghost use Rattle.speedate.specs.InstantOrder.{IsNotAfter};
+ghost use Rattle.speedate_vectors.specs.Ledger.{is_in_order};
 
 use speedate::{Date, DateTime, TimeConfig};
 
@@ -36,11 +35,18 @@ fn is_in(second: i64, first: i64, last: i64) -> bool
 /// Whether two lines of a ledger begin with dates, and the second's is not before the first's: false
 /// for `2026-11-22 opening balance` and `2026-11-21 rent`.
 pub fn is_in_order(line: &[u8], next: &[u8]) -> bool
-    ensures order { IsTrue result ↔ IsOkAnd (date_front line.now)
-        (λ one. IsOkAnd (date_front next.now) (λ other. IsNotAfter (date_order one.0 other.0))) }
+    ensures order { result ≡ is_in_order line.now next.now }
 {
     match (Date::parse_front(line), Date::parse_front(next)) {
         (Ok((date, _)), Ok((later, _))) => date.cmp(&later).is_le(),
         _ => false,
     }
+}
+
+/// Whether the lines of a ledger are in order, each and the next one: false where one of several
+/// begins with no date.
+pub fn are_in_order(lines: &[&[u8]]) -> bool
+    ensures order { IsAllAdjacentAnswer (λ line next answer. answer ≡ is_in_order line.now next.now) lines.now result }
+{
+    lines.is_sorted_by(|line, next| is_in_order(line, next))
 }
