@@ -1,5 +1,5 @@
 //! Callers that read the value at the front of a line, as a crate outside this workspace would write
-//! them. `docs/CALLING.md` shows them word for word.
+//! them. `docs/CALLING.md` says what they do, and shows `log_entry` of `callers` beside them.
 
 ghost use Rattle.std.specs.Prelude.{◌≡◌, ◌≤ℤ◌, ◌↔◌, IsTrue};
 ghost use Rattle.std.specs.List.{IsAllAdjacentAnswer};
