@@ -79,6 +79,8 @@ impl DateTime {
     ) -> Result<Self, ParseError>
         ensures answer { result_map parts result
             ≡ date_time_answer config.now.rfc3339_form config.now.microseconds_precision_overflow_behavior bytes.now }
+        ensures relaxed { IfOk result (λ value.
+            date_time_answer rfc3339.Relaxed config.now.microseconds_precision_overflow_behavior bytes.now ≡ Ok (parts value)) }
         ensures no_number { OnOk result (number_answer bytes.now ≡ NoNumber) }
     {
         let (value, size) = Self::parse_front(bytes, config)?;

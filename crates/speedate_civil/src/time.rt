@@ -106,6 +106,8 @@ impl Time {
     pub fn parse_bytes_with_config(bytes: &[u8], config: &TimeConfig) -> Result<Self, ParseError>
         ensures answer { result_map parts result
             ≡ time_answer config.now.rfc3339_form config.now.microseconds_precision_overflow_behavior bytes.now }
+        ensures relaxed { IfOk result (λ time.
+            time_answer rfc3339.Relaxed config.now.microseconds_precision_overflow_behavior bytes.now ≡ Ok (parts time)) }
     {
         Self::parse_whole(
             bytes,

@@ -1,16 +1,19 @@
 //! Callers of the library, as a crate outside this workspace would write them. `docs/CALLING.md`
 //! shows them word for word.
 
-ghost use Rattle.std.specs.Prelude.{◌≡◌, ◌↔◌, ◌-◌, ◌%◌, ◌≤◌, ◌*ℤ◌, IfSome, IsSome, IsSomeAnd, IsTrue, Ok, Some, pos, slice_get, unsigned_abs};
+ghost use Rattle.std.specs.Prelude.{ℕ, ◌≡◌, ◌↔◌, ◌-◌, ◌%◌, ◌≤◌, ◌*ℤ◌, IfSome, IsSome, IsSomeAnd, IsTrue, List, Ok, Some, drop, pos, slice_get, unsigned_abs};
 ghost use Rattle.std.specs.Result.{result_map_both};
 ghost use Rattle.speedate.specs.Choice.{unit_answer};
 ghost use Rattle.speedate.specs.Requirement.{result_map};
+ghost use Rattle.speedate.specs.DateAndTime.{DateAndTime};
 ghost use Rattle.speedate.specs.DateText.{date_answer};
+ghost use Rattle.speedate.specs.DateTime.{parts as date_time_parts};
+ghost use Rattle.speedate.specs.DateTimeText.{date_time_front};
 ghost use Rattle.speedate.specs.Offset.{IsWholeMinutes};
 ghost use Rattle.speedate.specs.Time.{parts};
 ghost use Rattle.speedate.specs.TimeText.{is_of_form};
 
-use speedate::{ConfigError, Date, DateConfig, ParseError, Time, TimeConfig};
+use speedate::{ConfigError, Date, DateConfig, DateTime, ParseError, Time, TimeConfig};
 
 /// The last two digits of the year of a date: 20 for `"2020-02-29"`.
 pub fn short_year(text: &str) -> Result<u16, ParseError>
@@ -76,4 +79,18 @@ pub fn date_config(unit: &str) -> Result<DateConfig, ConfigError>
 {
     let unit = unit.parse()?;
     Ok(DateConfig::builder().timestamp_unit(unit).build())
+}
+
+/// The date-time at the front of a line of a log, and what follows it there: 12:13:14 in UTC on
+/// 22 November 2026, and ` GET /`, of `2026-11-22T12:13:14Z GET /`.
+pub fn log_entry<'a>(
+    line: &'a [u8],
+    config: &TimeConfig,
+) -> Result<(DateTime, &'a [u8]), ParseError>
+    ensures entry { result_map {B = DateAndTime × List ℕ} (λ entry. (date_time_parts entry.0, entry.1.now)) result
+        ≡ result_map (λ front. (front.0, drop front.1 line.now))
+        (date_time_front config.now.rfc3339_form config.now.microseconds_precision_overflow_behavior line.now) }
+{
+    let (value, size) = DateTime::parse_front(line, config)?;
+    Ok((value, &line[size..]))
 }

@@ -20,7 +20,10 @@ mod durations;
 mod faults;
 #[cfg(test)]
 mod fractions;
+#[cfg(test)]
+mod fronts;
 pub mod laws;
+pub mod logs;
 #[cfg(test)]
 mod moved;
 #[cfg(test)]

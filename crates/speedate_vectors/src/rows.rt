@@ -69,3 +69,21 @@ pub fn expect<T: Display + Copy, R: Abort>(
         Err(fault) => same(rt, fault.name(), want, row),
     }
 }
+
+/// The answer to a row is to be the value that is written so and that many bytes, or the fault of that
+/// name.
+pub fn expect_front<T: Display + Copy, R: Abort>(
+    rt: &R,
+    answer: Result<(T, usize), ParseError>,
+    want: &str,
+    row: &str,
+) {
+    let [want, size, ..] = words(want);
+    match answer {
+        Ok((read, taken)) => {
+            expect(rt, Ok(read), want, row);
+            assert_eq!(rt; taken, value(rt, size), "{row}");
+        }
+        Err(fault) => assert_eq!(rt; fault.name(), want, "{row}"),
+    }
+}

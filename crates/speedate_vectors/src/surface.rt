@@ -80,3 +80,11 @@ fn each_reader_of_numbers_is_there(rt: HostRuntime) {
     assert_eq!(rt; int_parse_str("7"), int_parse_bytes(b"7"));
     assert!(rt; !float_parse_str("1.5").is_err() && !float_parse_bytes(b"1.5").is_err());
 }
+
+#[test]
+fn each_reader_of_a_front_is_there(rt: HostRuntime) {
+    let config = TimeConfig::default();
+    assert!(rt; Date::parse_front(b"2020-02-29 x").is_ok());
+    assert!(rt; Time::parse_front(b"12:13 x", &config).is_ok());
+    assert!(rt; DateTime::parse_front(b"2020-02-29T12:13 x", &config).is_ok());
+}

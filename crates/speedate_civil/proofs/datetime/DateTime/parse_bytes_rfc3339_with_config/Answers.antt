@@ -6,6 +6,7 @@ use Rattle.speedate_base.proofs.RequirementLemmas.{alone-whole, alone-longer}
 use Rattle.speedate_civil.specs.OffsetText.{end_fault}
 use Rattle.speedate_civil.specs.DateTime.{parts}
 use Rattle.speedate_civil.specs.DateAndTime.{DateAndTime}
+use Rattle.speedate_civil.proofs.StrictLemmas.{date_time_answer-relaxed}
 use Rattle.speedate_civil.proofs.datetime.DateTime.parse_bytes_rfc3339_with_config.Goals as goal
 
 pub returns-clause-answer : goal.returns-clause-answer
@@ -24,3 +25,9 @@ returns-then-size-bytes-clause-answer c =
     ap Err c.end_fault.ensures.fault
     ∙ sym (alone-longer fault bytes value c.in_ok-value.size (λ same. c.if-size-bytes.true (sym same)))
     ∙ ap (result_and_then (alone fault bytes)) c.in_ok-value.ensures.answer
+
+pub returns-clause-relaxed : goal.returns-clause-relaxed
+returns-clause-relaxed c =
+    let config = c.args.config.now in
+    date_time_answer-relaxed config.rfc3339_form config.microseconds_precision_overflow_behavior c.args.bytes.now (parts c.in_ok-value.value)
+    (sym (returns-clause-answer c))

@@ -1,0 +1,414 @@
+//! Values at the fronts of texts, and how many bytes they take.
+
+use crate::configs::time_config;
+use crate::logs::{are_in_order, is_between, is_in_order};
+use crate::rows::{bytes, expect_front, quoted, value, words};
+use arrayvec::ArrayString;
+use speedate::{Date, DateTime, ParseError, Time, TimeConfig};
+use std::fmt::Write;
+use std::process::Abort;
+use std::test::Fail;
+
+/// Texts, and the date at their front with its bytes, or the fault.
+const DATES: &str = "\
+'2026-11-22 opening balance'  2026-11-22 10
+'2026-11-22'                  2026-11-22 10
+'2026-11-22T'                 2026-11-22 10
+'2026-11-22T12:13:14Z'        2026-11-22 10
+'2026-11-22-23'               2026-11-22 10
+'2026-11-223'                 2026-11-22 10
+'2026-11-22\u{2212}'          2026-11-22 10
+'0000-01-01,'                 0000-01-01 10
+'9999-12-31\t'                9999-12-31 10
+'2020-02-29Z'                 2020-02-29 10
+''                            too_short
+'opening'                     too_short
+'2026-11-2'                   too_short
+' 2026-11-22'                 invalid_char_year
+'+2026-11-22'                 invalid_char_year
+'12026-11-22'                 invalid_char_date_sep
+'2026/11/22 rent'             invalid_char_date_sep
+'2026-1-22 rent'              invalid_char_month
+'2026-11/22 rent'             invalid_char_date_sep
+'2026-11-2 rent'              invalid_char_day
+'2026-13-2 rent'              invalid_char_day
+'2026-00-22 rent'             out_of_range_month
+'2026-13-32 rent'             out_of_range_month
+'2026-11-31 rent'             out_of_range_day
+'2026-02-29 rent'             out_of_range_day";
+
+/// Texts, and the time at their front with its bytes under both behaviors, or the fault.
+const TIMES: &str = "\
+'12:13:14 x'                12:13:14 8
+'12:13:14'                  12:13:14 8
+'12:13'                     12:13:00 5
+'12:13 x'                   12:13:00 5
+'12:13.5'                   12:13:00 5
+'12:13,5'                   12:13:00 5
+'12:1314'                   12:13:00 5
+'12:13T'                    12:13:00 5
+'12:13Z x'                  12:13:00Z 6
+'12:13-0130 x'              12:13:00-01:30 10
+'12:13:14:15'               12:13:14 8
+'12:13:145'                 12:13:14 8
+'12:13:14;5'                12:13:14 8
+'12:13:14.5 x'              12:13:14.500000 10
+'12:13:14,5x'               12:13:14.500000 10
+'12:13:14.5.5'              12:13:14.500000 10
+'12:13:14.123456,7'         12:13:14.123456 15
+'12:13:14.000000 x'         12:13:14 15
+'12:13:14Z'                 12:13:14Z 9
+'12:13:14ZZ'                12:13:14Z 9
+'12:13:14z+01:00'           12:13:14Z 9
+'12:13:14Zulu'              12:13:14Z 9
+'12:13:14.5+01:00 GET /'    12:13:14.500000+01:00 16
+'12:13:14+01:000'           12:13:14+01:00 14
+'12:13:14+01000'            12:13:14+01:00 13
+'12:13:14+01:00:30'         12:13:14+01:00 14
+'12:13:14-00:00-'           12:13:14Z 14
+'12:13:14+23:59Z'           12:13:14+23:59 14
+'12:13:14\u{2212}01:30 x'   12:13:14-01:30 16
+'12:13:14.5\u{2212}0130-'   12:13:14.500000-01:30 17
+'12:13:14\u{2013}01:30'     12:13:14 8
+'12:13:14 +01:30'           12:13:14 8
+''                          too_short
+'12:1'                      too_short
+' 12:13'                    invalid_char_hour
+'1:13:14 x'                 invalid_char_hour
+'12.13.14 x'                invalid_char_time_sep
+'12:1:14 x'                 invalid_char_minute
+'24:1:14 x'                 invalid_char_minute
+'24:60 x'                   out_of_range_hour
+'12:60: x'                  out_of_range_minute
+'12:13:'                    invalid_char_second
+'12:13: x'                  invalid_char_second
+'12:13:1 x'                 invalid_char_second
+'12:13:60. x'               out_of_range_second
+'12:13:14. x'               second_fraction_missing
+'12:13:14,'                 second_fraction_missing
+'12:13:14.Z'                second_fraction_missing
+'12:00:00-ERROR'            invalid_char_tz_hour
+'12:00:00-'                 invalid_char_tz_hour
+'12:00+ x'                  invalid_char_tz_hour
+'12:00:00.5-1 x'            invalid_char_tz_hour
+'12:00:00\u{2212}x'         invalid_char_tz_hour
+'12:00:00+01 x'             invalid_char_tz_minute
+'12:00:00+01:'              invalid_char_tz_minute
+'12:00:00+24:0 x'           invalid_char_tz_minute
+'12:00:00+25:60 x'          out_of_range_tz_minute
+'12:00:00+25:00'            out_of_range_tz
+'12:00:00-24:00 x'          out_of_range_tz";
+
+/// A behavior, a text, and the time at its front with its bytes, or the fault.
+const CONFIGURED: &str = "\
+error     '12:13:14.1234567 x'    second_fraction_too_long
+error     '12:13:14.1234567-x'    second_fraction_too_long
+error     '12:13:14.<0*5000> x'   second_fraction_too_long
+error     '24:13:14.1234567 x'    out_of_range_hour
+truncate  '12:13:14.1234567 x'    12:13:14.123456 16
+truncate  '12:13:14.1234567Z8'    12:13:14.123456Z 17
+truncate  '12:13:14.0000009,'     12:13:14 16
+truncate  '12:13:14.1234567-x'    invalid_char_tz_hour
+truncate  '12:13:14.1234567+2:'   invalid_char_tz_hour
+truncate  '12:13:14.<9*5000> x'   12:13:14.999999 5009";
+
+/// Texts, and the date-time at their front with its bytes, or the fault; for a time after `T` the rows
+/// of times hold.
+const DATE_TIMES: &str = "\
+'2026-11-22T12:13:14.5+01:00 GET /'  2026-11-22T12:13:14.500000+01:00 27
+'2026-11-22 12:13:14 x'              2026-11-22T12:13:14 19
+'2026-11-22_12:13_x'                 2026-11-22T12:13:00 16
+'2026-11-22t12:13ztail'              2026-11-22T12:13:00Z 17
+'9999-12-31T23:59:59.999999-23:59-'  9999-12-31T23:59:59.999999-23:59 32
+''                                   too_short
+'2026-11-2'                          too_short
+'202x-11-22T12:13 x'                 invalid_char_year
+'2026/11/22T12:13 x'                 invalid_char_date_sep
+'2026-1-22T12:13 x'                  invalid_char_month
+'2026-11-2T12:13 x'                  invalid_char_day
+'2026-13-22x12:13 x'                 out_of_range_month
+'2026-11-31x12:13 x'                 out_of_range_day
+'2026-11-22'                         invalid_char_date_time_sep
+'2026-11-22x12:13 x'                 invalid_char_date_time_sep
+'2026-11-2212:13 x'                  invalid_char_date_time_sep
+'2026-11-22T'                        too_short
+'2026-11-22 rent'                    too_short
+'2026-11-22 opening balance'         invalid_char_hour";
+
+/// Clocks, the times that they are, and the last thing in them.
+const CLOCKS: &str = "\
+'12:13'                   12:13:00               minute
+'12:13:14'                12:13:14               second
+'12:13:14.500000'         12:13:14.500000        fraction
+'12:13:14Z'               12:13:14Z              offset
+'12:13:14+01:30'          12:13:14+01:30         offset
+'12:13:14.500000Z'        12:13:14.500000Z       offset
+'12:13:14.500000-01:30'   12:13:14.500000-01:30  offset";
+
+/// Up to which length the cuts of a line have which answer: of `12:13:14.5+01:00 GET /`.
+const TIME_CUTS: &str = "\
+4   too_short
+5   12:13:00 5
+7   invalid_char_second
+8   12:13:14 8
+9   second_fraction_missing
+10  12:13:14.500000 10
+12  invalid_char_tz_hour
+15  invalid_char_tz_minute
+22  12:13:14.500000+01:00 16";
+
+/// Of `2026-11-22T12:13:14.5+01:00 GET /`.
+const DATE_TIME_CUTS: &str = "\
+9   too_short
+10  invalid_char_date_time_sep
+15  too_short
+16  2026-11-22T12:13:00 16
+18  invalid_char_second
+19  2026-11-22T12:13:14 19
+20  second_fraction_missing
+21  2026-11-22T12:13:14.500000 21
+23  invalid_char_tz_hour
+26  invalid_char_tz_minute
+33  2026-11-22T12:13:14.500000+01:00 27";
+
+/// Of `2026-11-22 opening balance`, as a date.
+const DATE_CUTS: &str = "\
+9   too_short
+26  2026-11-22 10";
+
+/// Of the same, as a date-time.
+const NO_DATE_TIME_CUTS: &str = "\
+9   too_short
+10  invalid_char_date_time_sep
+15  too_short
+26  invalid_char_hour";
+
+/// The time at the front of a text is to be the answer, and the date-time after a date and `T` the same
+/// without them.
+fn expect_time<R: AllocGlobal + Abort>(
+    rt: &R,
+    text: &[u8],
+    config: &TimeConfig,
+    want: &str,
+    row: &str,
+) -> Result<(), Fail> {
+    expect_front(rt, Time::parse_front(text, config), want, row);
+    let mut dated = bytes(rt, "2026-11-22T")?;
+    dated.extend_from_slice(text)?;
+    let answer = match DateTime::parse_front(&dated, config) {
+        Ok((read, size)) => Ok((read.time, size.saturating_sub(11))),
+        Err(fault) => Err(fault),
+    };
+    expect_front(rt, answer, want, row);
+    Ok(())
+}
+
+/// The answer to the cut of a line, by the table of its cuts.
+fn of_cut<'a, R: Abort>(rt: &R, table: &'a str, size: usize) -> &'a str {
+    for row in table.lines() {
+        let (longest, want) = row.split_once(' ').expect(rt, row);
+        if size <= value(rt, longest) {
+            return want;
+        }
+    }
+    ""
+}
+
+#[test]
+fn dates(rt: HostRuntime) {
+    for row in DATES.lines() {
+        let (_, text, want) = quoted(&rt, row);
+        expect_front(&rt, Date::parse_front(text.as_bytes()), want, row);
+    }
+}
+
+#[test]
+fn times(rt: HostRuntime) -> Result<(), Fail> {
+    for row in TIMES.lines() {
+        let (_, text, want) = quoted(&rt, row);
+        for behavior in ["error", "truncate"] {
+            expect_time(&rt, text.as_bytes(), &time_config(&rt, behavior), want, row)?;
+        }
+    }
+    Ok(())
+}
+
+#[test]
+fn configured_times(rt: HostRuntime) -> Result<(), Fail> {
+    for row in CONFIGURED.lines() {
+        let (behavior, text, want) = quoted(&rt, row);
+        let config = time_config(&rt, behavior);
+        expect_time(&rt, &bytes(&rt, text)?, &config, want, row)?;
+    }
+    Ok(())
+}
+
+#[test]
+fn date_times(rt: HostRuntime) {
+    for row in DATE_TIMES.lines() {
+        let (_, text, want) = quoted(&rt, row);
+        for behavior in ["error", "truncate"] {
+            let config = time_config(&rt, behavior);
+            expect_front(
+                &rt,
+                DateTime::parse_front(text.as_bytes(), &config),
+                want,
+                row,
+            );
+        }
+    }
+}
+
+#[test]
+fn bytes_after_a_date(rt: HostRuntime) {
+    for byte in 0..=255u8 {
+        let mut text = *b"2020-02-29x";
+        text[10] = byte;
+        expect_front(&rt, Date::parse_front(&text), "2020-02-29 10", "a date");
+    }
+}
+
+/// What a byte after a clock makes of it: a fault, `Z` the clock in UTC, `0` one with a further digit
+/// that is dropped, and otherwise nothing.
+fn after(last: &str, byte: u8, behavior: &str) -> &'static str {
+    match (last, byte, behavior) {
+        ("offset", _, _) => "",
+        (_, b'Z' | b'z', _) => "Z",
+        (_, b'+' | b'-', _) => "invalid_char_tz_hour",
+        ("minute", b':', _) => "invalid_char_second",
+        ("second", b'.' | b',', _) => "second_fraction_missing",
+        ("fraction", b'0'..=b'9', "error") => "second_fraction_too_long",
+        ("fraction", b'0'..=b'9', _) => "0",
+        _ => "",
+    }
+}
+
+#[test]
+fn bytes_after_a_time(rt: HostRuntime) -> Result<(), Fail> {
+    for row in CLOCKS.lines() {
+        let (_, clock, rest) = quoted(&rt, row);
+        let [shown, last, ..] = words(rest);
+        let size = clock.len();
+        for behavior in ["error", "truncate"] {
+            let config = time_config(&rt, behavior);
+            for byte in 0..=255u8 {
+                let mut text = bytes(&rt, clock)?;
+                text.push(byte)?;
+                let mut want = ArrayString::<64>::new();
+                let written = match after(last, byte, behavior) {
+                    "" => write!(want, "{shown} {size}"),
+                    "Z" => write!(want, "{shown}Z {}", size.saturating_add(1)),
+                    "0" => write!(want, "{shown} {}", size.saturating_add(1)),
+                    fault => write!(want, "{fault}"),
+                };
+                assert!(rt; written.is_ok(), "{row}");
+                expect_time(&rt, &text, &config, want.as_str(), row)?;
+            }
+        }
+    }
+    Ok(())
+}
+
+#[test]
+fn bytes_of_a_minus_sign(rt: HostRuntime) -> Result<(), Fail> {
+    for row in CLOCKS.lines() {
+        let (_, clock, rest) = quoted(&rt, row);
+        let [shown, last, ..] = words(rest);
+        for byte in 0..=255u8 {
+            let mut text = bytes(&rt, clock)?;
+            text.extend_from_slice(&[0xe2, 0x88, byte])?;
+            let mut want = ArrayString::<64>::new();
+            let written = if byte == 0x92 && last != "offset" {
+                write!(want, "invalid_char_tz_hour")
+            } else {
+                write!(want, "{shown} {}", clock.len())
+            };
+            assert!(rt; written.is_ok(), "{row}");
+            expect_time(&rt, &text, &time_config(&rt, "error"), want.as_str(), row)?;
+        }
+    }
+    Ok(())
+}
+
+#[test]
+fn cuts(rt: HostRuntime) {
+    let config = TimeConfig::default();
+    let line = b"2026-11-22T12:13:14.5+01:00 GET /";
+    for size in 0..=line.len() {
+        let want = of_cut(&rt, DATE_TIME_CUTS, size);
+        expect_front(
+            &rt,
+            DateTime::parse_front(&line[..size], &config),
+            want,
+            want,
+        );
+    }
+    let line = b"12:13:14.5+01:00 GET /";
+    for size in 0..=line.len() {
+        let want = of_cut(&rt, TIME_CUTS, size);
+        expect_front(&rt, Time::parse_front(&line[..size], &config), want, want);
+    }
+    let line = b"2026-11-22 opening balance";
+    for size in 0..=line.len() {
+        let want = of_cut(&rt, DATE_CUTS, size);
+        expect_front(&rt, Date::parse_front(&line[..size]), want, want);
+        let want = of_cut(&rt, NO_DATE_TIME_CUTS, size);
+        expect_front(
+            &rt,
+            DateTime::parse_front(&line[..size], &config),
+            want,
+            want,
+        );
+    }
+}
+
+/// Lines of a log, and whether they lie between 12:13:14 and 12:13:15 in UTC on 22 November 2026.
+const LOG: &str = "\
+2026-11-22T12:13:13.999999Z GET /     no
+2026-11-22T12:13:14Z GET /            yes
+2026-11-22T13:13:14.5+01:00 GET /     yes
+2026-11-22 12:13:15.9999994321 GET /  yes
+2026-11-22T12:13:16Z GET /            no
+2026-11-22T12:13:14+01:00 GET /       no
+2026-11-22T12:13:14+25:00 GET /       no
+2026-11-22T12:13: GET /               no
+GET / 2026-11-22T12:13:14Z            no";
+
+/// Lines of a ledger, the next ones, and whether their dates are in order.
+const LEDGER: &str = "\
+2026-11-22 opening balance, 2026-11-22 rent    yes
+2026-11-22 rent, 2026-12-01 rent               yes
+2026-12-31 rent, 2027-01-01T00:00 closed       yes
+2026-12-01 rent, 2026-11-30 food               no
+2026-11-30 food, 2026-11-31 food               no
+2026-11-31 food, 2026-12-01 rent               no
+rent 2026-12-01, 2026-12-01 rent               no";
+
+#[test]
+fn lines_of_a_log(rt: HostRuntime) {
+    let config = time_config(&rt, "truncate");
+    let (first, last) = (1_795_349_594, 1_795_349_595);
+    for row in LOG.lines() {
+        let (line, kept) = row.rsplit_once(' ').expect(&rt, row);
+        let found = is_between(line.as_bytes(), &config, first, last);
+        assert_eq!(rt; found, kept == "yes", "{row}");
+    }
+}
+
+#[test]
+fn lines_of_a_ledger(rt: HostRuntime) {
+    for row in LEDGER.lines() {
+        let (line, rest) = row.split_once(", ").expect(&rt, row);
+        let (next, ordered) = rest.rsplit_once(' ').expect(&rt, row);
+        let found = is_in_order(line.as_bytes(), next.as_bytes());
+        assert_eq!(rt; found, ordered == "yes", "{row}");
+    }
+    let lines: [&[u8]; 3] = [
+        b"2026-11-22 opening balance",
+        b"2026-11-22 rent",
+        b"2026-12-01 rent",
+    ];
+    assert!(rt; are_in_order(&lines));
+    assert!(rt; !are_in_order(&[lines[0], lines[2], lines[1]]));
+    assert!(rt; !are_in_order(&[lines[0], lines[1], b"rent"]));
+}
