@@ -11,7 +11,7 @@ use Rattle.speedate_base.specs.declared.config.MicrosecondsPrecisionOverflowBeha
 use Rattle.speedate_base.specs.declared.faults.ParseError.{ParseError}
 use Rattle.speedate_base.specs.declared.faults.ParseError.TheVariants as fault
 use Rattle.speedate_base.specs.Form.{is_strict}
-use Rattle.speedate_base.specs.Ascii.{colon, comma, full_stop, hyphen, plus_sign}
+use Rattle.speedate_base.specs.Ascii.{colon, hyphen, plus_sign}
 use Rattle.speedate_base.specs.Digits.{two_digit_value}
 use Rattle.speedate_base.specs.DigitRuns.{run_length, run_digits}
 use Rattle.speedate_base.specs.Requirement.{AllHold, alone, meets, result_map, result_and_then}

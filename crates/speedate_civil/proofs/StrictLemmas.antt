@@ -1,6 +1,6 @@
 -- What the strict form takes, the relaxed one takes too, with the same value.
-use Rattle.std.specs.Prelude.{◌≡◌, ℕ, ◌+◌, Bool, true, false, not, ◌&&◌, ◌||◌, ◌==◌, List, [], ◌∷◌, length, drop, nat_lt, nat_le, slice_index, if◌then◌else◌, Option, Some, None, ℤ, pos, Result, Ok, Err, refl}
-use Rattle.std.proofs.Common.{arith, ap, subst, sym, ◌∙◌, add-zero, get_or}
+use Rattle.std.specs.Prelude.{◌≡◌, ℕ, ◌+◌, Bool, true, false, ◌&&◌, ◌||◌, ◌==◌, List, length, drop, nat_lt, nat_le, slice_index, if◌then◌else◌, Option, Some, ℤ, Result, Ok, Err, refl}
+use Rattle.std.proofs.Common.{arith, ap, subst, sym, ◌∙◌}
 use Rattle.std.proofs.lemmas.Bool.Decides.{nat_tests}
 use Rattle.std.proofs.lemmas.List.{get_or-drop}
 use Rattle.std.proofs.lemmas.Bool.{le-leb, leb-true}
@@ -8,7 +8,7 @@ use Rattle.speedate_base.specs.declared.config.MicrosecondsPrecisionOverflowBeha
 use Rattle.speedate_base.specs.declared.config.Rfc3339Form.{Rfc3339Form}
 use Rattle.speedate_base.specs.declared.config.Rfc3339Form.TheVariants as rfc3339
 use Rattle.speedate_base.specs.declared.faults.ParseError.{ParseError}
-use Rattle.speedate_base.specs.Ascii.{colon, comma, full_stop, hyphen, plus_sign, capital_z, small_z}
+use Rattle.speedate_base.specs.Ascii.{comma, full_stop, hyphen, plus_sign}
 use Rattle.speedate_base.specs.Digits.{two_digit_value}
 use Rattle.speedate_base.specs.DigitRuns.{run_length, run_digits, fraction_value}
 use Rattle.speedate_base.specs.Numbers.{with_sign}
@@ -20,8 +20,8 @@ use Rattle.speedate_civil.specs.ClockText.{Clock, at_hour, clock_answer, clock_f
 use Rattle.speedate_civil.specs.DateAndTime.{DateAndTime}
 use Rattle.speedate_civil.specs.DateText.{date_front}
 use Rattle.speedate_civil.specs.DateTimeText.{date_and_time, date_time_front, date_time_answer, is_separator, separator_table, with_time}
-use Rattle.speedate_civil.specs.OffsetText.{end_fault, is_utc, has_minus_sign, offset_digits, offset_digits_length, offset_front, offset_ranges, offset_size, signed_front, unsigned_front, unsigned_table}
-use Rattle.speedate_civil.proofs.OffsetLemmas.{without_sign, one_byte, no_byte, no_minus, no_minus-utc, no_minus_sign, utc-read, strict-unsigned}
+use Rattle.speedate_civil.specs.OffsetText.{end_fault, is_utc, has_minus_sign, offset_digits, offset_digits_length, offset_front, offset_ranges, offset_size, signed_front}
+use Rattle.speedate_civil.proofs.OffsetLemmas.{without_sign, one_byte, no_byte, no_minus, no_minus-utc, utc-read, strict-unsigned}
 use Rattle.speedate_civil.proofs.FrontLemmas.{clock-size, clock-second}
 use Rattle.speedate_civil.specs.TimeOfDay.{TimeOfDay}
 use Rattle.speedate_civil.specs.TimeText.{joined, with_offset, time_front, time_answer}
@@ -42,7 +42,7 @@ offset-relaxed rest front true utc some zulu read =
     let byte = slice_index rest 0 in
     let digits = sym (one_byte rfc3339.Strict false (byte == plus_sign) (byte == hyphen) (without_sign rfc3339.Strict rest) rest refl some) ∙ read in (
       one_byte rfc3339.Relaxed (has_minus_sign rfc3339.Relaxed rest) (byte == plus_sign) (byte == hyphen) (without_sign rfc3339.Relaxed rest) rest (no_minus byte _ _ some) some
-      ∙ signed-relaxed (byte == hyphen) 1 (drop 1 rest) front digits,
+          ∙ signed-relaxed (byte == hyphen) 1 (drop 1 rest) front digits,
       grind (arith, nat_tests),
     )
 offset-relaxed rest front false true no_sign zulu read =
@@ -50,7 +50,7 @@ offset-relaxed rest front false true no_sign zulu read =
     let is = sym (utc-read rfc3339.Strict rest zulu)
     ∙ sym (no_byte rfc3339.Strict false (byte == plus_sign) (byte == hyphen) (without_sign rfc3339.Strict rest) rest refl no_sign) ∙ read in (
       no_byte rfc3339.Relaxed (has_minus_sign rfc3339.Relaxed rest) (byte == plus_sign) (byte == hyphen) (without_sign rfc3339.Relaxed rest) rest (no_minus-utc byte _ _ zulu) no_sign
-      ∙ utc-read rfc3339.Relaxed rest zulu ∙ is,
+          ∙ utc-read rfc3339.Relaxed rest zulu ∙ is,
       grind (arith, nat_tests),
     )
 offset-relaxed rest front false false no_sign other read =

@@ -1,5 +1,5 @@
 use Rattle.std.proofs.Common.{◌≡◌, ◌∙◌, ap, arith, sym}
-use Rattle.std.specs.Prelude.{ℕ, ◌+◌, List, length, drop, Option, ℤ, Result, Ok}
+use Rattle.std.specs.Prelude.{ℕ, List, length, drop, Option, ℤ, Result, Ok}
 use Rattle.std.proofs.lemmas.Bool.Decides.{nat_tests}
 use Rattle.speedate_base.specs.declared.config.Rfc3339Form.{Rfc3339Form}
 use Rattle.speedate_base.specs.declared.config.MicrosecondsPrecisionOverflowBehavior.{MicrosecondsPrecisionOverflowBehavior}
