@@ -195,9 +195,9 @@ impl Default for DateConfigBuilder {
     }
 }
 
-/// What is done with digits of a second past the sixth, which offset the time of a timestamp gets, and
-/// whether the components of a duration have to come in order. The default refuses such digits, attaches
-/// no offset and takes any order;
+/// What is done with digits of a second past the sixth, which offset the time of a timestamp gets,
+/// whether the components of a duration have to come in order, and which texts are times and date-times.
+/// The default refuses such digits, attaches no offset, takes any order and the relaxed form;
 /// `TimeConfig::builder().unix_timestamp_offset(Some(3600)).build()` attaches one hour.
 #[derive(Clone, Copy, Debug, PartialEq, Eq)]
 pub struct TimeConfig {
@@ -228,7 +228,8 @@ impl Default for TimeConfig {
 
     ghost is_default = { IsDefault };
 
-    /// Further digits are refused, timestamps get no offset, and components may come in any order.
+    /// Further digits are refused, timestamps get no offset, components may come in any order, and
+    /// texts are relaxed.
     fn default() -> Self {
         TimeConfig {
             microseconds_precision_overflow_behavior: MicrosecondsPrecisionOverflowBehavior::default(),

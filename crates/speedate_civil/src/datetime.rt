@@ -72,6 +72,10 @@ impl DateTime {
     /// the digits of a second past the sixth: with the behavior `Truncate` they are dropped, so that
     /// `b"2020-01-01T12:13:12.1234567"` is 12:13:12.123456 on that day. The offset of the
     /// configuration does not matter.
+    ///
+    /// In the form `Strict` the separator is `T` or `t`, and the time is one of
+    /// [`Time::parse_bytes_with_config`] in that form: the texts are those of RFC 3339 alone. What it
+    /// takes, the form `Relaxed` takes too, with the same value.
     #[inline(always)]
     pub fn parse_bytes_rfc3339_with_config(
         bytes: &[u8],
@@ -94,9 +98,9 @@ impl DateTime {
     /// 12:13:14.5 on 22 November 2026, an hour east of UTC, and 27 bytes, from
     /// `b"2026-11-22T12:13:14.5+01:00 GET /"`.
     ///
-    /// The time goes as far as [`Time::parse_front`] reads on. The faults are those of
-    /// [`DateTime::parse_str_rfc3339`] but for `InvalidCharTzSign` and `ExtraCharacters` of the time,
-    /// in that order.
+    /// The time goes as far as [`Time::parse_front`] reads on. The faults are those of the date and of
+    /// the separator, as [`DateTime::parse_bytes_rfc3339_with_config`] has them, and then those of
+    /// [`Time::parse_front`].
     #[inline(always)]
     pub fn parse_front(bytes: &[u8], config: &TimeConfig) -> Result<(Self, usize), ParseError>
         ensures answer { result_map (with_size parts) result

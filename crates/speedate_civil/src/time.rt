@@ -102,6 +102,12 @@ impl Time {
     /// Reads a time from the bytes of a text, as [`Time::parse_str`] does, but for the digits of a
     /// second past the sixth: with the behavior `Truncate` they are dropped, so that
     /// `b"12:13:12.1234567"` is 12:13:12.123456. The offset of the configuration does not matter.
+    ///
+    /// In the form `Strict` the texts are those of RFC 3339 alone, but for a second 60, which both
+    /// forms refuse: `TooShort` where there are fewer than nine bytes; `InvalidCharTimeSep` where no
+    /// `:` follows the minute; `InvalidCharTzSign` where a comma follows the second, or U+2212 the
+    /// clock; `TzRequired` where nothing follows the clock; `InvalidCharTzMinute` where no `:` follows
+    /// the hour of the offset. What it takes, the form `Relaxed` takes too, with the same value.
     #[inline(always)]
     pub fn parse_bytes_with_config(bytes: &[u8], config: &TimeConfig) -> Result<Self, ParseError>
         ensures answer { result_map parts result
@@ -123,7 +129,8 @@ impl Time {
     /// minute, two digits have to follow it, where a decimal mark follows the second, a digit, and
     /// where `+`, `-` or U+2212 follows the clock, an offset. `Z` or `z` is one too. Any other byte
     /// after the clock, or none, ends a time without an offset. The faults are those of
-    /// [`Time::parse_str`] but for `InvalidCharTzSign` and `ExtraCharacters`, in that order.
+    /// [`Time::parse_bytes_with_config`] but for `ExtraCharacters`, and in the form `Relaxed` but for
+    /// `InvalidCharTzSign`, in that order.
     #[inline(always)]
     pub fn parse_front(bytes: &[u8], config: &TimeConfig) -> Result<(Self, usize), ParseError>
         ensures answer { result_map (with_size parts) result

@@ -25,9 +25,10 @@ impl DateTime {
     /// The canonical text, `YYYY-MM-DDTHH:MM:SS`, with a point and six digits where the microsecond
     /// is not 0, and the offset where there is one: `2020-02-29T12:13:14.500000+01:30`.
     ///
-    /// It reads back as the date-time, under every configuration, where the offset is absent or whole
-    /// minutes, and at the front of a text too, where what follows is no part of a time: neither a
-    /// digit, a decimal mark, `Z`, `z` nor a sign. The seconds of another offset are not printed.
+    /// It reads back as the date-time where the offset is absent or whole minutes, under every
+    /// configuration but for one: in the strict form a time has an offset. It reads back at the front
+    /// of a text too, where what follows is no part of a time: neither a digit, a decimal mark, `Z`,
+    /// `z` nor a sign. The seconds of another offset are not printed.
     #[inline]
     pub fn to_text(&self) -> ArrayString<TEXT_MAX>
         ensures text { result.bytes ≡ date_time_text (parts self.now) }
@@ -37,7 +38,8 @@ impl DateTime {
             → date_time_or_timestamp config.timestamp_unit config.time_config.rfc3339_form
             config.time_config.microseconds_precision_overflow_behavior
             config.time_config.unix_timestamp_offset result.bytes ≡ Ok (parts self.now) }
-        ensures reads_front { IsWholeMinutes self.now.time.tz_offset → (config : TimeConfig) (rest : List ℕ) → IsTrue (is_of_form config.rfc3339_form self.now.time.tz_offset)
+        ensures reads_front { IsWholeMinutes self.now.time.tz_offset → (config : TimeConfig) (rest : List ℕ)
+            → IsTrue (is_of_form config.rfc3339_form self.now.time.tz_offset)
             → IsTrue (is_after_time (parts self.now).time rest)
             → date_time_front config.rfc3339_form config.microseconds_precision_overflow_behavior (result.bytes ++ rest)
             ≡ Ok (parts self.now, length result.bytes) }
