@@ -1,8 +1,10 @@
-//! Units, behaviors and orders by their names.
+//! Units, behaviors, orders and forms by their names.
 
 use crate::rows::{quoted, same};
 use arrayvec::ArrayString;
-use speedate::{ConfigError, IsoOrder, MicrosecondsPrecisionOverflowBehavior, TimestampUnit};
+use speedate::{
+    ConfigError, IsoOrder, MicrosecondsPrecisionOverflowBehavior, Rfc3339Form, TimestampUnit,
+};
 use std::fmt::{Debug, Write};
 use std::process::Abort;
 use std::str::FromStr;
@@ -45,6 +47,20 @@ const ORDERS: &str = "\
 'strict '   unknown_iso_order_string
 'strictly'  unknown_iso_order_string";
 
+/// Texts, and the form that each names.
+const FORMS: &str = "\
+'relaxed'     Relaxed
+'ReLaXeD'     Relaxed
+'strict'      Strict
+'Strict'      Strict
+'STRICT'      Strict
+''            unknown_rfc3339_form_string
+'lax'         unknown_rfc3339_form_string
+'relax'       unknown_rfc3339_form_string
+' strict'     unknown_rfc3339_form_string
+'strict '     unknown_rfc3339_form_string
+'\u{17f}trict'  unknown_rfc3339_form_string";
+
 /// Each text is to name the value that is written so, or to have the fault of that name.
 fn expect_each<T: FromStr<Err = ConfigError> + Debug + Copy, R: Abort>(rt: &R, table: &str) {
     for row in table.lines() {
@@ -65,6 +81,7 @@ fn choices_of_names(rt: HostRuntime) {
     expect_each::<TimestampUnit, _>(&rt, UNITS);
     expect_each::<MicrosecondsPrecisionOverflowBehavior, _>(&rt, BEHAVIORS);
     expect_each::<IsoOrder, _>(&rt, ORDERS);
+    expect_each::<Rfc3339Form, _>(&rt, FORMS);
 }
 
 #[test]
@@ -75,4 +92,6 @@ fn names_of_choices(rt: HostRuntime) {
         "truncate"
     );
     assert_eq!(rt; IsoOrder::Strict.name(), "strict");
+    assert_eq!(rt; Rfc3339Form::Relaxed.name(), "relaxed");
+    assert_eq!(rt; Rfc3339Form::Strict.name(), "strict");
 }

@@ -130,4 +130,8 @@ fn of_choices(rt: HostRuntime) {
     assert_eq!(rt; order.get_documentation(), None);
     expect_shown(&rt, &order, "unknown_iso_order_string");
     expect_debug(&rt, &order, "UnknownIsoOrderString");
+    let form = ConfigError::UnknownRfc3339FormString;
+    assert_eq!(rt; form.get_documentation(), None);
+    expect_shown(&rt, &form, "unknown_rfc3339_form_string");
+    expect_debug(&rt, &form, "UnknownRfc3339FormString");
 }

@@ -38,6 +38,8 @@ pub mod schedules;
 #[cfg(test)]
 mod shown;
 #[cfg(test)]
+mod strict;
+#[cfg(test)]
 mod surface;
 #[cfg(test)]
 mod times;
