@@ -9,7 +9,7 @@ use Rattle.speedate.specs.declared.Rfc3339Form.TheVariants as rfc3339
 use Rattle.speedate.specs.declared.TimestampUnit.TheVariants as unit
 use Rattle.speedate.specs.DateText.{date_text}
 use Rattle.speedate.specs.DateTimestamp.{date_or_timestamp}
-use Rattle.speedate.specs.DateTimeText.{date_time_text}
+use Rattle.speedate.specs.DateTimeText.{date_time_answer, date_time_text}
 use Rattle.speedate.specs.DateTimeTimestamp.{date_time_or_timestamp}
 use Rattle.speedate.specs.DurationAnswer.{duration_answer}
 use Rattle.speedate.specs.DurationText.{duration_text}
@@ -56,9 +56,19 @@ strict_duration_kind = record {
   reply_to = λ text. reply duration_text (duration_answer order.Strict behavior.Error text);
 }
 
+abbrev pub strict_time_kind : Kind
+strict_time_kind = record { word = codes "time-strict"; reply_to = λ text. reply time_text (time_answer rfc3339.Strict behavior.Error text) }
+
+-- it reads no timestamps: they are no texts of the standard
+abbrev pub strict_date_time_kind : Kind
+strict_date_time_kind = record {
+  word = codes "datetime-strict";
+  reply_to = λ text. reply date_time_text (date_time_answer rfc3339.Strict behavior.Error text);
+}
+
 -- all kinds
 abbrev pub kinds : List Kind
-kinds = date_kind ∷ time_kind ∷ date_time_kind ∷ duration_kind ∷ strict_duration_kind ∷ []
+kinds = date_kind ∷ time_kind ∷ date_time_kind ∷ duration_kind ∷ strict_duration_kind ∷ strict_time_kind ∷ strict_date_time_kind ∷ []
 
 -- what a line of a kind begins with: the kind's word and a space
 abbrev pub front : Kind → List ℕ

@@ -3,13 +3,18 @@
 ghost use Rattle.std.specs.Prelude.{◌≡◌, ◌+◌, ◌≤◌, true, false, length, take, drop, bytes_eq, MatchOption, [], ◌∷◌, ◌++◌};
 ghost use Rattle.arrayvec.specs.ArrayString.{array_string_len};
 ghost use Rattle.speedate.specs.declared.MicrosecondsPrecisionOverflowBehavior.TheVariants as behavior;
+ghost use Rattle.speedate.specs.declared.Rfc3339Form.TheVariants as rfc3339;
 ghost use Rattle.speedate.specs.Ascii.{line_feed};
+ghost use Rattle.speedate.specs.DateTime.{parts};
+ghost use Rattle.speedate.specs.DateTimeText.{date_time_text};
 ghost use Rattle.speedate.specs.DurationAnswer.{duration_answer};
 ghost use Rattle.speedate.specs.DurationText.{duration_text};
-ghost use Rattle.speedate_lines.specs.Answer.{line_answer, reply, err_answer, date_kind, time_kind, date_time_kind};
+ghost use Rattle.speedate.specs.Requirement.{result_map};
+ghost use Rattle.speedate.specs.TimeText.{time_answer, time_text};
+ghost use Rattle.speedate_lines.specs.Answer.{line_answer, reply, err_answer, date_kind, date_time_kind, strict_date_time_kind};
 
 use arrayvec::ArrayString;
-use speedate::{Date, DateTime, Duration, IsoOrder, Time, TimeConfig};
+use speedate::{Date, DateTime, Duration, IsoOrder, ParseError, Rfc3339Form, Time, TimeConfig};
 
 /// A longer line is answered without being looked at.
 pub const LINE_MAX: usize = 4096;
@@ -41,13 +46,17 @@ pub fn answer_line(line: &[u8], pending: &mut Pending)
     } else if let Some(text) = text_after(line, b"date ") {
         answer_date(text, pending)
     } else if let Some(text) = text_after(line, b"time ") {
-        answer_time(text, pending)
+        answer_time(text, Rfc3339Form::Relaxed, pending)
     } else if let Some(text) = text_after(line, b"datetime ") {
         answer_date_time(text, pending)
     } else if let Some(text) = text_after(line, b"duration ") {
         answer_duration(text, IsoOrder::Lax, pending)
     } else if let Some(text) = text_after(line, b"duration-strict ") {
         answer_duration(text, IsoOrder::Strict, pending)
+    } else if let Some(text) = text_after(line, b"time-strict ") {
+        answer_time(text, Rfc3339Form::Strict, pending)
+    } else if let Some(text) = text_after(line, b"datetime-strict ") {
+        answer_strict_date_time(text, pending)
     } else {
         refuse("unknown_kind", pending)
     }
@@ -83,14 +92,14 @@ fn answer_date(text: &[u8], pending: &mut Pending)
     }
 }
 
-/// Appends the answer to the text of a time.
+/// Appends the answer to the text of a time in this form.
 #[inline]
-fn answer_time(text: &[u8], pending: &mut Pending)
+fn answer_time(text: &[u8], form: Rfc3339Form, pending: &mut Pending)
     requires { array_string_len pending.old + ANSWER_MAX ≤ PENDING_MAX }
     ensures answered { pending.new.bytes ≡ pending.old.bytes
-        ++ (time_kind.reply_to text.now ++ line_feed ∷ []) }
+        ++ (reply time_text (time_answer form behavior.Error text.now) ++ line_feed ∷ []) }
 {
-    match Time::parse_bytes(text) {
+    match Time::parse_bytes_with_config(text, &form_config(form)) {
         Ok(time) => {
             pending.push_str(ACCEPTED);
             time.push_onto(pending);
@@ -100,14 +109,38 @@ fn answer_time(text: &[u8], pending: &mut Pending)
     }
 }
 
-/// Appends the answer to the text of a date-time.
+/// Appends the answer to the text of a date-time or of a timestamp.
 #[inline]
 fn answer_date_time(text: &[u8], pending: &mut Pending)
     requires { array_string_len pending.old + ANSWER_MAX ≤ PENDING_MAX }
     ensures answered { pending.new.bytes ≡ pending.old.bytes
         ++ (date_time_kind.reply_to text.now ++ line_feed ∷ []) }
 {
-    match DateTime::parse_bytes(text) {
+    answer_read(DateTime::parse_bytes(text), pending)
+}
+
+/// Appends the answer to the text of a date-time in the strict form.
+#[inline]
+fn answer_strict_date_time(text: &[u8], pending: &mut Pending)
+    requires { array_string_len pending.old + ANSWER_MAX ≤ PENDING_MAX }
+    ensures answered { pending.new.bytes ≡ pending.old.bytes
+        ++ (strict_date_time_kind.reply_to text.now ++ line_feed ∷ []) }
+{
+    let config = form_config(Rfc3339Form::Strict);
+    answer_read(
+        DateTime::parse_bytes_rfc3339_with_config(text, &config),
+        pending,
+    )
+}
+
+/// Appends the answer to a text that was read as a date-time, or refused.
+#[inline(always)]
+fn answer_read(read: Result<DateTime, ParseError>, pending: &mut Pending)
+    requires { array_string_len pending.old + ANSWER_MAX ≤ PENDING_MAX }
+    ensures answered { pending.new.bytes ≡ pending.old.bytes
+        ++ (reply date_time_text (result_map parts read) ++ line_feed ∷ []) }
+{
+    match read {
         Ok(value) => {
             pending.push_str(ACCEPTED);
             value.push_onto(pending);
@@ -141,6 +174,15 @@ fn order_config(order: IsoOrder) -> TimeConfig
     ensures behavior { result.microseconds_precision_overflow_behavior ≡ behavior.Error }
 {
     TimeConfig::builder().iso_order(order).build()
+}
+
+/// The default configuration, but for the form of times and date-times.
+#[inline]
+fn form_config(form: Rfc3339Form) -> TimeConfig
+    ensures form { result.rfc3339_form ≡ form }
+    ensures behavior { result.microseconds_precision_overflow_behavior ≡ behavior.Error }
+{
+    TimeConfig::builder().rfc3339_form(form).build()
 }
 
 /// Appends the answer to a line that was refused: the name of the reason.

@@ -36,11 +36,13 @@ pub enum RunError {
 /// Answers each line of the input, up to its end.
 ///
 /// A line is ended by a line feed or by the end of the input, and its answer by a line feed.
-/// `date TEXT`, `time TEXT`, `datetime TEXT`, `duration TEXT` and `duration-strict TEXT`, whose
-/// components have to come in order, are answered by `ok` and the canonical text of the value, or by
-/// `err` and the name of the fault; a line of more than 4,096 bytes by `err line_too_long`, any other
-/// by `err unknown_kind`. Every complete line that was read is answered before the next read.
-/// For the input `date 2020-02-29` the output is `ok 2020-02-29` and a line feed.
+/// `date TEXT`, `time TEXT`, `datetime TEXT`, `duration TEXT`, `duration-strict TEXT`, whose
+/// components have to come in order, and `time-strict TEXT` and `datetime-strict TEXT`, which take
+/// the texts of RFC 3339 alone and no timestamp, are answered by `ok` and the canonical text of the
+/// value, or by `err` and the name of the fault; a line of more than 4,096 bytes by
+/// `err line_too_long`, any other by `err unknown_kind`. Every complete line that was read is
+/// answered before the next read. For the input `date 2020-02-29` the output is `ok 2020-02-29` and
+/// a line feed.
 ///
 /// `RunError::Read` comes where a read fails, `RunError::Write` where a write or the one flush at
 /// the end does. Neither end may have failed before.

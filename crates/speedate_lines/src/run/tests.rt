@@ -70,7 +70,7 @@ fn padded(alloc: Global, front: &[u8], byte: u8, count: usize) -> Result<Vec<u8>
 
 #[test]
 fn answers_each_line(rt: HostRuntime) {
-    let cases: [(&[u8], &[u8]); 43] = [
+    let cases: [(&[u8], &[u8]); 55] = [
         (INPUT, OUTPUT),
         (b"", b""),
         (b"\n", b"err unknown_kind\n"),
@@ -113,6 +113,33 @@ fn answers_each_line(rt: HostRuntime) {
         (b"duration-strict -1 day, 01:00", b"ok -P1DT1H\n"),
         (b"duration-strict", b"err unknown_kind\n"),
         (b"duration-lax P1Y", b"err unknown_kind\n"),
+        (b"time-strict 12:13:14.5z", b"ok 12:13:14.500000Z\n"),
+        (b"time-strict 12:13:14", b"err too_short\n"),
+        (b"time-strict 12:13:14,5Z", b"err invalid_char_tz_sign\n"),
+        (
+            b"time-strict 01:02:03+0030",
+            b"err invalid_char_tz_minute\n",
+        ),
+        (b"time-strict", b"err unknown_kind\n"),
+        (b"time-strict12:13:14Z", b"err unknown_kind\n"),
+        (b"time-lax 12:13", b"err unknown_kind\n"),
+        (
+            b"datetime-strict 1963-06-19t08:30:06.283185z",
+            b"ok 1963-06-19T08:30:06.283185Z\n",
+        ),
+        (
+            b"datetime-strict 1963-06-19 08:30:06Z",
+            b"err invalid_char_date_time_sep\n",
+        ),
+        (
+            b"datetime-strict 2020-01-01T12:13:14.1234567Z",
+            b"err second_fraction_too_long\n",
+        ),
+        (
+            b"datetime-strict 1654646404",
+            b"err invalid_char_date_sep\n",
+        ),
+        (b"datetime-strict", b"err unknown_kind\n"),
         (b"duration 1 day", b"ok P1D\n"),
         (b"duration -PT0S", b"ok -PT0S\n"),
         (b"duration P99999999999X", b"err duration_value_too_large\n"),
