@@ -8,12 +8,15 @@ ghost use Rattle.speedate.specs.Requirement.{result_map};
 ghost use Rattle.speedate.specs.DateAndTime.{DateAndTime};
 ghost use Rattle.speedate.specs.DateText.{date_answer};
 ghost use Rattle.speedate.specs.DateTime.{parts as date_time_parts};
-ghost use Rattle.speedate.specs.DateTimeText.{date_time_front};
+ghost use Rattle.speedate.specs.DateTimeText.{date_time_answer, date_time_front};
 ghost use Rattle.speedate.specs.Offset.{IsWholeMinutes};
 ghost use Rattle.speedate.specs.Time.{parts};
 ghost use Rattle.speedate.specs.TimeText.{is_of_form};
 
-use speedate::{ConfigError, Date, DateConfig, DateTime, ParseError, Time, TimeConfig};
+use speedate::{
+    ConfigError, Date, DateConfig, DateTime, MicrosecondsPrecisionOverflowBehavior, ParseError,
+    Rfc3339Form, Time, TimeConfig,
+};
 
 /// The last two digits of the year of a date: 20 for `"2020-02-29"`.
 pub fn short_year(text: &str) -> Result<u16, ParseError>
@@ -93,4 +96,17 @@ pub fn log_entry<'a>(
 {
     let (value, size) = DateTime::parse_front(line, config)?;
     Ok((value, &line[size..]))
+}
+
+/// The date-time that a text of JSON Schema's format `date-time` is, or the fault of a text that is none:
+/// digits past the microsecond are dropped.
+pub fn schema_date_time(text: &str) -> Result<DateTime, ParseError>
+    ensures answer { result_map date_time_parts result
+        ≡ date_time_answer Rfc3339Form.Strict MicrosecondsPrecisionOverflowBehavior.Truncate text.now }
+{
+    let config = TimeConfig::builder()
+        .rfc3339_form(Rfc3339Form::Strict)
+        .microseconds_precision_overflow_behavior(MicrosecondsPrecisionOverflowBehavior::Truncate)
+        .build();
+    DateTime::parse_bytes_rfc3339_with_config(text.as_bytes(), &config)
 }

@@ -43,7 +43,9 @@ impl PureTime {
     /// Reads the time that begins at `place`, whatever follows it: 12:13:14 and a half, in ten
     /// bytes, from `b"P12:13:14.5Z"` at place 1. The faults are those of
     /// [`Time::parse_str`](crate::time::Time::parse_str) up to `SecondFractionTooLong`, in that
-    /// order; more than six digits are refused only by the behavior `Error`.
+    /// order, or in the form `Strict` those of
+    /// [`Time::parse_bytes_with_config`](crate::time::Time::parse_bytes_with_config); more than six
+    /// digits are refused only by the behavior `Error`.
     #[inline(always)]
     pub fn parse(
         bytes: &[u8],
