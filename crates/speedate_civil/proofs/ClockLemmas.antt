@@ -26,7 +26,7 @@ clock-whole form behavior minute second tail small_minute small_second plain =
     rw (minute_is, second_is, plain, le-leb minute 59 small_minute, le-leb second 59 small_second, two_digits-printed second (omega arith), implies-true (is_strict form)) refl
 
 -- where no digit stands, none follows
-run_length-none : (tail : List ℕ) → is_ascii_digit (slice_index tail 0) ≡ false → run_length tail 0 ≡ 0
+pub run_length-none : (tail : List ℕ) → is_ascii_digit (slice_index tail 0) ≡ false → run_length tail 0 ≡ 0
 run_length-none [] other = refl
 run_length-none (byte ∷ tail) other = rw other refl
 

@@ -110,7 +110,7 @@ digits-taken form west sign numbers false there =
     rw (there) cc
 
 -- the sign of an offset
-signed-taken : (form : Rfc3339Form) (west : Bool) (sign : ℕ) (rest : List ℕ) (front : Option ℤ × ℕ) → signed_front form west sign (drop sign rest) ≡ Ok front
+pub signed-taken : (form : Rfc3339Form) (west : Bool) (sign : ℕ) (rest : List ℕ) (front : Option ℤ × ℕ) → signed_front form west sign (drop sign rest) ≡ Ok front
     → front.1 ≡ sign + offset_digits_length (drop sign rest)
 signed-taken form west sign rest front read =
     let numbers : List ℕ = drop sign rest in

@@ -13,6 +13,7 @@ pub mod InstantOrderLemmas
 mod NumberTextLemmas
 mod OffsetLemmas
 mod OffsetMoveLemmas
+mod Rfc3339Lemmas
 mod StandardFacts
 mod StrictLemmas
 mod TimeLemmas

@@ -38,7 +38,7 @@ some-printed form (Some (pos (suc size))) rest given strict = rw (offset_text-ea
 some-printed form (Some (negsuc size)) rest given strict = rw (offset_text-west size) (omega arith)
 
 -- a printed hour, before a clock that is read
-front-printed : (form : Rfc3339Form) (behavior : MicrosecondsPrecisionOverflowBehavior) (hour minute second : ℕ) (tail : List ℕ) (clock : Clock)
+pub front-printed : (form : Rfc3339Form) (behavior : MicrosecondsPrecisionOverflowBehavior) (hour minute second : ℕ) (tail : List ℕ) (clock : Clock)
     → (is_strict form ≡ true → 1 ≤ length tail) → hour ≤ 23 → minute ≤ 59 → clock_answer form behavior (minute_text minute second ++ tail) ≡ Ok clock
     → clock_front form behavior (two_digit_text hour ++ colon ∷ minute_text minute second ++ tail) ≡ Ok (at_hour hour clock)
 front-printed form behavior hour minute second tail clock more small_hour small_minute answer =

@@ -10,6 +10,7 @@ pub mod TimeOfDay
 pub mod ClockText
 pub mod OffsetText
 pub mod TimeText
+pub mod Rfc3339Text
 pub mod Time
 pub mod DateAndTime
 pub mod DateTimeText

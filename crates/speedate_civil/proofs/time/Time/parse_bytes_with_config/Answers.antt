@@ -8,6 +8,7 @@ use Rattle.speedate_base.specs.Requirement.{result_map}
 use Rattle.speedate_civil.specs.declared.time.Time.{Time}
 use Rattle.speedate_civil.specs.Time.{parts}
 use Rattle.speedate_civil.specs.TimeText.{time_answer}
+use Rattle.speedate_civil.proofs.Rfc3339Lemmas.{time-standard}
 use Rattle.speedate_civil.proofs.StrictLemmas.{time_answer-relaxed}
 use Rattle.speedate_civil.proofs.time.Time.parse_bytes_with_config.Goals as goal
 
@@ -20,3 +21,8 @@ pub returns-clause-relaxed : goal.returns-clause-relaxed
 returns-clause-relaxed c =
     let config = c.args.config.now in
     read-relaxed config.rfc3339_form config.microseconds_precision_overflow_behavior c.args.bytes.now _ c.parse_whole.ensures.answer
+
+pub returns-clause-standard : goal.returns-clause-standard
+returns-clause-standard c =
+    let config = c.args.config.now in
+    time-standard config.rfc3339_form config.microseconds_precision_overflow_behavior c.args.bytes.now _ c.parse_whole.ensures.answer
