@@ -12,7 +12,7 @@ ghost use Rattle.speedate_base.specs.Offset.{IsOffset, seconds_per_day};
 ghost use Rattle.speedate_base.specs.Requirement.{meets};
 ghost use Rattle.speedate_base.specs.declared.config.Rfc3339Form.TheVariants as rfc3339;
 ghost use Rattle.speedate_base.specs.declared.faults.ParseError.TheVariants as fault;
-ghost use Rattle.speedate_civil.specs.OffsetMove.{is_offset, move_table};
+ghost use Rattle.speedate_civil.specs.OffsetMove.{move_table};
 ghost use Rattle.speedate_civil.specs.OffsetText.{end_fault, has_minus_sign, offset_digits, offset_front, signed_front, offset_minute, offset_digits_length, offset_size_text, offset_text};
 
 use crate::text::two_digit_text;
