@@ -12,12 +12,12 @@ use Rattle.speedate_base.proofs.TimestampLemmas.{instant_microsecond}
 use Rattle.speedate_civil.specs.declared.datetime.DateTime.{DateTime}
 use Rattle.speedate_civil.specs.DateAndTime.{DateAndTime, local_second, local_microsecond, utc_microsecond}
 use Rattle.speedate_civil.specs.DateTime.{parts as date_time_parts}
-use Rattle.speedate_civil.specs.DateTimeTimestamp.{IsShownAt}
 use Rattle.speedate_civil.proofs.DateTimeInstantLemmas.{million-each, instant_date_time-shown}
+use Rattle.speedate_civil.specs.DateTimeTimestamp.{IsShownAt}
 use Rattle.speedate_civil.proofs.InstantOrderLemmas.{left-order}
-use Rattle.speedate.specs.DurationNumbers.{DurationNumbers, IsDuration, length_seconds, length_microseconds, of_length, signed_seconds, signed_microsecond}
-use Rattle.speedate.specs.DurationMove.{signed_length, duration_of_length, with_positive_zero, duration_between, date_time_after}
 use Rattle.speedate.proofs.DurationLemmas.{of_length-only}
+use Rattle.speedate.specs.DurationMove.{signed_length, duration_of_length, with_positive_zero, duration_between, date_time_after}
+use Rattle.speedate.specs.DurationNumbers.{DurationNumbers, IsDuration, length_seconds, length_microseconds, of_length, signed_seconds, signed_microsecond}
 
 -- seconds and microseconds with one sign, joined
 signs-joined : (negative : Bool) (seconds microseconds : ℕ)

@@ -15,9 +15,9 @@ use Rattle.speedate_base.proofs.RequirementLemmas.{and_then-ok, map-ok, meets-va
 use Rattle.speedate_base.specs.Timestamp.{Instant, instant_at, instant_answer, per_second, unit_row, unit_table, inferred_seconds_max, first_second, range_table, range_answer}
 use Rattle.speedate_base.proofs.TimestampLemmas.{instant_microsecond, instant_at-microsecond}
 use Rattle.speedate_civil.specs.DateAndTime.{DateAndTime, local_second, local_microsecond}
+use Rattle.speedate_civil.specs.DateTimeTimestamp.{IsShownAt, later_instant, later_answer, sum_table, date_time_at, instant_date_time, date_time_timestamp_answer, date_time_decimal_answer, meant_microsecond}
 use Rattle.speedate_civil.specs.DateTimestamp.{day_at, second_at}
 use Rattle.speedate_civil.specs.DayNumber.{epoch_day}
-use Rattle.speedate_civil.specs.DateTimeTimestamp.{IsShownAt, later_instant, later_answer, sum_table, date_time_at, instant_date_time, date_time_timestamp_answer, date_time_decimal_answer, meant_microsecond}
 use Rattle.speedate_civil.proofs.DayNumberLemmas.{day_number-date_after}
 use Rattle.speedate_civil.specs.TimeOfDay.{second_of_day, time_at}
 

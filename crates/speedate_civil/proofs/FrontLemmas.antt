@@ -5,25 +5,25 @@ use Rattle.std.specs.List.{prefix_len}
 use Rattle.std.proofs.Common.{arith, lit<, ap, subst, sym, ◌∙◌, inl, inr}
 use Rattle.std.proofs.lemmas.Bool.{cases_lt, le-leb}
 use Rattle.std.proofs.lemmas.List.{drop-take, length-drop, length-take, length-take-le, get_or-take, get_or_past, take-take}
-use Rattle.speedate_base.specs.declared.config.Rfc3339Form.TheVariants as rfc3339
-use Rattle.speedate_base.specs.declared.config.Rfc3339Form.{Rfc3339Form}
 use Rattle.speedate_base.specs.declared.config.MicrosecondsPrecisionOverflowBehavior.{MicrosecondsPrecisionOverflowBehavior}
+use Rattle.speedate_base.specs.declared.config.Rfc3339Form.{Rfc3339Form}
+use Rattle.speedate_base.specs.declared.config.Rfc3339Form.TheVariants as rfc3339
 use Rattle.speedate_base.specs.declared.faults.ParseError.{ParseError}
 use Rattle.speedate_base.specs.declared.faults.ParseError.TheVariants as fault
-use Rattle.speedate_base.specs.Form.{is_strict}
 use Rattle.speedate_base.specs.Ascii.{colon, hyphen, plus_sign}
-use Rattle.speedate_base.specs.Digits.{two_digit_value}
 use Rattle.speedate_base.specs.DigitRuns.{run_length, run_digits}
-use Rattle.speedate_base.specs.Requirement.{AllHold, alone, meets, result_map, result_and_then}
-use Rattle.speedate_civil.specs.ClockText.{Clock, at_hour, is_decimal_mark, least_length, clock_answer, clock_front, hour_table, hour_range, minute_clock, minute_digits, minute_table, has_second, has_point, has_fraction}
+use Rattle.speedate_base.specs.Digits.{two_digit_value}
+use Rattle.speedate_base.specs.Form.{is_strict}
 use Rattle.speedate_base.specs.Numbers.{with_sign}
+use Rattle.speedate_base.specs.Requirement.{AllHold, alone, meets, result_map, result_and_then}
 use Rattle.speedate_base.proofs.RequirementLemmas.{alone-whole, and_then-ok, map-ok, meets-all, meets-ok, meets-value}
-use Rattle.speedate_civil.proofs.OffsetLemmas.{StrictOffset, strict-offset, without_sign, one_byte, three_bytes, no_byte, no_minus, no_minus-utc, no_minus_sign, utc-read, strict-unsigned, relaxed-unsigned}
-use Rattle.speedate_civil.specs.OffsetText.{end_fault, has_minus_sign, is_utc, unsigned_table, unsigned_front, offset_front, offset_digits, offset_ranges, offset_size, signed_front, offset_digits_length}
 use Rattle.speedate_civil.specs.Calendar.{Ymd}
+use Rattle.speedate_civil.specs.ClockText.{Clock, at_hour, is_decimal_mark, least_length, clock_answer, clock_front, hour_table, hour_range, minute_clock, minute_digits, minute_table, has_second, has_point, has_fraction}
 use Rattle.speedate_civil.specs.DateAndTime.{DateAndTime}
 use Rattle.speedate_civil.specs.DateText.{date_front, date_answer, date_numbers, date_table}
 use Rattle.speedate_civil.specs.DateTimeText.{date_and_time, date_time_answer, date_time_front, is_separator, separator_table, with_time}
+use Rattle.speedate_civil.specs.OffsetText.{end_fault, has_minus_sign, is_utc, unsigned_table, unsigned_front, offset_front, offset_digits, offset_ranges, offset_size, signed_front, offset_digits_length}
+use Rattle.speedate_civil.proofs.OffsetLemmas.{StrictOffset, strict-offset, without_sign, one_byte, three_bytes, no_byte, no_minus, no_minus-utc, no_minus_sign, utc-read, strict-unsigned, relaxed-unsigned}
 use Rattle.speedate_civil.specs.TimeOfDay.{TimeOfDay}
 use Rattle.speedate_civil.specs.TimeText.{joined, with_offset, time_front, time_answer}
 

@@ -4,19 +4,19 @@ use Rattle.std.specs.Option.{ForSome, is_some}
 use Rattle.std.proofs.Common.{arith, sym, ◌∙◌, inl, inr}
 use Rattle.std.proofs.lemmas.Bool.{le-leb, lt-ltb, le-ltb, ne_eqb, not-true}
 use Rattle.std.proofs.lemmas.Bool.Decides.{nat_tests}
-use Rattle.speedate_base.specs.declared.faults.ParseError.{ParseError}
 use Rattle.speedate_base.specs.declared.config.Rfc3339Form.{Rfc3339Form}
 use Rattle.speedate_base.specs.declared.config.Rfc3339Form.TheVariants as rfc3339
+use Rattle.speedate_base.specs.declared.faults.ParseError.{ParseError}
 use Rattle.speedate_base.specs.declared.faults.ParseError.TheVariants as fault
-use Rattle.speedate_base.specs.Requirement.{meets}
-use Rattle.speedate_base.specs.Form.{is_strict}
-use Rattle.speedate_base.proofs.RequirementLemmas.{implies-true}
-use Rattle.speedate_civil.specs.TimeText.{is_of_form}
 use Rattle.speedate_base.specs.Ascii.{plus_sign, hyphen, capital_z, small_z}
 use Rattle.speedate_base.proofs.DigitLemmas.{two_digits-printed, two_digit_value-printed}
+use Rattle.speedate_base.specs.Form.{is_strict}
 use Rattle.speedate_base.specs.Numbers.{with_sign}
 use Rattle.speedate_base.specs.Offset.{IsOffset, IsWholeMinutes, seconds_per_day}
+use Rattle.speedate_base.specs.Requirement.{meets}
+use Rattle.speedate_base.proofs.RequirementLemmas.{implies-true}
 use Rattle.speedate_civil.specs.OffsetText.{begins_offset, offset_front, offset_text, offset_size_text, signed_front, is_utc, unsigned_table, unsigned_front}
+use Rattle.speedate_civil.specs.TimeText.{is_of_form}
 
 -- the offset by what a text begins with: U+2212, `+` or `-`, or no sign
 abbrev pub by_tests : Rfc3339Form → Bool → Bool → Bool → Result (Option ℤ × ℕ) ParseError → List ℕ → Result (Option ℤ × ℕ) ParseError

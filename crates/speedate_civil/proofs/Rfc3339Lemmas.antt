@@ -1,52 +1,50 @@
 -- The texts of RFC 3339 by its rules are those that the strict form takes.
-use Rattle.std.specs.Prelude.{◌≡◌, ◌⊎◌, ℕ, ◌+◌, ◌*◌, ◌/◌, ◌%◌, ◌≤◌, suc, Bool, true, false, ◌&&◌, ◌||◌, ◌==◌, List, [], ◌∷◌, ◌++◌, length, take, drop, nat_le, nat_lt, slice_index, if◌then◌else◌, Option, Some, ℤ, pos, Result, Ok, Err, refl}
-use Rattle.std.specs.Prelude.{◌↔◌}
-use Rattle.std.specs.Result.{IsOk}
-use Rattle.speedate_base.specs.declared.config.Rfc3339Form.{Rfc3339Form}
-use Rattle.speedate_base.specs.Form.{is_strict}
-use Rattle.speedate_civil.specs.declared.datetime.DateTime.{DateTime}
-use Rattle.speedate_civil.specs.declared.time.Time.{Time}
-use Rattle.speedate_civil.specs.DateTime.{parts as date_time_parts}
-use Rattle.speedate_civil.specs.Time.{parts as time_parts}
+use Rattle.std.specs.Prelude.{◌≡◌, ◌⊎◌, ℕ, ◌+◌, ◌*◌, ◌/◌, ◌%◌, ◌≤◌, suc, Bool, true, false, ◌&&◌, ◌||◌, ◌==◌, List, [], ◌∷◌, ◌++◌, length, take, drop, nat_le, nat_lt, slice_index, if◌then◌else◌, Option, Some, ℤ, pos, Result, Ok, Err, refl, ◌↔◌}
 use Rattle.std.specs.Char.{is_ascii_digit}
+use Rattle.std.specs.Int.{is_in_range, IsInRange}
 use Rattle.std.specs.List.{list_all, prefix_len}
+use Rattle.std.specs.Result.{IsOk}
 use Rattle.std.proofs.Common.{arith, ap, ap₂, subst, sym, ◌∙◌, inl, inr}
-use Rattle.std.proofs.lemmas.Bool.{and_parts, le-leb, lt-ltb, leb-true, ltb-true, eqb-true}
-use Rattle.std.proofs.lemmas.List.{drop_more, length-append, length-drop, length-take-le, take-append-drop}
 use Rattle.std.proofs.Math.Seq.{take-append_seam, drop-append_seam}
-use Rattle.std.proofs.lemmas.List.Sums.{prefix_len-le-length}
-use Rattle.speedate_base.proofs.NumberLemmas.{run-digits}
-use Rattle.speedate_base.specs.declared.config.MicrosecondsPrecisionOverflowBehavior.{MicrosecondsPrecisionOverflowBehavior}
-use Rattle.speedate_base.specs.Refusal.{refuses_digits}
-use Rattle.speedate_base.specs.Requirement.{◌implies◌, alone, meets, result_map, result_and_then}
+use Rattle.std.proofs.lemmas.Bool.{and_parts, le-leb, lt-ltb, leb-true, ltb-true, eqb-true}
 use Rattle.std.proofs.lemmas.Bool.Decides.{nat_tests}
-use Rattle.speedate_base.specs.Ascii.{colon, full_stop, hyphen, plus_sign, capital_t, capital_z, small_t, small_z}
-use Rattle.speedate_base.specs.Digits.{digit, one_digit_value, two_digits_at, two_digit_text, two_digit_value, four_digit_text, four_digit_value}
+use Rattle.std.proofs.lemmas.List.{drop_more, length-append, length-drop, length-take-le, take-append-drop}
+use Rattle.std.proofs.lemmas.List.Sums.{prefix_len-le-length}
+use Rattle.speedate_base.specs.declared.config.MicrosecondsPrecisionOverflowBehavior.{MicrosecondsPrecisionOverflowBehavior}
+use Rattle.speedate_base.specs.declared.config.Rfc3339Form.{Rfc3339Form}
 use Rattle.speedate_base.specs.declared.config.Rfc3339Form.TheVariants as rfc3339
 use Rattle.speedate_base.specs.declared.faults.ParseError.{ParseError}
-use Rattle.speedate_base.proofs.RequirementLemmas.{alone-iff, alone-whole, and_then-ok, map-ok, meets-ok, meets-value}
-use Rattle.speedate_civil.specs.ClockText.{Clock, clock_answer, clock_front, is_decimal_mark, minute_text}
-use Rattle.speedate_base.specs.DigitRuns.{fraction_value}
-use Rattle.speedate_base.proofs.DigitRunLemmas.{run_length-append}
-use Rattle.speedate_base.proofs.DigitLemmas.{two_digits-printed, two_digit_value-printed}
-use Rattle.speedate_civil.proofs.ClockLemmas.{run_length-none, clock-whole}
-use Rattle.std.specs.Int.{is_in_range, IsInRange}
-use Rattle.speedate_base.proofs.DigitRunLemmas.{one_digit_value-le}
-use Rattle.speedate_civil.specs.Calendar.{Ymd, IsDate, month_length}
 use Rattle.speedate_base.specs.declared.faults.ParseError.TheVariants as fault
-use Rattle.speedate_civil.specs.DateAndTime.{DateAndTime}
-use Rattle.speedate_civil.specs.DateTimeText.{date_and_time, date_time_answer, date_time_front, is_separator, separator_table, with_time}
-use Rattle.speedate_civil.proofs.DateLemmas.{date_text-front}
-use Rattle.speedate_civil.specs.DateText.{date_front, date_numbers, date_table, date_text}
-use Rattle.speedate_civil.proofs.TimeLemmas.{front-printed}
-use Rattle.speedate_civil.specs.TimeOfDay.{TimeOfDay}
-use Rattle.speedate_civil.specs.TimeText.{joined, with_offset, time_front, time_answer}
+use Rattle.speedate_base.specs.Ascii.{colon, full_stop, hyphen, plus_sign, capital_t, capital_z, small_t, small_z}
+use Rattle.speedate_base.specs.DigitRuns.{fraction_value}
+use Rattle.speedate_base.proofs.DigitRunLemmas.{run_length-append, one_digit_value-le}
+use Rattle.speedate_base.specs.Digits.{digit, one_digit_value, two_digits_at, two_digit_text, two_digit_value, four_digit_text, four_digit_value}
+use Rattle.speedate_base.proofs.DigitLemmas.{two_digits-printed, two_digit_value-printed}
+use Rattle.speedate_base.specs.Form.{is_strict}
 use Rattle.speedate_base.specs.Numbers.{with_sign}
+use Rattle.speedate_base.proofs.NumberLemmas.{run-digits}
 use Rattle.speedate_base.specs.Offset.{seconds_per_day}
+use Rattle.speedate_base.specs.Refusal.{refuses_digits}
+use Rattle.speedate_base.specs.Requirement.{◌implies◌, alone, meets, result_map, result_and_then}
+use Rattle.speedate_base.proofs.RequirementLemmas.{alone-iff, alone-whole, and_then-ok, map-ok, meets-ok, meets-value}
+use Rattle.speedate_civil.specs.declared.datetime.DateTime.{DateTime}
+use Rattle.speedate_civil.specs.declared.time.Time.{Time}
+use Rattle.speedate_civil.specs.Calendar.{Ymd, IsDate, month_length}
+use Rattle.speedate_civil.specs.ClockText.{Clock, clock_answer, clock_front, is_decimal_mark, minute_text}
+use Rattle.speedate_civil.proofs.ClockLemmas.{run_length-none, clock-whole}
+use Rattle.speedate_civil.specs.DateAndTime.{DateAndTime}
+use Rattle.speedate_civil.specs.DateText.{date_front, date_numbers, date_table, date_text}
+use Rattle.speedate_civil.proofs.DateLemmas.{date_text-front}
+use Rattle.speedate_civil.specs.DateTime.{parts as date_time_parts}
+use Rattle.speedate_civil.specs.DateTimeText.{date_and_time, date_time_answer, date_time_front, is_separator, separator_table, with_time}
+use Rattle.speedate_civil.proofs.FrontLemmas.{clock-read, signed-taken}
 use Rattle.speedate_civil.specs.OffsetText.{end_fault, offset_digits, offset_digits_length, offset_front, offset_ranges, offset_size, signed_front}
 use Rattle.speedate_civil.proofs.OffsetLemmas.{StrictOffset, strict-offset}
-use Rattle.speedate_civil.proofs.FrontLemmas.{clock-read, signed-taken}
 use Rattle.speedate_civil.specs.Rfc3339Text.{IsFullDate, IsDateTime, IsTwoDigits, IsSecfrac, IsPartialTime, IsNumoffset, IsTimeOffset, IsFullTime}
+use Rattle.speedate_civil.specs.Time.{parts as time_parts}
+use Rattle.speedate_civil.specs.TimeOfDay.{TimeOfDay}
+use Rattle.speedate_civil.specs.TimeText.{joined, with_offset, time_front, time_answer}
+use Rattle.speedate_civil.proofs.TimeLemmas.{front-printed}
 
 -- two digits are the text of the number that they spell
 digits-spelled : (first second : ℕ) → is_ascii_digit first ≡ true → is_ascii_digit second ≡ true

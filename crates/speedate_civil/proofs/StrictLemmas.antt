@@ -1,16 +1,16 @@
 -- What the strict form takes, the relaxed one takes too, with the same value.
 use Rattle.std.specs.Prelude.{◌≡◌, ℕ, ◌+◌, Bool, true, false, ◌&&◌, ◌||◌, ◌==◌, List, length, drop, nat_lt, nat_le, slice_index, if◌then◌else◌, Option, Some, ℤ, Result, Ok, refl}
 use Rattle.std.proofs.Common.{arith, ap, subst, sym, ◌∙◌, inl, inr}
+use Rattle.std.proofs.lemmas.Bool.{le-leb, leb-true}
 use Rattle.std.proofs.lemmas.Bool.Decides.{nat_tests}
 use Rattle.std.proofs.lemmas.List.{get_or-drop}
-use Rattle.std.proofs.lemmas.Bool.{le-leb, leb-true}
 use Rattle.speedate_base.specs.declared.config.MicrosecondsPrecisionOverflowBehavior.{MicrosecondsPrecisionOverflowBehavior}
 use Rattle.speedate_base.specs.declared.config.Rfc3339Form.{Rfc3339Form}
 use Rattle.speedate_base.specs.declared.config.Rfc3339Form.TheVariants as rfc3339
 use Rattle.speedate_base.specs.declared.faults.ParseError.{ParseError}
 use Rattle.speedate_base.specs.Ascii.{comma, full_stop, hyphen, plus_sign}
-use Rattle.speedate_base.specs.Digits.{two_digit_value}
 use Rattle.speedate_base.specs.DigitRuns.{run_length, run_digits, fraction_value}
+use Rattle.speedate_base.specs.Digits.{two_digit_value}
 use Rattle.speedate_base.specs.Numbers.{with_sign}
 use Rattle.speedate_base.specs.Refusal.{refuses_digits}
 use Rattle.speedate_base.specs.Requirement.{AllHold, ◌implies◌, alone, meets, result_map, result_and_then}
@@ -19,9 +19,9 @@ use Rattle.speedate_civil.specs.ClockText.{Clock, at_hour, clock_answer, clock_f
 use Rattle.speedate_civil.specs.DateAndTime.{DateAndTime}
 use Rattle.speedate_civil.specs.DateText.{date_front}
 use Rattle.speedate_civil.specs.DateTimeText.{date_and_time, date_time_front, date_time_answer, is_separator, separator_table, with_time}
+use Rattle.speedate_civil.proofs.FrontLemmas.{clock-read, clock-size, clock-second}
 use Rattle.speedate_civil.specs.OffsetText.{end_fault, has_minus_sign, offset_digits, offset_digits_length, offset_front, offset_ranges, offset_size, signed_front}
 use Rattle.speedate_civil.proofs.OffsetLemmas.{StrictOffset, strict-offset, without_sign, one_byte, no_byte, no_minus, no_minus-utc, utc-read}
-use Rattle.speedate_civil.proofs.FrontLemmas.{clock-read, clock-size, clock-second}
 use Rattle.speedate_civil.specs.TimeOfDay.{TimeOfDay}
 use Rattle.speedate_civil.specs.TimeText.{joined, with_offset, time_front, time_answer}
 
