@@ -12,12 +12,12 @@ use Rattle.speedate_base.proofs.TimestampLemmas.{instant_microsecond}
 use Rattle.speedate_civil.specs.declared.datetime.DateTime.{DateTime}
 use Rattle.speedate_civil.specs.DateAndTime.{DateAndTime, local_second, local_microsecond, utc_microsecond}
 use Rattle.speedate_civil.specs.DateTime.{parts as date_time_parts}
-use Rattle.speedate_civil.specs.DateTimeTimestamp.{IsShownAt}
 use Rattle.speedate_civil.proofs.DateTimeInstantLemmas.{million-each, instant_date_time-shown}
+use Rattle.speedate_civil.specs.DateTimeTimestamp.{IsShownAt}
 use Rattle.speedate_civil.proofs.InstantOrderLemmas.{left-order}
-use Rattle.speedate.specs.DurationNumbers.{DurationNumbers, IsDuration, length_seconds, length_microseconds, of_length, signed_seconds, signed_microsecond}
-use Rattle.speedate.specs.DurationMove.{signed_length, duration_of_length, plain, duration_between, date_time_after}
 use Rattle.speedate.proofs.DurationLemmas.{of_length-only}
+use Rattle.speedate.specs.DurationMove.{signed_length, duration_of_length, with_positive_zero, duration_between, date_time_after}
+use Rattle.speedate.specs.DurationNumbers.{DurationNumbers, IsDuration, length_seconds, length_microseconds, of_length, signed_seconds, signed_microsecond}
 
 -- seconds and microseconds with one sign, joined
 signs-joined : (negative : Bool) (seconds microseconds : ℕ)
@@ -48,8 +48,8 @@ signed-kept false (suc size) =
     let some : (suc size == 0) ≡ false = grind (arith, nat_tests) in
     ap (λ (none : Bool). of_length (false || none) (suc size)) (sym some)
 
-pub duration_of_length-plain : (numbers : DurationNumbers) → IsDuration numbers → duration_of_length (signed_length numbers) ≡ plain numbers
-duration_of_length-plain numbers valid =
+pub duration_of_length-signed_length : (numbers : DurationNumbers) → IsDuration numbers → duration_of_length (signed_length numbers) ≡ with_positive_zero numbers
+duration_of_length-signed_length numbers valid =
     let positive = numbers.positive || (length_microseconds numbers == 0) in
     signed-kept numbers.positive (length_microseconds numbers)
     ∙ ap (λ (found : DurationNumbers). record found { positive = positive }) (of_length-only numbers valid)
@@ -126,10 +126,10 @@ between-again start end length same = omega (arith, ints, same)
 
 pub ends-between : (result : Result DateTime ParseError) (start : DateAndTime) (numbers : DurationNumbers) → IsDuration numbers
     → IfOk result (λ end. utc_microsecond (date_time_parts end) ≡ utc_microsecond start +ℤ signed_length numbers)
-    → IfOk result (λ end. duration_between start (date_time_parts end) ≡ plain numbers)
+    → IfOk result (λ end. duration_between start (date_time_parts end) ≡ with_positive_zero numbers)
 ends-between (Ok end) start numbers valid same =
     ap duration_of_length (between-again (utc_microsecond start) (utc_microsecond (date_time_parts end)) (signed_length numbers) same)
-    ∙ duration_of_length-plain numbers valid
+    ∙ duration_of_length-signed_length numbers valid
 ends-between (Err fault) start numbers valid same = tt
 
 -- the end of a longer duration is later

@@ -1,23 +1,22 @@
 -- Where no letter of a day stands: among digits, and in a clock.
-use Rattle.std.specs.Prelude.{◌≡◌, ℕ, ◌+◌, ◌<◌, Bool, true, false, ◌&&◌, ◌||◌, List, [], ◌∷◌, length, take, drop, nat_lt, ◌==◌, if◌then◌else◌, Result, Ok, Err, refl}
+use Rattle.std.specs.Prelude.{◌≡◌, ℕ, ◌+◌, ◌<◌, Bool, true, false, ◌&&◌, ◌||◌, List, [], ◌∷◌, length, take, drop, nat_lt, ◌==◌, if◌then◌else◌, Ok, refl}
 use Rattle.std.specs.Char.{is_ascii_digit}
 use Rattle.std.specs.List.{list_all, list_any, prefix_len}
 use Rattle.std.proofs.Common.{arith, ap, ap₂, sym, ◌∙◌}
 use Rattle.std.proofs.lemmas.Bool.{and_parts, false≢true}
 use Rattle.std.proofs.lemmas.Bool.Decides.{nat_tests}
 use Rattle.std.proofs.lemmas.List.{take-append-drop, drop_more}
-use Rattle.std.proofs.lemmas.List.Sums.{passes_at_first}
 use Rattle.std.proofs.lemmas.List.Folds.{list_any-append}
+use Rattle.std.proofs.lemmas.List.Sums.{passes_at_first}
+use Rattle.speedate_base.specs.declared.config.MicrosecondsPrecisionOverflowBehavior.{MicrosecondsPrecisionOverflowBehavior}
+use Rattle.speedate_base.specs.declared.config.Rfc3339Form.TheVariants as rfc3339
 use Rattle.speedate_base.specs.Ascii.{colon}
-use Rattle.speedate_base.specs.Digits.{two_digits_at}
 use Rattle.speedate_base.specs.DigitRuns.{run_length, digits_value}
 use Rattle.speedate_base.proofs.DigitRunLemmas.{run-whole}
+use Rattle.speedate_base.specs.Digits.{two_digits_at}
 use Rattle.speedate_base.proofs.NumberLemmas.{run-digits}
-use Rattle.speedate_base.specs.declared.config.Rfc3339Form.TheVariants as rfc3339
-use Rattle.speedate_base.specs.declared.config.MicrosecondsPrecisionOverflowBehavior.{MicrosecondsPrecisionOverflowBehavior}
-use Rattle.speedate_base.specs.declared.faults.ParseError.{ParseError}
 use Rattle.speedate_base.specs.Requirement.{◌implies◌, result_and_then}
-use Rattle.speedate_base.proofs.RequirementLemmas.{meets-ok, meets-value}
+use Rattle.speedate_base.proofs.RequirementLemmas.{and_then-ok, meets-ok, meets-value}
 use Rattle.speedate_civil.specs.ClockText.{Clock, has_point, has_second, minute_clock, minute_digits, minute_table, minute_front, clock_answer}
 use Rattle.speedate.specs.ClockForm.{hours, colon_place, from_minute, hours_table, hours_range, end_table, clock_numbers, whole_clock, after_hours, clock_form}
 use Rattle.speedate.proofs.ClockFormLemmas.{hours-run}
@@ -86,12 +85,6 @@ minute-no_letter (a ∷ b ∷ c ∷ more) minute asked sized =
     let after = after-minute a b c more (c == colon) asked sized in
     rw (digit-no_letter a parts.0, digit-no_letter b parts.1, colon-no_letter c after.0) after.1
 
--- where the answer to what was read is a value, something was read
-both-ok : {A B : Type 0} (step : A → Result B ParseError) (answer : Result A ParseError) (value : B) → result_and_then step answer ≡ Ok value
-    → (found : A) × (answer ≡ Ok found) × (step found ≡ Ok value)
-both-ok step (Ok found) value same = (found, refl, same)
-both-ok step (Err fault) value same = absurd (cc)
-
 -- no letter stands in a clock, and it has five bytes at least
 pub clock-no_letter : (behavior : MicrosecondsPrecisionOverflowBehavior) (text : List ℕ) (value : UnsignedDuration) → clock_form behavior text ≡ Ok value
     → has_days text ≡ false
@@ -101,7 +94,7 @@ clock-no_letter behavior text value same =
     let rest : List ℕ = from_minute text in
     let front = meets-ok (hours_table text) (after_hours behavior (digits_value (hours text)) rest) value same in
     let ranges = meets-ok (hours_range behavior (digits_value (hours text)) rest) (result_and_then (whole_clock (digits_value (hours text)) rest) (minute_front behavior rest)) value front.1 in
-    let read = both-ok (whole_clock (digits_value (hours text)) rest) (minute_front behavior rest) value ranges.1 in
+    let read = and_then-ok (whole_clock (digits_value (hours text)) rest) (minute_front behavior rest) value ranges.1 in
     let minute = meets-ok (minute_digits rest) (clock_answer rfc3339.Relaxed behavior rest) read.0 read.1 in
     let clock = meets-value (minute_table rfc3339.Relaxed behavior rest) (minute_clock rfc3339.Relaxed rest) read.0 minute.1 in
     let whole = meets-ok (end_table rest read.0) (Ok (clock_numbers (digits_value (hours text)) read.0)) value read.2 in

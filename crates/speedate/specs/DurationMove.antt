@@ -21,12 +21,12 @@ duration_of_length (pos length) = of_length true length
 duration_of_length (negsuc below) = of_length false (suc below)
 
 -- a duration with the other sign
-abbrev pub turned : DurationNumbers → DurationNumbers
-turned numbers = record numbers { positive = not numbers.positive }
+abbrev pub negated : DurationNumbers → DurationNumbers
+negated numbers = record numbers { positive = not numbers.positive }
 
 -- a duration, but for the negative one of no length, which is the positive one here
-abbrev pub plain : DurationNumbers → DurationNumbers
-plain numbers = record numbers { positive = numbers.positive || (length_microseconds numbers == 0) }
+abbrev pub with_positive_zero : DurationNumbers → DurationNumbers
+with_positive_zero numbers = record numbers { positive = numbers.positive || (length_microseconds numbers == 0) }
 
 -- the duration from one date-time to another, by their instants in UTC; it is negative where the other one is earlier
 abbrev pub duration_between : DateAndTime → DateAndTime → DurationNumbers

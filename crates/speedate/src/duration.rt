@@ -4,9 +4,9 @@ ghost use Rattle.std.specs.Prelude.{◌≡◌, ℕ, ◌<◌, ◌≤◌, IfOk, Li
 ghost use Rattle.speedate_base.specs.Requirement.{result_map};
 ghost use Rattle.speedate.specs.DurationAnswer.{duration_answer};
 ghost use Rattle.speedate.specs.DurationForm.{IsGrammarAnswer};
+ghost use Rattle.speedate.specs.DurationNumbers.{length_seconds, length_microseconds, normal_form, signed_form, signed_seconds, signed_microsecond, signed_milliseconds};
 ghost use Rattle.speedate.specs.Exchanged.{AreExchanged};
 ghost use Rattle.speedate.specs.InOrder.{IsAnswerInOrder};
-ghost use Rattle.speedate.specs.DurationNumbers.{length_seconds, length_microseconds, normal_form, signed_form, signed_seconds, signed_microsecond, signed_milliseconds};
 
 mod clock;
 mod days;
@@ -61,7 +61,8 @@ impl Duration {
     /// - `DurationDaysTooLarge` where the days are then more than 999,999,999.
     #[inline]
     pub fn new(positive: bool, day: u32, second: u32, microsecond: u32) -> Result<Self, ParseError>
-        ensures answer { result_map parts result ≡ normal_form (record { positive = positive; day = day; second = second; microsecond = microsecond }) }
+        ensures answer { result_map parts result
+            ≡ normal_form (record { positive = positive; day = day; second = second; microsecond = microsecond }) }
         ensures length { IfOk result (λ duration. length_microseconds (parts duration)
             ≡ length_microseconds (record { positive = positive; day = day; second = second; microsecond = microsecond })) }
     {

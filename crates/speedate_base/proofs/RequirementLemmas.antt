@@ -4,7 +4,7 @@ use Rattle.std.specs.Result.{result_and}
 use Rattle.std.proofs.Common.{◌∙◌, ap, ap₂, sym}
 use Rattle.std.proofs.lemmas.Bool.{eq-eqb, eqb-true, eqb-false, ne_eqb}
 use Rattle.speedate_base.specs.declared.faults.ParseError.{ParseError}
-use Rattle.speedate_base.specs.Requirement.{Requirement, ◌implies◌, meets, AllHold, alone, result_and_then}
+use Rattle.speedate_base.specs.Requirement.{Requirement, ◌implies◌, meets, AllHold, alone, result_map, result_and_then}
 
 row-chain : {A B : Type 0} (holds : Bool) (fault : ParseError) (first : Result A ParseError) (second next : Result B ParseError)
     → second ≡ result_and first next → (if holds then second else Err fault) ≡ result_and (if holds then first else Err fault) next
@@ -101,3 +101,14 @@ meets-value rows given value same =
     let all = meets-ok rows (Ok given) value same in
     let last : ◌≡◌ {A = Result _ ParseError} (Ok given) (Ok value) = all.1 in
     (all.0, cc)
+
+-- where the answer to what was read is a value, something was read
+pub and_then-ok : {A B : Type 0} (next : A → Result B ParseError) (answer : Result A ParseError) (value : B) → result_and_then next answer ≡ Ok value
+    → (read : A) × (answer ≡ Ok read) × (next read ≡ Ok value)
+and_then-ok next (Ok read) value same = (read, refl, same)
+and_then-ok next (Err fault) value same = absurd (cc)
+
+pub map-ok : {A B : Type 0} (view : A → B) (answer : Result A ParseError) (value : B) → result_map view answer ≡ Ok value
+    → (read : A) × (answer ≡ Ok read) × (view read ≡ value)
+map-ok view (Ok read) value same = (read, refl, cc)
+map-ok view (Err fault) value same = absurd (cc)

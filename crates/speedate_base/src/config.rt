@@ -5,8 +5,8 @@ ghost use Rattle.std.specs.Prelude.{◌≡◌, IfOk, IsTrue, Ok, nat_le};
 ghost use Rattle.std.specs.Option.{ForSome};
 ghost use Rattle.speedate_base.specs.Form.{is_strict};
 ghost use Rattle.speedate_base.specs.Offset.{IsOffset, is_offset, offset_table};
-ghost use Rattle.speedate_base.specs.Requirement.{◌implies◌, meets, result_map};
 ghost use Rattle.speedate_base.specs.Refusal.{refuses_digits};
+ghost use Rattle.speedate_base.specs.Requirement.{◌implies◌, meets, result_map};
 
 mod choice;
 mod date_time;

@@ -5,14 +5,14 @@ use Rattle.std.proofs.Common.{arith, ◌∙◌, ap, take}
 use Rattle.std.proofs.lemmas.Bool.{le-leb}
 use Rattle.speedate_base.specs.declared.config.MicrosecondsPrecisionOverflowBehavior.{MicrosecondsPrecisionOverflowBehavior}
 use Rattle.speedate_base.specs.declared.config.Rfc3339Form.{Rfc3339Form}
-use Rattle.speedate_base.specs.Form.{is_strict}
 use Rattle.speedate_base.specs.Ascii.{full_stop}
-use Rattle.speedate_base.specs.Digits.{six_digit_text}
 use Rattle.speedate_base.specs.DigitRuns.{run_length, run_digits, fraction_value}
-use Rattle.speedate_base.proofs.DigitLemmas.{two_digits-printed, two_digit_value-printed, six_digits-printed, fraction_value-printed}
-use Rattle.speedate_base.proofs.RequirementLemmas.{implies-true}
 use Rattle.speedate_base.proofs.DigitRunLemmas.{run_length-append}
+use Rattle.speedate_base.specs.Digits.{six_digit_text}
+use Rattle.speedate_base.proofs.DigitLemmas.{two_digits-printed, two_digit_value-printed, six_digits-printed, fraction_value-printed}
+use Rattle.speedate_base.specs.Form.{is_strict}
 use Rattle.speedate_base.specs.Refusal.{refuses_digits}
+use Rattle.speedate_base.proofs.RequirementLemmas.{implies-true}
 use Rattle.speedate_civil.specs.ClockText.{clock_answer, is_decimal_mark, minute_text}
 
 -- without a fraction, whatever follows that is no point

@@ -1,37 +1,25 @@
 -- The date-time of a timestamp lies as many microseconds after 1970-01-01T00:00:00 as the timestamp means.
-use Rattle.std.specs.Prelude.{◌≡◌, ℕ, suc, ◌≤◌, true, nat_le, int_le, length, Option, ℤ, pos, negsuc, ◌+ℤ◌, ◌-ℤ◌, ◌*ℤ◌, unsigned_abs, Result, Ok, Err, refl}
+use Rattle.std.specs.Prelude.{◌≡◌, ℕ, suc, ◌≤◌, true, nat_le, int_le, length, Option, ℤ, pos, negsuc, ◌+ℤ◌, ◌-ℤ◌, ◌*ℤ◌, unsigned_abs, Ok, refl}
 use Rattle.std.specs.Int.{int_div_euclid, int_rem_euclid}
 use Rattle.std.proofs.Common.{arith, ◌∙◌, ap, sym, subst}
 use Rattle.std.proofs.lemmas.Bool.Decides.{nat_tests}
 use Rattle.std.proofs.lemmas.Int.{ints}
 use Rattle.speedate_base.specs.declared.config.TimestampUnit.{TimestampUnit}
-use Rattle.speedate_base.specs.declared.faults.ParseError.{ParseError}
 use Rattle.speedate_base.specs.DecimalTimestamp.{decimal_row, decimal_scale, decimal_size, decimal_microsecond, decimal_instant}
 use Rattle.speedate_base.specs.Nearest.{IsNearest}
 use Rattle.speedate_base.proofs.NearestLemmas.{nearest-is, scale-some}
 use Rattle.speedate_base.specs.Numbers.{DecimalParts}
 use Rattle.speedate_base.specs.Offset.{seconds_per_day}
-use Rattle.speedate_base.specs.Requirement.{result_map, result_and_then}
-use Rattle.speedate_base.proofs.RequirementLemmas.{meets-value}
+use Rattle.speedate_base.specs.Requirement.{result_and_then}
+use Rattle.speedate_base.proofs.RequirementLemmas.{and_then-ok, map-ok, meets-value}
 use Rattle.speedate_base.specs.Timestamp.{Instant, instant_at, instant_answer, per_second, unit_row, unit_table, inferred_seconds_max, first_second, range_table, range_answer}
 use Rattle.speedate_base.proofs.TimestampLemmas.{instant_microsecond, instant_at-microsecond}
 use Rattle.speedate_civil.specs.DateAndTime.{DateAndTime, local_second, local_microsecond}
+use Rattle.speedate_civil.specs.DateTimeTimestamp.{IsShownAt, later_instant, later_answer, sum_table, date_time_at, instant_date_time, date_time_timestamp_answer, date_time_decimal_answer, meant_microsecond}
 use Rattle.speedate_civil.specs.DateTimestamp.{day_at, second_at}
 use Rattle.speedate_civil.specs.DayNumber.{epoch_day}
-use Rattle.speedate_civil.specs.DateTimeTimestamp.{IsShownAt, later_instant, later_answer, sum_table, date_time_at, instant_date_time, date_time_timestamp_answer, date_time_decimal_answer, meant_microsecond}
 use Rattle.speedate_civil.proofs.DayNumberLemmas.{day_number-date_after}
 use Rattle.speedate_civil.specs.TimeOfDay.{second_of_day, time_at}
-
--- an answer of two steps is that of the second, to what the first answered
-two-steps : {A B : Type 0} (next : A → Result B ParseError) (front : Result A ParseError) (value : B)
-    → result_and_then next front ≡ Ok value → (first : A) × (front ≡ Ok first) × (next first ≡ Ok value)
-two-steps next (Ok first) value same = (first, refl, same)
-two-steps next (Err fault) value same = absurd (cc)
-
-mapped-value : {A B : Type 0} (view : A → B) (front : Result A ParseError) (value : B)
-    → result_map view front ≡ Ok value → (first : A) × (front ≡ Ok first) × (view first ≡ value)
-mapped-value view (Ok first) value same = (first, refl, cc)
-mapped-value view (Err fault) value same = absurd (cc)
 
 -- the instant of microseconds
 pub million-each : (timestamp : ℤ) → instant_microsecond (instant_at 1000000 timestamp) ≡ timestamp
@@ -71,7 +59,7 @@ date_time_at-shown offset instant after = record { second = local-is offset inst
 pub instant_date_time-shown : (offset : Option ℤ) (instant : Instant) (value : DateAndTime) → instant_date_time offset instant ≡ Ok value
     → IsShownAt offset instant value
 instant_date_time-shown offset instant value same =
-    let mapped = mapped-value (date_time_at offset) (range_answer instant) value same in
+    let mapped = map-ok (date_time_at offset) (range_answer instant) value same in
     let in_range = meets-value (range_table instant) instant mapped.0 mapped.1 in
     subst (IsShownAt offset instant) (ap (date_time_at offset) in_range.1 ∙ mapped.2) (date_time_at-shown offset instant in_range.0.0)
 
@@ -79,7 +67,7 @@ instant_date_time-shown offset instant value same =
 instant_date_time-is : (offset : Option ℤ) (instant : Instant) (value : DateAndTime) → instant_date_time offset instant ≡ Ok value
     → local_microsecond value ≡ instant_microsecond instant
 instant_date_time-is offset instant value same =
-    let mapped = mapped-value (date_time_at offset) (range_answer instant) value same in
+    let mapped = map-ok (date_time_at offset) (range_answer instant) value same in
     let in_range = meets-value (range_table instant) instant mapped.0 mapped.1 in
     ap local_microsecond (sym (ap (date_time_at offset) in_range.1 ∙ mapped.2))
     ∙ ap (λ (n : ℤ). pos 1000000 *ℤ n +ℤ pos instant.microsecond) (local-is offset instant in_range.0.0)
@@ -89,8 +77,8 @@ pub date_time_timestamp-instant : (unit : TimestampUnit) (offset : Option ℤ) (
     → date_time_timestamp_answer unit offset microseconds timestamp ≡ Ok value
     → local_microsecond value ≡ meant_microsecond unit microseconds timestamp
 date_time_timestamp-instant unit offset microseconds timestamp value same =
-    let third = two-steps (instant_date_time offset) (result_and_then (later_answer microseconds) (instant_answer unit timestamp)) value same in
-    let second = two-steps (later_answer microseconds) (instant_answer unit timestamp) third.0 third.1 in
+    let third = and_then-ok (instant_date_time offset) (result_and_then (later_answer microseconds) (instant_answer unit timestamp)) value same in
+    let second = and_then-ok (later_answer microseconds) (instant_answer unit timestamp) third.0 third.1 in
     let at = meets-value (unit_table unit timestamp) (instant_at (per_second unit timestamp) timestamp) second.0 second.1 in
     let sum = meets-value (sum_table microseconds second.0) (later_instant microseconds second.0) third.0 second.2 in
     instant_date_time-is offset third.0 value third.2

@@ -3,10 +3,10 @@
 use Rattle.std.specs.Prelude.{◌≡◌, ℕ, ◌+◌, true, List, [], ◌∷◌, ◌++◌, length, if◌then◌else◌, Result, Ok, Err, refl}
 use Rattle.std.proofs.Common.{◌∙◌, ap, arith, sym}
 use Rattle.std.proofs.lemmas.List.{append-nil}
-use Rattle.speedate_base.specs.declared.config.Rfc3339Form.TheVariants as rfc3339
-use Rattle.speedate_base.specs.declared.config.Rfc3339Form.{Rfc3339Form}
 use Rattle.speedate_base.specs.declared.config.MicrosecondsPrecisionOverflowBehavior.{MicrosecondsPrecisionOverflowBehavior}
 use Rattle.speedate_base.specs.declared.config.MicrosecondsPrecisionOverflowBehavior.TheVariants as behavior
+use Rattle.speedate_base.specs.declared.config.Rfc3339Form.{Rfc3339Form}
+use Rattle.speedate_base.specs.declared.config.Rfc3339Form.TheVariants as rfc3339
 use Rattle.speedate_base.specs.declared.faults.ParseError.{ParseError}
 use Rattle.speedate_base.specs.declared.faults.ParseError.TheVariants as fault
 use Rattle.speedate_base.specs.Ascii.{capital_t}
@@ -17,9 +17,9 @@ use Rattle.speedate_base.proofs.TextLemmas.{text-distinct}
 use Rattle.speedate_civil.specs.DateAndTime.{DateAndTime, IsDateAndTime}
 use Rattle.speedate_civil.proofs.DateLemmas.{date_text-front}
 use Rattle.speedate_civil.specs.DateTimeText.{is_separator, date_and_time, with_time, date_time_front, date_time_answer, date_time_text}
-use Rattle.speedate_civil.proofs.TimeLemmas.{time_text-front, nothing-after}
 use Rattle.speedate_civil.specs.OffsetText.{end_fault}
 use Rattle.speedate_civil.specs.TimeText.{time_text, is_after_time, is_of_form}
+use Rattle.speedate_civil.proofs.TimeLemmas.{time_text-front, nothing-after}
 
 -- `T` parts date and time in both forms
 separated : (form : Rfc3339Form) (next : Result (DateAndTime × ℕ) ParseError)

@@ -1,29 +1,29 @@
 -- What is read at the front of a text is the same without the bytes after it.
-use Rattle.std.specs.Prelude.{◌≡◌, ℕ, zero, suc, ◌+◌, ◌-◌, ◌≤◌, Bool, true, false, ◌&&◌, ◌||◌, ◌==◌, List, [], ◌∷◌, length, take, drop, nat_le, slice_index, if◌then◌else◌, Option, Some, None, ℤ, pos, Result, Ok, Err, refl}
+use Rattle.std.specs.Prelude.{◌≡◌, ℕ, zero, suc, ◌+◌, ◌-◌, ◌≤◌, Bool, true, false, ◌&&◌, ◌||◌, ◌==◌, List, [], ◌∷◌, length, take, drop, nat_le, slice_index, if◌then◌else◌, Option, Some, None, ℤ, pos, Result, Ok, refl}
 use Rattle.std.specs.Char.{is_ascii_digit}
 use Rattle.std.specs.List.{prefix_len}
 use Rattle.std.proofs.Common.{arith, lit<, ap, subst, sym, ◌∙◌, inl, inr}
 use Rattle.std.proofs.lemmas.Bool.{cases_lt, le-leb}
 use Rattle.std.proofs.lemmas.List.{drop-take, length-drop, length-take, length-take-le, get_or-take, get_or_past, take-take}
-use Rattle.speedate_base.specs.declared.config.Rfc3339Form.TheVariants as rfc3339
-use Rattle.speedate_base.specs.declared.config.Rfc3339Form.{Rfc3339Form}
 use Rattle.speedate_base.specs.declared.config.MicrosecondsPrecisionOverflowBehavior.{MicrosecondsPrecisionOverflowBehavior}
+use Rattle.speedate_base.specs.declared.config.Rfc3339Form.{Rfc3339Form}
+use Rattle.speedate_base.specs.declared.config.Rfc3339Form.TheVariants as rfc3339
 use Rattle.speedate_base.specs.declared.faults.ParseError.{ParseError}
 use Rattle.speedate_base.specs.declared.faults.ParseError.TheVariants as fault
-use Rattle.speedate_base.specs.Form.{is_strict}
 use Rattle.speedate_base.specs.Ascii.{colon, hyphen, plus_sign}
-use Rattle.speedate_base.specs.Digits.{two_digit_value}
 use Rattle.speedate_base.specs.DigitRuns.{run_length, run_digits}
-use Rattle.speedate_base.specs.Requirement.{AllHold, alone, meets, result_map, result_and_then}
-use Rattle.speedate_civil.specs.ClockText.{Clock, at_hour, is_decimal_mark, least_length, clock_answer, clock_front, hour_table, hour_range, minute_clock, minute_digits, minute_table, has_second, has_point, has_fraction}
+use Rattle.speedate_base.specs.Digits.{two_digit_value}
+use Rattle.speedate_base.specs.Form.{is_strict}
 use Rattle.speedate_base.specs.Numbers.{with_sign}
-use Rattle.speedate_base.proofs.RequirementLemmas.{alone-whole, meets-all, meets-ok, meets-value}
-use Rattle.speedate_civil.proofs.OffsetLemmas.{without_sign, one_byte, three_bytes, no_byte, no_minus, no_minus-utc, no_minus_sign, utc-read, strict-unsigned, relaxed-unsigned}
-use Rattle.speedate_civil.specs.OffsetText.{end_fault, has_minus_sign, is_utc, unsigned_table, unsigned_front, offset_front, offset_digits, offset_ranges, offset_size, signed_front, offset_digits_length}
+use Rattle.speedate_base.specs.Requirement.{AllHold, alone, meets, result_map, result_and_then}
+use Rattle.speedate_base.proofs.RequirementLemmas.{alone-whole, and_then-ok, map-ok, meets-all, meets-ok, meets-value}
 use Rattle.speedate_civil.specs.Calendar.{Ymd}
+use Rattle.speedate_civil.specs.ClockText.{Clock, at_hour, is_decimal_mark, least_length, clock_answer, clock_front, hour_table, hour_range, minute_clock, minute_digits, minute_table, has_second, has_point, has_fraction}
 use Rattle.speedate_civil.specs.DateAndTime.{DateAndTime}
 use Rattle.speedate_civil.specs.DateText.{date_front, date_answer, date_numbers, date_table}
 use Rattle.speedate_civil.specs.DateTimeText.{date_and_time, date_time_answer, date_time_front, is_separator, separator_table, with_time}
+use Rattle.speedate_civil.specs.OffsetText.{end_fault, has_minus_sign, is_utc, unsigned_table, unsigned_front, offset_front, offset_digits, offset_ranges, offset_size, signed_front, offset_digits_length}
+use Rattle.speedate_civil.proofs.OffsetLemmas.{StrictOffset, strict-offset, without_sign, one_byte, three_bytes, no_byte, no_minus, no_minus-utc, no_minus_sign, utc-read, strict-unsigned, relaxed-unsigned}
 use Rattle.speedate_civil.specs.TimeOfDay.{TimeOfDay}
 use Rattle.speedate_civil.specs.TimeText.{joined, with_offset, time_front, time_answer}
 
@@ -174,66 +174,53 @@ offset-by form rest front false false false none no_sign other read =
 offset-taken : (form : Rfc3339Form) (rest : List ℕ) (front : Option ℤ × ℕ) → offset_front form rest ≡ Ok front → offset_front form (take front.1 rest) ≡ Ok front
 offset-taken form rest front read = offset-by form rest front _ _ _ refl refl refl read
 
--- how many bytes a clock takes
+-- a clock that was read: the rows of its tables hold, and it is the one of the text
+pub record ClockRead (form : Rfc3339Form) (behavior : MicrosecondsPrecisionOverflowBehavior) (text : List ℕ) (clock : Clock) : Type 0 where
+  pub hour : AllHold (hour_table form text)
+  pub digits : AllHold (minute_digits (drop 3 text))
+  pub range : AllHold (hour_range text)
+  pub minute : AllHold (minute_table form behavior (drop 3 text))
+  pub is : at_hour (two_digit_value text 0) (minute_clock form (drop 3 text)) ≡ clock
+
+pub clock-read : (form : Rfc3339Form) (behavior : MicrosecondsPrecisionOverflowBehavior) (text : List ℕ) (clock : Clock) → clock_front form behavior text ≡ Ok clock
+    → ClockRead form behavior text clock
+clock-read form behavior text clock read =
+    let rest : List ℕ = drop 3 text in
+    let hour = two_digit_value text 0 in
+    let ranged : Result Clock ParseError = result_map (at_hour hour) (clock_answer form behavior rest) in
+    let hour_met = meets-ok (hour_table form text) (meets (minute_digits rest) (meets (hour_range text) ranged)) clock read in
+    let digits_met = meets-ok (minute_digits rest) (meets (hour_range text) ranged) clock hour_met.1 in
+    let range_met = meets-ok (hour_range text) ranged clock digits_met.1 in
+    let minute = map-ok (at_hour hour) (clock_answer form behavior rest) clock range_met.1 in
+    let minute_met = meets-value (minute_table form behavior rest) (minute_clock form rest) minute.0 minute.1 in
+    record {
+      hour = hour_met.0;
+      digits = digits_met.0;
+      range = range_met.0;
+      minute = minute_met.0;
+      is = ap (at_hour hour) minute_met.1 ∙ minute.2;
+    }
+
+-- how many bytes it takes
+pub clock-size : (form : Rfc3339Form) (behavior : MicrosecondsPrecisionOverflowBehavior) (text : List ℕ) (clock : Clock) → clock_front form behavior text ≡ Ok clock
+    → 3 + (minute_clock form (drop 3 text)).size ≡ clock.size
+clock-size form behavior text clock read = ap (λ (found : Clock). found.size) (clock-read form behavior text clock read).is
+
 minute-size : (second fraction : Bool) (run : ℕ) → 2 ≤ (if fraction then 6 + run else (if second then 5 else 2))
 minute-size second true run = omega arith
 minute-size true false run = omega arith
 minute-size false false run = omega arith
 
-minute-clock : (form : Rfc3339Form) (behavior : MicrosecondsPrecisionOverflowBehavior) (rest : List ℕ) (hour : ℕ) (answer : Result Clock ParseError) (clock : Clock)
-    → clock_answer form behavior rest ≡ answer → result_map (at_hour hour) answer ≡ Ok clock → 3 + (minute_clock form rest).size ≡ clock.size
-minute-clock form behavior rest hour (Ok minute) clock read is =
-    let same : at_hour hour minute ≡ clock = cc in
-    ap (λ (m : Clock). 3 + m.size) (meets-value (minute_table form behavior rest) (minute_clock form rest) minute read).1 ∙ ap (λ (m : Clock). m.size) same
-minute-clock form behavior rest hour (Err fault) clock read is = absurd (cc)
-
-pub clock-size : (form : Rfc3339Form) (behavior : MicrosecondsPrecisionOverflowBehavior) (text : List ℕ) (clock : Clock) → clock_front form behavior text ≡ Ok clock
-    → 3 + (minute_clock form (drop 3 text)).size ≡ clock.size
-clock-size form behavior text clock read =
-    let rest : List ℕ = drop 3 text in
-    let hour = two_digit_value text 0 in
-    let ranged : Result Clock ParseError = result_map (at_hour hour) (clock_answer form behavior rest) in
-    let hour_met = meets-ok (hour_table form text) (meets (minute_digits rest) (meets (hour_range text) ranged)) clock read in
-    let minute_met = meets-ok (minute_digits rest) (meets (hour_range text) ranged) clock hour_met.1 in
-    let range_met = meets-ok (hour_range text) ranged clock minute_met.1 in
-    minute-clock form behavior rest hour _ clock refl range_met.1
-
--- in the strict form a clock has a second
-second-there : (behavior : MicrosecondsPrecisionOverflowBehavior) (rest : List ℕ) (hour : ℕ) (answer : Result Clock ParseError) (clock : Clock)
-    → clock_answer rfc3339.Strict behavior rest ≡ answer → result_map (at_hour hour) answer ≡ Ok clock → has_second rest ≡ true
-second-there behavior rest hour (Ok minute) clock read is =
-    (meets-value (minute_table rfc3339.Strict behavior rest) (minute_clock rfc3339.Strict rest) minute read).0.1.0
-second-there behavior rest hour (Err fault) clock read is = absurd (cc)
-
+-- in the strict form it has a second
 pub clock-second : (behavior : MicrosecondsPrecisionOverflowBehavior) (text : List ℕ) (clock : Clock) → clock_front rfc3339.Strict behavior text ≡ Ok clock
     → has_second (drop 3 text) ≡ true
-clock-second behavior text clock read =
-    let rest : List ℕ = drop 3 text in
-    let hour = two_digit_value text 0 in
-    let ranged : Result Clock ParseError = result_map (at_hour hour) (clock_answer rfc3339.Strict behavior rest) in
-    let hour_met = meets-ok (hour_table rfc3339.Strict text) (meets (minute_digits rest) (meets (hour_range text) ranged)) clock read in
-    let minute_met = meets-ok (minute_digits rest) (meets (hour_range text) ranged) clock hour_met.1 in
-    let range_met = meets-ok (hour_range text) ranged clock minute_met.1 in
-    second-there behavior rest hour _ clock refl range_met.1
+clock-second behavior text clock read = (clock-read rfc3339.Strict behavior text clock read).minute.1.0
 
 -- and an offset follows it
-offset-due : (rest : List ℕ) (front : Option ℤ × ℕ) (signed utc : Bool) → ((slice_index rest 0 == plus_sign) || (slice_index rest 0 == hyphen)) ≡ signed
-    → is_utc rest ≡ utc → offset_front rfc3339.Strict rest ≡ Ok front → 1 ≤ front.1
-offset-due rest front true utc some zulu read =
-    let byte = slice_index rest 0 in
-    let digits = sym (one_byte rfc3339.Strict false (byte == plus_sign) (byte == hyphen) (without_sign rfc3339.Strict rest) rest refl some) ∙ read in
-    omega (arith, signed-taken rfc3339.Strict (byte == hyphen) 1 rest front digits)
-offset-due rest front false true no_sign zulu read =
-    let is : ◌≡◌ {A = Result (Option ℤ × ℕ) ParseError} (Ok (Some (pos 0), 1)) (Ok front) =
-    sym (utc-read rfc3339.Strict rest zulu)
-    ∙ sym (no_byte rfc3339.Strict false (slice_index rest 0 == plus_sign) (slice_index rest 0 == hyphen) (without_sign rfc3339.Strict rest) rest refl no_sign) ∙ read in
-    let front_is : ◌≡◌ {A = Option ℤ × ℕ} (Some (pos 0), 1) front = cc in
-    let one : 1 ≡ front.1 = ap (λ (pair : Option ℤ × ℕ). pair.1) front_is in
-    omega (arith, one)
-offset-due rest front false false no_sign other read =
-    let refused = sym (strict-unsigned rfc3339.Strict rest refl other)
-    ∙ sym (no_byte rfc3339.Strict false (slice_index rest 0 == plus_sign) (slice_index rest 0 == hyphen) (without_sign rfc3339.Strict rest) rest refl no_sign) ∙ read in
-    absurd (cc)
+offset-due : (rest : List ℕ) (front : Option ℤ × ℕ) → StrictOffset rest front → 1 ≤ front.1
+offset-due rest front (inl after) =
+    omega (arith, signed-taken rfc3339.Strict (slice_index rest 0 == hyphen) 1 rest front after.1)
+offset-due rest front (inr utc) = omega (arith, ap (λ (pair : Option ℤ × ℕ). pair.1) utc.2)
 
 minute-size-second : (second fraction : Bool) (run : ℕ) → second ≡ true → 5 ≤ (if fraction then 6 + run else (if second then 5 else 2))
 minute-size-second second true run there = omega arith
@@ -254,33 +241,24 @@ least-read rfc3339.Strict behavior text clock offset read after =
       arith,
       clock-size rfc3339.Strict behavior text clock read,
       minute-size-second (has_second (drop 3 text)) (has_fraction rfc3339.Strict (drop 3 text)) (run_length (drop 3 text) 6) (clock-second behavior text clock read),
-      offset-due (drop clock.size text) offset _ _ refl refl after,
+      offset-due (drop clock.size text) offset (strict-offset (drop clock.size text) offset after),
     )
-
--- the time of a clock and of what was read after it
-time-of : (form : Rfc3339Form) (behavior : MicrosecondsPrecisionOverflowBehavior) (text : List ℕ) (clock : Clock) (offset : Result (Option ℤ × ℕ) ParseError) (front : TimeOfDay × ℕ)
-    → clock_front form behavior text ≡ Ok clock → offset_front form (drop clock.size text) ≡ offset → result_map (joined clock) offset ≡ Ok front
-    → front.1 ≤ length text → time_front form behavior (take front.1 text) ≡ Ok front
-time-of form behavior text clock (Ok offset) front read after is inside =
-    let same : joined clock offset ≡ front = cc in
-    let count = clock.size + offset.1 in
-    let size = clock-size form behavior text clock read in
-    let within : count ≤ length text = subst (λ (f : TimeOfDay × ℕ). f.1 ≤ length text) (sym same) inside in
-    let clock_is = clock-taken form behavior text count (omega (arith, size)) within (least-read form behavior text clock offset read after) ∙ read in
-    let offset_is = ap (offset_front form) (drop-take clock.size offset.1 text) ∙ offset-taken form (drop clock.size text) offset after in
-    ap (λ (f : TimeOfDay × ℕ). time_front form behavior (take f.1 text)) (sym same) ∙ ap (result_and_then (with_offset form (take count text))) clock_is
-    ∙ ap (result_map (joined clock)) offset_is ∙ ap Ok same
-time-of form behavior text clock (Err fault) front read after is inside = absurd (cc)
-
-time-by : (form : Rfc3339Form) (behavior : MicrosecondsPrecisionOverflowBehavior) (text : List ℕ) (clock : Result Clock ParseError) (front : TimeOfDay × ℕ)
-    → clock_front form behavior text ≡ clock → result_and_then (with_offset form text) clock ≡ Ok front → front.1 ≤ length text → time_front form behavior (take front.1 text) ≡ Ok front
-time-by form behavior text (Ok clock) front read is inside = time-of form behavior text clock _ front read refl is inside
-time-by form behavior text (Err fault) front read is inside = absurd (cc)
 
 -- a time at the front of a text is that of its bytes alone
 pub time_front-taken : (form : Rfc3339Form) (behavior : MicrosecondsPrecisionOverflowBehavior) (text : List ℕ) (front : TimeOfDay × ℕ)
     → time_front form behavior text ≡ Ok front → front.1 ≤ length text → time_front form behavior (take front.1 text) ≡ Ok front
-time_front-taken form behavior text front read inside = time-by form behavior text _ front refl read inside
+time_front-taken form behavior text front read inside =
+    let clocked = and_then-ok (with_offset form text) (clock_front form behavior text) front read in
+    let clock = clocked.0 in
+    let after = map-ok (joined clock) (offset_front form (drop clock.size text)) front clocked.2 in
+    let offset = after.0 in
+    let count = clock.size + offset.1 in
+    let size = clock-size form behavior text clock clocked.1 in
+    let within : count ≤ length text = subst (λ (f : TimeOfDay × ℕ). f.1 ≤ length text) (sym after.2) inside in
+    let clock_is = clock-taken form behavior text count (omega (arith, size)) within (least-read form behavior text clock offset clocked.1 after.1) ∙ clocked.1 in
+    let offset_is = ap (offset_front form) (drop-take clock.size offset.1 text) ∙ offset-taken form (drop clock.size text) offset after.1 in
+    ap (λ (f : TimeOfDay × ℕ). time_front form behavior (take f.1 text)) (sym after.2) ∙ ap (result_and_then (with_offset form (take count text))) clock_is
+    ∙ ap (result_map (joined clock)) offset_is ∙ ap Ok after.2
 
 pub time_front-alone : (form : Rfc3339Form) (behavior : MicrosecondsPrecisionOverflowBehavior) (text : List ℕ) (front : TimeOfDay × ℕ)
     → time_front form behavior text ≡ Ok front → front.1 ≤ length text → time_answer form behavior (take front.1 text) ≡ Ok front.0
@@ -313,34 +291,26 @@ date_front-alone text front read inside =
     ap (result_and_then (alone fault (take front.1 text))) (date-taken text front.1 (omega (arith, size)) inside ∙ read)
     ∙ alone-whole fault (take front.1 text) front.0 front.1 (length-take-le front.1 text inside)
 
--- the date-time of a date and of what was read after it
-date_time-of : (form : Rfc3339Form) (behavior : MicrosecondsPrecisionOverflowBehavior) (text : List ℕ) (date : Ymd × ℕ) (time : Result (TimeOfDay × ℕ) ParseError) (front : DateAndTime × ℕ)
-    → date_front text ≡ Ok date → AllHold (separator_table form text) → time_front form behavior (drop 11 text) ≡ time → result_map (date_and_time date.0) time ≡ Ok front
-    → front.1 ≤ length text → date_time_front form behavior (take front.1 text) ≡ Ok front
-date_time-of form behavior text date (Ok time) front read parted after is inside =
-    let same : date_and_time date.0 time ≡ front = cc in
-    let count = 11 + time.1 in
-    let within : count ≤ length text = subst (λ (f : DateAndTime × ℕ). f.1 ≤ length text) (sym same) inside in
-    let date_is = date-taken text count (omega arith) within ∙ read in
-    let dropped = drop-take 11 time.1 text in
-    let time_is = ap (time_front form behavior) dropped ∙ time_front-taken form behavior (drop 11 text) time after (omega (arith, within, length-drop 11 text)) in
-    let separator : is_separator form (slice_index (take count text) 10) ≡ true = ap (is_separator form) (get_or-take count text 10 0 (omega arith)) ∙ parted.0 in
-    ap (λ (f : DateAndTime × ℕ). date_time_front form behavior (take f.1 text)) (sym same) ∙ ap (result_and_then (with_time form behavior (take count text))) date_is
-    ∙ meets-all (separator_table form (take count text)) _ (separator, tt) ∙ ap (result_map (date_and_time date.0)) time_is ∙ ap Ok same
-date_time-of form behavior text date (Err fault) front read parted after is inside = absurd (cc)
-
-date_time-by : (form : Rfc3339Form) (behavior : MicrosecondsPrecisionOverflowBehavior) (text : List ℕ) (date : Result (Ymd × ℕ) ParseError) (front : DateAndTime × ℕ)
-    → date_front text ≡ date → result_and_then (with_time form behavior text) date ≡ Ok front → front.1 ≤ length text
-    → date_time_front form behavior (take front.1 text) ≡ Ok front
-date_time-by form behavior text (Ok date) front read is inside =
-    let met = meets-ok (separator_table form text) (result_map (date_and_time date.0) (time_front form behavior (drop 11 text))) front is in
-    date_time-of form behavior text date _ front read met.0 refl met.1 inside
-date_time-by form behavior text (Err fault) front read is inside = absurd (cc)
-
 -- so is a date-time
+date_time_front-taken : (form : Rfc3339Form) (behavior : MicrosecondsPrecisionOverflowBehavior) (text : List ℕ) (front : DateAndTime × ℕ)
+    → date_time_front form behavior text ≡ Ok front → front.1 ≤ length text → date_time_front form behavior (take front.1 text) ≡ Ok front
+date_time_front-taken form behavior text front read inside =
+    let dated = and_then-ok (with_time form behavior text) (date_front text) front read in
+    let date = dated.0 in
+    let parted = meets-ok (separator_table form text) (result_map (date_and_time date.0) (time_front form behavior (drop 11 text))) front dated.2 in
+    let after = map-ok (date_and_time date.0) (time_front form behavior (drop 11 text)) front parted.1 in
+    let time = after.0 in
+    let count = 11 + time.1 in
+    let within : count ≤ length text = subst (λ (f : DateAndTime × ℕ). f.1 ≤ length text) (sym after.2) inside in
+    let date_is = date-taken text count (omega arith) within ∙ dated.1 in
+    let time_is = ap (time_front form behavior) (drop-take 11 time.1 text) ∙ time_front-taken form behavior (drop 11 text) time after.1 (omega (arith, within, length-drop 11 text)) in
+    let separator : is_separator form (slice_index (take count text) 10) ≡ true = ap (is_separator form) (get_or-take count text 10 0 (omega arith)) ∙ parted.0.0 in
+    ap (λ (f : DateAndTime × ℕ). date_time_front form behavior (take f.1 text)) (sym after.2) ∙ ap (result_and_then (with_time form behavior (take count text))) date_is
+    ∙ meets-all (separator_table form (take count text)) _ (separator, tt) ∙ ap (result_map (date_and_time date.0)) time_is ∙ ap Ok after.2
+
 pub date_time_front-alone : (form : Rfc3339Form) (behavior : MicrosecondsPrecisionOverflowBehavior) (text : List ℕ) (front : DateAndTime × ℕ)
     → date_time_front form behavior text ≡ Ok front → front.1 ≤ length text → date_time_answer form behavior (take front.1 text) ≡ Ok front.0
 date_time_front-alone form behavior text front read inside =
     let fault = λ (value : DateAndTime). end_fault value.time.offset in
-    ap (result_and_then (alone fault (take front.1 text))) (date_time-by form behavior text _ front refl read inside)
+    ap (result_and_then (alone fault (take front.1 text))) (date_time_front-taken form behavior text front read inside)
     ∙ alone-whole fault (take front.1 text) front.0 front.1 (length-take-le front.1 text inside)

@@ -1,9 +1,9 @@
 -- Laws of the order by instants: it is total, among values with offsets and among those without; without offsets it is the
 -- order of the texts; and where the offsets are one it is that of what clocks show.
 use Rattle.std.specs.Prelude.{◌≡◌, ℕ, ◌+◌, ◌*◌, ◌/◌, ◌%◌, ◌<◌, ◌<ℤ◌, Bool, true, false, ◌&&◌, ◌∷◌, ◌==◌, ℤ, pos, ◌+ℤ◌, ◌-ℤ◌, ◌*ℤ◌, Option, None, refl}
-use Rattle.std.specs.Option.{is_some}
 use Rattle.std.specs.Cmp.{IsTotalOrder, int_ranks, int_cmp_is, upto, nat_cmp_total, int_cmp_total, on_total, then_total}
 use Rattle.std.specs.Cmp.Lexicographic.{slice_cmp}
+use Rattle.std.specs.Option.{is_some}
 use Rattle.std.specs.Ordering.{nat_cmp, int_cmp, is_gt, ordering_then, ordering_reverse, MatchOrdering, on}
 use Rattle.std.specs.declared.cmp.Ordering.{Ordering}
 use Rattle.std.specs.declared.cmp.Ordering.TheVariants.{Less, Equal, Greater}
@@ -16,15 +16,15 @@ use Rattle.speedate_base.specs.Ascii.{capital_t}
 use Rattle.speedate_base.specs.Digits.{six_digit_text}
 use Rattle.speedate_base.specs.Offset.{seconds_per_day}
 use Rattle.speedate_base.specs.Timestamp.{Instant}
-use Rattle.speedate_civil.specs.DayNumber.{day_number, epoch_day}
+use Rattle.speedate_civil.specs.ClockText.{fraction_text}
+use Rattle.speedate_civil.specs.DateAndTime.{DateAndTime, IsDateAndTime, local_second}
 use Rattle.speedate_civil.specs.DateOrder.{date_order}
 use Rattle.speedate_civil.proofs.DateOrderLemmas.{date_order-day_number, date_text-front-order, digits-order, hundreds-order, then-then}
-use Rattle.speedate_civil.specs.ClockText.{fraction_text}
 use Rattle.speedate_civil.specs.DateTimeText.{date_time_text}
-use Rattle.speedate_civil.specs.TimeText.{time_text}
-use Rattle.speedate_civil.specs.DateAndTime.{DateAndTime, IsDateAndTime, local_second}
+use Rattle.speedate_civil.specs.DayNumber.{day_number, epoch_day}
 use Rattle.speedate_civil.specs.InstantOrder.{instant_order, by_instant, time_instant, time_instant_order, date_time_instant, date_time_instant_order, BothOrNeither, IsNotAfter}
 use Rattle.speedate_civil.specs.TimeOfDay.{TimeOfDay, IsTime, second_of_day}
+use Rattle.speedate_civil.specs.TimeText.{time_text}
 
 -- instants are ordered one after another
 pub instant_order-total : IsTotalOrder instant_order

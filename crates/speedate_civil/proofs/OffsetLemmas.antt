@@ -1,22 +1,22 @@
 -- A printed offset of whole minutes is read as itself.
-use Rattle.std.specs.Prelude.{◌≡◌, ℕ, zero, suc, ◌+◌, ◌*◌, ◌/◌, ◌%◌, ◌<◌, Bool, true, false, not, ◌||◌, List, [], ◌∷◌, ◌++◌, length, drop, nat_lt, if◌then◌else◌, ◌&&◌, ◌==◌, slice_index, Option, Some, None, ℤ, pos, negsuc, Result, Ok, Err, refl}
+use Rattle.std.specs.Prelude.{◌≡◌, ◌⊎◌, ℕ, zero, suc, ◌+◌, ◌*◌, ◌/◌, ◌%◌, ◌<◌, Bool, true, false, not, ◌||◌, List, [], ◌∷◌, ◌++◌, length, drop, nat_lt, if◌then◌else◌, ◌&&◌, ◌==◌, slice_index, Option, Some, None, ℤ, pos, negsuc, Result, Ok, Err, refl}
 use Rattle.std.specs.Option.{ForSome, is_some}
-use Rattle.std.proofs.Common.{arith, ◌∙◌}
+use Rattle.std.proofs.Common.{arith, sym, ◌∙◌, inl, inr}
 use Rattle.std.proofs.lemmas.Bool.{le-leb, lt-ltb, le-ltb, ne_eqb, not-true}
 use Rattle.std.proofs.lemmas.Bool.Decides.{nat_tests}
-use Rattle.speedate_base.specs.declared.faults.ParseError.{ParseError}
 use Rattle.speedate_base.specs.declared.config.Rfc3339Form.{Rfc3339Form}
 use Rattle.speedate_base.specs.declared.config.Rfc3339Form.TheVariants as rfc3339
+use Rattle.speedate_base.specs.declared.faults.ParseError.{ParseError}
 use Rattle.speedate_base.specs.declared.faults.ParseError.TheVariants as fault
-use Rattle.speedate_base.specs.Requirement.{meets}
-use Rattle.speedate_base.specs.Form.{is_strict}
-use Rattle.speedate_base.proofs.RequirementLemmas.{implies-true}
-use Rattle.speedate_civil.specs.TimeText.{is_of_form}
 use Rattle.speedate_base.specs.Ascii.{plus_sign, hyphen, capital_z, small_z}
 use Rattle.speedate_base.proofs.DigitLemmas.{two_digits-printed, two_digit_value-printed}
+use Rattle.speedate_base.specs.Form.{is_strict}
 use Rattle.speedate_base.specs.Numbers.{with_sign}
 use Rattle.speedate_base.specs.Offset.{IsOffset, IsWholeMinutes, seconds_per_day}
+use Rattle.speedate_base.specs.Requirement.{meets}
+use Rattle.speedate_base.proofs.RequirementLemmas.{implies-true}
 use Rattle.speedate_civil.specs.OffsetText.{begins_offset, offset_front, offset_text, offset_size_text, signed_front, is_utc, unsigned_table, unsigned_front}
+use Rattle.speedate_civil.specs.TimeText.{is_of_form}
 
 -- the offset by what a text begins with: U+2212, `+` or `-`, or no sign
 abbrev pub by_tests : Rfc3339Form → Bool → Bool → Bool → Result (Option ℤ × ℕ) ParseError → List ℕ → Result (Option ℤ × ℕ) ParseError
@@ -67,6 +67,32 @@ strict-unsigned form rest strict other = rw (strict, other) (chosen (nat_lt 0 (l
 pub relaxed-unsigned : (form : Rfc3339Form) (rest : List ℕ) → is_strict form ≡ false → is_utc rest ≡ false
     → without_sign form rest ≡ Ok (None, 0)
 relaxed-unsigned form rest relaxed other = rw (relaxed, other) refl
+
+-- an offset that was read in the strict form: after one byte of a sign, or UTC
+abbrev pub StrictOffset : List ℕ → Option ℤ × ℕ → Type 0
+StrictOffset rest front =
+    ((((slice_index rest 0 == plus_sign) || (slice_index rest 0 == hyphen)) ≡ true) × (signed_front rfc3339.Strict (slice_index rest 0 == hyphen) 1 (drop 1 rest) ≡ Ok front))
+    ⊎ ((((slice_index rest 0 == plus_sign) || (slice_index rest 0 == hyphen)) ≡ false) × (is_utc rest ≡ true) × ((Some (pos 0), 1) ≡ front))
+
+strict-by : (rest : List ℕ) (front : Option ℤ × ℕ) (signed utc : Bool) → ((slice_index rest 0 == plus_sign) || (slice_index rest 0 == hyphen)) ≡ signed
+    → is_utc rest ≡ utc → offset_front rfc3339.Strict rest ≡ Ok front → StrictOffset rest front
+strict-by rest front true utc some zulu read =
+    let byte = slice_index rest 0 in
+    inl (some, sym (one_byte rfc3339.Strict false (byte == plus_sign) (byte == hyphen) (without_sign rfc3339.Strict rest) rest refl some) ∙ read)
+strict-by rest front false true no_sign zulu read =
+    let byte = slice_index rest 0 in
+    let is : ◌≡◌ {A = Result (Option ℤ × ℕ) ParseError} (Ok (Some (pos 0), 1)) (Ok front) =
+    sym (utc-read rfc3339.Strict rest zulu)
+    ∙ sym (no_byte rfc3339.Strict false (byte == plus_sign) (byte == hyphen) (without_sign rfc3339.Strict rest) rest refl no_sign) ∙ read in
+    inr (no_sign, zulu, cc)
+strict-by rest front false false no_sign other read =
+    let byte = slice_index rest 0 in
+    let refused = sym (strict-unsigned rfc3339.Strict rest refl other)
+    ∙ sym (no_byte rfc3339.Strict false (byte == plus_sign) (byte == hyphen) (without_sign rfc3339.Strict rest) rest refl no_sign) ∙ read in
+    absurd (cc)
+
+pub strict-offset : (rest : List ℕ) (front : Option ℤ × ℕ) → offset_front rfc3339.Strict rest ≡ Ok front → StrictOffset rest front
+strict-offset rest front read = strict-by rest front _ _ refl refl read
 
 -- U+2212 is no sign of the strict form
 pub no_minus_sign : (form : Rfc3339Form) (there : Bool) → there ≡ false → (not (is_strict form) && there) ≡ false

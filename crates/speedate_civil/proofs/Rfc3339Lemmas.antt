@@ -1,52 +1,50 @@
 -- The texts of RFC 3339 by its rules are those that the strict form takes.
-use Rattle.std.specs.Prelude.{◌≡◌, ◌⊎◌, ℕ, ◌+◌, ◌*◌, ◌/◌, ◌%◌, ◌≤◌, suc, Bool, true, false, ◌&&◌, ◌||◌, ◌==◌, List, [], ◌∷◌, ◌++◌, length, take, drop, nat_le, nat_lt, slice_index, if◌then◌else◌, Option, Some, ℤ, pos, Result, Ok, Err, refl}
-use Rattle.std.specs.Prelude.{◌↔◌}
-use Rattle.std.specs.Result.{IsOk}
-use Rattle.speedate_base.specs.declared.config.Rfc3339Form.{Rfc3339Form}
-use Rattle.speedate_base.specs.Form.{is_strict}
-use Rattle.speedate_civil.specs.declared.datetime.DateTime.{DateTime}
-use Rattle.speedate_civil.specs.declared.time.Time.{Time}
-use Rattle.speedate_civil.specs.DateTime.{parts as date_time_parts}
-use Rattle.speedate_civil.specs.Time.{parts as time_parts}
+use Rattle.std.specs.Prelude.{◌≡◌, ◌⊎◌, ℕ, ◌+◌, ◌*◌, ◌/◌, ◌%◌, ◌≤◌, suc, Bool, true, false, ◌&&◌, ◌||◌, ◌==◌, List, [], ◌∷◌, ◌++◌, length, take, drop, nat_le, nat_lt, slice_index, if◌then◌else◌, Option, Some, ℤ, pos, Result, Ok, Err, refl, ◌↔◌}
 use Rattle.std.specs.Char.{is_ascii_digit}
+use Rattle.std.specs.Int.{is_in_range, IsInRange}
 use Rattle.std.specs.List.{list_all, prefix_len}
+use Rattle.std.specs.Result.{IsOk}
 use Rattle.std.proofs.Common.{arith, ap, ap₂, subst, sym, ◌∙◌, inl, inr}
-use Rattle.std.proofs.lemmas.Bool.{and_parts, le-leb, lt-ltb, leb-true, ltb-true, eqb-true}
-use Rattle.std.proofs.lemmas.List.{drop_more, length-append, length-drop, length-take-le, take-append-drop}
 use Rattle.std.proofs.Math.Seq.{take-append_seam, drop-append_seam}
-use Rattle.std.proofs.lemmas.List.Sums.{prefix_len-le-length}
-use Rattle.speedate_base.proofs.NumberLemmas.{run-digits}
-use Rattle.speedate_base.specs.declared.config.MicrosecondsPrecisionOverflowBehavior.{MicrosecondsPrecisionOverflowBehavior}
-use Rattle.speedate_base.specs.Refusal.{refuses_digits}
-use Rattle.speedate_base.specs.Requirement.{AllHold, ◌implies◌, alone, meets, result_map, result_and_then}
+use Rattle.std.proofs.lemmas.Bool.{and_parts, le-leb, lt-ltb, leb-true, ltb-true, eqb-true}
 use Rattle.std.proofs.lemmas.Bool.Decides.{nat_tests}
-use Rattle.speedate_base.specs.Ascii.{colon, full_stop, hyphen, plus_sign, capital_t, capital_z, small_t, small_z}
-use Rattle.speedate_base.specs.Digits.{digit, one_digit_value, two_digits_at, two_digit_text, two_digit_value, four_digit_text, four_digit_value}
+use Rattle.std.proofs.lemmas.List.{drop_more, length-append, length-drop, length-take-le, take-append-drop}
+use Rattle.std.proofs.lemmas.List.Sums.{prefix_len-le-length}
+use Rattle.speedate_base.specs.declared.config.MicrosecondsPrecisionOverflowBehavior.{MicrosecondsPrecisionOverflowBehavior}
+use Rattle.speedate_base.specs.declared.config.Rfc3339Form.{Rfc3339Form}
 use Rattle.speedate_base.specs.declared.config.Rfc3339Form.TheVariants as rfc3339
 use Rattle.speedate_base.specs.declared.faults.ParseError.{ParseError}
-use Rattle.speedate_base.proofs.RequirementLemmas.{alone-iff, alone-whole, meets-ok, meets-value}
-use Rattle.speedate_civil.specs.ClockText.{Clock, at_hour, clock_answer, clock_front, hour_table, hour_range, minute_clock, minute_digits, minute_table, is_decimal_mark, minute_text}
-use Rattle.speedate_base.specs.DigitRuns.{fraction_value}
-use Rattle.speedate_base.proofs.DigitRunLemmas.{run_length-append}
-use Rattle.speedate_base.proofs.DigitLemmas.{two_digits-printed, two_digit_value-printed}
-use Rattle.speedate_civil.proofs.ClockLemmas.{run_length-none, clock-whole}
-use Rattle.std.specs.Int.{is_in_range, IsInRange}
-use Rattle.speedate_base.proofs.DigitRunLemmas.{one_digit_value-le}
-use Rattle.speedate_civil.specs.Calendar.{Ymd, IsDate, month_length}
 use Rattle.speedate_base.specs.declared.faults.ParseError.TheVariants as fault
+use Rattle.speedate_base.specs.Ascii.{colon, full_stop, hyphen, plus_sign, capital_t, capital_z, small_t, small_z}
+use Rattle.speedate_base.specs.DigitRuns.{fraction_value}
+use Rattle.speedate_base.proofs.DigitRunLemmas.{run_length-append, one_digit_value-le}
+use Rattle.speedate_base.specs.Digits.{digit, one_digit_value, two_digits_at, two_digit_text, two_digit_value, four_digit_text, four_digit_value}
+use Rattle.speedate_base.proofs.DigitLemmas.{two_digits-printed, two_digit_value-printed}
+use Rattle.speedate_base.specs.Form.{is_strict}
+use Rattle.speedate_base.specs.Numbers.{with_sign}
+use Rattle.speedate_base.proofs.NumberLemmas.{run-digits}
+use Rattle.speedate_base.specs.Offset.{seconds_per_day}
+use Rattle.speedate_base.specs.Refusal.{refuses_digits}
+use Rattle.speedate_base.specs.Requirement.{◌implies◌, alone, meets, result_map, result_and_then}
+use Rattle.speedate_base.proofs.RequirementLemmas.{alone-iff, alone-whole, and_then-ok, map-ok, meets-ok, meets-value}
+use Rattle.speedate_civil.specs.declared.datetime.DateTime.{DateTime}
+use Rattle.speedate_civil.specs.declared.time.Time.{Time}
+use Rattle.speedate_civil.specs.Calendar.{Ymd, IsDate, month_length}
+use Rattle.speedate_civil.specs.ClockText.{Clock, clock_answer, clock_front, is_decimal_mark, minute_text}
+use Rattle.speedate_civil.proofs.ClockLemmas.{run_length-none, clock-whole}
 use Rattle.speedate_civil.specs.DateAndTime.{DateAndTime}
-use Rattle.speedate_civil.specs.DateTimeText.{date_and_time, date_time_answer, date_time_front, is_separator, separator_table, with_time}
-use Rattle.speedate_civil.proofs.DateLemmas.{date_text-front}
 use Rattle.speedate_civil.specs.DateText.{date_front, date_numbers, date_table, date_text}
-use Rattle.speedate_civil.proofs.TimeLemmas.{front-printed}
+use Rattle.speedate_civil.proofs.DateLemmas.{date_text-front}
+use Rattle.speedate_civil.specs.DateTime.{parts as date_time_parts}
+use Rattle.speedate_civil.specs.DateTimeText.{date_and_time, date_time_answer, date_time_front, is_separator, separator_table, with_time}
+use Rattle.speedate_civil.proofs.FrontLemmas.{clock-read, signed-taken}
+use Rattle.speedate_civil.specs.OffsetText.{end_fault, offset_digits, offset_digits_length, offset_front, offset_ranges, offset_size, signed_front}
+use Rattle.speedate_civil.proofs.OffsetLemmas.{StrictOffset, strict-offset}
+use Rattle.speedate_civil.specs.Rfc3339Text.{IsFullDate, IsDateTime, IsTwoDigits, IsSecfrac, IsPartialTime, IsNumoffset, IsTimeOffset, IsFullTime}
+use Rattle.speedate_civil.specs.Time.{parts as time_parts}
 use Rattle.speedate_civil.specs.TimeOfDay.{TimeOfDay}
 use Rattle.speedate_civil.specs.TimeText.{joined, with_offset, time_front, time_answer}
-use Rattle.speedate_base.specs.Numbers.{with_sign}
-use Rattle.speedate_base.specs.Offset.{seconds_per_day}
-use Rattle.speedate_civil.specs.OffsetText.{end_fault, offset_digits, offset_digits_length, offset_front, offset_ranges, offset_size, signed_front}
-use Rattle.speedate_civil.proofs.OffsetLemmas.{without_sign, one_byte, no_byte, utc-read, strict-unsigned}
-use Rattle.speedate_civil.proofs.FrontLemmas.{clock-size, signed-taken}
-use Rattle.speedate_civil.specs.Rfc3339Text.{IsFullDate, IsDateTime, IsTwoDigits, IsSecfrac, IsPartialTime, IsNumoffset, IsTimeOffset, IsFullTime}
+use Rattle.speedate_civil.proofs.TimeLemmas.{front-printed}
 
 -- two digits are the text of the number that they spell
 digits-spelled : (first second : ℕ) → is_ascii_digit first ≡ true → is_ascii_digit second ≡ true
@@ -135,37 +133,26 @@ few-asked true true refuses asked there holds = holds
 few-asked true false refuses asked there holds = refl
 few-asked false point refuses asked there holds = absurd (cc)
 
--- the rows of a clock that was read
-clock-rows : (behavior : MicrosecondsPrecisionOverflowBehavior) (rest : List ℕ) (hour : ℕ) (answer : Result Clock ParseError) (clock : Clock)
-    → clock_answer rfc3339.Strict behavior rest ≡ answer → result_map (at_hour hour) answer ≡ Ok clock → AllHold (minute_table rfc3339.Strict behavior rest)
-clock-rows behavior rest hour (Ok minute) clock read is = (meets-value (minute_table rfc3339.Strict behavior rest) (minute_clock rfc3339.Strict rest) minute read).0
-clock-rows behavior rest hour (Err fault) clock read is = absurd (cc)
-
--- the strict rows of a clock, and how many bytes it takes
+-- a clock that was read in the strict form is one of the rules
 clock-parts : (behavior : MicrosecondsPrecisionOverflowBehavior) (a b c d e f g h : ℕ) (more : List ℕ) (clock : Clock)
     → clock_front rfc3339.Strict behavior (a ∷ b ∷ c ∷ d ∷ e ∷ f ∷ g ∷ h ∷ more) ≡ Ok clock
     → IsPartialTime behavior (take clock.size (a ∷ b ∷ c ∷ d ∷ e ∷ f ∷ g ∷ h ∷ more))
 clock-parts behavior a b c d e f g h more clock read =
     let text : List ℕ = a ∷ b ∷ c ∷ d ∷ e ∷ f ∷ g ∷ h ∷ more in
-    let rest : List ℕ = d ∷ e ∷ f ∷ g ∷ h ∷ more in
-    let hour = two_digit_value text 0 in
-    let ranged : Result Clock ParseError = result_map (at_hour hour) (clock_answer rfc3339.Strict behavior rest) in
-    let hour_met = meets-ok (hour_table rfc3339.Strict text) (meets (minute_digits rest) (meets (hour_range text) ranged)) clock read in
-    let minute_met = meets-ok (minute_digits rest) (meets (hour_range text) ranged) clock hour_met.1 in
-    let range_met = meets-ok (hour_range text) ranged clock minute_met.1 in
-    let rows = clock-rows behavior rest hour _ clock refl range_met.1 in
-    let second_colon = rows.1.0 in
-    let size = clock-size rfc3339.Strict behavior text clock read in
+    let rows = clock-read rfc3339.Strict behavior text clock read in
+    let second_colon = rows.minute.1.0 in
+    let size = ap (λ (found : Clock). found.size) rows.is in
     let run = prefix_len is_ascii_digit (drop 1 more) in
     let point = slice_index more 0 == full_stop in
     let taken = if point then 1 + run else 0 in
     let count : clock.size ≡ 8 + taken = sym size ∙ size-of (f == colon) point run second_colon in
     let eight : 8 + taken ≡ suc (suc (suc (suc (suc (suc (suc (suc taken))))))) = omega arith in
     subst (λ (n : ℕ). IsPartialTime behavior (take n text)) (sym (count ∙ eight))
-    (clock-of behavior a b c d e f g h (take taken more) (two-digits 23 a b hour_met.0.1.0 range_met.0.0) hour_met.0.1.1.0
-    (two-digits 59 d e minute_met.0.0 rows.0) second_colon
-    (two-digits 59 g h (asked-true (f == colon) _ second_colon rows.1.1.0) (asked-true (f == colon) _ second_colon rows.1.1.1.0))
-    (fraction-of behavior more point refl (some-asked (f == colon) point _ second_colon rows.1.1.1.1.0) (few-asked (f == colon) point (refuses_digits behavior) _ second_colon rows.1.1.1.1.1.0)))
+    (clock-of behavior a b c d e f g h (take taken more) (two-digits 23 a b rows.hour.1.0 rows.range.0) rows.hour.1.1.0
+    (two-digits 59 d e rows.digits.0 rows.minute.0) second_colon
+    (two-digits 59 g h (asked-true (f == colon) _ second_colon rows.minute.1.1.0) (asked-true (f == colon) _ second_colon rows.minute.1.1.1.0))
+    (fraction-of behavior more point refl (some-asked (f == colon) point _ second_colon rows.minute.1.1.1.1.0)
+    (few-asked (f == colon) point (refuses_digits behavior) _ second_colon rows.minute.1.1.1.1.1.0)))
 
 -- one of two bytes
 one-of : (byte first second : ℕ) (one other : Bool) → (byte == first) ≡ one → (byte == second) ≡ other → (one || other) ≡ true → (byte ≡ first) ⊎ (byte ≡ second)
@@ -218,32 +205,18 @@ utc-of : (byte : ℕ) → (byte ≡ capital_z) ⊎ (byte ≡ small_z) → IsTime
 utc-of byte (inl is) = inl (ap (λ (b : ℕ). b ∷ []) is)
 utc-of byte (inr is) = inr (inl (ap (λ (b : ℕ). b ∷ []) is))
 
-offset-parts : (byte : ℕ) (numbers : List ℕ) (front : Option ℤ × ℕ) (signed utc : Bool) → ((byte == plus_sign) || (byte == hyphen)) ≡ signed
-    → ((byte == capital_z) || (byte == small_z)) ≡ utc → offset_front rfc3339.Strict (byte ∷ numbers) ≡ Ok front → front.1 ≡ length (byte ∷ numbers)
+offset-parts : (byte : ℕ) (numbers : List ℕ) (front : Option ℤ × ℕ) → StrictOffset (byte ∷ numbers) front → front.1 ≡ length (byte ∷ numbers)
     → IsTimeOffset (byte ∷ numbers)
-offset-parts byte numbers front true utc some zulu read whole =
-    let rest : List ℕ = byte ∷ numbers in
-    let digits = sym (one_byte rfc3339.Strict false (byte == plus_sign) (byte == hyphen) (without_sign rfc3339.Strict rest) rest refl some) ∙ read in
+offset-parts byte numbers front (inl after) whole =
     let all : front.1 ≡ 1 + length numbers = omega (arith, whole) in
-    inr (inr (numoffset byte numbers front some digits (numoffset-length numbers front (byte == hyphen) digits all)))
-offset-parts byte numbers front false true no_sign zulu read whole =
-    let rest : List ℕ = byte ∷ numbers in
-    let is : ◌≡◌ {A = Result (Option ℤ × ℕ) ParseError} (Ok (Some (pos 0), 1)) (Ok front) =
-    sym (utc-read rfc3339.Strict rest zulu)
-    ∙ sym (no_byte rfc3339.Strict false (byte == plus_sign) (byte == hyphen) (without_sign rfc3339.Strict rest) rest refl no_sign) ∙ read in
-    let front_is : ◌≡◌ {A = Option ℤ × ℕ} (Some (pos 0), 1) front = cc in
-    let one : 1 ≡ front.1 = ap (λ (pair : Option ℤ × ℕ). pair.1) front_is in
-    let none : numbers ≡ [] = nothing-left numbers (omega (arith, one, whole)) in
-    subst (λ (left : List ℕ). IsTimeOffset (byte ∷ left)) (sym none) (utc-of byte (one-of byte capital_z small_z _ _ refl refl zulu))
-offset-parts byte numbers front false false no_sign other read whole =
-    let rest : List ℕ = byte ∷ numbers in
-    let refused = sym (strict-unsigned rfc3339.Strict rest refl other)
-    ∙ sym (no_byte rfc3339.Strict false (byte == plus_sign) (byte == hyphen) (without_sign rfc3339.Strict rest) rest refl no_sign) ∙ read in
-    absurd (cc)
+    inr (inr (numoffset byte numbers front after.0 after.1 (numoffset-length numbers front (byte == hyphen) after.1 all)))
+offset-parts byte numbers front (inr utc) whole =
+    let none : numbers ≡ [] = nothing-left numbers (omega (arith, ap (λ (pair : Option ℤ × ℕ). pair.1) utc.2, whole)) in
+    subst (λ (left : List ℕ). IsTimeOffset (byte ∷ left)) (sym none) (utc-of byte (one-of byte capital_z small_z _ _ refl refl utc.1))
 
 offset-all : (rest : List ℕ) (front : Option ℤ × ℕ) → offset_front rfc3339.Strict rest ≡ Ok front → front.1 ≡ length rest → IsTimeOffset rest
 offset-all [] front read whole = absurd (cc)
-offset-all (byte ∷ numbers) front read whole = offset-parts byte numbers front _ _ refl refl read whole
+offset-all (byte ∷ numbers) front read whole = offset-parts byte numbers front (strict-offset (byte ∷ numbers) front read) whole
 
 partial-time-of : (behavior : MicrosecondsPrecisionOverflowBehavior) (text : List ℕ) (clock : Clock) → clock_front rfc3339.Strict behavior text ≡ Ok clock
     → IsPartialTime behavior (take clock.size text)
@@ -257,32 +230,22 @@ partial-time-of behavior (a ∷ b ∷ c ∷ d ∷ e ∷ []) clock read = absurd 
 partial-time-of behavior (a ∷ b ∷ c ∷ d ∷ e ∷ f ∷ []) clock read = absurd (cc)
 partial-time-of behavior (a ∷ b ∷ c ∷ d ∷ e ∷ f ∷ g ∷ []) clock read = absurd (cc)
 
-full-time-with : (behavior : MicrosecondsPrecisionOverflowBehavior) (text : List ℕ) (clock : Clock) (offset : Result (Option ℤ × ℕ) ParseError) (time : TimeOfDay)
-    → clock_front rfc3339.Strict behavior text ≡ Ok clock → offset_front rfc3339.Strict (drop clock.size text) ≡ offset
-    → result_map (joined clock) offset ≡ Ok (time, length text) → IsFullTime behavior text
-full-time-with behavior text clock (Ok offset) time read after is =
-    let same : ◌≡◌ {A = TimeOfDay × ℕ} (joined clock offset) (time, length text) = cc in
-    let size : clock.size + offset.1 ≡ length text = ap (λ (pair : TimeOfDay × ℕ). pair.1) same in
-    record {
-      time = take clock.size text;
-      offset = drop clock.size text;
-      is_time = partial-time-of behavior text clock read;
-      is_offset = offset-all (drop clock.size text) offset after (omega (arith, size, length-drop clock.size text));
-      together = sym (take-append-drop clock.size text);
-    }
-full-time-with behavior text clock (Err fault) time read after is = absurd (cc)
-
-full-time-by : (behavior : MicrosecondsPrecisionOverflowBehavior) (text : List ℕ) (clock : Result Clock ParseError) (time : TimeOfDay)
-    → clock_front rfc3339.Strict behavior text ≡ clock → result_and_then (with_offset rfc3339.Strict text) clock ≡ Ok (time, length text) → IsFullTime behavior text
-full-time-by behavior text (Ok clock) time read is = full-time-with behavior text clock _ time read refl is
-full-time-by behavior text (Err fault) time read is = absurd (cc)
-
 -- what the strict form takes as a time is one by the rules
 pub full-time-of : (behavior : MicrosecondsPrecisionOverflowBehavior) (text : List ℕ) (time : TimeOfDay) → time_answer rfc3339.Strict behavior text ≡ Ok time
     → IsFullTime behavior text
 full-time-of behavior text time read =
     let whole = (alone-iff (λ (value : TimeOfDay). end_fault value.offset) text (time_front rfc3339.Strict behavior text) time).0 read in
-    full-time-by behavior text _ time refl whole
+    let clocked = and_then-ok (with_offset rfc3339.Strict text) (clock_front rfc3339.Strict behavior text) (time, length text) whole in
+    let clock = clocked.0 in
+    let after = map-ok (joined clock) (offset_front rfc3339.Strict (drop clock.size text)) (time, length text) clocked.2 in
+    let size : clock.size + after.0.1 ≡ length text = ap (λ (pair : TimeOfDay × ℕ). pair.1) after.2 in
+    record {
+      time = take clock.size text;
+      offset = drop clock.size text;
+      is_time = partial-time-of behavior text clock clocked.1;
+      is_offset = offset-all (drop clock.size text) after.0 after.1 (omega (arith, size, length-drop clock.size text));
+      together = sym (take-append-drop clock.size text);
+    }
 
 few-holds : (refuses : Bool) (count : ℕ) → (refuses ≡ true → count ≤ 6) → (refuses implies nat_le count 6) ≡ true
 few-holds true count few = le-leb count 6 (few refl)
@@ -445,40 +408,31 @@ separator-of byte parted =
     let some : ((byte == capital_t) || (byte == small_t)) ≡ true = grind (arith, nat_tests) in
     one-of byte capital_t small_t _ _ refl refl some
 
-date-time-with : (behavior : MicrosecondsPrecisionOverflowBehavior) (text : List ℕ) (date : Ymd × ℕ) (time : Result (TimeOfDay × ℕ) ParseError) (value : DateAndTime)
-    → date_front text ≡ Ok date → is_separator rfc3339.Strict (slice_index text 10) ≡ true → time_front rfc3339.Strict behavior (drop 11 text) ≡ time
-    → result_map (date_and_time date.0) time ≡ Ok (value, length text) → IsDateTime behavior text
-date-time-with behavior text date (Ok time) value read parted after is =
-    let rest : List ℕ = drop 11 text in
-    let fault = λ (read_time : TimeOfDay). end_fault read_time.offset in
-    let same : ◌≡◌ {A = DateAndTime × ℕ} (date_and_time date.0 time) (value, length text) = cc in
-    let size : 11 + time.1 ≡ length text = ap (λ (pair : DateAndTime × ℕ). pair.1) same in
-    let whole : length rest ≡ time.1 = omega (arith, size, length-drop 11 text) in
-    let alone_is = ap (result_and_then (alone fault rest)) after ∙ alone-whole fault rest time.0 time.1 whole in
-    record {
-      date = take 10 text;
-      separator = slice_index text 10;
-      time = rest;
-      is_date = full-date-of text date read;
-      is_separator = separator-of (slice_index text 10) parted;
-      is_time = full-time-of behavior rest time.0 alone_is;
-      together = sym (take-append-drop 10 text) ∙ ap (λ (left : List ℕ). take 10 text ++ left) (drop_more text 10 0 (omega (arith, size)));
-    }
-date-time-with behavior text date (Err fault) value read parted after is = absurd (cc)
-
-date-time-by : (behavior : MicrosecondsPrecisionOverflowBehavior) (text : List ℕ) (date : Result (Ymd × ℕ) ParseError) (value : DateAndTime)
-    → date_front text ≡ date → result_and_then (with_time rfc3339.Strict behavior text) date ≡ Ok (value, length text) → IsDateTime behavior text
-date-time-by behavior text (Ok date) value read is =
-    let met = meets-ok (separator_table rfc3339.Strict text) (result_map (date_and_time date.0) (time_front rfc3339.Strict behavior (drop 11 text))) (value, length text) is in
-    date-time-with behavior text date _ value read met.0.0 refl met.1
-date-time-by behavior text (Err fault) value read is = absurd (cc)
-
 -- what the strict form takes as a date-time is one by the rules
 pub date-time-of : (behavior : MicrosecondsPrecisionOverflowBehavior) (text : List ℕ) (value : DateAndTime) → date_time_answer rfc3339.Strict behavior text ≡ Ok value
     → IsDateTime behavior text
 date-time-of behavior text value read =
-    let whole = (alone-iff (λ (read_value : DateAndTime). end_fault read_value.time.offset) text (date_time_front rfc3339.Strict behavior text) value).0 read in
-    date-time-by behavior text _ value refl whole
+    let rest : List ℕ = drop 11 text in
+    let front : DateAndTime × ℕ = (value, length text) in
+    let whole = (alone-iff (λ (found : DateAndTime). end_fault found.time.offset) text (date_time_front rfc3339.Strict behavior text) value).0 read in
+    let dated = and_then-ok (with_time rfc3339.Strict behavior text) (date_front text) front whole in
+    let date = dated.0 in
+    let parted = meets-ok (separator_table rfc3339.Strict text) (result_map (date_and_time date.0) (time_front rfc3339.Strict behavior rest)) front dated.2 in
+    let after = map-ok (date_and_time date.0) (time_front rfc3339.Strict behavior rest) front parted.1 in
+    let time = after.0 in
+    let size : 11 + time.1 ≡ length text = ap (λ (pair : DateAndTime × ℕ). pair.1) after.2 in
+    let ends : length rest ≡ time.1 = omega (arith, size, length-drop 11 text) in
+    let fault = λ (found : TimeOfDay). end_fault found.offset in
+    let alone_is = ap (result_and_then (alone fault rest)) after.1 ∙ alone-whole fault rest time.0 time.1 ends in
+    record {
+      date = take 10 text;
+      separator = slice_index text 10;
+      time = rest;
+      is_date = full-date-of text date dated.1;
+      is_separator = separator-of (slice_index text 10) parted.0.0;
+      is_time = full-time-of behavior rest time.0 alone_is;
+      together = sym (take-append-drop 10 text) ∙ ap (λ (left : List ℕ). take 10 text ++ left) (drop_more text 10 0 (omega (arith, size)));
+    }
 
 separator-taken : (byte : ℕ) (next : Result (DateAndTime × ℕ) ParseError) → (byte ≡ capital_t) ⊎ (byte ≡ small_t)
     → (if is_separator rfc3339.Strict byte then next else Err fault.InvalidCharDateTimeSep) ≡ next

@@ -1,28 +1,27 @@
 -- What the strict form takes, the relaxed one takes too, with the same value.
-use Rattle.std.specs.Prelude.{◌≡◌, ℕ, ◌+◌, Bool, true, false, ◌&&◌, ◌||◌, ◌==◌, List, length, drop, nat_lt, nat_le, slice_index, if◌then◌else◌, Option, Some, ℤ, Result, Ok, Err, refl}
-use Rattle.std.proofs.Common.{arith, ap, subst, sym, ◌∙◌}
+use Rattle.std.specs.Prelude.{◌≡◌, ℕ, ◌+◌, Bool, true, false, ◌&&◌, ◌||◌, ◌==◌, List, length, drop, nat_lt, nat_le, slice_index, if◌then◌else◌, Option, Some, ℤ, Result, Ok, refl}
+use Rattle.std.proofs.Common.{arith, ap, subst, sym, ◌∙◌, inl, inr}
+use Rattle.std.proofs.lemmas.Bool.{le-leb, leb-true}
 use Rattle.std.proofs.lemmas.Bool.Decides.{nat_tests}
 use Rattle.std.proofs.lemmas.List.{get_or-drop}
-use Rattle.std.proofs.lemmas.Bool.{le-leb, leb-true}
 use Rattle.speedate_base.specs.declared.config.MicrosecondsPrecisionOverflowBehavior.{MicrosecondsPrecisionOverflowBehavior}
 use Rattle.speedate_base.specs.declared.config.Rfc3339Form.{Rfc3339Form}
 use Rattle.speedate_base.specs.declared.config.Rfc3339Form.TheVariants as rfc3339
 use Rattle.speedate_base.specs.declared.faults.ParseError.{ParseError}
 use Rattle.speedate_base.specs.Ascii.{comma, full_stop, hyphen, plus_sign}
-use Rattle.speedate_base.specs.Digits.{two_digit_value}
 use Rattle.speedate_base.specs.DigitRuns.{run_length, run_digits, fraction_value}
+use Rattle.speedate_base.specs.Digits.{two_digit_value}
 use Rattle.speedate_base.specs.Numbers.{with_sign}
 use Rattle.speedate_base.specs.Refusal.{refuses_digits}
 use Rattle.speedate_base.specs.Requirement.{AllHold, ◌implies◌, alone, meets, result_map, result_and_then}
-use Rattle.speedate_base.proofs.RequirementLemmas.{meets-all, meets-ok, meets-value}
-use Rattle.speedate_civil.specs.Calendar.{Ymd}
+use Rattle.speedate_base.proofs.RequirementLemmas.{and_then-ok, map-ok, meets-all, meets-ok}
 use Rattle.speedate_civil.specs.ClockText.{Clock, at_hour, clock_answer, clock_front, hour_table, hour_range, is_decimal_mark, minute_clock, minute_digits, minute_table, has_second, has_point}
 use Rattle.speedate_civil.specs.DateAndTime.{DateAndTime}
 use Rattle.speedate_civil.specs.DateText.{date_front}
 use Rattle.speedate_civil.specs.DateTimeText.{date_and_time, date_time_front, date_time_answer, is_separator, separator_table, with_time}
-use Rattle.speedate_civil.specs.OffsetText.{end_fault, is_utc, has_minus_sign, offset_digits, offset_digits_length, offset_front, offset_ranges, offset_size, signed_front}
-use Rattle.speedate_civil.proofs.OffsetLemmas.{without_sign, one_byte, no_byte, no_minus, no_minus-utc, utc-read, strict-unsigned}
-use Rattle.speedate_civil.proofs.FrontLemmas.{clock-size, clock-second}
+use Rattle.speedate_civil.proofs.FrontLemmas.{clock-read, clock-size, clock-second}
+use Rattle.speedate_civil.specs.OffsetText.{end_fault, has_minus_sign, offset_digits, offset_digits_length, offset_front, offset_ranges, offset_size, signed_front}
+use Rattle.speedate_civil.proofs.OffsetLemmas.{StrictOffset, strict-offset, without_sign, one_byte, no_byte, no_minus, no_minus-utc, utc-read}
 use Rattle.speedate_civil.specs.TimeOfDay.{TimeOfDay}
 use Rattle.speedate_civil.specs.TimeText.{joined, with_offset, time_front, time_answer}
 
@@ -35,34 +34,27 @@ signed-relaxed west sign numbers front read =
     meets-all (offset_digits rfc3339.Relaxed numbers) next (met.0.0, (refl, met.0.1.1)) ∙ met.1
 
 -- an offset is read in both forms, and no decimal mark begins it
-offset-relaxed : (rest : List ℕ) (front : Option ℤ × ℕ) (signed utc : Bool) → ((slice_index rest 0 == plus_sign) || (slice_index rest 0 == hyphen)) ≡ signed
-    → is_utc rest ≡ utc → offset_front rfc3339.Strict rest ≡ Ok front
+offset-relaxed : (rest : List ℕ) (front : Option ℤ × ℕ) → StrictOffset rest front
     → (offset_front rfc3339.Relaxed rest ≡ Ok front) × (is_decimal_mark rfc3339.Relaxed (slice_index rest 0) ≡ false)
-offset-relaxed rest front true utc some zulu read =
+offset-relaxed rest front (inl after) =
     let byte = slice_index rest 0 in
-    let digits = sym (one_byte rfc3339.Strict false (byte == plus_sign) (byte == hyphen) (without_sign rfc3339.Strict rest) rest refl some) ∙ read in (
-      one_byte rfc3339.Relaxed (has_minus_sign rfc3339.Relaxed rest) (byte == plus_sign) (byte == hyphen) (without_sign rfc3339.Relaxed rest) rest (no_minus byte _ _ some) some
-          ∙ signed-relaxed (byte == hyphen) 1 (drop 1 rest) front digits,
+    let signed = after.0 in (
+      one_byte rfc3339.Relaxed (has_minus_sign rfc3339.Relaxed rest) (byte == plus_sign) (byte == hyphen) (without_sign rfc3339.Relaxed rest) rest (no_minus byte _ _ signed) signed
+          ∙ signed-relaxed (byte == hyphen) 1 (drop 1 rest) front after.1,
       grind (arith, nat_tests),
     )
-offset-relaxed rest front false true no_sign zulu read =
+offset-relaxed rest front (inr utc) =
     let byte = slice_index rest 0 in
-    let is = sym (utc-read rfc3339.Strict rest zulu)
-    ∙ sym (no_byte rfc3339.Strict false (byte == plus_sign) (byte == hyphen) (without_sign rfc3339.Strict rest) rest refl no_sign) ∙ read in (
-      no_byte rfc3339.Relaxed (has_minus_sign rfc3339.Relaxed rest) (byte == plus_sign) (byte == hyphen) (without_sign rfc3339.Relaxed rest) rest (no_minus-utc byte _ _ zulu) no_sign
-          ∙ utc-read rfc3339.Relaxed rest zulu ∙ is,
+    let zulu = utc.1 in (
+      no_byte rfc3339.Relaxed (has_minus_sign rfc3339.Relaxed rest) (byte == plus_sign) (byte == hyphen) (without_sign rfc3339.Relaxed rest) rest (no_minus-utc byte _ _ zulu) utc.0
+          ∙ utc-read rfc3339.Relaxed rest zulu ∙ ap Ok utc.2,
       grind (arith, nat_tests),
     )
-offset-relaxed rest front false false no_sign other read =
-    let refused = sym (strict-unsigned rfc3339.Strict rest refl other)
-    ∙ sym (no_byte rfc3339.Strict false (slice_index rest 0 == plus_sign) (slice_index rest 0 == hyphen) (without_sign rfc3339.Strict rest) rest refl no_sign) ∙ read in
-    absurd (cc)
 
 -- the clock, from its minute on, where the mark is the same
-minute-relaxed : (behavior : MicrosecondsPrecisionOverflowBehavior) (rest : List ℕ) (clock : Clock) → has_point rfc3339.Relaxed rest ≡ has_point rfc3339.Strict rest
-    → clock_answer rfc3339.Strict behavior rest ≡ Ok clock → clock_answer rfc3339.Relaxed behavior rest ≡ Ok clock
-minute-relaxed behavior rest clock same read =
-    let met = meets-value (minute_table rfc3339.Strict behavior rest) (minute_clock rfc3339.Strict rest) clock read in
+minute-relaxed : (behavior : MicrosecondsPrecisionOverflowBehavior) (rest : List ℕ) → has_point rfc3339.Relaxed rest ≡ has_point rfc3339.Strict rest
+    → AllHold (minute_table rfc3339.Strict behavior rest) → clock_answer rfc3339.Relaxed behavior rest ≡ Ok (minute_clock rfc3339.Strict rest)
+minute-relaxed behavior rest same rows =
     let value : minute_clock rfc3339.Relaxed rest ≡ minute_clock rfc3339.Strict rest = λ i. record {
       hour = 0;
       minute = two_digit_value rest 0;
@@ -70,10 +62,10 @@ minute-relaxed behavior rest clock same read =
       microsecond = if has_second rest && same i then fraction_value 6 (run_digits rest 6) else 0;
       size = if has_second rest && same i then 6 + run_length rest 6 else (if has_second rest then 5 else 2);
     } in
-    let there = subst (λ (point : Bool). ((has_second rest && point) implies nat_lt 0 (run_length rest 6)) ≡ true) (sym same) met.0.1.1.1.1.0 in
-    let few = subst (λ (point : Bool). (((has_second rest && point) && refuses_digits behavior) implies nat_le (run_length rest 6) 6) ≡ true) (sym same) met.0.1.1.1.1.1.0 in
-    meets-all (minute_table rfc3339.Relaxed behavior rest) _ (met.0.0, (refl, (met.0.1.1.0, (met.0.1.1.1.0, (there, (few, tt))))))
-    ∙ ap Ok (value ∙ met.1)
+    let there = subst (λ (point : Bool). ((has_second rest && point) implies nat_lt 0 (run_length rest 6)) ≡ true) (sym same) rows.1.1.1.1.0 in
+    let few = subst (λ (point : Bool). (((has_second rest && point) && refuses_digits behavior) implies nat_le (run_length rest 6) 6) ≡ true) (sym same) rows.1.1.1.1.1.0 in
+    meets-all (minute_table rfc3339.Relaxed behavior rest) _ (rows.0, (refl, (rows.1.1.0, (rows.1.1.1.0, (there, (few, tt))))))
+    ∙ ap Ok value
 
 or-more : (first second : Bool) → (first || false) ≡ true → (first || second) ≡ true
 or-more true second some = refl
@@ -95,53 +87,37 @@ after-second behavior text clock read none =
     let eight : clock.size ≡ 8 = omega (arith, clock-size rfc3339.Strict behavior text clock read, five) in
     ap (λ (n : ℕ). slice_index (drop n text) 0) eight ∙ get_or-drop 8 text 0 0 ∙ sym (get_or-drop 3 text 5 0)
 
-answer-relaxed : (behavior : MicrosecondsPrecisionOverflowBehavior) (rest : List ℕ) (hour : ℕ) (answer : Result Clock ParseError) (clock : Clock)
-    → has_point rfc3339.Relaxed rest ≡ has_point rfc3339.Strict rest → clock_answer rfc3339.Strict behavior rest ≡ answer
-    → result_map (at_hour hour) answer ≡ Ok clock → clock_answer rfc3339.Relaxed behavior rest ≡ answer
-answer-relaxed behavior rest hour (Ok minute) clock same read is = minute-relaxed behavior rest minute same read
-answer-relaxed behavior rest hour (Err fault) clock same read is = absurd (cc)
-
 clock-relaxed : (behavior : MicrosecondsPrecisionOverflowBehavior) (text : List ℕ) (clock : Clock) → clock_front rfc3339.Strict behavior text ≡ Ok clock
     → is_decimal_mark rfc3339.Relaxed (slice_index (drop clock.size text) 0) ≡ false → clock_front rfc3339.Relaxed behavior text ≡ Ok clock
 clock-relaxed behavior text clock read after =
     let rest : List ℕ = drop 3 text in
     let hour = two_digit_value text 0 in
-    let strict : Result Clock ParseError = result_map (at_hour hour) (clock_answer rfc3339.Strict behavior rest) in
+    let rows = clock-read rfc3339.Strict behavior text clock read in
     let relaxed : Result Clock ParseError = result_map (at_hour hour) (clock_answer rfc3339.Relaxed behavior rest) in
-    let hour_met = meets-ok (hour_table rfc3339.Strict text) (meets (minute_digits rest) (meets (hour_range text) strict)) clock read in
-    let minute_met = meets-ok (minute_digits rest) (meets (hour_range text) strict) clock hour_met.1 in
-    let range_met = meets-ok (hour_range text) strict clock minute_met.1 in
     let same = point-relaxed rest _ refl (λ none. ap (is_decimal_mark rfc3339.Relaxed) (sym (after-second behavior text clock read none)) ∙ after) in
-    let long : nat_le 5 (length text) ≡ true = le-leb 5 (length text) (omega (arith, leb-true 9 (length text) hour_met.0.0)) in
-    meets-all (hour_table rfc3339.Relaxed text) (meets (minute_digits rest) (meets (hour_range text) relaxed)) (long, hour_met.0.1)
-    ∙ meets-all (minute_digits rest) (meets (hour_range text) relaxed) minute_met.0 ∙ meets-all (hour_range text) relaxed range_met.0
-    ∙ ap (result_map (at_hour hour)) (answer-relaxed behavior rest hour _ clock same refl range_met.1) ∙ range_met.1
-
-time-of : (behavior : MicrosecondsPrecisionOverflowBehavior) (text : List ℕ) (clock : Clock) (offset : Result (Option ℤ × ℕ) ParseError) (front : TimeOfDay × ℕ)
-    → clock_front rfc3339.Strict behavior text ≡ Ok clock → offset_front rfc3339.Strict (drop clock.size text) ≡ offset → result_map (joined clock) offset ≡ Ok front
-    → time_front rfc3339.Relaxed behavior text ≡ Ok front
-time-of behavior text clock (Ok offset) front read after is =
-    let relaxed = offset-relaxed (drop clock.size text) offset _ _ refl refl after in
-    ap (result_and_then (with_offset rfc3339.Relaxed text)) (clock-relaxed behavior text clock read relaxed.1) ∙ ap (result_map (joined clock)) relaxed.0 ∙ is
-time-of behavior text clock (Err fault) front read after is = absurd (cc)
-
-time-by : (behavior : MicrosecondsPrecisionOverflowBehavior) (text : List ℕ) (clock : Result Clock ParseError) (front : TimeOfDay × ℕ)
-    → clock_front rfc3339.Strict behavior text ≡ clock → result_and_then (with_offset rfc3339.Strict text) clock ≡ Ok front
-    → time_front rfc3339.Relaxed behavior text ≡ Ok front
-time-by behavior text (Ok clock) front read is = time-of behavior text clock _ front read refl is
-time-by behavior text (Err fault) front read is = absurd (cc)
+    let long : nat_le 5 (length text) ≡ true = le-leb 5 (length text) (omega (arith, leb-true 9 (length text) rows.hour.0)) in
+    meets-all (hour_table rfc3339.Relaxed text) (meets (minute_digits rest) (meets (hour_range text) relaxed)) (long, rows.hour.1)
+    ∙ meets-all (minute_digits rest) (meets (hour_range text) relaxed) rows.digits ∙ meets-all (hour_range text) relaxed rows.range
+    ∙ ap (result_map (at_hour hour)) (minute-relaxed behavior rest same rows.minute) ∙ ap Ok rows.is
 
 -- a time of the strict form is the same time of the relaxed one
 time_front-relaxed : (form : Rfc3339Form) (behavior : MicrosecondsPrecisionOverflowBehavior) (text : List ℕ) (front : TimeOfDay × ℕ)
     → time_front form behavior text ≡ Ok front → time_front rfc3339.Relaxed behavior text ≡ Ok front
 time_front-relaxed rfc3339.Relaxed behavior text front read = read
-time_front-relaxed rfc3339.Strict behavior text front read = time-by behavior text _ front refl read
+time_front-relaxed rfc3339.Strict behavior text front read =
+    let clocked = and_then-ok (with_offset rfc3339.Strict text) (clock_front rfc3339.Strict behavior text) front read in
+    let clock = clocked.0 in
+    let rest : List ℕ = drop clock.size text in
+    let after = map-ok (joined clock) (offset_front rfc3339.Strict rest) front clocked.2 in
+    let relaxed = offset-relaxed rest after.0 (strict-offset rest after.0 after.1) in
+    ap (result_and_then (with_offset rfc3339.Relaxed text)) (clock-relaxed behavior text clock clocked.1 relaxed.1) ∙ ap (result_map (joined clock)) relaxed.0 ∙ ap Ok after.2
 
 whole-relaxed : {A : Type 0} (fault : A → ParseError) (text : List ℕ) (strict relaxed : Result (A × ℕ) ParseError) (value : A)
     → ((front : A × ℕ) → strict ≡ Ok front → relaxed ≡ Ok front) → result_and_then (alone fault text) strict ≡ Ok value
     → result_and_then (alone fault text) relaxed ≡ Ok value
-whole-relaxed fault text (Ok front) relaxed value same read = ap (result_and_then (alone fault text)) (same front refl) ∙ read
-whole-relaxed fault text (Err refused) relaxed value same read = absurd (cc)
+whole-relaxed fault text strict relaxed value same read =
+    let front = and_then-ok (alone fault text) strict value read in
+    ap (result_and_then (alone fault text)) (same front.0 front.1) ∙ front.2
 
 pub time_answer-relaxed : (form : Rfc3339Form) (behavior : MicrosecondsPrecisionOverflowBehavior) (text : List ℕ) (time : TimeOfDay)
     → time_answer form behavior text ≡ Ok time → time_answer rfc3339.Relaxed behavior text ≡ Ok time
@@ -154,23 +130,19 @@ separator-relaxed : (form : Rfc3339Form) (byte : ℕ) → is_separator form byte
 separator-relaxed rfc3339.Relaxed byte there = there
 separator-relaxed rfc3339.Strict byte there = grind (arith, nat_tests)
 
-with_time-relaxed : (form : Rfc3339Form) (behavior : MicrosecondsPrecisionOverflowBehavior) (text : List ℕ) (date : Ymd × ℕ) (time : Result (TimeOfDay × ℕ) ParseError) (front : DateAndTime × ℕ)
-    → AllHold (separator_table form text) → time_front form behavior (drop 11 text) ≡ time → result_map (date_and_time date.0) time ≡ Ok front
-    → with_time rfc3339.Relaxed behavior text date ≡ Ok front
-with_time-relaxed form behavior text date (Ok time) front parted read is =
-    meets-all (separator_table rfc3339.Relaxed text) _ (separator-relaxed form (slice_index text 10) parted.0, tt)
-    ∙ ap (result_map (date_and_time date.0)) (time_front-relaxed form behavior (drop 11 text) time read) ∙ is
-with_time-relaxed form behavior text date (Err fault) front parted read is = absurd (cc)
-
-date_time-by : (form : Rfc3339Form) (behavior : MicrosecondsPrecisionOverflowBehavior) (text : List ℕ) (date : Result (Ymd × ℕ) ParseError) (front : DateAndTime × ℕ)
-    → result_and_then (with_time form behavior text) date ≡ Ok front → result_and_then (with_time rfc3339.Relaxed behavior text) date ≡ Ok front
-date_time-by form behavior text (Ok date) front read =
-    let met = meets-ok (separator_table form text) (result_map (date_and_time date.0) (time_front form behavior (drop 11 text))) front read in
-    with_time-relaxed form behavior text date _ front met.0 refl met.1
-date_time-by form behavior text (Err fault) front read = absurd (cc)
+date_time_front-relaxed : (form : Rfc3339Form) (behavior : MicrosecondsPrecisionOverflowBehavior) (text : List ℕ) (front : DateAndTime × ℕ)
+    → date_time_front form behavior text ≡ Ok front → date_time_front rfc3339.Relaxed behavior text ≡ Ok front
+date_time_front-relaxed form behavior text front read =
+    let dated = and_then-ok (with_time form behavior text) (date_front text) front read in
+    let date = dated.0.0 in
+    let parted = meets-ok (separator_table form text) (result_map (date_and_time date) (time_front form behavior (drop 11 text))) front dated.2 in
+    let after = map-ok (date_and_time date) (time_front form behavior (drop 11 text)) front parted.1 in
+    ap (result_and_then (with_time rfc3339.Relaxed behavior text)) dated.1
+    ∙ meets-all (separator_table rfc3339.Relaxed text) _ (separator-relaxed form (slice_index text 10) parted.0.0, tt)
+    ∙ ap (result_map (date_and_time date)) (time_front-relaxed form behavior (drop 11 text) after.0 after.1) ∙ ap Ok after.2
 
 pub date_time_answer-relaxed : (form : Rfc3339Form) (behavior : MicrosecondsPrecisionOverflowBehavior) (text : List ℕ) (value : DateAndTime)
     → date_time_answer form behavior text ≡ Ok value → date_time_answer rfc3339.Relaxed behavior text ≡ Ok value
 date_time_answer-relaxed form behavior text value read =
     whole-relaxed (λ (read : DateAndTime). end_fault read.time.offset) text (date_time_front form behavior text) (date_time_front rfc3339.Relaxed behavior text) value
-    (date_time-by form behavior text (date_front text)) read
+    (date_time_front-relaxed form behavior text) read

@@ -5,15 +5,15 @@
 use Rattle.std.specs.Prelude.{ℕ, ◌+◌, Bool, not, ◌&&◌, ◌||◌, List, [], ◌∷◌, ◌++◌, length, drop, nat_le, nat_lt, ◌==◌, slice_index, if◌then◌else◌, Option, Some, None, Result, Ok}
 use Rattle.speedate_base.specs.declared.config.MicrosecondsPrecisionOverflowBehavior.{MicrosecondsPrecisionOverflowBehavior}
 use Rattle.speedate_base.specs.declared.config.Rfc3339Form.{Rfc3339Form}
+use Rattle.speedate_base.specs.declared.config.Rfc3339Form.TheVariants as rfc3339
 use Rattle.speedate_base.specs.declared.faults.ParseError.{ParseError}
 use Rattle.speedate_base.specs.declared.faults.ParseError.TheVariants as fault
 use Rattle.speedate_base.specs.Ascii.{colon, comma, full_stop}
-use Rattle.speedate_base.specs.declared.config.Rfc3339Form.TheVariants as rfc3339
+use Rattle.speedate_base.specs.DigitRuns.{run_length, run_digits, fraction_value}
+use Rattle.speedate_base.specs.Digits.{two_digits_at, two_digit_value, two_digit_text, six_digit_text}
 use Rattle.speedate_base.specs.Form.{is_strict}
 use Rattle.speedate_base.specs.Refusal.{refuses_digits}
 use Rattle.speedate_base.specs.Requirement.{Requirement, ◌else_fault◌, ◌implies◌, meets, result_map}
-use Rattle.speedate_base.specs.Digits.{two_digits_at, two_digit_value, two_digit_text, six_digit_text}
-use Rattle.speedate_base.specs.DigitRuns.{run_length, run_digits, fraction_value}
 
 -- the numbers of a clock, and how many bytes of the text it takes
 pub record Clock : Type 0 where

@@ -4,8 +4,8 @@ use Rattle.std.specs.Prelude.{ℕ, List, ◌∷◌, ◌++◌, length, nat_le, �
 use Rattle.speedate_base.specs.declared.faults.ParseError.{ParseError}
 use Rattle.speedate_base.specs.declared.faults.ParseError.TheVariants as fault
 use Rattle.speedate_base.specs.Ascii.{hyphen}
-use Rattle.speedate_base.specs.Requirement.{Requirement, ◌else_fault◌, meets, alone, result_and_then}
 use Rattle.speedate_base.specs.Digits.{four_digits_at, four_digit_value, four_digit_text, two_digits_at, two_digit_value, two_digit_text}
+use Rattle.speedate_base.specs.Requirement.{Requirement, ◌else_fault◌, meets, alone, result_and_then}
 use Rattle.speedate_civil.specs.Calendar.{Ymd}
 use Rattle.speedate_civil.specs.FromNumbers.{day_table}
 

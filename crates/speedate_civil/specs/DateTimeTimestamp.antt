@@ -10,8 +10,8 @@ use Rattle.speedate_base.specs.Numbers.{DecimalParts, Number, Whole, Fractional,
 use Rattle.speedate_base.specs.Requirement.{Requirement, ◌else_fault◌, meets, result_map, result_and_then}
 use Rattle.speedate_base.specs.Timestamp.{Instant, per_second, instant_answer, range_answer}
 use Rattle.speedate_civil.specs.DateAndTime.{DateAndTime, local_second}
-use Rattle.speedate_civil.specs.DateTimestamp.{day_at, second_at}
 use Rattle.speedate_civil.specs.DateTimeText.{date_time_answer}
+use Rattle.speedate_civil.specs.DateTimestamp.{day_at, second_at}
 use Rattle.speedate_civil.specs.DayNumber.{date_after}
 use Rattle.speedate_civil.specs.NumberText.{or_number}
 use Rattle.speedate_civil.specs.TimeOfDay.{time_at}

@@ -1,10 +1,9 @@
 -- Times and date-times at other offsets: the same clock with another offset, or the same instant as another clock shows it.
-use Rattle.std.specs.Prelude.{List, [], ◌∷◌, ◌&&◌, Option, Some, ℤ, pos, ◌+ℤ◌, int_le, int_lt, unsigned_abs, Result, Ok}
+use Rattle.std.specs.Prelude.{List, [], ◌∷◌, ◌++◌, ◌&&◌, Option, Some, ℤ, pos, ◌+ℤ◌, int_le, int_lt, unsigned_abs, Result, Ok}
 use Rattle.std.specs.Option.{is_some}
 use Rattle.speedate_base.specs.declared.faults.ParseError.{ParseError}
 use Rattle.speedate_base.specs.declared.faults.ParseError.TheVariants as fault
 use Rattle.speedate_base.specs.Offset.{seconds_per_day, offset_table}
-pub use Rattle.speedate_base.specs.Offset.{is_offset}
 use Rattle.speedate_base.specs.Requirement.{Requirement, ◌else_fault◌, meets}
 use Rattle.speedate_civil.specs.DateAndTime.{DateAndTime, utc_second}
 use Rattle.speedate_civil.specs.DateTimeTimestamp.{instant_date_time}
@@ -20,10 +19,7 @@ date_time_with_offset offset value = meets (offset_table offset) (Ok (record val
 
 -- what the offset that is asked for has to meet, and the old one, at which a clock shows the instant now: it is there
 abbrev pub move_table : ℤ → Option ℤ → List Requirement
-move_table offset old =
-    (is_offset offset else_fault fault.OutOfRangeTz)
-    ∷ (is_some old else_fault fault.TzRequired)
-    ∷ []
+move_table offset old = offset_table (Some offset) ++ (is_some old else_fault fault.TzRequired) ∷ []
 
 -- a time lies on the day that its clock shows
 abbrev pub second_table : ℤ → List Requirement

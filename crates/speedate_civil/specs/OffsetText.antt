@@ -3,18 +3,18 @@
 -- Departs from it: `-00:00` is the offset 0, where RFC 3339 4.3 has it for an unknown one. The relaxed form departs too: the
 -- offset may be left out, and so may its `:`; the sign may be U+2212, as in ISO 8601.
 use Rattle.std.specs.Prelude.{ℕ, ◌+◌, ◌*◌, ◌/◌, ◌%◌, Bool, not, ◌&&◌, ◌||◌, List, [], ◌∷◌, ◌++◌, length, drop, nat_le, nat_lt, ◌==◌, slice_index, if◌then◌else◌, Option, Some, None, ℤ, pos, unsigned_abs, Result, Ok}
-use Rattle.std.specs.Option.{is_some}
 use Rattle.std.specs.Int.{is_negative}
+use Rattle.std.specs.Option.{is_some}
 use Rattle.speedate_base.specs.declared.config.Rfc3339Form.{Rfc3339Form}
+use Rattle.speedate_base.specs.declared.config.Rfc3339Form.TheVariants as rfc3339
 use Rattle.speedate_base.specs.declared.faults.ParseError.{ParseError}
 use Rattle.speedate_base.specs.declared.faults.ParseError.TheVariants as fault
-use Rattle.speedate_base.specs.declared.config.Rfc3339Form.TheVariants as rfc3339
-use Rattle.speedate_base.specs.Form.{is_strict}
 use Rattle.speedate_base.specs.Ascii.{plus_sign, hyphen, colon, capital_z, small_z}
-use Rattle.speedate_base.specs.Requirement.{Requirement, ◌else_fault◌, ◌implies◌, meets}
 use Rattle.speedate_base.specs.Digits.{two_digits_at, two_digit_value, two_digit_text}
+use Rattle.speedate_base.specs.Form.{is_strict}
 use Rattle.speedate_base.specs.Numbers.{with_sign}
 use Rattle.speedate_base.specs.Offset.{seconds_per_day}
+use Rattle.speedate_base.specs.Requirement.{Requirement, ◌else_fault◌, ◌implies◌, meets}
 
 -- the three bytes of U+2212, the minus sign, which the strict form does not have
 abbrev pub has_minus_sign : Rfc3339Form → List ℕ → Bool

@@ -5,15 +5,15 @@ use Rattle.std.specs.Char.{is_ascii_digit}
 use Rattle.std.specs.Option.{is_some}
 use Rattle.speedate_base.specs.declared.config.MicrosecondsPrecisionOverflowBehavior.{MicrosecondsPrecisionOverflowBehavior}
 use Rattle.speedate_base.specs.declared.config.Rfc3339Form.{Rfc3339Form}
-use Rattle.speedate_base.specs.declared.faults.ParseError.{ParseError}
 use Rattle.speedate_base.specs.declared.config.Rfc3339Form.TheVariants as rfc3339
-use Rattle.speedate_base.specs.Form.{is_strict}
+use Rattle.speedate_base.specs.declared.faults.ParseError.{ParseError}
 use Rattle.speedate_base.specs.Ascii.{colon}
-use Rattle.speedate_base.specs.Requirement.{◌implies◌, alone, result_map, result_and_then}
 use Rattle.speedate_base.specs.Digits.{two_digit_text}
-use Rattle.speedate_civil.specs.TimeOfDay.{TimeOfDay}
+use Rattle.speedate_base.specs.Form.{is_strict}
+use Rattle.speedate_base.specs.Requirement.{◌implies◌, alone, result_map, result_and_then}
 use Rattle.speedate_civil.specs.ClockText.{Clock, clock_front, is_decimal_mark, minute_text, fraction_text}
 use Rattle.speedate_civil.specs.OffsetText.{begins_offset, offset_front, end_fault, offset_text}
+use Rattle.speedate_civil.specs.TimeOfDay.{TimeOfDay}
 
 -- the time of a clock and an offset
 abbrev pub time_of : Clock → Option ℤ → TimeOfDay

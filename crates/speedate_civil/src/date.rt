@@ -74,14 +74,14 @@ fn is_day(year: u16, month: u8, day: u8) -> bool
 impl Date {
     ghost use Rattle.std.specs.Prelude.{ℕ, ◌+◌, ◌++◌, List, take};
     ghost use Rattle.arrayvec.specs.ArrayString.{array_string_len};
-    ghost use Rattle.speedate_civil.specs.declared.date.Date.{Date};
     ghost use Rattle.speedate_base.specs.declared.config.DateConfig.{DateConfig};
     ghost use Rattle.speedate_base.specs.Numbers.{NoNumber, number_answer};
     ghost use Rattle.speedate_base.specs.Requirement.{result_map, with_size};
+    ghost use Rattle.speedate_civil.specs.declared.date.Date.{Date};
     ghost use Rattle.speedate_civil.specs.Calendar.{Ymd};
-    ghost use Rattle.speedate_civil.specs.DateTimestamp.{date_or_timestamp};
     ghost use Rattle.speedate_civil.specs.Date.{parts};
     ghost use Rattle.speedate_civil.specs.DateText.{date_front, date_answer, date_text};
+    ghost use Rattle.speedate_civil.specs.DateTimestamp.{date_or_timestamp};
 
     /// Reads a date from a text: the date that the text is, as 29 February 2020 for
     /// `"2020-02-29"`, or the text's one fault.

@@ -1,14 +1,14 @@
 //! Date-times: a date and a time of day, with or without an offset from UTC.
 
 ghost use Rattle.std.specs.Prelude.{◌≡◌, ◌≤◌, ◌↔◌, IfOk, IsOk, IsTrue, Ok, length, slice_index, take, OnOk};
-ghost use Rattle.speedate_base.specs.Numbers.{NoNumber, number_answer};
-ghost use Rattle.speedate_base.specs.Form.{is_strict};
-ghost use Rattle.speedate_base.specs.Requirement.{result_map, with_size};
 ghost use Rattle.speedate_base.specs.declared.config.MicrosecondsPrecisionOverflowBehavior.TheVariants as behavior;
 ghost use Rattle.speedate_base.specs.declared.config.Rfc3339Form.TheVariants as rfc3339;
+ghost use Rattle.speedate_base.specs.Form.{is_strict};
+ghost use Rattle.speedate_base.specs.Numbers.{NoNumber, number_answer};
+ghost use Rattle.speedate_base.specs.Requirement.{result_map, with_size};
 ghost use Rattle.speedate_civil.specs.DateAndTime.{DateAndTime};
-ghost use Rattle.speedate_civil.specs.Rfc3339Text.{IsDateTime};
 ghost use Rattle.speedate_civil.specs.DateTimeText.{is_separator, date_time_front, date_time_answer};
+ghost use Rattle.speedate_civil.specs.Rfc3339Text.{IsDateTime};
 
 mod decimal;
 mod instant;
@@ -114,7 +114,8 @@ impl DateTime {
             → (date_time_answer config.now.rfc3339_form config.now.microseconds_precision_overflow_behavior bytes.now ≡ Ok value)
             ↔ (result_map (with_size parts) result ≡ Ok (value, length bytes.now)) }
         ensures alone { IfOk result (λ front.
-            date_time_answer config.now.rfc3339_form config.now.microseconds_precision_overflow_behavior (take front.1 bytes.now) ≡ Ok (parts front.0)) }
+            date_time_answer config.now.rfc3339_form config.now.microseconds_precision_overflow_behavior (take front.1 bytes.now)
+            ≡ Ok (parts front.0)) }
         ensures no_number { OnOk result (number_answer bytes.now ≡ NoNumber) }
     {
         let (date, _) = Date::parse_front(bytes)?;

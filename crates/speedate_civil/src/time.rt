@@ -47,14 +47,14 @@ pub struct Time {
 
 impl Time {
     ghost use Rattle.std.specs.Prelude.{◌+◌, ◌*◌, ◌<◌, ◌↔◌, IfOk, IsOk, IsTrue, Ok, drop, take, length, None};
-    ghost use Rattle.speedate_base.specs.Offset.{seconds_per_day};
     ghost use Rattle.speedate_base.specs.declared.config.MicrosecondsPrecisionOverflowBehavior.TheVariants as behavior;
     ghost use Rattle.speedate_base.specs.declared.config.Rfc3339Form.TheVariants as rfc3339;
+    ghost use Rattle.speedate_base.specs.Form.{is_strict};
+    ghost use Rattle.speedate_base.specs.Offset.{seconds_per_day};
     ghost use Rattle.speedate_base.specs.Requirement.{result_map, with_size};
+    ghost use Rattle.speedate_civil.specs.Rfc3339Text.{IsFullTime};
     ghost use Rattle.speedate_civil.specs.Time.{parts};
     ghost use Rattle.speedate_civil.specs.TimeOfDay.{TimeOfDay, second_of_day, millisecond_of_day, microsecond_of_day, time_at, timestamp_answer};
-    ghost use Rattle.speedate_base.specs.Form.{is_strict};
-    ghost use Rattle.speedate_civil.specs.Rfc3339Text.{IsFullTime};
     ghost use Rattle.speedate_civil.specs.TimeText.{time_front, time_answer};
 
     /// Reads a time from a text: the time that the text is, as 12:13:14 and a half, an hour east

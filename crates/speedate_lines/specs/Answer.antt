@@ -1,20 +1,20 @@
 -- What the program answers to a line, and to lines.
 use Rattle.std.specs.Prelude.{ℕ, List, [], ◌∷◌, ◌++◌, length, take, drop, codes, nat_lt, bytes_eq, if◌then◌else◌, None, Result, Ok, Err}
 use Rattle.std.specs.List.{flat_map}
-use Rattle.speedate.specs.declared.ParseError.{ParseError}
-use Rattle.speedate.specs.Fault.{fault_name}
 use Rattle.speedate.specs.declared.IsoOrder.TheVariants as order
 use Rattle.speedate.specs.declared.MicrosecondsPrecisionOverflowBehavior.TheVariants as behavior
+use Rattle.speedate.specs.declared.ParseError.{ParseError}
 use Rattle.speedate.specs.declared.Rfc3339Form.TheVariants as rfc3339
 use Rattle.speedate.specs.declared.TimestampUnit.TheVariants as unit
+use Rattle.speedate.specs.Ascii.{space, line_feed}
 use Rattle.speedate.specs.DateText.{date_text}
-use Rattle.speedate.specs.DateTimestamp.{date_or_timestamp}
 use Rattle.speedate.specs.DateTimeText.{date_time_answer, date_time_text}
 use Rattle.speedate.specs.DateTimeTimestamp.{date_time_or_timestamp}
+use Rattle.speedate.specs.DateTimestamp.{date_or_timestamp}
 use Rattle.speedate.specs.DurationAnswer.{duration_answer}
 use Rattle.speedate.specs.DurationText.{duration_text}
+use Rattle.speedate.specs.Fault.{fault_name}
 use Rattle.speedate.specs.TimeText.{time_answer, time_text}
-use Rattle.speedate.specs.Ascii.{space, line_feed}
 use Rattle.speedate_lines.specs.Lines.{longest_line}
 
 -- the answer to a text that was read: the canonical text of its value

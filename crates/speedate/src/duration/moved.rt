@@ -11,7 +11,7 @@ ghost use Rattle.speedate_civil.specs.DateTime.{parts as date_time_parts};
 ghost use Rattle.speedate_civil.specs.DayNumber.{days_between};
 ghost use Rattle.speedate.specs.declared.duration.Duration.{Duration};
 ghost use Rattle.speedate.specs.Duration.{parts};
-ghost use Rattle.speedate.specs.DurationMove.{signed_length, duration_of_length, turned, plain, duration_between, date_time_after, duration_between_dates, date_after_days};
+ghost use Rattle.speedate.specs.DurationMove.{signed_length, duration_of_length, negated, with_positive_zero, duration_between, date_time_after, duration_between_dates, date_after_days};
 
 use super::Duration;
 use speedate_base::faults::ParseError;
@@ -44,7 +44,8 @@ impl Duration {
         ensures ends { IfOk result (λ end. utc_microsecond (date_time_parts end)
             ≡ utc_microsecond (date_time_parts start.now) +ℤ signed_length (parts self.now)) }
         ensures offset { IfOk result (λ end. end.time.tz_offset ≡ start.now.time.tz_offset) }
-        ensures between { IfOk result (λ end. duration_between (date_time_parts start.now) (date_time_parts end) ≡ plain (parts self.now)) }
+        ensures between { IfOk result (λ end. duration_between (date_time_parts start.now) (date_time_parts end)
+            ≡ with_positive_zero (parts self.now)) }
         ensures order { (other : Duration) → IfOk result (λ end. IfOk (date_time_after (signed_length (parts other)) (date_time_parts start.now))
             (λ next. int_cmp (utc_microsecond (date_time_parts end)) (utc_microsecond next)
             ≡ int_cmp (signed_length (parts self.now)) (signed_length (parts other)))) }
@@ -69,7 +70,7 @@ impl Duration {
     /// The duration with the other sign: -PT1S for PT1S, and PT0S for -PT0S.
     #[inline]
     pub fn negated(&self) -> Duration
-        ensures numbers { parts result ≡ turned (parts self.now) }
+        ensures numbers { parts result ≡ negated (parts self.now) }
         ensures length { signed_length (parts result) ≡ neg_ℤ (signed_length (parts self.now)) }
     {
         Duration {
@@ -124,7 +125,7 @@ impl Duration {
     /// two days and 2020-03-01. The faults are those of [`Duration::after_date`].
     #[inline]
     pub fn before_date(&self, start: &Date) -> Result<Date, ParseError>
-        ensures answer { result_map date_parts result ≡ date_after_days (turned (parts self.now)) (date_parts start.now) }
+        ensures answer { result_map date_parts result ≡ date_after_days (negated (parts self.now)) (date_parts start.now) }
     {
         self.negated().after_date(start)
     }

@@ -12,10 +12,10 @@ const TEXT_MAX: usize = 32;
 impl DateTime {
     ghost use Rattle.std.specs.Prelude.{ℕ, ◌≡◌, ◌≤◌, ◌+◌, ◌++◌, ◌↔◌, IsTrue, List, Ok, length};
     ghost use Rattle.arrayvec.specs.ArrayString.{array_string_len};
-    ghost use Rattle.speedate_base.specs.Offset.{IsWholeMinutes};
-    ghost use Rattle.speedate_base.specs.Requirement.{result_map};
     ghost use Rattle.speedate_base.specs.declared.config.TimeConfig.{TimeConfig};
     ghost use Rattle.speedate_base.specs.declared.config.date_time.DateTimeConfig.{DateTimeConfig};
+    ghost use Rattle.speedate_base.specs.Offset.{IsWholeMinutes};
+    ghost use Rattle.speedate_base.specs.Requirement.{result_map};
     ghost use Rattle.speedate_civil.specs.declared.datetime.DateTime.{DateTime};
     ghost use Rattle.speedate_civil.specs.DateTime.{parts};
     ghost use Rattle.speedate_civil.specs.DateTimeText.{date_time_answer, date_time_front, date_time_text};
@@ -32,9 +32,11 @@ impl DateTime {
     #[inline]
     pub fn to_text(&self) -> ArrayString<TEXT_MAX>
         ensures text { result.bytes ≡ date_time_text (parts self.now) }
-        ensures reads_back { IsWholeMinutes self.now.time.tz_offset → (config : TimeConfig) → IsTrue (is_of_form config.rfc3339_form self.now.time.tz_offset)
+        ensures reads_back { IsWholeMinutes self.now.time.tz_offset → (config : TimeConfig)
+            → IsTrue (is_of_form config.rfc3339_form self.now.time.tz_offset)
             → date_time_answer config.rfc3339_form config.microseconds_precision_overflow_behavior result.bytes ≡ Ok (parts self.now) }
-        ensures reads_back_with_config { IsWholeMinutes self.now.time.tz_offset → (config : DateTimeConfig) → IsTrue (is_of_form config.time_config.rfc3339_form self.now.time.tz_offset)
+        ensures reads_back_with_config { IsWholeMinutes self.now.time.tz_offset → (config : DateTimeConfig)
+            → IsTrue (is_of_form config.time_config.rfc3339_form self.now.time.tz_offset)
             → date_time_or_timestamp config.timestamp_unit config.time_config.rfc3339_form
             config.time_config.microseconds_precision_overflow_behavior
             config.time_config.unix_timestamp_offset result.bytes ≡ Ok (parts self.now) }
@@ -43,10 +45,12 @@ impl DateTime {
             → IsTrue (is_after_time (parts self.now).time rest)
             → date_time_front config.rfc3339_form config.microseconds_precision_overflow_behavior (result.bytes ++ rest)
             ≡ Ok (parts self.now, length result.bytes) }
-        ensures canonical { IsWholeMinutes self.now.time.tz_offset → (config : TimeConfig) → IsTrue (is_of_form config.rfc3339_form self.now.time.tz_offset)
+        ensures canonical { IsWholeMinutes self.now.time.tz_offset → (config : TimeConfig)
+            → IsTrue (is_of_form config.rfc3339_form self.now.time.tz_offset)
             → result_map date_time_text (date_time_answer config.rfc3339_form config.microseconds_precision_overflow_behavior result.bytes)
             ≡ Ok result.bytes }
-        ensures canonical_with_config { IsWholeMinutes self.now.time.tz_offset → (config : DateTimeConfig) → IsTrue (is_of_form config.time_config.rfc3339_form self.now.time.tz_offset)
+        ensures canonical_with_config { IsWholeMinutes self.now.time.tz_offset → (config : DateTimeConfig)
+            → IsTrue (is_of_form config.time_config.rfc3339_form self.now.time.tz_offset)
             → result_map date_time_text (date_time_or_timestamp config.timestamp_unit config.time_config.rfc3339_form
             config.time_config.microseconds_precision_overflow_behavior
             config.time_config.unix_timestamp_offset result.bytes) ≡ Ok result.bytes }

@@ -2,13 +2,13 @@
 
 ghost use Rattle.std.specs.Prelude.{◌≡◌, Ok, Err, IfOk, None};
 ghost use Rattle.std.specs.Option.{ForSome};
+ghost use Rattle.speedate_base.specs.declared.config.MicrosecondsPrecisionOverflowBehavior.TheVariants as behavior;
+ghost use Rattle.speedate_base.specs.declared.config.Rfc3339Form.TheVariants as rfc3339;
+ghost use Rattle.speedate_base.specs.declared.config.TimestampUnit.TheVariants as unit;
 ghost use Rattle.speedate_base.specs.Offset.{IsOffset};
 ghost use Rattle.speedate_base.specs.Requirement.{result_map};
 ghost use Rattle.speedate_base.specs.Timestamp.{IsInYears};
 ghost use Rattle.speedate_base.specs.UnixTime.{parts as instant_parts};
-ghost use Rattle.speedate_base.specs.declared.config.MicrosecondsPrecisionOverflowBehavior.TheVariants as behavior;
-ghost use Rattle.speedate_base.specs.declared.config.Rfc3339Form.TheVariants as rfc3339;
-ghost use Rattle.speedate_base.specs.declared.config.TimestampUnit.TheVariants as unit;
 ghost use Rattle.speedate_civil.specs.DateAndTime.{local_second, utc_second, local_millisecond, utc_millisecond, local_microsecond};
 ghost use Rattle.speedate_civil.specs.DateTime.{parts};
 ghost use Rattle.speedate_civil.specs.DateTimeText.{date_time_answer};
@@ -94,7 +94,8 @@ impl DateTime {
         fault: ParseError,
         config: &DateTimeConfig,
     ) -> Result<Self, ParseError>
-        requires { date_time_answer config.now.time_config.rfc3339_form config.now.time_config.microseconds_precision_overflow_behavior bytes.now ≡ Err fault }
+        requires { date_time_answer config.now.time_config.rfc3339_form
+            config.now.time_config.microseconds_precision_overflow_behavior bytes.now ≡ Err fault }
         ensures answer { result_map parts result
             ≡ date_time_or_timestamp config.now.timestamp_unit config.now.time_config.rfc3339_form
             config.now.time_config.microseconds_precision_overflow_behavior

@@ -1,18 +1,18 @@
 //! Offsets from UTC, after a time.
 
 ghost use Rattle.std.specs.Prelude.{◌≡◌, ◌≤◌, ◌+◌, ◌<◌, ◌∷◌, ◌*◌, ◌++◌, ◌-ℤ◌, ◌==◌, ◌||◌, IfOk, Ok, IsTrue, length, drop, codes, if◌then◌else◌, nat_lt, pos, unsigned_abs};
-ghost use Rattle.speedate_base.specs.Digits.{two_digit_value};
-ghost use Rattle.speedate_base.specs.Pattern.{fit_length};
 ghost use Rattle.std.specs.Int.{is_negative};
 ghost use Rattle.std.specs.Option.{ForSome, unwrap_or};
 ghost use Rattle.arrayvec.specs.ArrayString.{array_string_len};
-ghost use Rattle.speedate_base.specs.Ascii.{plus_sign, hyphen, capital_z, small_z};
-ghost use Rattle.speedate_base.specs.Numbers.{with_sign};
-ghost use Rattle.speedate_base.specs.Offset.{IsOffset, seconds_per_day};
-ghost use Rattle.speedate_base.specs.Requirement.{meets};
 ghost use Rattle.speedate_base.specs.declared.config.Rfc3339Form.TheVariants as rfc3339;
 ghost use Rattle.speedate_base.specs.declared.faults.ParseError.TheVariants as fault;
-ghost use Rattle.speedate_civil.specs.OffsetMove.{is_offset, move_table};
+ghost use Rattle.speedate_base.specs.Ascii.{plus_sign, hyphen, capital_z, small_z};
+ghost use Rattle.speedate_base.specs.Digits.{two_digit_value};
+ghost use Rattle.speedate_base.specs.Numbers.{with_sign};
+ghost use Rattle.speedate_base.specs.Offset.{IsOffset, seconds_per_day};
+ghost use Rattle.speedate_base.specs.Pattern.{fit_length};
+ghost use Rattle.speedate_base.specs.Requirement.{meets};
+ghost use Rattle.speedate_civil.specs.OffsetMove.{move_table};
 ghost use Rattle.speedate_civil.specs.OffsetText.{end_fault, has_minus_sign, offset_digits, offset_front, signed_front, offset_minute, offset_digits_length, offset_size_text, offset_text};
 
 use crate::text::two_digit_text;

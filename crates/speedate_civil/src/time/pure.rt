@@ -32,10 +32,10 @@ pub struct PureTime {
 }
 
 impl PureTime {
+    ghost use Rattle.std.specs.Option.{ForSome};
+    ghost use Rattle.speedate_base.specs.Offset.{IsOffset};
     ghost use Rattle.speedate_base.specs.Requirement.{result_map};
     ghost use Rattle.speedate_civil.specs.ClockText.{at_hour, clock_answer, clock_front, minute_front};
-    ghost use Rattle.speedate_base.specs.Offset.{IsOffset};
-    ghost use Rattle.std.specs.Option.{ForSome};
     ghost use Rattle.speedate_civil.specs.PureTime.{parts};
     ghost use Rattle.speedate_civil.specs.Time.{parts as time_parts};
     ghost use Rattle.speedate_civil.specs.TimeText.{time_of};

@@ -14,9 +14,9 @@ const TEXT_MAX: usize = 21;
 impl Time {
     ghost use Rattle.std.specs.Prelude.{ℕ, ◌+◌, ◌++◌, ◌↔◌, IsTrue, List, Ok, length};
     ghost use Rattle.arrayvec.specs.ArrayString.{array_string_len};
+    ghost use Rattle.speedate_base.specs.declared.config.TimeConfig.{TimeConfig};
     ghost use Rattle.speedate_base.specs.Offset.{IsWholeMinutes};
     ghost use Rattle.speedate_base.specs.Requirement.{result_map};
-    ghost use Rattle.speedate_base.specs.declared.config.TimeConfig.{TimeConfig};
     ghost use Rattle.speedate_civil.specs.declared.time.Time.{Time};
     ghost use Rattle.speedate_civil.specs.Time.{parts};
     ghost use Rattle.speedate_civil.specs.TimeText.{time_answer, time_front, clock_text, time_text, is_after_time, is_of_form};
@@ -31,14 +31,16 @@ impl Time {
     #[inline]
     pub fn to_text(&self) -> ArrayString<TEXT_MAX>
         ensures text { result.bytes ≡ time_text (parts self.now) }
-        ensures reads_back { IsWholeMinutes self.now.tz_offset → (config : TimeConfig) → IsTrue (is_of_form config.rfc3339_form self.now.tz_offset)
+        ensures reads_back { IsWholeMinutes self.now.tz_offset → (config : TimeConfig)
+            → IsTrue (is_of_form config.rfc3339_form self.now.tz_offset)
             → time_answer config.rfc3339_form config.microseconds_precision_overflow_behavior result.bytes ≡ Ok (parts self.now) }
         ensures reads_front { IsWholeMinutes self.now.tz_offset → (config : TimeConfig) (rest : List ℕ)
             → IsTrue (is_of_form config.rfc3339_form self.now.tz_offset)
             → IsTrue (is_after_time (parts self.now) rest)
             → time_front config.rfc3339_form config.microseconds_precision_overflow_behavior (result.bytes ++ rest)
             ≡ Ok (parts self.now, length result.bytes) }
-        ensures canonical { IsWholeMinutes self.now.tz_offset → (config : TimeConfig) → IsTrue (is_of_form config.rfc3339_form self.now.tz_offset)
+        ensures canonical { IsWholeMinutes self.now.tz_offset → (config : TimeConfig)
+            → IsTrue (is_of_form config.rfc3339_form self.now.tz_offset)
             → result_map time_text (time_answer config.rfc3339_form config.microseconds_precision_overflow_behavior result.bytes)
             ≡ Ok result.bytes }
         ensures distinct { IsWholeMinutes self.now.tz_offset → (other : Time) → IsWholeMinutes other.tz_offset
