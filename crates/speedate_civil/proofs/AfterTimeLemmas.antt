@@ -23,7 +23,7 @@ use Rattle.speedate_civil.specs.DateTimeText.{date_and_time, date_time_front, da
 use Rattle.speedate_civil.proofs.DateTimeLemmas.{date_time_text-front, date_time_text-parted}
 use Rattle.speedate_civil.proofs.FrontLemmas.{clock-size}
 use Rattle.speedate_civil.specs.OffsetText.{begins_offset, has_minus_sign, is_utc, offset_digits, offset_digits_length, offset_front, offset_ranges, offset_size, signed_front}
-use Rattle.speedate_civil.proofs.OffsetLemmas.{without_sign, one_byte, three_bytes, no_byte, utc-read}
+use Rattle.speedate_civil.proofs.OffsetLemmas.{minus_sign-front, signed-front, utc-front}
 use Rattle.speedate_civil.specs.TimeOfDay.{TimeOfDay, IsTime}
 use Rattle.speedate_civil.specs.TimeText.{clock_text, continues_fraction, is_after_time, is_of_form, joined, time_front, time_text, with_offset}
 use Rattle.speedate_civil.proofs.TimeLemmas.{time_text-front}
@@ -40,18 +40,11 @@ begins-none : (rest : List ℕ) (front : Option ℤ × ℕ) (minus signed utc : 
     → ((slice_index rest 0 == plus_sign) || (slice_index rest 0 == hyphen)) ≡ signed → is_utc rest ≡ utc
     → offset_front rfc3339.Relaxed rest ≡ Ok front → front.0 ≡ None → begins_offset rest ≡ false
 begins-none rest front true signed utc there some zulu read none =
-    let byte = slice_index rest 0 in
-    let digits = sym (three_bytes rfc3339.Relaxed (has_minus_sign rfc3339.Relaxed rest) (byte == plus_sign) (byte == hyphen) (without_sign rfc3339.Relaxed rest) rest there) ∙ read in
-    absurd (signed-some true 3 (drop 3 rest) front digits none)
+    absurd (signed-some true 3 (drop 3 rest) front (sym (minus_sign-front rfc3339.Relaxed rest there) ∙ read) none)
 begins-none rest front false true utc no_minus some zulu read none =
-    let byte = slice_index rest 0 in
-    let digits = sym (one_byte rfc3339.Relaxed (has_minus_sign rfc3339.Relaxed rest) (byte == plus_sign) (byte == hyphen) (without_sign rfc3339.Relaxed rest) rest no_minus some) ∙ read in
-    absurd (signed-some (byte == hyphen) 1 (drop 1 rest) front digits none)
+    absurd (signed-some (slice_index rest 0 == hyphen) 1 (drop 1 rest) front (sym (signed-front rfc3339.Relaxed rest some) ∙ read) none)
 begins-none rest front false false true no_minus no_sign zulu read none =
-    let byte = slice_index rest 0 in
-    let is : ◌≡◌ {A = Result (Option ℤ × ℕ) ParseError} (Ok (Some (pos 0), 1)) (Ok front) =
-    sym (utc-read rfc3339.Relaxed rest zulu)
-    ∙ sym (no_byte rfc3339.Relaxed (has_minus_sign rfc3339.Relaxed rest) (byte == plus_sign) (byte == hyphen) (without_sign rfc3339.Relaxed rest) rest no_minus no_sign) ∙ read in
+    let is : ◌≡◌ {A = Result (Option ℤ × ℕ) ParseError} (Ok (Some (pos 0), 1)) (Ok front) = sym (utc-front rfc3339.Relaxed rest zulu) ∙ read in
     let front_is : ◌≡◌ {A = Option ℤ × ℕ} (Some (pos 0), 1) front = cc in
     let some : Some (pos 0) ≡ None = ap (λ (pair : Option ℤ × ℕ). pair.0) front_is ∙ none in
     absurd (cc)

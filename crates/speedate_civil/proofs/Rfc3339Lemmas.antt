@@ -211,8 +211,8 @@ offset-parts byte numbers front (inl after) whole =
     let all : front.1 ≡ 1 + length numbers = omega (arith, whole) in
     inr (inr (numoffset byte numbers front after.0 after.1 (numoffset-length numbers front (byte == hyphen) after.1 all)))
 offset-parts byte numbers front (inr utc) whole =
-    let none : numbers ≡ [] = nothing-left numbers (omega (arith, ap (λ (pair : Option ℤ × ℕ). pair.1) utc.2, whole)) in
-    subst (λ (left : List ℕ). IsTimeOffset (byte ∷ left)) (sym none) (utc-of byte (one-of byte capital_z small_z _ _ refl refl utc.1))
+    let none : numbers ≡ [] = nothing-left numbers (omega (arith, ap (λ (pair : Option ℤ × ℕ). pair.1) utc.1, whole)) in
+    subst (λ (left : List ℕ). IsTimeOffset (byte ∷ left)) (sym none) (utc-of byte (one-of byte capital_z small_z _ _ refl refl utc.0))
 
 offset-all : (rest : List ℕ) (front : Option ℤ × ℕ) → offset_front rfc3339.Strict rest ≡ Ok front → front.1 ≡ length rest → IsTimeOffset rest
 offset-all [] front read whole = absurd (cc)
