@@ -15,15 +15,14 @@ use Rattle.speedate_base.specs.Digits.{six_digit_text, two_digit_text}
 use Rattle.speedate_base.proofs.DigitLemmas.{six_digits-printed}
 use Rattle.speedate_base.specs.Numbers.{with_sign}
 use Rattle.speedate_base.specs.Offset.{IsWholeMinutes}
-use Rattle.speedate_base.specs.Requirement.{meets}
-use Rattle.speedate_base.proofs.RequirementLemmas.{and_then-ok, map-ok, meets-ok, meets-value}
+use Rattle.speedate_base.proofs.RequirementLemmas.{and_then-ok, map-ok}
 use Rattle.speedate_civil.specs.ClockText.{Clock, clock_front, is_decimal_mark, minute_text}
 use Rattle.speedate_civil.specs.DateAndTime.{DateAndTime, IsDateAndTime}
 use Rattle.speedate_civil.specs.DateTimeText.{date_and_time, date_time_front, date_time_text}
 use Rattle.speedate_civil.proofs.DateTimeLemmas.{date_time_text-front, date_time_text-parted}
 use Rattle.speedate_civil.proofs.FrontLemmas.{clock-size}
-use Rattle.speedate_civil.specs.OffsetText.{begins_offset, has_minus_sign, is_utc, offset_digits, offset_digits_length, offset_front, offset_ranges, offset_size, signed_front}
-use Rattle.speedate_civil.proofs.OffsetLemmas.{minus_sign-front, signed-front, utc-front}
+use Rattle.speedate_civil.specs.OffsetText.{begins_offset, has_minus_sign, is_utc, offset_front, offset_size, signed_front}
+use Rattle.speedate_civil.proofs.OffsetLemmas.{signed-offset, minus_sign-front, signed-front, utc-front}
 use Rattle.speedate_civil.specs.TimeOfDay.{TimeOfDay, IsTime}
 use Rattle.speedate_civil.specs.TimeText.{clock_text, continues_fraction, is_after_time, is_of_form, joined, time_front, time_text, with_offset}
 use Rattle.speedate_civil.proofs.TimeLemmas.{time_text-front}
@@ -31,9 +30,7 @@ use Rattle.speedate_civil.proofs.TimeLemmas.{time_text-front}
 -- a text after which no offset was read begins none
 signed-some : (west : Bool) (sign : ℕ) (numbers : List ℕ) (front : Option ℤ × ℕ) → signed_front rfc3339.Relaxed west sign numbers ≡ Ok front → front.0 ≡ None → ⊥
 signed-some west sign numbers front read none =
-    let next : Result (Option ℤ × ℕ) ParseError = meets (offset_ranges numbers) (Ok (Some (with_sign west (offset_size numbers)), sign + offset_digits_length numbers)) in
-    let last = meets-value (offset_ranges numbers) _ front (meets-ok (offset_digits rfc3339.Relaxed numbers) next front read).1 in
-    let some : Some (with_sign west (offset_size numbers)) ≡ None = ap (λ (pair : Option ℤ × ℕ). pair.0) last.1 ∙ none in
+    let some : Some (with_sign west (offset_size numbers)) ≡ None = ap (λ (pair : Option ℤ × ℕ). pair.0) (signed-offset rfc3339.Relaxed west sign numbers front read).is ∙ none in
     absurd (cc)
 
 begins-none : (rest : List ℕ) (front : Option ℤ × ℕ) (minus signed utc : Bool) → has_minus_sign rfc3339.Relaxed rest ≡ minus

@@ -14,7 +14,6 @@ use Rattle.speedate_base.specs.Ascii.{colon, hyphen, plus_sign}
 use Rattle.speedate_base.specs.DigitRuns.{run_length, run_digits}
 use Rattle.speedate_base.specs.Digits.{two_digit_value}
 use Rattle.speedate_base.specs.Form.{is_strict}
-use Rattle.speedate_base.specs.Numbers.{with_sign}
 use Rattle.speedate_base.specs.Requirement.{AllHold, alone, meets, result_map, result_and_then}
 use Rattle.speedate_base.proofs.RequirementLemmas.{alone-whole, and_then-ok, map-ok, meets-all, meets-ok, meets-value}
 use Rattle.speedate_civil.specs.Calendar.{Ymd}
@@ -22,8 +21,8 @@ use Rattle.speedate_civil.specs.ClockText.{Clock, at_hour, is_decimal_mark, leas
 use Rattle.speedate_civil.specs.DateAndTime.{DateAndTime}
 use Rattle.speedate_civil.specs.DateText.{date_front, date_answer, date_numbers, date_table}
 use Rattle.speedate_civil.specs.DateTimeText.{date_and_time, date_time_answer, date_time_front, is_separator, separator_table, with_time}
-use Rattle.speedate_civil.specs.OffsetText.{end_fault, has_minus_sign, is_utc, unsigned_table, unsigned_front, offset_front, offset_digits, offset_ranges, offset_size, signed_front, offset_digits_length}
-use Rattle.speedate_civil.proofs.OffsetLemmas.{StrictOffset, strict-offset, strict-unsigned, relaxed-unsigned, minus_sign-front, signed-front, unsigned-front, utc-front}
+use Rattle.speedate_civil.specs.OffsetText.{end_fault, has_minus_sign, is_utc, unsigned_table, unsigned_front, offset_front, signed_front, offset_digits_length}
+use Rattle.speedate_civil.proofs.OffsetLemmas.{signed-offset, StrictOffset, strict-offset, strict-unsigned, relaxed-unsigned, minus_sign-front, signed-front, unsigned-front, utc-front}
 use Rattle.speedate_civil.specs.TimeOfDay.{TimeOfDay}
 use Rattle.speedate_civil.specs.TimeText.{joined, with_offset, time_front, time_answer}
 
@@ -110,13 +109,9 @@ digits-taken form west sign numbers false there =
     rw (there) cc
 
 -- the sign of an offset
-pub signed-taken : (form : Rfc3339Form) (west : Bool) (sign : ℕ) (rest : List ℕ) (front : Option ℤ × ℕ) → signed_front form west sign (drop sign rest) ≡ Ok front
+signed-taken : (form : Rfc3339Form) (west : Bool) (sign : ℕ) (rest : List ℕ) (front : Option ℤ × ℕ) → signed_front form west sign (drop sign rest) ≡ Ok front
     → front.1 ≡ sign + offset_digits_length (drop sign rest)
-signed-taken form west sign rest front read =
-    let numbers : List ℕ = drop sign rest in
-    let next : Result (Option ℤ × ℕ) ParseError = meets (offset_ranges numbers) (Ok (Some (with_sign west (offset_size numbers)), sign + offset_digits_length numbers)) in
-    let last = meets-value (offset_ranges numbers) _ front (meets-ok (offset_digits form numbers) next front read).1 in
-    sym (ap (λ (pair : Option ℤ × ℕ). pair.1) last.1)
+signed-taken form west sign rest front read = sym (ap (λ (pair : Option ℤ × ℕ). pair.1) (signed-offset form west sign (drop sign rest) front read).is)
 
 -- no offset, which the relaxed form takes
 nothing-read : (form : Rfc3339Form) → is_strict form ≡ false → offset_front form [] ≡ Ok (None, 0)

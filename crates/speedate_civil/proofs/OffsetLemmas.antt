@@ -13,9 +13,9 @@ use Rattle.speedate_base.proofs.DigitLemmas.{two_digits-printed, two_digit_value
 use Rattle.speedate_base.specs.Form.{is_strict}
 use Rattle.speedate_base.specs.Numbers.{with_sign}
 use Rattle.speedate_base.specs.Offset.{IsOffset, IsWholeMinutes, seconds_per_day}
-use Rattle.speedate_base.specs.Requirement.{meets}
-use Rattle.speedate_base.proofs.RequirementLemmas.{implies-true}
-use Rattle.speedate_civil.specs.OffsetText.{begins_offset, has_minus_sign, offset_front, offset_text, offset_size_text, signed_front, is_utc, unsigned_table, unsigned_front}
+use Rattle.speedate_base.specs.Requirement.{AllHold, meets}
+use Rattle.speedate_base.proofs.RequirementLemmas.{implies-true, meets-ok, meets-value}
+use Rattle.speedate_civil.specs.OffsetText.{begins_offset, has_minus_sign, offset_digits, offset_digits_length, offset_front, offset_ranges, offset_size, offset_text, offset_size_text, signed_front, is_utc, unsigned_table, unsigned_front}
 use Rattle.speedate_civil.specs.TimeText.{is_of_form}
 
 -- the offset by what a text begins with: U+2212, `+` or `-`, or no sign
@@ -103,6 +103,20 @@ pub utc-front : (form : Rfc3339Form) (rest : List ℕ) → is_utc rest ≡ true 
 utc-front form rest utc =
     let byte = slice_index rest 0 in
     unsigned-front form rest (no_minus_sign form _ (no_minus-utc byte _ _ utc)) (no_sign-utc byte utc) ∙ utc-read form rest utc
+
+-- an offset that was read after its sign: the rows of its tables hold, and it is the one of the text
+pub record SignedOffset (form : Rfc3339Form) (west : Bool) (sign : ℕ) (numbers : List ℕ) (front : Option ℤ × ℕ) : Type 0 where
+  pub digits : AllHold (offset_digits form numbers)
+  pub ranges : AllHold (offset_ranges numbers)
+  pub is : (Some (with_sign west (offset_size numbers)), sign + offset_digits_length numbers) ≡ front
+
+pub signed-offset : (form : Rfc3339Form) (west : Bool) (sign : ℕ) (numbers : List ℕ) (front : Option ℤ × ℕ) → signed_front form west sign numbers ≡ Ok front
+    → SignedOffset form west sign numbers front
+signed-offset form west sign numbers front read =
+    let value : Option ℤ × ℕ = (Some (with_sign west (offset_size numbers)), sign + offset_digits_length numbers) in
+    let digits_met = meets-ok (offset_digits form numbers) (meets (offset_ranges numbers) (Ok value)) front read in
+    let ranges_met = meets-value (offset_ranges numbers) value front digits_met.1 in
+    record { digits = digits_met.0; ranges = ranges_met.0; is = ranges_met.1 }
 
 -- an offset that was read in the strict form: after one byte of a sign, or UTC
 abbrev pub StrictOffset : List ℕ → Option ℤ × ℕ → Type 0

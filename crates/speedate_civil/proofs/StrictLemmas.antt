@@ -21,7 +21,7 @@ use Rattle.speedate_civil.specs.DateText.{date_front}
 use Rattle.speedate_civil.specs.DateTimeText.{date_and_time, date_time_front, date_time_answer, is_separator, separator_table, with_time}
 use Rattle.speedate_civil.proofs.FrontLemmas.{clock-read, clock-size, clock-second}
 use Rattle.speedate_civil.specs.OffsetText.{end_fault, offset_digits, offset_digits_length, offset_front, offset_ranges, offset_size, signed_front}
-use Rattle.speedate_civil.proofs.OffsetLemmas.{StrictOffset, strict-offset, signed-front, utc-front}
+use Rattle.speedate_civil.proofs.OffsetLemmas.{signed-offset, StrictOffset, strict-offset, signed-front, utc-front}
 use Rattle.speedate_civil.specs.TimeOfDay.{TimeOfDay}
 use Rattle.speedate_civil.specs.TimeText.{joined, with_offset, time_front, time_answer}
 
@@ -29,9 +29,10 @@ use Rattle.speedate_civil.specs.TimeText.{joined, with_offset, time_front, time_
 signed-relaxed : (west : Bool) (sign : ℕ) (numbers : List ℕ) (front : Option ℤ × ℕ) → signed_front rfc3339.Strict west sign numbers ≡ Ok front
     → signed_front rfc3339.Relaxed west sign numbers ≡ Ok front
 signed-relaxed west sign numbers front read =
-    let next : Result (Option ℤ × ℕ) ParseError = meets (offset_ranges numbers) (Ok (Some (with_sign west (offset_size numbers)), sign + offset_digits_length numbers)) in
-    let met = meets-ok (offset_digits rfc3339.Strict numbers) next front read in
-    meets-all (offset_digits rfc3339.Relaxed numbers) next (met.0.0, (refl, met.0.1.1)) ∙ met.1
+    let value : Option ℤ × ℕ = (Some (with_sign west (offset_size numbers)), sign + offset_digits_length numbers) in
+    let rows = signed-offset rfc3339.Strict west sign numbers front read in
+    meets-all (offset_digits rfc3339.Relaxed numbers) (meets (offset_ranges numbers) (Ok value)) (rows.digits.0, (refl, rows.digits.1.1))
+    ∙ meets-all (offset_ranges numbers) (Ok value) rows.ranges ∙ ap Ok rows.is
 
 -- an offset is read in both forms, and no decimal mark begins it
 offset-relaxed : (rest : List ℕ) (front : Option ℤ × ℕ) → StrictOffset rest front
