@@ -129,7 +129,7 @@ ends-between result start numbers valid same =
     IfOk-weaker result (λ end. utc_microsecond (date_time_parts end) ≡ utc_microsecond start +ℤ signed_length numbers)
     (λ end. duration_between start (date_time_parts end) ≡ with_positive_zero numbers)
     (λ end is. ap duration_of_length (between-again (utc_microsecond start) (utc_microsecond (date_time_parts end)) (signed_length numbers) is)
-            ∙ duration_of_length-signed_length numbers valid) same
+    ∙ duration_of_length-signed_length numbers valid) same
 
 -- the end of a longer duration is later
 sum-order : (start one two : ℤ) → int_cmp (start +ℤ one) (start +ℤ two) ≡ int_cmp one two
