@@ -5,6 +5,7 @@ use Rattle.std.specs.Ordering.{int_cmp}
 use Rattle.std.proofs.Common.{arith, ◌∙◌, ap, sym}
 use Rattle.std.proofs.lemmas.Bool.Decides.{nat_tests}
 use Rattle.std.proofs.lemmas.Int.{ints}
+use Rattle.std.proofs.lemmas.Result.{IfOk-weaker}
 use Rattle.speedate_base.specs.declared.faults.ParseError.{ParseError}
 use Rattle.speedate_base.specs.Numbers.{with_sign}
 use Rattle.speedate_base.specs.Timestamp.{Instant, instant_at}
@@ -55,19 +56,15 @@ duration_of_length-signed_length numbers valid =
     ∙ ap (λ (found : DurationNumbers). record found { positive = positive }) (of_length-only numbers valid)
 
 -- how large the seconds of a duration are
-signs-small : (negative : Bool) (size : ℕ) → size < 86400000000000 → unsigned_abs (with_sign negative size) < 86400000000000
-signs-small true size small = omega (arith, ints, small)
-signs-small false size small = small
-
-small-sign : (negative : Bool) (size : ℕ) → size < 1000000 → unsigned_abs (with_sign negative size) < 1000000
-small-sign true size small = omega (arith, ints, small)
-small-sign false size small = small
+size-kept : (negative : Bool) (size bound : ℕ) → size < bound → unsigned_abs (with_sign negative size) < bound
+size-kept true size bound small = omega (arith, ints, small)
+size-kept false size bound small = small
 
 pub signed_seconds-small : (numbers : DurationNumbers) → IsDuration numbers → unsigned_abs (signed_seconds numbers) < 86400000000000
-signed_seconds-small numbers valid = signs-small (not numbers.positive) (length_seconds numbers) (omega (arith, valid.day, valid.second))
+signed_seconds-small numbers valid = size-kept (not numbers.positive) (length_seconds numbers) 86400000000000 (omega (arith, valid.day, valid.second))
 
 pub signed_microsecond-small : (numbers : DurationNumbers) → IsDuration numbers → unsigned_abs (signed_microsecond numbers) < 1000000
-signed_microsecond-small numbers valid = small-sign (not numbers.positive) numbers.microsecond valid.microsecond
+signed_microsecond-small numbers valid = size-kept (not numbers.positive) numbers.microsecond 1000000 valid.microsecond
 
 -- the instant of the seconds of both and of the microseconds that are left of both
 sums-joined : (second length seconds microseconds : ℤ) (own : ℕ) → length ≡ pos 1000000 *ℤ seconds +ℤ microseconds
@@ -117,8 +114,9 @@ pub shown-ends : (result : Result DateTime ParseError) (length : ℤ) (start : D
     → instant ≡ instant_at 1000000 (local_microsecond start +ℤ length)
     → IfOk result (λ value. IsShownAt start.time.offset instant (date_time_parts value))
     → IfOk result (λ end. utc_microsecond (date_time_parts end) ≡ utc_microsecond start +ℤ length)
-shown-ends (Ok value) length start instant same shown = shown-later start (date_time_parts value) instant length same shown
-shown-ends (Err fault) length start instant same shown = tt
+shown-ends result length start instant same shown =
+    IfOk-weaker result (λ value. IsShownAt start.time.offset instant (date_time_parts value)) (λ end. utc_microsecond (date_time_parts end) ≡ utc_microsecond start +ℤ length)
+    (λ value. shown-later start (date_time_parts value) instant length same) shown
 
 -- from a start to the end of a duration after it is that duration
 between-again : (start end length : ℤ) → end ≡ start +ℤ length → end -ℤ start ≡ length
@@ -127,10 +125,11 @@ between-again start end length same = omega (arith, ints, same)
 pub ends-between : (result : Result DateTime ParseError) (start : DateAndTime) (numbers : DurationNumbers) → IsDuration numbers
     → IfOk result (λ end. utc_microsecond (date_time_parts end) ≡ utc_microsecond start +ℤ signed_length numbers)
     → IfOk result (λ end. duration_between start (date_time_parts end) ≡ with_positive_zero numbers)
-ends-between (Ok end) start numbers valid same =
-    ap duration_of_length (between-again (utc_microsecond start) (utc_microsecond (date_time_parts end)) (signed_length numbers) same)
-    ∙ duration_of_length-signed_length numbers valid
-ends-between (Err fault) start numbers valid same = tt
+ends-between result start numbers valid same =
+    IfOk-weaker result (λ end. utc_microsecond (date_time_parts end) ≡ utc_microsecond start +ℤ signed_length numbers)
+    (λ end. duration_between start (date_time_parts end) ≡ with_positive_zero numbers)
+    (λ end is. ap duration_of_length (between-again (utc_microsecond start) (utc_microsecond (date_time_parts end)) (signed_length numbers) is)
+    ∙ duration_of_length-signed_length numbers valid) same
 
 -- the end of a longer duration is later
 sum-order : (start one two : ℤ) → int_cmp (start +ℤ one) (start +ℤ two) ≡ int_cmp one two
@@ -142,27 +141,24 @@ sum-order start one two =
 order-after : (end : ℤ) (answer : Result DateAndTime ParseError) (start one two : ℤ) → end ≡ start +ℤ one
     → IfOk answer (λ next. utc_microsecond next ≡ start +ℤ two)
     → IfOk answer (λ next. int_cmp end (utc_microsecond next) ≡ int_cmp one two)
-order-after end (Ok next) start one two same later =
-    ap (λ (n : ℤ). int_cmp n (utc_microsecond next)) same ∙ ap (int_cmp (start +ℤ one)) later ∙ sum-order start one two
-order-after end (Err fault) start one two same later = tt
+order-after end answer start one two same later =
+    IfOk-weaker answer (λ next. utc_microsecond next ≡ start +ℤ two) (λ next. int_cmp end (utc_microsecond next) ≡ int_cmp one two)
+    (λ next is. ap (λ (n : ℤ). int_cmp n (utc_microsecond next)) same ∙ ap (int_cmp (start +ℤ one)) is ∙ sum-order start one two) later
 
 pub ends-order : (result : Result DateTime ParseError) (start : DateAndTime) (one two : ℤ)
     → IfOk result (λ end. utc_microsecond (date_time_parts end) ≡ utc_microsecond start +ℤ one)
     → IfOk result (λ end. IfOk (date_time_after two start) (λ next. int_cmp (utc_microsecond (date_time_parts end)) (utc_microsecond next) ≡ int_cmp one two))
-ends-order (Ok end) start one two same =
-    order-after (utc_microsecond (date_time_parts end)) (date_time_after two start) (utc_microsecond start) one two same (date_time_after-ends two start)
-ends-order (Err fault) start one two same = tt
+ends-order result start one two same =
+    IfOk-weaker result (λ end. utc_microsecond (date_time_parts end) ≡ utc_microsecond start +ℤ one)
+    (λ end. IfOk (date_time_after two start) (λ next. int_cmp (utc_microsecond (date_time_parts end)) (utc_microsecond next) ≡ int_cmp one two))
+    (λ end is. order-after (utc_microsecond (date_time_parts end)) (date_time_after two start) (utc_microsecond start) one two is (date_time_after-ends two start)) same
 
 -- after the duration between two date-times comes the instant of the second
 back : (earlier later length : ℤ) → length ≡ later -ℤ earlier → earlier +ℤ length ≡ later
 back earlier later length same = omega (arith, ints, same)
 
-reached : (answer : Result DateAndTime ParseError) (earlier later length : ℤ) → length ≡ later -ℤ earlier
-    → IfOk answer (λ end. utc_microsecond end ≡ earlier +ℤ length) → IfOk answer (λ end. utc_microsecond end ≡ later)
-reached (Ok end) earlier later length same ends = ends ∙ back earlier later length same
-reached (Err fault) earlier later length same ends = tt
-
 pub between-ends : (earlier later : DateAndTime) (length : ℤ) → length ≡ utc_microsecond later -ℤ utc_microsecond earlier
     → IfOk (date_time_after length earlier) (λ end. utc_microsecond end ≡ utc_microsecond later)
 between-ends earlier later length same =
-    reached (date_time_after length earlier) (utc_microsecond earlier) (utc_microsecond later) length same (date_time_after-ends length earlier)
+    IfOk-weaker (date_time_after length earlier) (λ end. utc_microsecond end ≡ utc_microsecond earlier +ℤ length) (λ end. utc_microsecond end ≡ utc_microsecond later)
+    (λ end is. is ∙ back (utc_microsecond earlier) (utc_microsecond later) length same) (date_time_after-ends length earlier)
