@@ -1,5 +1,5 @@
 -- The duration between two values, and the value so long after another: lengths with their sign, and the instants that they lead to.
-use Rattle.std.specs.Prelude.{◌≡◌, ℕ, zero, suc, ◌+◌, ◌*◌, ◌<◌, Bool, true, false, not, ◌||◌, ◌==◌, ℤ, pos, negsuc, neg_ℤ, ◌+ℤ◌, ◌-ℤ◌, ◌*ℤ◌, Option, Result, Ok, Err, IfOk, unsigned_abs, refl}
+use Rattle.std.specs.Prelude.{◌≡◌, ℕ, zero, suc, ◌+◌, ◌*◌, ◌<◌, ◌≤◌, Bool, true, false, not, ◌||◌, ◌==◌, ℤ, pos, negsuc, neg_ℤ, ◌+ℤ◌, ◌-ℤ◌, ◌*ℤ◌, ◌≤ℤ◌, Option, Result, Ok, Err, IfOk, unsigned_abs, refl}
 use Rattle.std.specs.Option.{unwrap_or}
 use Rattle.std.specs.Ordering.{int_cmp}
 use Rattle.std.proofs.Common.{arith, ◌∙◌, ap, sym}
@@ -8,13 +8,15 @@ use Rattle.std.proofs.lemmas.Int.{ints}
 use Rattle.std.proofs.lemmas.Result.{IfOk-weaker}
 use Rattle.speedate_base.specs.declared.faults.ParseError.{ParseError}
 use Rattle.speedate_base.specs.Numbers.{with_sign}
-use Rattle.speedate_base.specs.Timestamp.{Instant, instant_at}
+use Rattle.speedate_base.specs.Offset.{seconds_per_day}
+use Rattle.speedate_base.specs.Timestamp.{Instant, first_second, last_second, instant_at}
 use Rattle.speedate_base.proofs.TimestampLemmas.{instant_microsecond}
 use Rattle.speedate_civil.specs.declared.datetime.DateTime.{DateTime}
-use Rattle.speedate_civil.specs.DateAndTime.{DateAndTime, local_second, local_microsecond, utc_microsecond}
+use Rattle.speedate_civil.specs.DateAndTime.{DateAndTime, IsDateAndTime, local_second, local_microsecond, utc_microsecond}
 use Rattle.speedate_civil.specs.DateTime.{parts as date_time_parts}
-use Rattle.speedate_civil.proofs.DateTimeInstantLemmas.{million-each, instant_date_time-shown}
 use Rattle.speedate_civil.specs.DateTimeTimestamp.{IsShownAt}
+use Rattle.speedate_civil.proofs.DateTimeInstantLemmas.{million-each, instant_date_time-shown}
+use Rattle.speedate_civil.proofs.DateTimeValueLemmas.{offset-small, local_second-late, local_second-early}
 use Rattle.speedate_civil.proofs.InstantOrderLemmas.{left-order}
 use Rattle.speedate.proofs.DurationLemmas.{of_length-only}
 use Rattle.speedate.specs.DurationMove.{signed_length, duration_of_length, with_positive_zero, duration_between, date_time_after}
@@ -162,3 +164,23 @@ pub between-ends : (earlier later : DateAndTime) (length : ℤ) → length ≡ u
 between-ends earlier later length same =
     IfOk-weaker (date_time_after length earlier) (λ end. utc_microsecond end ≡ utc_microsecond earlier +ℤ length) (λ end. utc_microsecond end ≡ utc_microsecond later)
     (λ end is. is ∙ back (utc_microsecond earlier) (utc_microsecond later) length same) (date_time_after-ends length earlier)
+
+-- there are fewer than 3,652,427 days between two date-times
+few-days : (length : ℤ) → unsigned_abs length < 315569692800000000 → (duration_of_length length).day ≤ 3652426
+few-days (pos length) small = omega (arith, ints, small)
+few-days (negsuc below) small = omega (arith, ints, small)
+
+apart : (one two : ℕ) (second seconds offset other : ℤ) → first_second ≤ℤ second → second ≤ℤ last_second → first_second ≤ℤ seconds → seconds ≤ℤ last_second
+    → unsigned_abs offset < seconds_per_day → unsigned_abs other < seconds_per_day → one ≤ 999999 → two ≤ 999999
+    → unsigned_abs ((pos 1000000 *ℤ (second -ℤ offset) +ℤ pos one) -ℤ (pos 1000000 *ℤ (seconds -ℤ other) +ℤ pos two)) < 315569692800000000
+apart one two second seconds offset other late early later earlier near by small little = omega (arith, ints)
+
+pub between-days : (numbers : DurationNumbers) (length : ℤ) (earlier later : DateAndTime) → IsDateAndTime earlier → IsDateAndTime later
+    → numbers ≡ duration_of_length length → length ≡ utc_microsecond later -ℤ utc_microsecond earlier → numbers.day ≤ 3652426
+between-days numbers length earlier later valid other is same =
+    rw (is, same)
+    (few-days (utc_microsecond later -ℤ utc_microsecond earlier)
+    (apart later.time.microsecond earlier.time.microsecond (local_second later) (local_second earlier) (unwrap_or later.time.offset (pos 0)) (unwrap_or earlier.time.offset (pos 0))
+    (local_second-late later other) (local_second-early later other) (local_second-late earlier valid) (local_second-early earlier valid)
+    (offset-small later.time.offset other.time.offset) (offset-small earlier.time.offset valid.time.offset)
+    other.time.microsecond valid.time.microsecond))

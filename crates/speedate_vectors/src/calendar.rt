@@ -67,6 +67,23 @@ fn days_of_the_year_and_midnights(rt: HostRuntime) {
     }
 }
 
+/// The date in `jiff`'s civil calendar.
+fn civil_date(date: &Date) -> Result<civil::Date, jiff::Error> {
+    civil::Date::new(date.year as i16, date.month as i8, date.day as i8)
+}
+
+#[test]
+fn days_between_dates_all_over_the_calendar(rt: HostRuntime) -> Result<(), Fail> {
+    for step in 0..20_000 {
+        let date = Date::from_day_number(step * 7_919 % 3_652_425).expect(&rt, "a date");
+        let other = Date::from_day_number(step * 104_729 % 3_652_425).expect(&rt, "a date");
+        let days = civil_date(&date)?.until(civil_date(&other)?)?.get_days();
+        assert_eq!(rt; other.days_since(&date), days, "{date} {other}");
+        assert_eq!(rt; date.checked_add_days(days), Some(other), "{date} {days}");
+    }
+    Ok(())
+}
+
 #[test]
 fn each_day_of_the_calendar(rt: HostRuntime) -> Result<(), Fail> {
     let first = value::<Date, _>(&rt, "0000-01-01");

@@ -1,7 +1,6 @@
 //! Values at the fronts of texts, and how many bytes they take.
 
 use crate::configs::time_config;
-use crate::logs::{are_in_order, is_between, is_in_order};
 use crate::rows::{bytes, expect_front, quoted, value, words};
 use arrayvec::ArrayString;
 use speedate::{Date, DateTime, ParseError, Time, TimeConfig};
@@ -360,55 +359,4 @@ fn cuts(rt: HostRuntime) {
             want,
         );
     }
-}
-
-/// Lines of a log, and whether they lie between 12:13:14 and 12:13:15 in UTC on 22 November 2026.
-const LOG: &str = "\
-2026-11-22T12:13:13.999999Z GET /     no
-2026-11-22T12:13:14Z GET /            yes
-2026-11-22T13:13:14.5+01:00 GET /     yes
-2026-11-22 12:13:15.9999994321 GET /  yes
-2026-11-22T12:13:16Z GET /            no
-2026-11-22T12:13:14+01:00 GET /       no
-2026-11-22T12:13:14+25:00 GET /       no
-2026-11-22T12:13: GET /               no
-GET / 2026-11-22T12:13:14Z            no";
-
-/// Lines of a ledger, the next ones, and whether their dates are in order.
-const LEDGER: &str = "\
-2026-11-22 opening balance, 2026-11-22 rent    yes
-2026-11-22 rent, 2026-12-01 rent               yes
-2026-12-31 rent, 2027-01-01T00:00 closed       yes
-2026-12-01 rent, 2026-11-30 food               no
-2026-11-30 food, 2026-11-31 food               no
-2026-11-31 food, 2026-12-01 rent               no
-rent 2026-12-01, 2026-12-01 rent               no";
-
-#[test]
-fn lines_of_a_log(rt: HostRuntime) {
-    let config = time_config(&rt, "truncate");
-    let (first, last) = (1_795_349_594, 1_795_349_595);
-    for row in LOG.lines() {
-        let (line, kept) = row.rsplit_once(' ').expect(&rt, row);
-        let found = is_between(line.as_bytes(), &config, first, last);
-        assert_eq!(rt; found, kept == "yes", "{row}");
-    }
-}
-
-#[test]
-fn lines_of_a_ledger(rt: HostRuntime) {
-    for row in LEDGER.lines() {
-        let (line, rest) = row.split_once(", ").expect(&rt, row);
-        let (next, ordered) = rest.rsplit_once(' ').expect(&rt, row);
-        let found = is_in_order(line.as_bytes(), next.as_bytes());
-        assert_eq!(rt; found, ordered == "yes", "{row}");
-    }
-    let lines: [&[u8]; 3] = [
-        b"2026-11-22 opening balance",
-        b"2026-11-22 rent",
-        b"2026-12-01 rent",
-    ];
-    assert!(rt; are_in_order(&lines));
-    assert!(rt; !are_in_order(&[lines[0], lines[2], lines[1]]));
-    assert!(rt; !are_in_order(&[lines[0], lines[1], b"rent"]));
 }

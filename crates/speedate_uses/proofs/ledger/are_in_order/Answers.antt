@@ -1,7 +1,7 @@
 use Rattle.std.proofs.Common.{rules}
 use Rattle.std.proofs.lemmas.List.Sorted.{answers_always}
-use Rattle.speedate_vectors.specs.Ledger.{is_in_order}
-use Rattle.speedate_vectors.proofs.logs.are_in_order.Goals as goal
+use Rattle.speedate_uses.specs.Ledger.{is_in_order}
+use Rattle.speedate_uses.proofs.ledger.are_in_order.Goals as goal
 
 -- each call of the closure answers whether two lines are in order
 pub returns : goal.returns

@@ -1,4 +1,4 @@
-//! Callers that keep time, as a crate outside this workspace would write them.
+//! A configuration's timeout.
 
 ghost use Rattle.std.specs.Prelude.{◌≡◌, Some, None, if◌then◌else◌, unsigned_abs};
 ghost use Rattle.speedate.specs.declared.IsoOrder.TheVariants as order;
@@ -21,4 +21,18 @@ pub fn timeout_ms(text: &str) -> Result<Option<u64>, ParseError>
         return Ok(None);
     }
     Ok(Some(timeout.signed_total_ms().unsigned_abs()))
+}
+
+#[cfg(test)]
+mod tests {
+    use super::timeout_ms;
+    use speedate::ParseError;
+
+    #[test]
+    fn timeouts(rt: HostRuntime) {
+        assert_eq!(rt; timeout_ms("PT30S"), Ok(Some(30_000)));
+        assert_eq!(rt; timeout_ms("PT0.0019S"), Ok(Some(1)));
+        assert_eq!(rt; timeout_ms("-PT30S"), Ok(None));
+        assert_eq!(rt; timeout_ms("PT"), Err(ParseError::TooShort));
+    }
 }
