@@ -1,6 +1,6 @@
 //! Days added and counted, durations between two values, and values so long after another.
 
-use crate::rows::{expect, value, words};
+use crate::rows::{expect, same, value, words};
 use crate::schedules::timeout_ms;
 use speedate::{Date, DateTime, Duration, ParseError};
 
@@ -72,10 +72,10 @@ fn days_added_and_counted(rt: HostRuntime) {
         let (date, days): (Date, i32) = (value(&rt, date), value(&rt, days));
         match date.checked_add_days(days) {
             Some(later) => {
-                assert_eq!(rt; later, value(&rt, want), "{row}");
-                assert_eq!(rt; later.days_since(&date), days, "{row}");
+                same(&rt, later, value(&rt, want), row);
+                same(&rt, later.days_since(&date), days, row);
             }
-            None => assert_eq!(rt; want, "none", "{row}"),
+            None => same(&rt, want, "none", row),
         }
     }
 }
@@ -101,10 +101,14 @@ fn date_times_after_a_duration(rt: HostRuntime) {
 
 #[test]
 fn timeouts(rt: HostRuntime) {
-    assert_eq!(rt; timeout_ms("PT30S"), Ok(Some(30_000)));
-    assert_eq!(rt; timeout_ms("PT0.0019S"), Ok(Some(1)));
-    assert_eq!(rt; timeout_ms("-PT30S"), Ok(None));
-    assert_eq!(rt; timeout_ms("PT"), Err(ParseError::TooShort));
+    for (text, want) in [
+        ("PT30S", Ok(Some(30_000))),
+        ("PT0.0019S", Ok(Some(1))),
+        ("-PT30S", Ok(None)),
+        ("PT", Err(ParseError::TooShort)),
+    ] {
+        same(&rt, timeout_ms(text), want, text);
+    }
 }
 
 #[test]
