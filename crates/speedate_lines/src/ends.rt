@@ -1,4 +1,4 @@
-//! Readers and writers for tests, which take their time or fail.
+//! Readers and writers for tests, which take their time or fail, and the comparison of what is found.
 
 use std::alloc::Global;
 use std::fmt::Debug;

@@ -10,8 +10,7 @@ const INPUT: &[u8] = b"date 2020-01-01\nx\ndate 123x";
 
 const OUTPUT: &[u8] = b"ok 2020-01-01\nerr unknown_kind\nerr too_short\n";
 
-/// Inputs after which a read fails, and the answers that are due by then, in the form of the rows of
-/// [`super::SHORT`].
+/// Inputs after which a read fails, and the answers that are due by then, as [`super::SHORT`] has them.
 const ROWS: &str = "\
 'date 2020-01-01|x|date 2' ok 2020-01-01|err unknown_kind|
 'date 2020-01-01|x|' ok 2020-01-01|err unknown_kind|
@@ -39,7 +38,7 @@ fn a_read_that_fails_leaves_the_unfinished_line(rt: HostRuntime) -> Result<(), A
     Ok(())
 }
 
-/// The answers to the complete lines among the first bytes of [`INPUT`], so many.
+/// The answers to the lines of [`INPUT`] that are complete once so many of its bytes are read.
 fn due(read: usize) -> &'static [u8] {
     match read {
         0..16 => b"",
