@@ -282,26 +282,39 @@ fn after(last: &str, byte: u8, behavior: &str) -> &'static str {
     }
 }
 
+/// The clock of a row with further bytes is to be read so as [`after`] says.
+fn expect_after<R: AllocGlobal + Abort>(
+    rt: &R,
+    row: &str,
+    further: &[u8],
+    behavior: &str,
+    made: &str,
+) -> Result<(), Fail> {
+    let (_, clock, rest) = quoted(rt, row);
+    let [shown, ..] = words(rest);
+    let mut text = bytes(rt, clock)?;
+    text.extend_from_slice(further)?;
+    let (size, longer) = (clock.len(), clock.len().saturating_add(1));
+    let mut want = ArrayString::<64>::new();
+    let written = match made {
+        "" => write!(want, "{shown} {size}"),
+        "Z" => write!(want, "{shown}Z {longer}"),
+        "0" => write!(want, "{shown} {longer}"),
+        fault => write!(want, "{fault}"),
+    };
+    assert!(rt; written.is_ok(), "{row}");
+    expect_time(rt, &text, &time_config(rt, behavior), want.as_str(), row)
+}
+
 #[test]
 fn bytes_after_a_time(rt: HostRuntime) -> Result<(), Fail> {
     for row in CLOCKS.lines() {
-        let (_, clock, rest) = quoted(&rt, row);
-        let [shown, last, ..] = words(rest);
-        let size = clock.len();
+        let (_, _, rest) = quoted(&rt, row);
+        let [_, last, ..] = words(rest);
         for behavior in ["error", "truncate"] {
-            let config = time_config(&rt, behavior);
             for byte in 0..=255u8 {
-                let mut text = bytes(&rt, clock)?;
-                text.push(byte)?;
-                let mut want = ArrayString::<64>::new();
-                let written = match after(last, byte, behavior) {
-                    "" => write!(want, "{shown} {size}"),
-                    "Z" => write!(want, "{shown}Z {}", size.saturating_add(1)),
-                    "0" => write!(want, "{shown} {}", size.saturating_add(1)),
-                    fault => write!(want, "{fault}"),
-                };
-                assert!(rt; written.is_ok(), "{row}");
-                expect_time(&rt, &text, &config, want.as_str(), row)?;
+                let made = after(last, byte, behavior);
+                expect_after(&rt, row, &[byte], behavior, made)?;
             }
         }
     }
@@ -311,19 +324,15 @@ fn bytes_after_a_time(rt: HostRuntime) -> Result<(), Fail> {
 #[test]
 fn bytes_of_a_minus_sign(rt: HostRuntime) -> Result<(), Fail> {
     for row in CLOCKS.lines() {
-        let (_, clock, rest) = quoted(&rt, row);
-        let [shown, last, ..] = words(rest);
+        let (_, _, rest) = quoted(&rt, row);
+        let [_, last, ..] = words(rest);
         for byte in 0..=255u8 {
-            let mut text = bytes(&rt, clock)?;
-            text.extend_from_slice(&[0xe2, 0x88, byte])?;
-            let mut want = ArrayString::<64>::new();
-            let written = if byte == 0x92 && last != "offset" {
-                write!(want, "invalid_char_tz_hour")
+            let made = if byte == 0x92 && last != "offset" {
+                "invalid_char_tz_hour"
             } else {
-                write!(want, "{shown} {}", clock.len())
+                ""
             };
-            assert!(rt; written.is_ok(), "{row}");
-            expect_time(&rt, &text, &time_config(&rt, "error"), want.as_str(), row)?;
+            expect_after(&rt, row, &[0xe2, 0x88, byte], "error", made)?;
         }
     }
     Ok(())

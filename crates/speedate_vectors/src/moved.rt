@@ -71,10 +71,10 @@ fn days_added_and_counted(rt: HostRuntime) {
         let (date, days): (Date, i32) = (value(&rt, date), value(&rt, days));
         match date.checked_add_days(days) {
             Some(later) => {
-                assert_eq!(rt; later, value(&rt, want), "{row}");
-                assert_eq!(rt; later.days_since(&date), days, "{row}");
+                same(&rt, later, value(&rt, want), row);
+                same(&rt, later.days_since(&date), days, row);
             }
-            None => assert_eq!(rt; want, "none", "{row}"),
+            None => same(&rt, want, "none", row),
         }
     }
 }
