@@ -1,6 +1,6 @@
 //! Dates as C sees them.
 
-ghost use Rattle.std.specs.Prelude.{◌≡◌, slice_get, ◌≢◌, ◌≤◌, length};
+ghost use Rattle.std.specs.Prelude.{◌≡◌, ◌≢◌, ◌≤◌, length, slice_get};
 ghost use Rattle.std.specs.Option.{option_map};
 ghost use Rattle.speedate.specs.Date.{parts};
 ghost use Rattle.speedate.specs.DateOrder.{date_order};

@@ -1,9 +1,8 @@
 //! Durations as C sees them.
 
-ghost use Rattle.std.specs.Prelude.{◌≡◌, nat_le, if◌then◌else◌, ◌≢◌, ◌≤◌, length};
+ghost use Rattle.std.specs.Prelude.{◌≡◌, ◌≢◌, ◌≤◌, if◌then◌else◌, length, nat_le};
 ghost use Rattle.speedate.specs.Duration.{parts};
 ghost use Rattle.speedate.specs.DurationAnswer.{duration_answer};
-ghost use Rattle.speedate.specs.DurationMove.{turned};
 ghost use Rattle.speedate.specs.DurationNumbers.{normal_form, signed_microsecond, signed_milliseconds, signed_seconds};
 ghost use Rattle.speedate.specs.DurationOrder.{duration_order};
 ghost use Rattle.speedate.specs.DurationText.{duration_text};
