@@ -33,8 +33,8 @@ const DAYS_MAX: u32 = 999_999_999;
 /// printed in the format of ISO 8601, as `-P1Y2DT3H4M5.06S`: Display writes this text, whatever width
 /// and fill are asked for.
 ///
-/// The ranges of the fields are part of the type: a literal whose values do not show them is refused by
-/// the check. A constant is written like one in Rust:
+/// The ranges of the fields are part of the type: the check proves them at each literal, and for a
+/// constant where it is used. Both are written as in Rust:
 /// `const DAY: Duration = Duration { positive: true, day: 1, second: 0, microsecond: 0 };`.
 ///
 /// `<` and [`Duration::cmp`] order durations. There is no `Hash`; as a key the fields serve, and so

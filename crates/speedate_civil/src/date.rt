@@ -26,8 +26,8 @@ const TEXT_LENGTH: usize = 10;
 /// from numbers by [`Date::new`]. It is printed as `YYYY-MM-DD`, as `2020-02-29`: Display writes this
 /// text, whatever width and fill are asked for.
 ///
-/// The ranges of the fields are part of the type: a literal whose values do not show that it is a day
-/// of the calendar is refused by the check. A constant is written like one in Rust:
+/// That it is a day of the calendar is part of the type: the check proves it at each literal, and for a
+/// constant where it is used. Both are written as in Rust:
 /// `const NEW_YEAR: Date = Date { year: 2020, month: 1, day: 1 };`.
 ///
 /// `<` and [`Date::cmp`] order dates. There is no `Hash`; [`Date::day_number`] serves as a key, since

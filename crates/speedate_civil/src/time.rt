@@ -27,8 +27,8 @@ use std::str::FromStr;
 /// `HH:MM:SS`, with `.` and six digits if the microsecond is not 0, and with the offset if there is
 /// one: `12:13:14.500000+01:30`. Display writes this text, whatever width and fill are asked for.
 ///
-/// The ranges of the fields are part of the type: a literal whose values do not show them is refused by
-/// the check. A constant is written like one in Rust:
+/// The ranges of the fields are part of the type: the check proves them at each literal, and for a
+/// constant where it is used. Both are written as in Rust:
 /// `const NOON: Time = Time { hour: 12, minute: 0, second: 0, microsecond: 0, tz_offset: None };`.
 ///
 /// `==` compares the fields. There is no `<`: [`Time::cmp_instant`] orders times. There is no `Hash`

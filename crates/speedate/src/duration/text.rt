@@ -62,7 +62,7 @@ fn push_up_to_two_digits<const LENGTH: usize>(number: u8, text: &mut ArrayString
     }
 }
 
-/// Appends a number and its unit, and nothing for 0: `7D` for 7.
+/// Appends a number and its unit, or nothing for 0: `7D` for 7.
 #[inline(always)]
 fn push_counted<const LENGTH: usize>(number: u32, unit: char, text: &mut ArrayString<LENGTH>)
     requires few { number < 100000000 }
@@ -77,8 +77,8 @@ fn push_counted<const LENGTH: usize>(number: u32, unit: char, text: &mut ArraySt
     }
 }
 
-/// Appends a point and the digits of a microsecond but for the zeros at their end, and nothing for
-/// 0: `.5` for 500,000.
+/// Appends a point and the digits of a microsecond without the zeros at their end, or nothing for 0:
+/// `.5` for 500,000.
 #[inline(always)]
 fn push_fraction<const LENGTH: usize>(microsecond: u32, text: &mut ArrayString<LENGTH>)
     requires small { microsecond ≤ 999999 }
@@ -91,7 +91,7 @@ fn push_fraction<const LENGTH: usize>(microsecond: u32, text: &mut ArrayString<L
     }
 }
 
-/// Appends the digits of a microsecond but for the zeros at their end: `120` for 120,000.
+/// Appends the digits of a microsecond without the zeros at their end: `12` for 120,000.
 #[inline(always)]
 fn push_places<const LENGTH: usize>(microsecond: u32, text: &mut ArrayString<LENGTH>)
     requires some { microsecond ≢ 0 }
