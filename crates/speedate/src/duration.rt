@@ -166,9 +166,9 @@ impl Duration {
     ///
     /// With the order `Strict` each component of an ISO 8601 duration comes at most once, in the order
     /// `Y`, `M`, `W`, `D`, and after the `T` `H`, `M`, `S`. Otherwise, as in `b"P1D1Y"`, the fault is
-    /// `DurationUnitOrder`. It is looked for after a designator of its side, and before sums that are
-    /// too large. What `Strict` accepts has the same value with `Lax`; days and clocks are read alike
-    /// with both.
+    /// `DurationUnitOrder`. It is looked for after the fault of a byte that is no designator of its
+    /// side, and before that of sums that are too large. What `Strict` accepts has the same value with
+    /// `Lax`; days and clocks are read alike with both.
     ///
     /// With the order `Lax` two neighbouring components on one side of the `T`, with no decimal mark in
     /// them or before them, can change places: `b"P1DT2H3M"` and `b"P1DT3M2H"` have the same answer.

@@ -34,8 +34,8 @@ const ACCEPTED: &str = "ok ";
 /// Answers that wait to be written.
 pub type Pending = ArrayString<PENDING_MAX>;
 
-/// Appends the answer to a line, which is given without the line feed that ends it, and a
-/// line feed.
+/// Appends the answer to a line, which is given without its line feed, and a line feed: for
+/// `date 2020-02-29`, `ok 2020-02-29`.
 #[inline(always)]
 pub fn answer_line(line: &[u8], pending: &mut Pending)
     requires { array_string_len pending.old + ANSWER_MAX ≤ PENDING_MAX }

@@ -90,7 +90,7 @@ impl PureTime {
     /// It is 13 minutes and 14 seconds, in five bytes, from `b"12:13:14"` at place 3.
     ///
     /// The faults are `InvalidCharMinute`, if two digits do not begin there, and then those of
-    /// [`PureTime::parse`] from the minute's range on.
+    /// [`PureTime::parse`] from `OutOfRangeMinute` on.
     #[inline(always)]
     pub fn parse_from_minute(
         bytes: &[u8],
