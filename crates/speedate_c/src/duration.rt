@@ -1,9 +1,9 @@
 //! Durations as C sees them.
 
-ghost use Rattle.std.specs.Prelude.{◌≡◌, ◌≢◌, ◌≤◌, if◌then◌else◌, length, nat_le};
+ghost use Rattle.std.specs.Prelude.{◌≡◌, ◌≢◌, ◌≤◌, ◌↔◌, IsOk, if◌then◌else◌, length, nat_le};
 ghost use Rattle.speedate.specs.Duration.{parts};
 ghost use Rattle.speedate.specs.DurationAnswer.{duration_answer};
-ghost use Rattle.speedate.specs.DurationNumbers.{normal_form, signed_microsecond, signed_milliseconds, signed_seconds};
+ghost use Rattle.speedate.specs.DurationNumbers.{IsDuration, normal_form, signed_microsecond, signed_milliseconds, signed_seconds};
 ghost use Rattle.speedate.specs.DurationOrder.{duration_order};
 ghost use Rattle.speedate.specs.DurationText.{duration_text};
 ghost use Rattle.speedate.specs.Requirement.{result_map};
@@ -36,6 +36,7 @@ impl SpeedateDuration {
     #[inline]
     pub(crate) fn checked(&self) -> Result<Duration, ParseError>
         ensures answer { result_map parts result ≡ duration_of self.now }
+        ensures ranges { IsOk result ↔ ((self.now.negative ≤ 1) × IsDuration (numbers_of self.now)) }
     {
         if self.negative > 1 {
             return Err(ParseError::DurationValueTooLarge);
