@@ -27,7 +27,10 @@ mod tests {
         let start: Date = "2020-02-28".parse()?;
         assert_eq!(rt; days_until(&start, "2020-03-01"), Ok(2));
         assert_eq!(rt; days_until(&start, "2020-02-27"), Ok(-1));
-        assert_eq!(rt; days_until(&start, "2020-02-30"), Err(ParseError::OutOfRangeDay));
+        assert_eq!(rt;
+            days_until(&start, "2020-02-30"),
+            Err(ParseError::OutOfRangeDay)
+        );
         Ok(())
     }
 }
