@@ -11,7 +11,6 @@
 #define _DEFAULT_SOURCE
 #include "speedate.h"
 
-#include <inttypes.h>
 #include <stdio.h>
 #include <stdlib.h>
 #include <string.h>
