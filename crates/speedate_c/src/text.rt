@@ -1,8 +1,8 @@
 //! Texts in buffers of the caller's.
 
-ghost use Rattle.std.specs.Prelude.{◌≡◌, ◌+◌, ◌<◌, ◌∷◌, ◌++◌, drop, length};
+ghost use Rattle.std.specs.Prelude.{◌≡◌, ◌≢◌, ◌+◌, ◌<◌, ◌≤◌, ◌∷◌, ◌++◌, drop, length};
 ghost use Rattle.speedate_c.specs.After.{after_text, with_option};
-ghost use Rattle.speedate_c.specs.Code.{code_documentation, code_name, success, value_out_of_range};
+ghost use Rattle.speedate_c.specs.Code.{buffer_too_small, code_documentation, code_name, success, value_out_of_range};
 
 use crate::code::{BUFFER_TOO_SMALL, SUCCESS, VALUE_OUT_OF_RANGE, code_documentation, code_name};
 
@@ -41,6 +41,7 @@ fn fill(text: &str, buffer: &mut [u8])
 pub extern "C" fn speedate_code_name(code: i32, buffer: &mut [u8], text_length: &mut usize) -> i32
     ensures answer { (result, buffer.new, text_length.new) ≡ with_option (code_name code) (value_out_of_range, buffer.old, text_length.old)
         (λ name. after_text name buffer.old text_length.old) }
+    ensures room { 64 ≤ length buffer.old → result ≢ buffer_too_small }
 {
     let Some(name) = code_name(code) else {
         return VALUE_OUT_OF_RANGE;
@@ -59,6 +60,7 @@ pub extern "C" fn speedate_code_documentation(
 ) -> i32
     ensures answer { (result, buffer.new, text_length.new) ≡ with_option (code_documentation code) (value_out_of_range, buffer.old, text_length.old)
         (λ text. after_text text buffer.old text_length.old) }
+    ensures room { 64 ≤ length buffer.old → result ≢ buffer_too_small }
 {
     let Some(text) = code_documentation(code) else {
         return VALUE_OUT_OF_RANGE;
