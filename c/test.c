@@ -6,12 +6,11 @@
  *
  * Each text is read from three places: a block of the heap of its very size, the end of a page after which none
  * can be read, and the beginning of one before which none can be; an empty one also from NULL. Each text is
- * printed into a buffer of its very size, at the end of such a page, and into one that is a byte too small. Where
- * a call refuses, every byte that it could have written has to be as it was. */
+ * printed into a buffer of its very size, at the end of such a page, and is refused by one that is a byte too small,
+ * and by none. Where a call refuses, every byte that it could have written has to be as it was. */
 #define _DEFAULT_SOURCE
 #include "speedate.h"
 
-#include <inttypes.h>
 #include <stdio.h>
 #include <stdlib.h>
 #include <string.h>
@@ -54,7 +53,7 @@ static long long number(void) {
 static SpeedateConfig config(void) {
     SpeedateConfig it = SPEEDATE_CONFIG_DEFAULT;
     long long n[6];
-    if (strcmp(fields[field], "default") == 0) {
+    if (field < FIELDS && fields[field] && strcmp(fields[field], "default") == 0) {
         field++;
         return it;
     }
@@ -213,6 +212,10 @@ static void say_number(long long it) {
             length = page;                                                                                             \
             if ((CALL) != SPEEDATE_BUFFER_TOO_SMALL || length != page || !is_untouched(first_page, page))              \
                 strcat(answer, " and into a byte less");                                                               \
+            size = 0;                                                                                                  \
+            buffer = NULL;                                                                                             \
+            if ((CALL) != SPEEDATE_BUFFER_TOO_SMALL || length != page)                                                 \
+                strcat(answer, " and into no buffer");                                                                 \
         }                                                                                                              \
         return 1;                                                                                                      \
     }

@@ -1,7 +1,7 @@
 //! The codes that calls answer, and their names.
 
-ghost use Rattle.std.specs.Prelude.{◌≡◌, Some, pos, slice_get};
 ghost use Rattle.std.specs.Option.{option_map};
+ghost use Rattle.std.specs.Prelude.{◌≡◌, ◌≤◌, IfSome, Some, length, pos, slice_get};
 ghost use Rattle.speedate_c.specs.Code.{code_documentation, code_name, fault_code, fault_number, fault_of, faults, order_number, refusal_documentation, refusal_name};
 
 use speedate::ParseError;
@@ -151,6 +151,7 @@ fn fault_at(faults: &[ParseError], place: usize) -> Option<ParseError>
 /// The name of a code.
 pub(crate) fn code_name(code: i32) -> Option<&'static str>
     ensures name { option_map (λ name. name.now) result ≡ code_name code }
+    ensures short { IfSome result (λ name. length name.now ≤ 63) }
 {
     match fault_of(code) {
         Some(fault) => Some(fault.name()),
@@ -161,6 +162,7 @@ pub(crate) fn code_name(code: i32) -> Option<&'static str>
 /// The name of a code that is no fault.
 fn refusal_name(code: i32) -> Option<&'static str>
     ensures name { option_map (λ name. name.now) result ≡ refusal_name code }
+    ensures short { IfSome result (λ name. length name.now ≤ 63) }
 {
     match code {
         VALUE_OUT_OF_RANGE => Some("value_out_of_range"),
@@ -172,8 +174,10 @@ fn refusal_name(code: i32) -> Option<&'static str>
 }
 
 /// The documentation text of a code.
+#[tactic(auto, using(crate::proofs::CodeLemmas::documentation_length_small))]
 pub(crate) fn code_documentation(code: i32) -> Option<&'static str>
     ensures text { option_map (λ text. text.now) result ≡ code_documentation code }
+    ensures short { IfSome result (λ text. length text.now ≤ 63) }
 {
     match fault_of(code) {
         Some(fault) => fault.get_documentation(),
@@ -184,6 +188,7 @@ pub(crate) fn code_documentation(code: i32) -> Option<&'static str>
 /// The documentation text of a code that is no fault.
 fn refusal_documentation(code: i32) -> Option<&'static str>
     ensures text { option_map (λ text. text.now) result ≡ refusal_documentation code }
+    ensures short { IfSome result (λ text. length text.now ≤ 63) }
 {
     match code {
         VALUE_OUT_OF_RANGE => Some("a value or a flag is out of range"),

@@ -1,7 +1,7 @@
 //! Configurations from outside.
 
-ghost use Rattle.std.specs.Prelude.{◌≡◌, IfOk, slice_get};
 ghost use Rattle.std.specs.Option.{ForSome, option_map};
+ghost use Rattle.std.specs.Prelude.{◌≡◌, IfOk, slice_get};
 ghost use Rattle.speedate.specs.Offset.{IsOffset};
 ghost use Rattle.speedate_c.specs.Config.{behaviors, choices, choices_of, flags, forms, offset_answer, orders, units};
 
@@ -18,7 +18,8 @@ pub struct SpeedateConfig {
     pub timestamp_offset: i32,
     /// Whether the value of a timestamp gets that offset: 1, or 0 for none.
     pub has_timestamp_offset: u8,
-    /// The unit of timestamps: 0 to infer it, 1 for seconds, 2 for milliseconds, 3 for microseconds.
+    /// The unit of timestamps: 0 to infer it, 1 for seconds, 2 for milliseconds, 3 for
+    /// microseconds.
     pub timestamp_unit: u8,
     /// What is done with digits past the microsecond: 0 to refuse them, 1 to drop them.
     pub overflow_behavior: u8,

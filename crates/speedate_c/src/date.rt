@@ -1,17 +1,17 @@
 //! Dates as C sees them.
 
-ghost use Rattle.std.specs.Prelude.{◌≡◌, ◌≢◌, ◌≤◌, length, slice_get};
 ghost use Rattle.std.specs.Option.{option_map};
+ghost use Rattle.std.specs.Prelude.{◌≡◌, ◌≢◌, ◌≤◌, length, slice_get};
 ghost use Rattle.speedate.specs.Date.{parts};
 ghost use Rattle.speedate.specs.DateOrder.{date_order};
 ghost use Rattle.speedate.specs.DateText.{date_answer, date_front, date_text};
 ghost use Rattle.speedate.specs.DateTimestamp.{date_or_timestamp, date_timestamp_answer};
 ghost use Rattle.speedate.specs.DayNumber.{date_added, date_numbered, day_number, days_between, midnight_millisecond, midnight_second, ordinal_day};
 ghost use Rattle.speedate.specs.Requirement.{result_map};
+ghost use Rattle.speedate_c.specs.After.{after_answer, after_front, after_optional_date, after_text, after_value, with_option, with_value};
 ghost use Rattle.speedate_c.specs.Code.{answer_code, buffer_too_small, config_out_of_range, order_number, success, value_out_of_range};
 ghost use Rattle.speedate_c.specs.Config.{choices_of, flags};
 ghost use Rattle.speedate_c.specs.Date.{date_of, shown_date};
-ghost use Rattle.speedate_c.specs.After.{after_answer, after_front, after_optional_date, after_text, after_value, with_option, with_value};
 
 use crate::code::{
     CONFIG_OUT_OF_RANGE, NO_SUCH_DATE, SUCCESS, VALUE_OUT_OF_RANGE, fault_code, order_number,
@@ -113,8 +113,8 @@ pub extern "C" fn speedate_date_parse(
     write_date(Date::parse_bytes_with_config(text, &config), out)
 }
 
-/// Reads a date from a text, and no timestamp, as [`Date::parse_bytes_rfc3339`] does: 2020-02-29 from
-/// `2020-02-29`.
+/// Reads a date from a text, and no timestamp, as [`Date::parse_bytes_rfc3339`] does: 2020-02-29
+/// from `2020-02-29`.
 #[unsafe(no_mangle)]
 pub extern "C" fn speedate_date_parse_rfc3339(text: &[u8], out: &mut SpeedateDate) -> i32
     ensures answer { (result, out.new) ≡ after_answer shown_date out.old (date_answer text.now) }
@@ -122,8 +122,8 @@ pub extern "C" fn speedate_date_parse_rfc3339(text: &[u8], out: &mut SpeedateDat
     write_date(Date::parse_bytes_rfc3339(text), out)
 }
 
-/// Reads the date at the front of a text, and writes how many bytes it takes, as [`Date::parse_front`]
-/// does: 2020-02-29, and 10, from `2020-02-29 opening balance`.
+/// Reads the date at the front of a text, and writes how many bytes it takes, as
+/// [`Date::parse_front`] does: 2020-02-29, and 10, from `2020-02-29 opening balance`.
 #[unsafe(no_mangle)]
 pub extern "C" fn speedate_date_parse_front(
     text: &[u8],
@@ -142,8 +142,8 @@ pub extern "C" fn speedate_date_parse_front(
     }
 }
 
-/// Whether the numbers are those of a date, as [`Date::new`] tells: `SUCCESS`, or the fault of the first
-/// number that is out of range, `OutOfRangeDay` for 2021-02-29.
+/// Whether the numbers are those of a date, as [`Date::new`] tells: `SUCCESS`, or the fault of the
+/// first number that is out of range, `OutOfRangeDay` for 2021-02-29.
 #[unsafe(no_mangle)]
 pub extern "C" fn speedate_date_check(date: SpeedateDate) -> i32
     ensures answer { result ≡ answer_code (date_of date) }
@@ -154,8 +154,8 @@ pub extern "C" fn speedate_date_check(date: SpeedateDate) -> i32
     }
 }
 
-/// Prints a date into a buffer, with a zero byte after it, as [`Date::to_text`] gives it: `2020-02-29`.
-/// `VALUE_OUT_OF_RANGE` comes before `BUFFER_TOO_SMALL`.
+/// Prints a date into a buffer, with a zero byte after it, as [`Date::to_text`] gives it:
+/// `2020-02-29`. `VALUE_OUT_OF_RANGE` comes before `BUFFER_TOO_SMALL`.
 #[unsafe(no_mangle)]
 pub extern "C" fn speedate_date_to_text(
     date: SpeedateDate,
@@ -172,8 +172,8 @@ pub extern "C" fn speedate_date_to_text(
     print_date(&date, buffer, text_length)
 }
 
-/// Compares two dates, as [`Date::cmp`] does: -1 where the first is the earlier one, 0 where they are equal,
-/// otherwise 1.
+/// Compares two dates, as [`Date::cmp`] does: -1 where the first is the earlier one, 0 where they
+/// are equal, otherwise 1.
 #[unsafe(no_mangle)]
 pub extern "C" fn speedate_date_compare(
     first: SpeedateDate,
@@ -194,11 +194,11 @@ pub extern "C" fn speedate_date_compare(
     SUCCESS
 }
 
-/// The date of a timestamp in the unit of the configuration, as [`Date::from_timestamp`] gives it: 1970-01-02
-/// for 86,400 seconds. Where `require_exact` is 1 the timestamp has to be a midnight.
+/// The date of a timestamp in the unit of the configuration, as [`Date::from_timestamp`] gives it:
+/// 1970-01-02 for 86,400 seconds. Where `require_exact` is 1 the timestamp has to be a midnight.
 ///
-/// `CONFIG_OUT_OF_RANGE` comes before `VALUE_OUT_OF_RANGE`, which is that of `require_exact`, and before the
-/// faults of that call.
+/// `CONFIG_OUT_OF_RANGE` comes before `VALUE_OUT_OF_RANGE`, which is that of `require_exact`, and
+/// before the faults of that call.
 #[unsafe(no_mangle)]
 pub extern "C" fn speedate_date_from_timestamp(
     timestamp: i64,
@@ -225,7 +225,8 @@ pub extern "C" fn speedate_date_from_timestamp(
 /// The second at which a date begins, as [`Date::timestamp`] gives it: 86,400 for 1970-01-02.
 #[unsafe(no_mangle)]
 pub extern "C" fn speedate_date_timestamp(date: SpeedateDate, out: &mut i64) -> i32
-    ensures answer { (result, out.new) ≡ with_value (date_of date) (value_out_of_range, out.old) (λ date. after_value (midnight_second date)) }
+    ensures answer { (result, out.new) ≡ with_value (date_of date) (value_out_of_range, out.old)
+        (λ date. after_value (midnight_second date)) }
 {
     let Ok(date) = date.to_value() else {
         return VALUE_OUT_OF_RANGE;
@@ -234,10 +235,12 @@ pub extern "C" fn speedate_date_timestamp(date: SpeedateDate, out: &mut i64) -> 
     SUCCESS
 }
 
-/// The millisecond at which a date begins, as [`Date::timestamp_ms`] gives it: 86,400,000 for 1970-01-02.
+/// The millisecond at which a date begins, as [`Date::timestamp_ms`] gives it: 86,400,000 for
+/// 1970-01-02.
 #[unsafe(no_mangle)]
 pub extern "C" fn speedate_date_timestamp_ms(date: SpeedateDate, out: &mut i64) -> i32
-    ensures answer { (result, out.new) ≡ with_value (date_of date) (value_out_of_range, out.old) (λ date. after_value (midnight_millisecond date)) }
+    ensures answer { (result, out.new) ≡ with_value (date_of date) (value_out_of_range, out.old)
+        (λ date. after_value (midnight_millisecond date)) }
 {
     let Ok(date) = date.to_value() else {
         return VALUE_OUT_OF_RANGE;
@@ -246,10 +249,12 @@ pub extern "C" fn speedate_date_timestamp_ms(date: SpeedateDate, out: &mut i64) 
     SUCCESS
 }
 
-/// The number of days from 0000-01-01 to a date, as [`Date::day_number`] gives it: 737,790 for 2020-01-01.
+/// The number of days from 0000-01-01 to a date, as [`Date::day_number`] gives it: 737,790 for
+/// 2020-01-01.
 #[unsafe(no_mangle)]
 pub extern "C" fn speedate_date_day_number(date: SpeedateDate, out: &mut u32) -> i32
-    ensures answer { (result, out.new) ≡ with_value (date_of date) (value_out_of_range, out.old) (λ date. after_value (day_number date)) }
+    ensures answer { (result, out.new) ≡ with_value (date_of date) (value_out_of_range, out.old)
+        (λ date. after_value (day_number date)) }
 {
     let Ok(date) = date.to_value() else {
         return VALUE_OUT_OF_RANGE;
@@ -258,8 +263,8 @@ pub extern "C" fn speedate_date_day_number(date: SpeedateDate, out: &mut u32) ->
     SUCCESS
 }
 
-/// The date of a day number, as [`Date::from_day_number`] gives it: 0000-02-29 for 59. `NO_SUCH_DATE` where
-/// the number is over 3,652,424.
+/// The date of a day number, as [`Date::from_day_number`] gives it: 0000-02-29 for 59.
+/// `NO_SUCH_DATE` where the number is over 3,652,424.
 #[unsafe(no_mangle)]
 pub extern "C" fn speedate_date_from_day_number(number: u32, out: &mut SpeedateDate) -> i32
     ensures answer { (result, out.new) ≡ after_optional_date shown_date out.old (date_numbered number) }
@@ -270,7 +275,8 @@ pub extern "C" fn speedate_date_from_day_number(number: u32, out: &mut SpeedateD
 /// The day of the year, as [`Date::ordinal_day`] gives it: 366 for 2020-12-31.
 #[unsafe(no_mangle)]
 pub extern "C" fn speedate_date_ordinal_day(date: SpeedateDate, out: &mut u16) -> i32
-    ensures answer { (result, out.new) ≡ with_value (date_of date) (value_out_of_range, out.old) (λ date. after_value (ordinal_day date)) }
+    ensures answer { (result, out.new) ≡ with_value (date_of date) (value_out_of_range, out.old)
+        (λ date. after_value (ordinal_day date)) }
 {
     let Ok(date) = date.to_value() else {
         return VALUE_OUT_OF_RANGE;
@@ -279,8 +285,9 @@ pub extern "C" fn speedate_date_ordinal_day(date: SpeedateDate, out: &mut u16) -
     SUCCESS
 }
 
-/// The date so many days later, or earlier for a negative number, as [`Date::checked_add_days`] gives it:
-/// 2020-03-01 for 2020-02-28 and 2. `NO_SUCH_DATE` where that is before 0000-01-01 or after 9999-12-31.
+/// The date so many days later, or earlier for a negative number, as [`Date::checked_add_days`]
+/// gives it: 2020-03-01 for 2020-02-28 and 2. `NO_SUCH_DATE` where that is before 0000-01-01 or
+/// after 9999-12-31.
 #[unsafe(no_mangle)]
 pub extern "C" fn speedate_date_add_days(
     date: SpeedateDate,
@@ -296,8 +303,8 @@ pub extern "C" fn speedate_date_add_days(
     write_some(date.checked_add_days(days), out)
 }
 
-/// The days from an earlier date to a date, as [`Date::days_since`] gives them: 2 for 2020-03-01 and the
-/// earlier 2020-02-28. They are negative where `earlier` is the later one.
+/// The days from an earlier date to a date, as [`Date::days_since`] gives them: 2 for 2020-03-01
+/// and the earlier 2020-02-28. They are negative where `earlier` is the later one.
 #[unsafe(no_mangle)]
 pub extern "C" fn speedate_date_days_since(
     date: SpeedateDate,

@@ -8,10 +8,10 @@ ghost use Rattle.speedate.specs.DateTimeTimestamp.{date_time_or_timestamp, date_
 ghost use Rattle.speedate.specs.InstantOrder.{date_time_instant_order};
 ghost use Rattle.speedate.specs.OffsetMove.{date_time_in_timezone};
 ghost use Rattle.speedate.specs.Requirement.{result_map};
+ghost use Rattle.speedate_c.specs.After.{after_answer, after_front, after_text, after_value, with_option, with_value};
 ghost use Rattle.speedate_c.specs.Code.{answer_code, buffer_too_small, config_out_of_range, order_number, value_out_of_range};
 ghost use Rattle.speedate_c.specs.Config.{choices_of};
 ghost use Rattle.speedate_c.specs.DateTime.{date_time_of, shown_date_time};
-ghost use Rattle.speedate_c.specs.After.{after_answer, after_front, after_text, after_value, with_option, with_value};
 
 use crate::code::{CONFIG_OUT_OF_RANGE, SUCCESS, VALUE_OUT_OF_RANGE, fault_code, order_number};
 use crate::config::SpeedateConfig;
@@ -31,7 +31,8 @@ pub struct SpeedateDateTime {
 }
 
 impl SpeedateDateTime {
-    /// The date-time of the numbers, or the fault of one that is out of range: the date is looked at first.
+    /// The date-time of the numbers, or the fault of one that is out of range: the date is looked
+    /// at first.
     #[inline]
     pub(crate) fn to_value(&self) -> Result<DateTime, ParseError>
         ensures answer { result_map parts result ≡ date_time_of self.now }
@@ -71,7 +72,8 @@ pub(crate) fn write_date_time(
 }
 
 /// Reads a date-time from a text, or from a timestamp that stands there instead, as
-/// [`DateTime::parse_bytes_with_config`] does: 12:13:14 on 29 February 2020 from `2020-02-29T12:13:14`.
+/// [`DateTime::parse_bytes_with_config`] does: 12:13:14 on 29 February 2020 from
+/// `2020-02-29T12:13:14`.
 ///
 /// The faults are those of that call; `CONFIG_OUT_OF_RANGE` comes first.
 #[unsafe(no_mangle)]
@@ -90,8 +92,9 @@ pub extern "C" fn speedate_datetime_parse(
     write_date_time(DateTime::parse_bytes_with_config(text, &config), out)
 }
 
-/// Reads a date-time from a text, and no timestamp, as [`DateTime::parse_bytes_rfc3339_with_config`] does: 12:13
-/// on 1 January 2020 from `2020-01-01_12:13`. `CONFIG_OUT_OF_RANGE` comes first.
+/// Reads a date-time from a text, and no timestamp, as
+/// [`DateTime::parse_bytes_rfc3339_with_config`] does: 12:13 on 1 January 2020 from
+/// `2020-01-01_12:13`. `CONFIG_OUT_OF_RANGE` comes first.
 #[unsafe(no_mangle)]
 pub extern "C" fn speedate_datetime_parse_rfc3339(
     text: &[u8],
@@ -109,8 +112,8 @@ pub extern "C" fn speedate_datetime_parse_rfc3339(
 }
 
 /// Reads the date-time at the front of a text, and writes how many bytes it takes, as
-/// [`DateTime::parse_front`] does: 12:13:14Z on 22 November 2026, and 20, from `2026-11-22T12:13:14Z GET /`.
-/// `CONFIG_OUT_OF_RANGE` comes first.
+/// [`DateTime::parse_front`] does: 12:13:14Z on 22 November 2026, and 20, from
+/// `2026-11-22T12:13:14Z GET /`. `CONFIG_OUT_OF_RANGE` comes first.
 #[unsafe(no_mangle)]
 pub extern "C" fn speedate_datetime_parse_front(
     text: &[u8],
@@ -134,8 +137,8 @@ pub extern "C" fn speedate_datetime_parse_front(
     }
 }
 
-/// Whether the numbers are those of a date-time: `SUCCESS`, or the fault of a number that is out of range. The
-/// date is looked at first.
+/// Whether the numbers are those of a date-time: `SUCCESS`, or the fault of a number that is out of
+/// range. The date is looked at first.
 #[unsafe(no_mangle)]
 pub extern "C" fn speedate_datetime_check(value: SpeedateDateTime) -> i32
     ensures answer { result ≡ answer_code (date_time_of value) }
@@ -164,8 +167,8 @@ pub extern "C" fn speedate_datetime_to_text(
     write_text(value.to_text().as_str(), buffer, text_length)
 }
 
-/// Compares two date-times by their instants, as [`DateTime::cmp_instant`] does: -1 where the first is the
-/// earlier one, 0 where they are the same instant, otherwise 1.
+/// Compares two date-times by their instants, as [`DateTime::cmp_instant`] does: -1 where the first
+/// is the earlier one, 0 where they are the same instant, otherwise 1.
 #[unsafe(no_mangle)]
 pub extern "C" fn speedate_datetime_compare(
     first: SpeedateDateTime,
@@ -186,9 +189,10 @@ pub extern "C" fn speedate_datetime_compare(
     SUCCESS
 }
 
-/// The date-time of a timestamp, in the unit of the configuration, and so many microseconds later, with the
-/// offset of the configuration, as [`DateTime::from_timestamp_with_config`] gives it: 1970-01-01T00:00:01.000002
-/// for 1 second and 2 microseconds. The offset is attached and shifts nothing.
+/// The date-time of a timestamp, in the unit of the configuration, and so many microseconds later,
+/// with the offset of the configuration, as [`DateTime::from_timestamp_with_config`] gives it:
+/// 1970-01-01T00:00:01.000002 for 1 second and 2 microseconds. The offset is attached and shifts
+/// nothing.
 ///
 /// The faults are those of that call; `CONFIG_OUT_OF_RANGE` comes first.
 #[unsafe(no_mangle)]
@@ -209,11 +213,12 @@ pub extern "C" fn speedate_datetime_from_timestamp(
     write_date_time(answer, out)
 }
 
-/// The second since 1970-01-01T00:00:00 that a clock at the offset shows, as [`DateTime::timestamp`] gives it:
-/// 86,400 for 1970-01-02T00:00:00+01:00.
+/// The second since 1970-01-01T00:00:00 that a clock at the offset shows, as
+/// [`DateTime::timestamp`] gives it: 86,400 for 1970-01-02T00:00:00+01:00.
 #[unsafe(no_mangle)]
 pub extern "C" fn speedate_datetime_timestamp(value: SpeedateDateTime, out: &mut i64) -> i32
-    ensures answer { (result, out.new) ≡ with_value (date_time_of value) (value_out_of_range, out.old) (λ value. after_value (local_second value)) }
+    ensures answer { (result, out.new) ≡ with_value (date_time_of value) (value_out_of_range, out.old)
+        (λ value. after_value (local_second value)) }
 {
     let Ok(value) = value.to_value() else {
         return VALUE_OUT_OF_RANGE;
@@ -222,11 +227,12 @@ pub extern "C" fn speedate_datetime_timestamp(value: SpeedateDateTime, out: &mut
     SUCCESS
 }
 
-/// The millisecond since 1970-01-01T00:00:00 that a clock at the offset shows, as [`DateTime::timestamp_ms`]
-/// gives it: 86,400,123 for 1970-01-02T00:00:00.123+01:00.
+/// The millisecond since 1970-01-01T00:00:00 that a clock at the offset shows, as
+/// [`DateTime::timestamp_ms`] gives it: 86,400,123 for 1970-01-02T00:00:00.123+01:00.
 #[unsafe(no_mangle)]
 pub extern "C" fn speedate_datetime_timestamp_ms(value: SpeedateDateTime, out: &mut i64) -> i32
-    ensures answer { (result, out.new) ≡ with_value (date_time_of value) (value_out_of_range, out.old) (λ value. after_value (local_millisecond value)) }
+    ensures answer { (result, out.new) ≡ with_value (date_time_of value) (value_out_of_range, out.old)
+        (λ value. after_value (local_millisecond value)) }
 {
     let Ok(value) = value.to_value() else {
         return VALUE_OUT_OF_RANGE;
@@ -239,7 +245,8 @@ pub extern "C" fn speedate_datetime_timestamp_ms(value: SpeedateDateTime, out: &
 /// 1970-01-02T00:00:00+01:00.
 #[unsafe(no_mangle)]
 pub extern "C" fn speedate_datetime_timestamp_tz(value: SpeedateDateTime, out: &mut i64) -> i32
-    ensures answer { (result, out.new) ≡ with_value (date_time_of value) (value_out_of_range, out.old) (λ value. after_value (utc_second value)) }
+    ensures answer { (result, out.new) ≡ with_value (date_time_of value) (value_out_of_range, out.old)
+        (λ value. after_value (utc_second value)) }
 {
     let Ok(value) = value.to_value() else {
         return VALUE_OUT_OF_RANGE;
@@ -248,11 +255,12 @@ pub extern "C" fn speedate_datetime_timestamp_tz(value: SpeedateDateTime, out: &
     SUCCESS
 }
 
-/// The millisecond since 1970-01-01T00:00:00 in UTC, as [`DateTime::timestamp_tz_ms`] gives it: 82,800,123 for
-/// 1970-01-02T00:00:00.123+01:00.
+/// The millisecond since 1970-01-01T00:00:00 in UTC, as [`DateTime::timestamp_tz_ms`] gives it:
+/// 82,800,123 for 1970-01-02T00:00:00.123+01:00.
 #[unsafe(no_mangle)]
 pub extern "C" fn speedate_datetime_timestamp_tz_ms(value: SpeedateDateTime, out: &mut i64) -> i32
-    ensures answer { (result, out.new) ≡ with_value (date_time_of value) (value_out_of_range, out.old) (λ value. after_value (utc_millisecond value)) }
+    ensures answer { (result, out.new) ≡ with_value (date_time_of value) (value_out_of_range, out.old)
+        (λ value. after_value (utc_millisecond value)) }
 {
     let Ok(value) = value.to_value() else {
         return VALUE_OUT_OF_RANGE;
@@ -261,11 +269,12 @@ pub extern "C" fn speedate_datetime_timestamp_tz_ms(value: SpeedateDateTime, out
     SUCCESS
 }
 
-/// The date-time at the same instant, as a clock at another offset shows it, as [`DateTime::in_timezone`] gives
-/// it: 2020-01-02T00:30:00+01:00 for 2020-01-01T23:30:00Z and 3,600.
+/// The date-time at the same instant, as a clock at another offset shows it, as
+/// [`DateTime::in_timezone`] gives it: 2020-01-02T00:30:00+01:00 for 2020-01-01T23:30:00Z and
+/// 3,600.
 ///
-/// `VALUE_OUT_OF_RANGE` is that of the date-time; the faults of that call follow, with `OutOfRangeTz` for an
-/// offset of 24 hours or more.
+/// `VALUE_OUT_OF_RANGE` is that of the date-time; the faults of that call follow, with
+/// `OutOfRangeTz` for an offset of 24 hours or more.
 #[unsafe(no_mangle)]
 pub extern "C" fn speedate_datetime_in_timezone(
     value: SpeedateDateTime,

@@ -7,10 +7,10 @@ ghost use Rattle.speedate.specs.DurationNumbers.{IsDuration, normal_form, signed
 ghost use Rattle.speedate.specs.DurationOrder.{duration_order};
 ghost use Rattle.speedate.specs.DurationText.{duration_text};
 ghost use Rattle.speedate.specs.Requirement.{result_map};
+ghost use Rattle.speedate_c.specs.After.{after_answer, after_text, after_value, with_option, with_value};
 ghost use Rattle.speedate_c.specs.Code.{answer_code, buffer_too_small, config_out_of_range, order_number, value_out_of_range};
 ghost use Rattle.speedate_c.specs.Config.{choices_of};
 ghost use Rattle.speedate_c.specs.Duration.{duration_of, numbers_of, shown_duration};
-ghost use Rattle.speedate_c.specs.After.{after_answer, after_text, after_value, with_option, with_value};
 
 use crate::code::{CONFIG_OUT_OF_RANGE, SUCCESS, VALUE_OUT_OF_RANGE, fault_code, order_number};
 use crate::config::SpeedateConfig;
@@ -86,8 +86,8 @@ fn write_duration(answer: Result<Duration, ParseError>, out: &mut SpeedateDurati
     }
 }
 
-/// Reads a duration from a text under a configuration, as [`Duration::parse_bytes_with_config`] does: an hour
-/// and a half from `PT90M`.
+/// Reads a duration from a text under a configuration, as [`Duration::parse_bytes_with_config`]
+/// does: an hour and a half from `PT90M`.
 ///
 /// The faults are those of that call; `CONFIG_OUT_OF_RANGE` comes first.
 #[unsafe(no_mangle)]
@@ -106,9 +106,9 @@ pub extern "C" fn speedate_duration_parse(
     write_duration(answer, out)
 }
 
-/// The duration of so many days, seconds and microseconds, of any size, brought into their ranges, as
-/// [`Duration::new`] gives it: 2 days, 101 seconds and 123 microseconds for 1 day, 86,500 seconds and
-/// 1,000,123 microseconds.
+/// The duration of so many days, seconds and microseconds, of any size, brought into their ranges,
+/// as [`Duration::new`] gives it: 2 days, 101 seconds and 123 microseconds for 1 day, 86,500
+/// seconds and 1,000,123 microseconds.
 ///
 /// `VALUE_OUT_OF_RANGE` where `negative` is neither 0 nor 1; then the faults of that call.
 #[unsafe(no_mangle)]
@@ -127,8 +127,8 @@ pub extern "C" fn speedate_duration_normalize(
     write_duration(answer, out)
 }
 
-/// Whether the numbers are those of a duration: `SUCCESS`, `DurationDaysTooLarge` where it has more than
-/// 999,999,999 days, `DurationValueTooLarge` for another number that is out of range.
+/// Whether the numbers are those of a duration: `SUCCESS`, `DurationDaysTooLarge` where it has more
+/// than 999,999,999 days, `DurationValueTooLarge` for another number that is out of range.
 #[unsafe(no_mangle)]
 pub extern "C" fn speedate_duration_check(duration: SpeedateDuration) -> i32
     ensures answer { result ≡ answer_code (duration_of duration) }
@@ -139,8 +139,8 @@ pub extern "C" fn speedate_duration_check(duration: SpeedateDuration) -> i32
     }
 }
 
-/// Prints a duration into a buffer, with a zero byte after it, as [`Duration::to_text`] gives it: `PT1H30M`.
-/// `VALUE_OUT_OF_RANGE` comes before `BUFFER_TOO_SMALL`.
+/// Prints a duration into a buffer, with a zero byte after it, as [`Duration::to_text`] gives it:
+/// `PT1H30M`. `VALUE_OUT_OF_RANGE` comes before `BUFFER_TOO_SMALL`.
 #[unsafe(no_mangle)]
 pub extern "C" fn speedate_duration_to_text(
     duration: SpeedateDuration,
@@ -157,8 +157,8 @@ pub extern "C" fn speedate_duration_to_text(
     write_text(duration.to_text().as_str(), buffer, text_length)
 }
 
-/// Compares two durations, as [`Duration::cmp`] does: -1 where the first is the smaller one, 0 where they are
-/// equal, otherwise 1.
+/// Compares two durations, as [`Duration::cmp`] does: -1 where the first is the smaller one, 0
+/// where they are equal, otherwise 1.
 #[unsafe(no_mangle)]
 pub extern "C" fn speedate_duration_compare(
     first: SpeedateDuration,
@@ -179,8 +179,8 @@ pub extern "C" fn speedate_duration_compare(
     SUCCESS
 }
 
-/// The whole seconds with the sign, as [`Duration::signed_total_seconds`] gives them: -86,401 for a negative day
-/// and second.
+/// The whole seconds with the sign, as [`Duration::signed_total_seconds`] gives them: -86,401 for a
+/// negative day and second.
 #[unsafe(no_mangle)]
 pub extern "C" fn speedate_duration_signed_total_seconds(
     duration: SpeedateDuration,
@@ -196,8 +196,8 @@ pub extern "C" fn speedate_duration_signed_total_seconds(
     SUCCESS
 }
 
-/// The milliseconds with the sign, cut toward zero, as [`Duration::signed_total_ms`] gives them: -1,001 for
-/// -1.0019 seconds.
+/// The milliseconds with the sign, cut toward zero, as [`Duration::signed_total_ms`] gives them:
+/// -1,001 for -1.0019 seconds.
 #[unsafe(no_mangle)]
 pub extern "C" fn speedate_duration_signed_total_ms(
     duration: SpeedateDuration,
@@ -213,8 +213,8 @@ pub extern "C" fn speedate_duration_signed_total_ms(
     SUCCESS
 }
 
-/// The microseconds of a second with the sign, as [`Duration::signed_microseconds`] gives them: -1,000 for a
-/// negative second and 1,000 microseconds.
+/// The microseconds of a second with the sign, as [`Duration::signed_microseconds`] gives them:
+/// -1,000 for a negative second and 1,000 microseconds.
 #[unsafe(no_mangle)]
 pub extern "C" fn speedate_duration_signed_microseconds(
     duration: SpeedateDuration,

@@ -1,5 +1,5 @@
-//! The library as C functions, for `c/speedate.h`: each call on texts, numbers and plain structs, which answers 0
-//! or why it refuses.
+//! The library as C functions, for `c/speedate.h`: each call on texts, numbers and plain structs,
+//! which answers 0 or why it refuses.
 #![tactic(auto)]
 
 mod code;

@@ -2,11 +2,11 @@
 
 ghost use Rattle.std.specs.Prelude.{◌≡◌, neg_ℤ};
 ghost use Rattle.speedate.specs.DurationMove.{date_after_days, date_time_after, duration_between, duration_between_dates, negated, signed_length};
+ghost use Rattle.speedate_c.specs.After.{after_answer, after_value, with_value};
 ghost use Rattle.speedate_c.specs.Code.{value_out_of_range};
 ghost use Rattle.speedate_c.specs.Date.{date_of, shown_date};
 ghost use Rattle.speedate_c.specs.DateTime.{date_time_of, shown_date_time};
 ghost use Rattle.speedate_c.specs.Duration.{duration_of, shown_duration};
-ghost use Rattle.speedate_c.specs.After.{after_answer, after_value, with_value};
 
 use crate::code::{SUCCESS, VALUE_OUT_OF_RANGE};
 use crate::date::{SpeedateDate, write_date};
@@ -14,8 +14,8 @@ use crate::datetime::{SpeedateDateTime, write_date_time};
 use crate::duration::SpeedateDuration;
 use speedate::Duration;
 
-/// The duration from one date-time to another, by their instants in UTC, as [`Duration::between`] gives it: an
-/// hour from 2020-01-01T12:00:00Z to 2020-01-01T12:00:00-01:00.
+/// The duration from one date-time to another, by their instants in UTC, as [`Duration::between`]
+/// gives it: an hour from 2020-01-01T12:00:00Z to 2020-01-01T12:00:00-01:00.
 #[unsafe(no_mangle)]
 pub extern "C" fn speedate_duration_between(
     earlier: SpeedateDateTime,
@@ -36,9 +36,9 @@ pub extern "C" fn speedate_duration_between(
     SUCCESS
 }
 
-/// The date-time so long after another, or before it where the duration is negative, as [`Duration::after`] gives
-/// it: 2020-03-01T00:30:00+01:00 for an hour and 2020-02-29T23:30:00+01:00. `VALUE_OUT_OF_RANGE` comes before the
-/// faults of that call.
+/// The date-time so long after another, or before it where the duration is negative, as
+/// [`Duration::after`] gives it: 2020-03-01T00:30:00+01:00 for an hour and
+/// 2020-02-29T23:30:00+01:00. `VALUE_OUT_OF_RANGE` comes before the faults of that call.
 #[unsafe(no_mangle)]
 pub extern "C" fn speedate_duration_after(
     duration: SpeedateDuration,
@@ -58,9 +58,9 @@ pub extern "C" fn speedate_duration_after(
     write_date_time(duration.after(&start), out)
 }
 
-/// The date-time so long before another, or after it where the duration is negative, as [`Duration::before`]
-/// gives it: 2020-02-29T23:30:00+01:00 for an hour and 2020-03-01T00:30:00+01:00. `VALUE_OUT_OF_RANGE` comes
-/// before the faults of that call.
+/// The date-time so long before another, or after it where the duration is negative, as
+/// [`Duration::before`] gives it: 2020-02-29T23:30:00+01:00 for an hour and
+/// 2020-03-01T00:30:00+01:00. `VALUE_OUT_OF_RANGE` comes before the faults of that call.
 #[unsafe(no_mangle)]
 pub extern "C" fn speedate_duration_before(
     duration: SpeedateDuration,
@@ -80,8 +80,8 @@ pub extern "C" fn speedate_duration_before(
     write_date_time(duration.before(&start), out)
 }
 
-/// The duration from one date to another, whole days, as [`Duration::between_dates`] gives it: two days from
-/// 2020-02-28 to 2020-03-01.
+/// The duration from one date to another, whole days, as [`Duration::between_dates`] gives it: two
+/// days from 2020-02-28 to 2020-03-01.
 #[unsafe(no_mangle)]
 pub extern "C" fn speedate_duration_between_dates(
     earlier: SpeedateDate,
@@ -103,8 +103,8 @@ pub extern "C" fn speedate_duration_between_dates(
 }
 
 /// The date so many days after another, or before it where the duration is negative, as
-/// [`Duration::after_date`] gives it: 2020-03-01 for two days and 2020-02-28. `VALUE_OUT_OF_RANGE` comes before
-/// the faults of that call.
+/// [`Duration::after_date`] gives it: 2020-03-01 for two days and 2020-02-28. `VALUE_OUT_OF_RANGE`
+/// comes before the faults of that call.
 #[unsafe(no_mangle)]
 pub extern "C" fn speedate_duration_after_date(
     duration: SpeedateDuration,
@@ -125,8 +125,8 @@ pub extern "C" fn speedate_duration_after_date(
 }
 
 /// The date so many days before another, or after it where the duration is negative, as
-/// [`Duration::before_date`] gives it: 2020-02-28 for two days and 2020-03-01. `VALUE_OUT_OF_RANGE` comes before
-/// the faults of that call.
+/// [`Duration::before_date`] gives it: 2020-02-28 for two days and 2020-03-01. `VALUE_OUT_OF_RANGE`
+/// comes before the faults of that call.
 #[unsafe(no_mangle)]
 pub extern "C" fn speedate_duration_before_date(
     duration: SpeedateDuration,

@@ -1,12 +1,13 @@
 //! Texts in buffers of the caller's.
 
-ghost use Rattle.std.specs.Prelude.{◌≡◌, ◌+◌, ◌<◌, ◌∷◌, ◌++◌, drop, length};
-ghost use Rattle.speedate_c.specs.Code.{code_documentation, code_name, success, value_out_of_range};
+ghost use Rattle.std.specs.Prelude.{◌≡◌, ◌≢◌, ◌+◌, ◌<◌, ◌≤◌, ◌∷◌, ◌++◌, drop, length};
 ghost use Rattle.speedate_c.specs.After.{after_text, with_option};
+ghost use Rattle.speedate_c.specs.Code.{buffer_too_small, code_documentation, code_name, success, value_out_of_range};
 
 use crate::code::{BUFFER_TOO_SMALL, SUCCESS, VALUE_OUT_OF_RANGE, code_documentation, code_name};
 
-/// Writes a text and a zero byte after it into a buffer, and its length beside it, and gives the code.
+/// Writes a text and a zero byte after it into a buffer, and its length beside it, and gives the
+/// code.
 #[inline]
 pub(crate) fn write_text(text: &str, buffer: &mut [u8], text_length: &mut usize) -> i32
     ensures after { (result, buffer.new, text_length.new) ≡ after_text text.now buffer.old text_length.old }
@@ -34,12 +35,13 @@ fn fill(text: &str, buffer: &mut [u8])
 
 /// Prints the name of a code: `too_short` for 1.
 ///
-/// `VALUE_OUT_OF_RANGE` for 0 and for a number that is no code, `BUFFER_TOO_SMALL` where the buffer has
-/// no room for the name and a zero byte.
+/// `VALUE_OUT_OF_RANGE` for 0 and for a number that is no code, `BUFFER_TOO_SMALL` where the buffer
+/// has no room for the name and a zero byte.
 #[unsafe(no_mangle)]
 pub extern "C" fn speedate_code_name(code: i32, buffer: &mut [u8], text_length: &mut usize) -> i32
     ensures answer { (result, buffer.new, text_length.new) ≡ with_option (code_name code) (value_out_of_range, buffer.old, text_length.old)
         (λ name. after_text name buffer.old text_length.old) }
+    ensures room { 64 ≤ length buffer.old → result ≢ buffer_too_small }
 {
     let Some(name) = code_name(code) else {
         return VALUE_OUT_OF_RANGE;
@@ -58,6 +60,7 @@ pub extern "C" fn speedate_code_documentation(
 ) -> i32
     ensures answer { (result, buffer.new, text_length.new) ≡ with_option (code_documentation code) (value_out_of_range, buffer.old, text_length.old)
         (λ text. after_text text buffer.old text_length.old) }
+    ensures room { 64 ≤ length buffer.old → result ≢ buffer_too_small }
 {
     let Some(text) = code_documentation(code) else {
         return VALUE_OUT_OF_RANGE;

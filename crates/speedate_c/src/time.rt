@@ -1,15 +1,15 @@
 //! Times of day as C sees them.
 
 ghost use Rattle.std.specs.Prelude.{◌≡◌, ◌≢◌, ◌≤◌, length};
-ghost use Rattle.speedate.specs.OffsetMove.{time_in_timezone};
 ghost use Rattle.speedate.specs.InstantOrder.{time_instant_order};
+ghost use Rattle.speedate.specs.OffsetMove.{time_in_timezone};
 ghost use Rattle.speedate.specs.Requirement.{result_map};
 ghost use Rattle.speedate.specs.Time.{parts};
 ghost use Rattle.speedate.specs.TimeOfDay.{millisecond_of_day, second_of_day, timestamp_answer};
 ghost use Rattle.speedate.specs.TimeText.{time_answer, time_front, time_text};
+ghost use Rattle.speedate_c.specs.After.{after_answer, after_front, after_text, after_value, with_option, with_value};
 ghost use Rattle.speedate_c.specs.Code.{answer_code, buffer_too_small, config_out_of_range, order_number, value_out_of_range};
 ghost use Rattle.speedate_c.specs.Config.{choices_of};
-ghost use Rattle.speedate_c.specs.After.{after_answer, after_front, after_text, after_value, with_option, with_value};
 ghost use Rattle.speedate_c.specs.Time.{shown_time, time_of};
 
 use crate::code::{CONFIG_OUT_OF_RANGE, SUCCESS, VALUE_OUT_OF_RANGE, fault_code, order_number};
@@ -85,8 +85,8 @@ fn write_time(answer: Result<Time, ParseError>, out: &mut SpeedateTime) -> i32
     }
 }
 
-/// Reads a time from a text under a configuration, as [`Time::parse_bytes_with_config`] does: 12:13:14.5, an
-/// hour east of UTC, from `12:13:14.5+01:00`.
+/// Reads a time from a text under a configuration, as [`Time::parse_bytes_with_config`] does:
+/// 12:13:14.5, an hour east of UTC, from `12:13:14.5+01:00`.
 ///
 /// The faults are those of that call; `CONFIG_OUT_OF_RANGE` comes first.
 #[unsafe(no_mangle)]
@@ -107,8 +107,9 @@ pub extern "C" fn speedate_time_parse(
     )
 }
 
-/// Reads the time at the front of a text, and writes how many bytes it takes, as [`Time::parse_front`] does:
-/// 12:13:14Z, and 9, from `12:13:14Z GET /`. `CONFIG_OUT_OF_RANGE` comes first.
+/// Reads the time at the front of a text, and writes how many bytes it takes, as
+/// [`Time::parse_front`] does: 12:13:14Z, and 9, from `12:13:14Z GET /`. `CONFIG_OUT_OF_RANGE`
+/// comes first.
 #[unsafe(no_mangle)]
 pub extern "C" fn speedate_time_parse_front(
     text: &[u8],
@@ -132,8 +133,8 @@ pub extern "C" fn speedate_time_parse_front(
     }
 }
 
-/// Whether the numbers are those of a time, as [`Time::new`] tells: `SUCCESS`, or the fault of a number that
-/// is out of range. `OutOfRangeTz`, for the offset or its flag, comes first.
+/// Whether the numbers are those of a time, as [`Time::new`] tells: `SUCCESS`, or the fault of a
+/// number that is out of range. `OutOfRangeTz`, for the offset or its flag, comes first.
 #[unsafe(no_mangle)]
 pub extern "C" fn speedate_time_check(time: SpeedateTime) -> i32
     ensures answer { result ≡ answer_code (time_of time) }
@@ -162,8 +163,8 @@ pub extern "C" fn speedate_time_to_text(
     write_text(time.to_text().as_str(), buffer, text_length)
 }
 
-/// Compares two times by their instants, as [`Time::cmp_instant`] does: -1 where the first is the earlier one,
-/// 0 where they are the same instant, otherwise 1.
+/// Compares two times by their instants, as [`Time::cmp_instant`] does: -1 where the first is the
+/// earlier one, 0 where they are the same instant, otherwise 1.
 #[unsafe(no_mangle)]
 pub extern "C" fn speedate_time_compare(
     first: SpeedateTime,
@@ -184,8 +185,8 @@ pub extern "C" fn speedate_time_compare(
     SUCCESS
 }
 
-/// The time so many seconds and microseconds after midnight, with the offset of the configuration, as
-/// [`Time::from_timestamp_with_config`] gives it: 10:00:06.5 for 36,005 and 1,500,000.
+/// The time so many seconds and microseconds after midnight, with the offset of the configuration,
+/// as [`Time::from_timestamp_with_config`] gives it: 10:00:06.5 for 36,005 and 1,500,000.
 ///
 /// The faults are those of that call; `CONFIG_OUT_OF_RANGE` comes first.
 #[unsafe(no_mangle)]
@@ -208,7 +209,8 @@ pub extern "C" fn speedate_time_from_timestamp(
 /// The seconds since midnight, as [`Time::total_seconds`] gives them: 43,994 for 12:13:14.5.
 #[unsafe(no_mangle)]
 pub extern "C" fn speedate_time_total_seconds(time: SpeedateTime, out: &mut u32) -> i32
-    ensures answer { (result, out.new) ≡ with_value (time_of time) (value_out_of_range, out.old) (λ time. after_value (second_of_day time)) }
+    ensures answer { (result, out.new) ≡ with_value (time_of time) (value_out_of_range, out.old)
+        (λ time. after_value (second_of_day time)) }
 {
     let Ok(time) = time.to_value() else {
         return VALUE_OUT_OF_RANGE;
@@ -217,10 +219,12 @@ pub extern "C" fn speedate_time_total_seconds(time: SpeedateTime, out: &mut u32)
     SUCCESS
 }
 
-/// The milliseconds since midnight, rounded down, as [`Time::total_ms`] gives them: 43,994,500 for 12:13:14.5.
+/// The milliseconds since midnight, rounded down, as [`Time::total_ms`] gives them: 43,994,500 for
+/// 12:13:14.5.
 #[unsafe(no_mangle)]
 pub extern "C" fn speedate_time_total_ms(time: SpeedateTime, out: &mut u32) -> i32
-    ensures answer { (result, out.new) ≡ with_value (time_of time) (value_out_of_range, out.old) (λ time. after_value (millisecond_of_day time)) }
+    ensures answer { (result, out.new) ≡ with_value (time_of time) (value_out_of_range, out.old)
+        (λ time. after_value (millisecond_of_day time)) }
 {
     let Ok(time) = time.to_value() else {
         return VALUE_OUT_OF_RANGE;
@@ -229,11 +233,11 @@ pub extern "C" fn speedate_time_total_ms(time: SpeedateTime, out: &mut u32) -> i
     SUCCESS
 }
 
-/// The time at the same instant, as a clock at another offset shows it, as [`Time::in_timezone`] gives it:
-/// 16:00:00+01:00 for 15:00:00Z and 3,600.
+/// The time at the same instant, as a clock at another offset shows it, as [`Time::in_timezone`]
+/// gives it: 16:00:00+01:00 for 15:00:00Z and 3,600.
 ///
-/// `VALUE_OUT_OF_RANGE` is that of the time; the faults of that call follow, with `OutOfRangeTz` for an offset
-/// of 24 hours or more.
+/// `VALUE_OUT_OF_RANGE` is that of the time; the faults of that call follow, with `OutOfRangeTz`
+/// for an offset of 24 hours or more.
 #[unsafe(no_mangle)]
 pub extern "C" fn speedate_time_in_timezone(
     time: SpeedateTime,
