@@ -1,0 +1,413 @@
+/* speedate.h: exact dates, times of day, date-times and durations, read from texts and printed.
+ *
+ * What every call keeps to:
+ *
+ * - It answers 0 (SPEEDATE_OK) where it did what it is for, otherwise the SpeedateCode that says why it refuses.
+ *   Where it refuses it writes nothing.
+ * - A text goes in as an address and a size in bytes. It needs no zero byte at its end, and it may hold any bytes.
+ *   Where the size is 0 the address may be NULL.
+ * - A text comes out in a buffer of the caller's, with a zero byte after it, and its length without that byte goes
+ *   to *length. A buffer of the size named beside the type always has room.
+ * - Values and configurations go in by value. So `out` may be the variable that was just passed:
+ *   speedate_date_add_days(date, 1, &date).
+ * - Every other address has to be that of a variable of its type: not NULL, and no part of another argument.
+ * - No memory is taken and nothing is kept between calls. Every call may run on every thread at any time.
+ *
+ * The texts and their faults are the subject of docs/GRAMMAR.md, and docs/C.md shows how to build and call this.
+ */
+#ifndef SPEEDATE_H
+#define SPEEDATE_H
+
+#include <stddef.h>
+#include <stdint.h>
+
+#ifdef __cplusplus
+extern "C" {
+#endif
+
+/* ---- Codes ---- */
+
+/* What a call answers. A number never changes its meaning; later versions may add numbers. */
+enum SpeedateCode {
+    /* What was asked for is written. */
+    SPEEDATE_OK = 0,
+
+    /* 1 to 99: faults of a text or of a number. */
+
+    /* The text ends before what it must hold. */
+    SPEEDATE_TOO_SHORT = 1,
+    /* Bytes are left over after a whole value. */
+    SPEEDATE_EXTRA_CHARACTERS = 2,
+    /* Between date and time stands none of `T`, `t`, `_` and space. */
+    SPEEDATE_INVALID_CHAR_DATE_TIME_SEP = 3,
+    /* A `-` is missing between year, month and day. */
+    SPEEDATE_INVALID_CHAR_DATE_SEP = 4,
+    /* A timestamp that was to be a date is no midnight, or a duration that was to move one is not whole days. */
+    SPEEDATE_DATE_NOT_EXACT = 5,
+    /* The year is not four digits. */
+    SPEEDATE_INVALID_CHAR_YEAR = 6,
+    /* The month is not two digits. */
+    SPEEDATE_INVALID_CHAR_MONTH = 7,
+    /* The day is not two digits. */
+    SPEEDATE_INVALID_CHAR_DAY = 8,
+    /* The `:` between hour and minute is missing. */
+    SPEEDATE_INVALID_CHAR_TIME_SEP = 9,
+    /* The hour is not two digits. */
+    SPEEDATE_INVALID_CHAR_HOUR = 10,
+    /* The minute is not two digits. */
+    SPEEDATE_INVALID_CHAR_MINUTE = 11,
+    /* The second is not two digits. */
+    SPEEDATE_INVALID_CHAR_SECOND = 12,
+    /* No call here answers it. */
+    SPEEDATE_INVALID_CHAR_SECOND_FRACTION = 13,
+    /* What follows a time is no beginning of an offset. */
+    SPEEDATE_INVALID_CHAR_TZ_SIGN = 14,
+    /* The hour of an offset is not two digits. */
+    SPEEDATE_INVALID_CHAR_TZ_HOUR = 15,
+    /* The minute of an offset is not two digits. */
+    SPEEDATE_INVALID_CHAR_TZ_MINUTE = 16,
+    /* The minute of an offset is over 59. */
+    SPEEDATE_OUT_OF_RANGE_TZ_MINUTE = 17,
+    /* An offset is of 24 hours or more. */
+    SPEEDATE_OUT_OF_RANGE_TZ = 18,
+    /* A value without offset cannot be moved to another one. */
+    SPEEDATE_TZ_REQUIRED = 19,
+    /* No call here answers it: a clock stands before 1970. */
+    SPEEDATE_SYSTEM_TIME_ERROR = 20,
+    /* The month is not 1 to 12. */
+    SPEEDATE_OUT_OF_RANGE_MONTH = 21,
+    /* The month has no such day. */
+    SPEEDATE_OUT_OF_RANGE_DAY = 22,
+    /* The hour is over 23. */
+    SPEEDATE_OUT_OF_RANGE_HOUR = 23,
+    /* The minute is over 59. */
+    SPEEDATE_OUT_OF_RANGE_MINUTE = 24,
+    /* The second is over 59. */
+    SPEEDATE_OUT_OF_RANGE_SECOND = 25,
+    /* A fraction of a second has more than six digits, and the configuration refuses them. */
+    SPEEDATE_SECOND_FRACTION_TOO_LONG = 26,
+    /* No digit follows the decimal mark after a second. */
+    SPEEDATE_SECOND_FRACTION_MISSING = 27,
+    /* A fraction of a millisecond has more than three digits, and the configuration refuses them. */
+    SPEEDATE_MILLISECOND_FRACTION_TOO_LONG = 28,
+    /* A number of a duration does not begin with a digit. */
+    SPEEDATE_DURATION_INVALID_NUMBER = 29,
+    /* A duration has a second `T`. */
+    SPEEDATE_DURATION_T_REPEATED = 30,
+    /* A component follows one with a fraction. */
+    SPEEDATE_DURATION_INVALID_FRACTION = 31,
+    /* A component after `T` has no designator of hours, minutes or seconds. */
+    SPEEDATE_DURATION_INVALID_TIME_UNIT = 32,
+    /* A component before `T` has no designator of years, months, weeks or days. */
+    SPEEDATE_DURATION_INVALID_DATE_UNIT = 33,
+    /* The days of a duration are not followed by a form of `day`. */
+    SPEEDATE_DURATION_INVALID_DAYS = 34,
+    /* A number or a sum of a duration is over 4,294,967,295. */
+    SPEEDATE_DURATION_VALUE_TOO_LARGE = 35,
+    /* The hours of a duration are too many. */
+    SPEEDATE_DURATION_HOUR_VALUE_TOO_LARGE = 36,
+    /* A duration has more than 999,999,999 days. */
+    SPEEDATE_DURATION_DAYS_TOO_LARGE = 37,
+    /* A timestamp, or a date at another offset, lies before the year 0000. */
+    SPEEDATE_DATE_TOO_SMALL = 38,
+    /* A timestamp, a moment, or a date at another offset, lies after the year 9999. */
+    SPEEDATE_DATE_TOO_LARGE = 39,
+    /* A time of day, or a sum on the way to it, is too large. */
+    SPEEDATE_TIME_TOO_LARGE = 40,
+    /* A component of a duration is out of order, or repeated, and the configuration refuses that. */
+    SPEEDATE_DURATION_UNIT_ORDER = 41,
+    /* A timestamp in microseconds has a digit after its point, and the configuration refuses it. */
+    SPEEDATE_MICROSECOND_FRACTION_TOO_LONG = 42,
+
+    /* From 101 on: what the caller has to mend. */
+
+    /* A value that was passed is out of range, as a month 13 or a flag 2; or a number is no code. */
+    SPEEDATE_VALUE_OUT_OF_RANGE = 101,
+    /* A number of the configuration has no meaning. It is looked at before everything else. */
+    SPEEDATE_CONFIG_OUT_OF_RANGE = 102,
+    /* The buffer has no room for the text and its zero byte. */
+    SPEEDATE_BUFFER_TOO_SMALL = 103,
+    /* The date asked for is before 0000-01-01 or after 9999-12-31. */
+    SPEEDATE_NO_SUCH_DATE = 104
+};
+
+/* Room for the name or the documentation text of a code, with its zero byte. */
+#define SPEEDATE_CODE_TEXT_SIZE 64
+
+/* Prints the name of a code: "too_short" for 1. SPEEDATE_VALUE_OUT_OF_RANGE for 0 and for a number that is no code. */
+int speedate_code_name(int code, char *buffer, size_t size, size_t *length);
+
+/* Prints the documentation text of a code: "input is too short" for 1. It refuses what speedate_code_name refuses. */
+int speedate_code_documentation(int code, char *buffer, size_t size, size_t *length);
+
+/* ---- Configurations ---- */
+
+/* How texts and timestamps are read. In each field 0 is the default, so SpeedateConfig config = {0} is the default
+ * configuration. A field that a call does not look at still has to have a meaning. */
+typedef struct SpeedateConfig {
+    /* The offset from UTC, in seconds, that the value of a timestamp gets: less than 24 hours either way. */
+    int32_t timestamp_offset;
+    /* 1 where the value of a timestamp gets that offset; 0 where it gets none. */
+    uint8_t has_timestamp_offset;
+    /* The unit of timestamps: SPEEDATE_UNIT_INFER, _SECOND, _MILLISECOND or _MICROSECOND. */
+    uint8_t timestamp_unit;
+    /* What is done with digits past the microsecond: SPEEDATE_OVERFLOW_ERROR or _TRUNCATE. */
+    uint8_t overflow_behavior;
+    /* The order of the components of an ISO 8601 duration: SPEEDATE_ORDER_LAX or _STRICT. */
+    uint8_t iso_order;
+    /* Which texts are times and date-times: SPEEDATE_FORM_RELAXED or _STRICT. */
+    uint8_t rfc3339_form;
+} SpeedateConfig;
+
+/* The default: SpeedateConfig config = SPEEDATE_CONFIG_DEFAULT; */
+#define SPEEDATE_CONFIG_DEFAULT {0, 0, 0, 0, 0, 0}
+
+/* Seconds where the size of the timestamp is at most 20,000,000,000, otherwise milliseconds. */
+#define SPEEDATE_UNIT_INFER 0
+#define SPEEDATE_UNIT_SECOND 1
+#define SPEEDATE_UNIT_MILLISECOND 2
+#define SPEEDATE_UNIT_MICROSECOND 3
+
+/* The text is refused. */
+#define SPEEDATE_OVERFLOW_ERROR 0
+/* The digits are dropped, and a timestamp is rounded to the nearest microsecond. */
+#define SPEEDATE_OVERFLOW_TRUNCATE 1
+
+/* Components come in any order on their side of the T, and more than once. */
+#define SPEEDATE_ORDER_LAX 0
+/* Each component comes at most once: years, months, weeks, days, and after the T hours, minutes, seconds. */
+#define SPEEDATE_ORDER_STRICT 1
+
+/* The texts of RFC 3339, and others: the second, the offset and the colon in it may be left out, and more. */
+#define SPEEDATE_FORM_RELAXED 0
+/* The texts of RFC 3339, but for those with a second 60. */
+#define SPEEDATE_FORM_STRICT 1
+
+/* ---- Values ---- */
+
+/* No struct below has padding, and a call writes 0 into a field that says nothing. So two values that calls have
+ * written are equal if and only if their bytes are, by memcmp. */
+
+/* A day of the Gregorian calendar, which is carried back to the year 0. */
+typedef struct SpeedateDate {
+    uint16_t year; /* 0 to 9999 */
+    uint8_t month; /* 1 to 12 */
+    uint8_t day;   /* 1 to the length of the month */
+} SpeedateDate;
+
+/* A time of day, with an offset from UTC or without one. */
+typedef struct SpeedateTime {
+    uint8_t hour;         /* 0 to 23 */
+    uint8_t minute;       /* 0 to 59 */
+    uint8_t second;       /* 0 to 59 */
+    uint8_t has_offset;   /* 1 where there is an offset, otherwise 0 */
+    uint32_t microsecond; /* 0 to 999,999 */
+    int32_t offset;       /* in seconds, positive east of UTC: -86,399 to 86,399; not looked at without the flag */
+} SpeedateTime;
+
+/* A date and a time of day, as a clock at the offset shows them. */
+typedef struct SpeedateDateTime {
+    SpeedateDate date;
+    SpeedateTime time;
+} SpeedateDateTime;
+
+/* A length of time. Zero may be negative too. */
+typedef struct SpeedateDuration {
+    uint32_t negative;    /* 1 where it is negative, otherwise 0 */
+    uint32_t day;         /* 0 to 999,999,999, each of 86,400 seconds */
+    uint32_t second;      /* 0 to 86,399 */
+    uint32_t microsecond; /* 0 to 999,999 */
+} SpeedateDuration;
+
+/* Room for each text with its zero byte: 2020-02-29, 12:13:14.500000+01:30, 2020-02-29T12:13:14.500000+01:30,
+ * -P2739725Y364DT23H59M59.999999S. */
+#define SPEEDATE_DATE_TEXT_SIZE 11
+#define SPEEDATE_TIME_TEXT_SIZE 22
+#define SPEEDATE_DATETIME_TEXT_SIZE 33
+#define SPEEDATE_DURATION_TEXT_SIZE 32
+
+/* Every call below that takes a value answers SPEEDATE_VALUE_OUT_OF_RANGE where it is out of range, before it looks
+ * at anything but the configuration; the _check calls alone say what is out of range. */
+
+/* ---- Dates ---- */
+
+/* Reads a date, "2020-02-29", or a timestamp that stands in its place, "1582934400", in the unit of the
+ * configuration. A timestamp has to be a midnight. */
+int speedate_date_parse(const char *text, size_t size, SpeedateConfig config, SpeedateDate *out);
+
+/* Reads a date, and no timestamp. */
+int speedate_date_parse_rfc3339(const char *text, size_t size, SpeedateDate *out);
+
+/* Reads the date at the front of a text, whatever follows it, and writes how many bytes it takes to *taken:
+ * 2020-02-29, and 10, from "2020-02-29 opening balance". */
+int speedate_date_parse_front(const char *text, size_t size, SpeedateDate *out, size_t *taken);
+
+/* SPEEDATE_OK where the numbers are those of a date. Otherwise, in this order: SPEEDATE_DATE_TOO_LARGE,
+ * SPEEDATE_OUT_OF_RANGE_MONTH or SPEEDATE_OUT_OF_RANGE_DAY. */
+int speedate_date_check(SpeedateDate date);
+
+/* Prints a date: "2020-02-29". It reads back as the date. */
+int speedate_date_to_text(SpeedateDate date, char *buffer, size_t size, size_t *length);
+
+/* Writes -1 where the first date is the earlier one, 0 where they are equal, otherwise 1. */
+int speedate_date_compare(SpeedateDate first, SpeedateDate second, int32_t *out);
+
+/* The date of a timestamp in the unit of the configuration: 1970-01-02 for 86,400 seconds. Where require_exact is 1
+ * the timestamp has to be a midnight (SPEEDATE_DATE_NOT_EXACT); where it is 0 the date is that of its day.
+ * SPEEDATE_DATE_TOO_SMALL before the year 0000, SPEEDATE_DATE_TOO_LARGE after the year 9999. */
+int speedate_date_from_timestamp(int64_t timestamp, uint8_t require_exact, SpeedateConfig config, SpeedateDate *out);
+
+/* The second, and the millisecond, at which a date begins, counted from 1970-01-01T00:00:00. */
+int speedate_date_timestamp(SpeedateDate date, int64_t *out);
+int speedate_date_timestamp_ms(SpeedateDate date, int64_t *out);
+
+/* The number of days from 0000-01-01 to a date, 737,790 for 2020-01-01, and back. There is no date for a number over
+ * 3,652,424 (SPEEDATE_NO_SUCH_DATE). */
+int speedate_date_day_number(SpeedateDate date, uint32_t *out);
+int speedate_date_from_day_number(uint32_t number, SpeedateDate *out);
+
+/* The day of the year, 1 to 366. */
+int speedate_date_ordinal_day(SpeedateDate date, uint16_t *out);
+
+/* The date so many days later, or earlier for a negative number. SPEEDATE_NO_SUCH_DATE where that is before
+ * 0000-01-01 or after 9999-12-31. */
+int speedate_date_add_days(SpeedateDate date, int32_t days, SpeedateDate *out);
+
+/* The days from `earlier` to `date`: 2 for 2020-03-01 and the earlier 2020-02-28. They are negative where `earlier`
+ * is the later one. */
+int speedate_date_days_since(SpeedateDate date, SpeedateDate earlier, int32_t *out);
+
+/* ---- Times ---- */
+
+/* Reads a time: "12:13:14.5+01:00". */
+int speedate_time_parse(const char *text, size_t size, SpeedateConfig config, SpeedateTime *out);
+
+/* Reads the time at the front of a text, and writes how many bytes it takes to *taken: 12:13:14Z, and 9, from
+ * "12:13:14Z GET /". */
+int speedate_time_parse_front(const char *text, size_t size, SpeedateConfig config, SpeedateTime *out, size_t *taken);
+
+/* SPEEDATE_OK where the numbers are those of a time. Otherwise, in this order: SPEEDATE_OUT_OF_RANGE_TZ for the
+ * offset or its flag, SPEEDATE_OUT_OF_RANGE_HOUR, SPEEDATE_OUT_OF_RANGE_MINUTE, SPEEDATE_OUT_OF_RANGE_SECOND, or
+ * SPEEDATE_TIME_TOO_LARGE for the microsecond. */
+int speedate_time_check(SpeedateTime time);
+
+/* Prints a time: "12:13:14.500000+01:30", "12:13:14Z". It reads back as the time where the offset is absent or whole
+ * minutes; the seconds of another offset are not printed. */
+int speedate_time_to_text(SpeedateTime time, char *buffer, size_t size, size_t *length);
+
+/* Writes -1 where the first time is the earlier one, 0 where they are the same instant, otherwise 1: in UTC where both
+ * have an offset, otherwise as clocks show them. Times at other offsets can be the same instant. */
+int speedate_time_compare(SpeedateTime first, SpeedateTime second, int32_t *out);
+
+/* The time so many seconds and microseconds after midnight, with the offset of the configuration: 10:00:06.5 for
+ * 36,005 and 1,500,000. SPEEDATE_TIME_TOO_LARGE where that is not the same day. */
+int speedate_time_from_timestamp(uint32_t second, uint32_t microsecond, SpeedateConfig config, SpeedateTime *out);
+
+/* The seconds, and the milliseconds, rounded down, since midnight, whatever the offset. */
+int speedate_time_total_seconds(SpeedateTime time, uint32_t *out);
+int speedate_time_total_ms(SpeedateTime time, uint32_t *out);
+
+/* The time at the same instant, as a clock at another offset, in seconds, shows it. SPEEDATE_OUT_OF_RANGE_TZ where the
+ * offset is of 24 hours or more, SPEEDATE_TZ_REQUIRED where the time has none, SPEEDATE_TIME_TOO_LARGE where that clock
+ * shows another day. */
+int speedate_time_in_timezone(SpeedateTime time, int32_t offset, SpeedateTime *out);
+
+/* ---- Date-times ---- */
+
+/* Reads a date-time, "2020-02-29T12:13:14.5+01:00", or a timestamp that stands in its place, "1582978394.5", in the
+ * unit and with the offset of the configuration. */
+int speedate_datetime_parse(const char *text, size_t size, SpeedateConfig config, SpeedateDateTime *out);
+
+/* Reads a date-time, and no timestamp. */
+int speedate_datetime_parse_rfc3339(const char *text, size_t size, SpeedateConfig config, SpeedateDateTime *out);
+
+/* Reads the date-time at the front of a text, and writes how many bytes it takes to *taken: 2026-11-22T12:13:14Z, and
+ * 20, from "2026-11-22T12:13:14Z GET /". */
+int speedate_datetime_parse_front(const char *text, size_t size, SpeedateConfig config, SpeedateDateTime *out,
+                                  size_t *taken);
+
+/* SPEEDATE_OK where the numbers are those of a date-time, otherwise what speedate_date_check says of the date, or then
+ * speedate_time_check of the time. */
+int speedate_datetime_check(SpeedateDateTime value);
+
+/* Prints a date-time: "2020-02-29T12:13:14.500000+01:30". It reads back as the date-time where the offset is absent or
+ * whole minutes; the seconds of another offset are not printed. */
+int speedate_datetime_to_text(SpeedateDateTime value, char *buffer, size_t size, size_t *length);
+
+/* Writes -1 where the first date-time is the earlier one, 0 where they are the same instant, otherwise 1: in UTC where
+ * both have an offset, otherwise as clocks show them. Date-times at other offsets can be the same instant. */
+int speedate_datetime_compare(SpeedateDateTime first, SpeedateDateTime second, int32_t *out);
+
+/* The date-time of a timestamp in the unit of the configuration, and so many microseconds later, with the offset of the
+ * configuration, which is attached and shifts nothing: 1970-01-01T00:00:01.000002 for 1 second and 2.
+ * SPEEDATE_TIME_TOO_LARGE where a sum on the way is too large, SPEEDATE_DATE_TOO_SMALL before the year 0000,
+ * SPEEDATE_DATE_TOO_LARGE after the year 9999. */
+int speedate_datetime_from_timestamp(int64_t timestamp, uint32_t microsecond, SpeedateConfig config,
+                                     SpeedateDateTime *out);
+
+/* The second, and the millisecond, rounded down, since 1970-01-01T00:00:00 that a clock at the offset shows. */
+int speedate_datetime_timestamp(SpeedateDateTime value, int64_t *out);
+int speedate_datetime_timestamp_ms(SpeedateDateTime value, int64_t *out);
+
+/* The second, and the millisecond, rounded down, since 1970-01-01T00:00:00 in UTC: a Unix timestamp. Without an offset
+ * the date-time is taken to be in UTC. */
+int speedate_datetime_timestamp_tz(SpeedateDateTime value, int64_t *out);
+int speedate_datetime_timestamp_tz_ms(SpeedateDateTime value, int64_t *out);
+
+/* The date-time at the same instant, as a clock at another offset, in seconds, shows it. SPEEDATE_OUT_OF_RANGE_TZ where
+ * the offset is of 24 hours or more, SPEEDATE_TZ_REQUIRED where the date-time has none, SPEEDATE_DATE_TOO_SMALL or
+ * SPEEDATE_DATE_TOO_LARGE where that clock shows a date outside the years 0000 to 9999. */
+int speedate_datetime_in_timezone(SpeedateDateTime value, int32_t offset, SpeedateDateTime *out);
+
+/* ---- Durations ---- */
+
+/* Reads a duration: "P1Y2DT3H4M5.5S" (ISO 8601), "-00:01:30.5" (a clock) or "2 days, 10:20" (days). */
+int speedate_duration_parse(const char *text, size_t size, SpeedateConfig config, SpeedateDuration *out);
+
+/* Brings days, seconds and microseconds of any size into their ranges: 2 days, 101 seconds and 123 microseconds for 1,
+ * 86,500 and 1,000,123. SPEEDATE_DURATION_VALUE_TOO_LARGE where a sum is over 4,294,967,295,
+ * SPEEDATE_DURATION_DAYS_TOO_LARGE where the days are over 999,999,999. */
+int speedate_duration_normalize(SpeedateDuration numbers, SpeedateDuration *out);
+
+/* SPEEDATE_OK where the numbers are those of a duration, SPEEDATE_DURATION_DAYS_TOO_LARGE for days over 999,999,999,
+ * SPEEDATE_DURATION_VALUE_TOO_LARGE for another number that is out of range; the first field that is wrong counts. */
+int speedate_duration_check(SpeedateDuration duration);
+
+/* Prints a duration: "PT1H30M". It reads back as the duration. */
+int speedate_duration_to_text(SpeedateDuration duration, char *buffer, size_t size, size_t *length);
+
+/* Writes -1 where the first duration is the smaller one, 0 where they are equal, otherwise 1. Negative zero is smaller
+ * than zero. */
+int speedate_duration_compare(SpeedateDuration first, SpeedateDuration second, int32_t *out);
+
+/* The whole seconds with the sign, the milliseconds with the sign, cut toward zero, and the microseconds of the last
+ * second with the sign. */
+int speedate_duration_signed_total_seconds(SpeedateDuration duration, int64_t *out);
+int speedate_duration_signed_total_ms(SpeedateDuration duration, int64_t *out);
+int speedate_duration_signed_microseconds(SpeedateDuration duration, int32_t *out);
+
+/* The duration with the other sign. */
+int speedate_duration_negate(SpeedateDuration duration, SpeedateDuration *out);
+
+/* The duration from one date-time to another, by their instants in UTC. It is negative where `later` is the earlier
+ * one. */
+int speedate_duration_between(SpeedateDateTime earlier, SpeedateDateTime later, SpeedateDuration *out);
+
+/* The date-time so long after another, and so long before it, at the same offset. SPEEDATE_DATE_TOO_SMALL or
+ * SPEEDATE_DATE_TOO_LARGE where its date is outside the years 0000 to 9999. */
+int speedate_duration_after(SpeedateDuration duration, SpeedateDateTime start, SpeedateDateTime *out);
+int speedate_duration_before(SpeedateDuration duration, SpeedateDateTime start, SpeedateDateTime *out);
+
+/* The duration from one date to another, whole days. */
+int speedate_duration_between_dates(SpeedateDate earlier, SpeedateDate later, SpeedateDuration *out);
+
+/* The date so many days after another, and so many before it. SPEEDATE_DATE_NOT_EXACT where the duration is not whole
+ * days, SPEEDATE_DATE_TOO_SMALL or SPEEDATE_DATE_TOO_LARGE where the date is outside the years 0000 to 9999. */
+int speedate_duration_after_date(SpeedateDuration duration, SpeedateDate start, SpeedateDate *out);
+int speedate_duration_before_date(SpeedateDuration duration, SpeedateDate start, SpeedateDate *out);
+
+#ifdef __cplusplus
+}
+#endif
+
+#endif

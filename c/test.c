@@ -1,0 +1,423 @@
+/* Runs the rows of a table, standard input, through every function of speedate.h.
+ *
+ * A row is a call, its arguments, the name of its code and what it writes, with `|` between them. A value is its
+ * numbers in the order of its fields, a configuration `default` or its numbers, and a text stands as it is, which
+ * for a row of an empty one is an empty field.
+ *
+ * Each text is read from three places: a block of the heap of its very size, the end of a page after which none
+ * can be read, and the beginning of one before which none can be; an empty one also from NULL. Each text is
+ * printed into a buffer of its very size, at the end of such a page, and into one that is a byte too small. Where
+ * a call refuses, every byte that it could have written has to be as it was. */
+#define _DEFAULT_SOURCE
+#include "speedate.h"
+
+#include <inttypes.h>
+#include <stdio.h>
+#include <stdlib.h>
+#include <string.h>
+#include <sys/mman.h>
+#include <unistd.h>
+
+#define UNTOUCHED 0xA5
+#define FIELDS 8
+
+static char *fields[FIELDS];
+static int field;
+static char answer[256];
+static char *first_page;
+static size_t page;
+
+/* ---- What a row says ---- */
+
+static const char *next(void) {
+    return field < FIELDS && fields[field] ? fields[field++] : "";
+}
+
+static void numbers(long long *out, int count) {
+    char *at = (char *)next();
+    for (int i = 0; i < count; i++)
+        out[i] = strtoll(at, &at, 10);
+}
+
+static long long number(void) {
+    long long it;
+    numbers(&it, 1);
+    return it;
+}
+
+static SpeedateConfig config(void) {
+    SpeedateConfig it = SPEEDATE_CONFIG_DEFAULT;
+    long long n[6];
+    if (strcmp(fields[field], "default") == 0) {
+        field++;
+        return it;
+    }
+    numbers(n, 6);
+    it.timestamp_offset = (int32_t)n[0];
+    it.has_timestamp_offset = (uint8_t)n[1];
+    it.timestamp_unit = (uint8_t)n[2];
+    it.overflow_behavior = (uint8_t)n[3];
+    it.iso_order = (uint8_t)n[4];
+    it.rfc3339_form = (uint8_t)n[5];
+    return it;
+}
+
+static SpeedateDate date_of(const long long *n) {
+    SpeedateDate it = {(uint16_t)n[0], (uint8_t)n[1], (uint8_t)n[2]};
+    return it;
+}
+
+static SpeedateTime time_of(const long long *n) {
+    SpeedateTime it = {(uint8_t)n[0], (uint8_t)n[1], (uint8_t)n[2], (uint8_t)n[3], (uint32_t)n[4], (int32_t)n[5]};
+    return it;
+}
+
+static SpeedateDate date(void) {
+    long long n[3];
+    numbers(n, 3);
+    return date_of(n);
+}
+
+static SpeedateTime time_value(void) {
+    long long n[6];
+    numbers(n, 6);
+    return time_of(n);
+}
+
+static SpeedateDateTime datetime(void) {
+    long long n[9];
+    SpeedateDateTime it;
+    numbers(n, 9);
+    it.date = date_of(n);
+    it.time = time_of(n + 3);
+    return it;
+}
+
+static SpeedateDuration duration(void) {
+    long long n[4];
+    numbers(n, 4);
+    SpeedateDuration it = {(uint32_t)n[0], (uint32_t)n[1], (uint32_t)n[2], (uint32_t)n[3]};
+    return it;
+}
+
+/* ---- What a call leaves ---- */
+
+static void say(const char *form, long long it) {
+    snprintf(answer + strlen(answer), sizeof answer - strlen(answer), form, it);
+}
+
+static void say_code(int code) {
+    char name[SPEEDATE_CODE_TEXT_SIZE] = "ok";
+    size_t length;
+    if (code != SPEEDATE_OK && speedate_code_name(code, name, sizeof name, &length) != SPEEDATE_OK)
+        strcpy(name, "no code");
+    snprintf(answer, sizeof answer, "%s", name);
+}
+
+static int is_untouched(const void *out, size_t size) {
+    for (size_t i = 0; i < size; i++)
+        if (((const unsigned char *)out)[i] != UNTOUCHED)
+            return 0;
+    return 1;
+}
+
+static int said(int code, const void *out, size_t size) {
+    say_code(code);
+    if (code != SPEEDATE_OK && !is_untouched(out, size))
+        say(" but %lld bytes are not as they were", (long long)size);
+    if (code == SPEEDATE_OK)
+        strcat(answer, "|");
+    return code == SPEEDATE_OK;
+}
+
+static void say_date(SpeedateDate it) {
+    say("%lld ", it.year);
+    say("%lld ", it.month);
+    say("%lld", it.day);
+}
+
+static void say_time(SpeedateTime it) {
+    say("%lld ", it.hour);
+    say("%lld ", it.minute);
+    say("%lld ", it.second);
+    say("%lld ", it.has_offset);
+    say("%lld ", it.microsecond);
+    say("%lld", it.offset);
+}
+
+static void say_datetime(SpeedateDateTime it) {
+    say_date(it.date);
+    strcat(answer, " ");
+    say_time(it.time);
+}
+
+static void say_duration(SpeedateDuration it) {
+    say("%lld ", it.negative);
+    say("%lld ", it.day);
+    say("%lld ", it.second);
+    say("%lld", it.microsecond);
+}
+
+static void say_number(long long it) {
+    say("%lld", it);
+}
+
+/* ---- The calls ---- */
+
+/* A call that writes a value of a type. */
+#define WRITES(TYPE, SAY, CALL)                                                                                        \
+    {                                                                                                                  \
+        TYPE out;                                                                                                      \
+        memset(&out, UNTOUCHED, sizeof out);                                                                           \
+        if (said(CALL, &out, sizeof out))                                                                              \
+            SAY(out);                                                                                                  \
+        return 1;                                                                                                      \
+    }
+
+/* A call that reads the front of a text. */
+#define WRITES_FRONT(TYPE, SAY, CALL)                                                                                  \
+    {                                                                                                                  \
+        struct { TYPE out; size_t taken; } both;                                                                       \
+        memset(&both, UNTOUCHED, sizeof both);                                                                         \
+        if (said(CALL, &both, sizeof both)) {                                                                          \
+            SAY(both.out);                                                                                             \
+            say("|%lld", (long long)both.taken);                                                                       \
+        }                                                                                                              \
+        return 1;                                                                                                      \
+    }
+
+/* A call that prints: with room for all, for just the text, and for a byte less. */
+#define PRINTS(CALL)                                                                                                   \
+    {                                                                                                                  \
+        char *buffer = first_page;                                                                                     \
+        size_t size = page, length = 0;                                                                                \
+        memset(buffer, UNTOUCHED, page);                                                                               \
+        if (said(CALL, buffer, page)) {                                                                                \
+            strcat(answer, buffer);                                                                                    \
+            if (strlen(buffer) != length || !is_untouched(buffer + length + 1, page - length - 1))                     \
+                strcat(answer, " with another length");                                                                \
+            size = length + 1;                                                                                         \
+            buffer = first_page + page - size;                                                                         \
+            memset(first_page, UNTOUCHED, page);                                                                       \
+            if ((CALL) != SPEEDATE_OK || strlen(buffer) != length || !is_untouched(first_page, page - size))           \
+                strcat(answer, " but not into its own size");                                                          \
+            size = length;                                                                                             \
+            buffer = first_page + page - size;                                                                         \
+            memset(first_page, UNTOUCHED, page);                                                                       \
+            length = page;                                                                                             \
+            if ((CALL) != SPEEDATE_BUFFER_TOO_SMALL || length != page || !is_untouched(first_page, page))              \
+                strcat(answer, " and into a byte less");                                                               \
+        }                                                                                                              \
+        return 1;                                                                                                      \
+    }
+
+static int is_call(const char *name) {
+    return strcmp(fields[0], name) == 0;
+}
+
+#define VALUE(TYPE, SAY, NAME, ARGUMENT, READ)                                                                         \
+    if (is_call(#NAME)) {                                                                                              \
+        ARGUMENT it = READ();                                                                                          \
+        WRITES(TYPE, SAY, speedate_##NAME(it, &out))                                                                   \
+    }
+
+#define TWO_VALUES(TYPE, SAY, NAME, FIRST, READ_FIRST, SECOND, READ_SECOND)                                            \
+    if (is_call(#NAME)) {                                                                                              \
+        FIRST first = READ_FIRST();                                                                                    \
+        SECOND second = READ_SECOND();                                                                                 \
+        WRITES(TYPE, SAY, speedate_##NAME(first, second, &out))                                                        \
+    }
+
+#define PARSE(TYPE, SAY, NAME)                                                                                         \
+    if (is_call(#NAME)) {                                                                                              \
+        SpeedateConfig it = config();                                                                                  \
+        WRITES(TYPE, SAY, speedate_##NAME(text, size, it, &out))                                                       \
+    }
+
+#define FRONT(TYPE, SAY, NAME)                                                                                         \
+    if (is_call(#NAME)) {                                                                                              \
+        SpeedateConfig it = config();                                                                                  \
+        WRITES_FRONT(TYPE, SAY, speedate_##NAME(text, size, it, &both.out, &both.taken))                               \
+    }
+
+#define CHECK(NAME, TYPE, READ)                                                                                        \
+    if (is_call(#NAME)) {                                                                                              \
+        TYPE it = READ();                                                                                              \
+        say_code(speedate_##NAME(it));                                                                                 \
+        return 1;                                                                                                      \
+    }
+
+#define PRINT(NAME, TYPE, READ)                                                                                        \
+    if (is_call(#NAME)) {                                                                                              \
+        TYPE it = READ();                                                                                              \
+        PRINTS(speedate_##NAME(it, buffer, size, &length))                                                             \
+    }
+
+/* Calls of a text: the text is the row's last argument. */
+static int run_text(const char *text, size_t size) {
+    field = 1;
+    if (is_call("date_parse_rfc3339"))
+        WRITES(SpeedateDate, say_date, speedate_date_parse_rfc3339(text, size, &out))
+    if (is_call("date_parse_front"))
+        WRITES_FRONT(SpeedateDate, say_date, speedate_date_parse_front(text, size, &both.out, &both.taken))
+    PARSE(SpeedateDate, say_date, date_parse)
+    PARSE(SpeedateTime, say_time, time_parse)
+    FRONT(SpeedateTime, say_time, time_parse_front)
+    PARSE(SpeedateDateTime, say_datetime, datetime_parse)
+    PARSE(SpeedateDateTime, say_datetime, datetime_parse_rfc3339)
+    FRONT(SpeedateDateTime, say_datetime, datetime_parse_front)
+    PARSE(SpeedateDuration, say_duration, duration_parse)
+    return 0;
+}
+
+/* Calls of values. */
+static int run_value(void) {
+    field = 1;
+    PRINT(code_name, int, (int)number)
+    PRINT(code_documentation, int, (int)number)
+    CHECK(date_check, SpeedateDate, date)
+    PRINT(date_to_text, SpeedateDate, date)
+    TWO_VALUES(int32_t, say_number, date_compare, SpeedateDate, date, SpeedateDate, date)
+    if (is_call("date_from_timestamp")) {
+        int64_t timestamp = number();
+        uint8_t exact = (uint8_t)number();
+        SpeedateConfig it = config();
+        WRITES(SpeedateDate, say_date, speedate_date_from_timestamp(timestamp, exact, it, &out))
+    }
+    VALUE(int64_t, say_number, date_timestamp, SpeedateDate, date)
+    VALUE(int64_t, say_number, date_timestamp_ms, SpeedateDate, date)
+    VALUE(uint32_t, say_number, date_day_number, SpeedateDate, date)
+    VALUE(SpeedateDate, say_date, date_from_day_number, uint32_t, (uint32_t)number)
+    VALUE(uint16_t, say_number, date_ordinal_day, SpeedateDate, date)
+    TWO_VALUES(SpeedateDate, say_date, date_add_days, SpeedateDate, date, int32_t, (int32_t)number)
+    TWO_VALUES(int32_t, say_number, date_days_since, SpeedateDate, date, SpeedateDate, date)
+    CHECK(time_check, SpeedateTime, time_value)
+    PRINT(time_to_text, SpeedateTime, time_value)
+    TWO_VALUES(int32_t, say_number, time_compare, SpeedateTime, time_value, SpeedateTime, time_value)
+    if (is_call("time_from_timestamp")) {
+        uint32_t second = (uint32_t)number(), microsecond = (uint32_t)number();
+        SpeedateConfig it = config();
+        WRITES(SpeedateTime, say_time, speedate_time_from_timestamp(second, microsecond, it, &out))
+    }
+    VALUE(uint32_t, say_number, time_total_seconds, SpeedateTime, time_value)
+    VALUE(uint32_t, say_number, time_total_ms, SpeedateTime, time_value)
+    TWO_VALUES(SpeedateTime, say_time, time_in_timezone, SpeedateTime, time_value, int32_t, (int32_t)number)
+    CHECK(datetime_check, SpeedateDateTime, datetime)
+    PRINT(datetime_to_text, SpeedateDateTime, datetime)
+    TWO_VALUES(int32_t, say_number, datetime_compare, SpeedateDateTime, datetime, SpeedateDateTime, datetime)
+    if (is_call("datetime_from_timestamp")) {
+        int64_t timestamp = number();
+        uint32_t microsecond = (uint32_t)number();
+        SpeedateConfig it = config();
+        WRITES(SpeedateDateTime, say_datetime, speedate_datetime_from_timestamp(timestamp, microsecond, it, &out))
+    }
+    VALUE(int64_t, say_number, datetime_timestamp, SpeedateDateTime, datetime)
+    VALUE(int64_t, say_number, datetime_timestamp_ms, SpeedateDateTime, datetime)
+    VALUE(int64_t, say_number, datetime_timestamp_tz, SpeedateDateTime, datetime)
+    VALUE(int64_t, say_number, datetime_timestamp_tz_ms, SpeedateDateTime, datetime)
+    TWO_VALUES(SpeedateDateTime, say_datetime, datetime_in_timezone, SpeedateDateTime, datetime, int32_t, (int32_t)number)
+    VALUE(SpeedateDuration, say_duration, duration_normalize, SpeedateDuration, duration)
+    CHECK(duration_check, SpeedateDuration, duration)
+    PRINT(duration_to_text, SpeedateDuration, duration)
+    TWO_VALUES(int32_t, say_number, duration_compare, SpeedateDuration, duration, SpeedateDuration, duration)
+    VALUE(int64_t, say_number, duration_signed_total_seconds, SpeedateDuration, duration)
+    VALUE(int64_t, say_number, duration_signed_total_ms, SpeedateDuration, duration)
+    VALUE(int32_t, say_number, duration_signed_microseconds, SpeedateDuration, duration)
+    VALUE(SpeedateDuration, say_duration, duration_negate, SpeedateDuration, duration)
+    TWO_VALUES(SpeedateDuration, say_duration, duration_between, SpeedateDateTime, datetime, SpeedateDateTime, datetime)
+    TWO_VALUES(SpeedateDateTime, say_datetime, duration_after, SpeedateDuration, duration, SpeedateDateTime, datetime)
+    TWO_VALUES(SpeedateDateTime, say_datetime, duration_before, SpeedateDuration, duration, SpeedateDateTime, datetime)
+    TWO_VALUES(SpeedateDuration, say_duration, duration_between_dates, SpeedateDate, date, SpeedateDate, date)
+    TWO_VALUES(SpeedateDate, say_date, duration_after_date, SpeedateDuration, duration, SpeedateDate, date)
+    TWO_VALUES(SpeedateDate, say_date, duration_before_date, SpeedateDuration, duration, SpeedateDate, date)
+    return 0;
+}
+
+/* ---- The table ---- */
+
+static int failures;
+
+static void compare(const char *row, const char *wanted) {
+    if (strcmp(answer, wanted) != 0) {
+        fprintf(stderr, "%s\n    answered %s\n", row, answer);
+        failures++;
+    }
+}
+
+/* Cuts a row at its marks, and counts its fields. */
+static int cut(char *row) {
+    int count = 0;
+    memset(fields, 0, sizeof fields);
+    for (char *at = row; count < FIELDS; count++) {
+        char *mark = strchr(at, '|');
+        fields[count] = at;
+        if (!mark)
+            return count + 1;
+        *mark = 0;
+        at = mark + 1;
+    }
+    return count;
+}
+
+/* Whether a field is the name of a code, with which the answer begins. */
+static int is_code(const char *it) {
+    char name[SPEEDATE_CODE_TEXT_SIZE];
+    size_t length;
+    if (strcmp(it, "ok") == 0)
+        return 1;
+    for (int code = 1; code <= SPEEDATE_NO_SUCH_DATE; code++)
+        if (speedate_code_name(code, name, sizeof name, &length) == SPEEDATE_OK && strcmp(it, name) == 0)
+            return 1;
+    return 0;
+}
+
+static void run(const char *row) {
+    char copy[256], wanted[256] = "";
+    int arguments = 1;
+    snprintf(copy, sizeof copy, "%s", row);
+    int count = cut(copy);
+    while (arguments < count && !is_code(fields[arguments]))
+        arguments++;
+    for (int i = arguments; i < count; i++) {
+        strcat(wanted, i > arguments ? "|" : "");
+        strcat(wanted, fields[i]);
+    }
+    const char *text = fields[arguments - 1];
+    size_t size = strlen(text);
+    char *block = malloc(size ? size : 1);
+    char *places[] = {block, first_page, first_page + page - size, NULL};
+    for (int i = 0; i < 4; i++) {
+        if (places[i])
+            memcpy(places[i], text, size);
+        if ((places[i] || size == 0) && run_text(places[i], size))
+            compare(row, wanted);
+        else if (i == 0) {
+            if (arguments == count || !run_value())
+                snprintf(answer, sizeof answer, "nothing: there is no such call, or no such code");
+            compare(row, wanted);
+            break;
+        }
+    }
+    free(block);
+}
+
+int main(void) {
+    char row[256];
+    int rows = 0;
+    page = (size_t)sysconf(_SC_PAGESIZE);
+    char *pages = mmap(NULL, 3 * page, PROT_NONE, MAP_PRIVATE | MAP_ANONYMOUS, -1, 0);
+    if (pages == MAP_FAILED || mprotect(pages + page, page, PROT_READ | PROT_WRITE) != 0) {
+        perror("pages");
+        return 1;
+    }
+    first_page = pages + page;
+    while (fgets(row, sizeof row, stdin)) {
+        row[strcspn(row, "\n")] = 0;
+        if (row[0] == 0 || row[0] == '#')
+            continue;
+        rows++;
+        run(row);
+    }
+    printf("%d rows, %d failures\n", rows, failures);
+    return failures != 0 || rows == 0;
+}

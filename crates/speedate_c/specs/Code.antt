@@ -1,0 +1,165 @@
+-- The codes that calls answer: 0, the numbers of the faults, and those of what a caller got wrong.
+use Rattle.std.specs.Prelude.{ℕ, ◌-◌, ℤ, pos, negsuc, unsigned_abs, int_le, List, [], ◌∷◌, codes, slice_get, Option, Some, None, Result, Ok, Err, if◌then◌else◌}
+use Rattle.std.specs.Option.{option_map, option_or}
+use Rattle.std.specs.Ordering.{int_eq}
+use Rattle.std.specs.declared.cmp.Ordering.{Ordering}
+use Rattle.std.specs.declared.cmp.Ordering.TheVariants as ordering
+use Rattle.speedate.specs.declared.ParseError.{ParseError}
+use Rattle.speedate.specs.declared.ParseError.TheVariants as fault
+use Rattle.speedate.specs.Fault.{fault_name}
+use Rattle.speedate.specs.FaultDocumentation.{fault_documentation}
+
+-- what was asked for is written
+abbrev pub success : ℤ
+success = pos 0
+
+-- a value or a flag of the caller's is out of range
+abbrev pub value_out_of_range : ℤ
+value_out_of_range = pos 101
+
+-- a number of the caller's configuration has no meaning
+abbrev pub config_out_of_range : ℤ
+config_out_of_range = pos 102
+
+-- a text does not fit into the caller's buffer
+abbrev pub buffer_too_small : ℤ
+buffer_too_small = pos 103
+
+-- the years 0000 to 9999 have no such date
+abbrev pub no_such_date : ℤ
+no_such_date = pos 104
+
+-- the number of a fault
+abbrev pub fault_number : ParseError → ℕ
+fault_number fault.TooShort = 1
+fault_number fault.ExtraCharacters = 2
+fault_number fault.InvalidCharDateTimeSep = 3
+fault_number fault.InvalidCharDateSep = 4
+fault_number fault.DateNotExact = 5
+fault_number fault.InvalidCharYear = 6
+fault_number fault.InvalidCharMonth = 7
+fault_number fault.InvalidCharDay = 8
+fault_number fault.InvalidCharTimeSep = 9
+fault_number fault.InvalidCharHour = 10
+fault_number fault.InvalidCharMinute = 11
+fault_number fault.InvalidCharSecond = 12
+fault_number fault.InvalidCharSecondFraction = 13
+fault_number fault.InvalidCharTzSign = 14
+fault_number fault.InvalidCharTzHour = 15
+fault_number fault.InvalidCharTzMinute = 16
+fault_number fault.OutOfRangeTzMinute = 17
+fault_number fault.OutOfRangeTz = 18
+fault_number fault.TzRequired = 19
+fault_number fault.SystemTimeError = 20
+fault_number fault.OutOfRangeMonth = 21
+fault_number fault.OutOfRangeDay = 22
+fault_number fault.OutOfRangeHour = 23
+fault_number fault.OutOfRangeMinute = 24
+fault_number fault.OutOfRangeSecond = 25
+fault_number fault.SecondFractionTooLong = 26
+fault_number fault.SecondFractionMissing = 27
+fault_number fault.MillisecondFractionTooLong = 28
+fault_number fault.DurationInvalidNumber = 29
+fault_number fault.DurationTRepeated = 30
+fault_number fault.DurationInvalidFraction = 31
+fault_number fault.DurationInvalidTimeUnit = 32
+fault_number fault.DurationInvalidDateUnit = 33
+fault_number fault.DurationInvalidDays = 34
+fault_number fault.DurationValueTooLarge = 35
+fault_number fault.DurationHourValueTooLarge = 36
+fault_number fault.DurationDaysTooLarge = 37
+fault_number fault.DateTooSmall = 38
+fault_number fault.DateTooLarge = 39
+fault_number fault.TimeTooLarge = 40
+fault_number fault.DurationUnitOrder = 41
+fault_number fault.MicrosecondFractionTooLong = 42
+
+-- the code of a fault
+abbrev pub fault_code : ParseError → ℤ
+fault_code fault = pos (fault_number fault)
+
+-- the faults in the order of their numbers
+abbrev pub faults : List ParseError
+faults =
+    fault.TooShort
+    ∷ fault.ExtraCharacters
+    ∷ fault.InvalidCharDateTimeSep
+    ∷ fault.InvalidCharDateSep
+    ∷ fault.DateNotExact
+    ∷ fault.InvalidCharYear
+    ∷ fault.InvalidCharMonth
+    ∷ fault.InvalidCharDay
+    ∷ fault.InvalidCharTimeSep
+    ∷ fault.InvalidCharHour
+    ∷ fault.InvalidCharMinute
+    ∷ fault.InvalidCharSecond
+    ∷ fault.InvalidCharSecondFraction
+    ∷ fault.InvalidCharTzSign
+    ∷ fault.InvalidCharTzHour
+    ∷ fault.InvalidCharTzMinute
+    ∷ fault.OutOfRangeTzMinute
+    ∷ fault.OutOfRangeTz
+    ∷ fault.TzRequired
+    ∷ fault.SystemTimeError
+    ∷ fault.OutOfRangeMonth
+    ∷ fault.OutOfRangeDay
+    ∷ fault.OutOfRangeHour
+    ∷ fault.OutOfRangeMinute
+    ∷ fault.OutOfRangeSecond
+    ∷ fault.SecondFractionTooLong
+    ∷ fault.SecondFractionMissing
+    ∷ fault.MillisecondFractionTooLong
+    ∷ fault.DurationInvalidNumber
+    ∷ fault.DurationTRepeated
+    ∷ fault.DurationInvalidFraction
+    ∷ fault.DurationInvalidTimeUnit
+    ∷ fault.DurationInvalidDateUnit
+    ∷ fault.DurationInvalidDays
+    ∷ fault.DurationValueTooLarge
+    ∷ fault.DurationHourValueTooLarge
+    ∷ fault.DurationDaysTooLarge
+    ∷ fault.DateTooSmall
+    ∷ fault.DateTooLarge
+    ∷ fault.TimeTooLarge
+    ∷ fault.DurationUnitOrder
+    ∷ fault.MicrosecondFractionTooLong
+    ∷ []
+
+-- the fault of a code
+abbrev pub fault_of : ℤ → Option ParseError
+fault_of code = if int_le (pos 1) code then slice_get faults (unsigned_abs code - 1) else None
+
+-- the names of the codes that are no faults
+abbrev pub refusal_name : ℤ → Option (List ℕ)
+refusal_name code =
+    if int_eq code value_out_of_range then Some (codes "value_out_of_range")
+    else (if int_eq code config_out_of_range then Some (codes "config_out_of_range")
+    else (if int_eq code buffer_too_small then Some (codes "buffer_too_small")
+    else (if int_eq code no_such_date then Some (codes "no_such_date") else None)))
+
+-- and their documentation texts
+abbrev pub refusal_documentation : ℤ → Option (List ℕ)
+refusal_documentation code =
+    if int_eq code value_out_of_range then Some (codes "a value or a flag is out of range")
+    else (if int_eq code config_out_of_range then Some (codes "a number of the configuration is out of range")
+    else (if int_eq code buffer_too_small then Some (codes "the buffer is too small for the text")
+    else (if int_eq code no_such_date then Some (codes "the years 0000 to 9999 have no such date") else None)))
+
+-- the name of a code
+abbrev pub code_name : ℤ → Option (List ℕ)
+code_name code = option_or (option_map fault_name (fault_of code)) (refusal_name code)
+
+-- its documentation text
+abbrev pub code_documentation : ℤ → Option (List ℕ)
+code_documentation code = option_or (option_map fault_documentation (fault_of code)) (refusal_documentation code)
+
+-- the code of an answer
+abbrev pub answer_code : {A : Type 0} → Result A ParseError → ℤ
+answer_code (Ok value) = success
+answer_code (Err fault) = fault_code fault
+
+-- the number of an order
+abbrev pub order_number : Ordering → ℤ
+order_number ordering.Less = negsuc 0
+order_number ordering.Equal = pos 0
+order_number ordering.Greater = pos 1

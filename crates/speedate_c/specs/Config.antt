@@ -1,0 +1,75 @@
+-- What a configuration from outside says. Each choice is a number: the place of its value in a list.
+use Rattle.std.specs.Prelude.{ℕ, ◌==◌, nat_le, Bool, false, true, ℤ, List, [], ◌∷◌, slice_get, Option, Some, None, Result, Ok, if◌then◌else◌}
+use Rattle.std.specs.Option.{option_and_then}
+use Rattle.std.specs.Result.{result_ok}
+use Rattle.speedate.specs.declared.DateTimeConfig.{DateTimeConfig}
+use Rattle.speedate.specs.declared.IsoOrder.{IsoOrder}
+use Rattle.speedate.specs.declared.IsoOrder.TheVariants as order
+use Rattle.speedate.specs.declared.MicrosecondsPrecisionOverflowBehavior.{MicrosecondsPrecisionOverflowBehavior}
+use Rattle.speedate.specs.declared.MicrosecondsPrecisionOverflowBehavior.TheVariants as behavior
+use Rattle.speedate.specs.declared.ParseError.{ParseError}
+use Rattle.speedate.specs.declared.ParseError.TheVariants as fault
+use Rattle.speedate.specs.declared.Rfc3339Form.{Rfc3339Form}
+use Rattle.speedate.specs.declared.Rfc3339Form.TheVariants as rfc3339
+use Rattle.speedate.specs.declared.TimestampUnit.{TimestampUnit}
+use Rattle.speedate.specs.declared.TimestampUnit.TheVariants as unit
+use Rattle.speedate.specs.Offset.{offset_table}
+use Rattle.speedate.specs.Requirement.{◌else_fault◌, meets}
+use Rattle.speedate_c.specs.declared.config.SpeedateConfig.{SpeedateConfig}
+
+-- the values in the order of their numbers, the default first
+abbrev pub units : List TimestampUnit
+units = unit.Infer ∷ unit.Second ∷ unit.Millisecond ∷ unit.Microsecond ∷ []
+
+abbrev pub behaviors : List MicrosecondsPrecisionOverflowBehavior
+behaviors = behavior.Error ∷ behavior.Truncate ∷ []
+
+abbrev pub orders : List IsoOrder
+orders = order.Lax ∷ order.Strict ∷ []
+
+abbrev pub forms : List Rfc3339Form
+forms = rfc3339.Relaxed ∷ rfc3339.Strict ∷ []
+
+-- what a flag says
+abbrev pub flags : List Bool
+flags = false ∷ true ∷ []
+
+-- an offset by its flag and its seconds: none where the flag is 0, whatever the seconds
+abbrev pub flagged : ℕ → ℤ → Option ℤ
+flagged flag seconds = if flag == 0 then None else Some seconds
+
+-- and what both have to meet
+abbrev pub offset_answer : ℕ → ℤ → Result (Option ℤ) ParseError
+offset_answer flag seconds =
+    meets ((nat_le flag 1 else_fault fault.OutOfRangeTz) ∷ offset_table (flagged flag seconds)) (Ok (flagged flag seconds))
+
+-- the values of a configuration
+pub record Choices : Type 0 where
+  pub unit : TimestampUnit
+  pub behavior : MicrosecondsPrecisionOverflowBehavior
+  pub order : IsoOrder
+  pub form : Rfc3339Form
+  pub offset : Option ℤ
+
+abbrev pub choices : DateTimeConfig → Choices
+choices config = record {
+  unit = config.timestamp_unit;
+  behavior = config.time_config.microseconds_precision_overflow_behavior;
+  order = config.time_config.iso_order;
+  form = config.time_config.rfc3339_form;
+  offset = config.time_config.unix_timestamp_offset;
+}
+
+-- those of a configuration from outside, where each of its numbers has a value
+abbrev pub choices_of : SpeedateConfig → Option Choices
+choices_of config =
+    option_and_then (λ unit.
+    option_and_then (λ behavior.
+    option_and_then (λ order.
+    option_and_then (λ form.
+    option_and_then (λ offset. Some (record { unit = unit; behavior = behavior; order = order; form = form; offset = offset }))
+    (result_ok (offset_answer config.has_timestamp_offset config.timestamp_offset)))
+    (slice_get forms config.rfc3339_form))
+    (slice_get orders config.iso_order))
+    (slice_get behaviors config.overflow_behavior))
+    (slice_get units config.timestamp_unit)

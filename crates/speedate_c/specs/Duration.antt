@@ -1,0 +1,44 @@
+-- What a duration from outside says, and how a duration is written.
+use Rattle.std.specs.Prelude.{ℕ, ◌==◌, nat_le, nat_lt, Bool, true, false, List, [], ◌∷◌, Result, Ok}
+use Rattle.speedate.specs.declared.ParseError.{ParseError}
+use Rattle.speedate.specs.declared.ParseError.TheVariants as fault
+use Rattle.speedate.specs.DurationNumbers.{DurationNumbers}
+use Rattle.speedate.specs.Offset.{seconds_per_day}
+use Rattle.speedate.specs.Requirement.{Requirement, ◌else_fault◌, meets}
+use Rattle.speedate_c.specs.declared.duration.SpeedateDuration.{SpeedateDuration}
+
+-- its numbers, whatever they are
+abbrev pub numbers_of : SpeedateDuration → DurationNumbers
+numbers_of duration = record {
+  positive = duration.negative == 0;
+  day = duration.day;
+  second = duration.second;
+  microsecond = duration.microsecond;
+}
+
+-- what they have to meet: the flag is 0 or 1, and the numbers are in their ranges
+abbrev pub duration_table : SpeedateDuration → List Requirement
+duration_table duration =
+    (nat_le duration.negative 1 else_fault fault.DurationValueTooLarge)
+    ∷ (nat_le duration.day 999999999 else_fault fault.DurationDaysTooLarge)
+    ∷ (nat_lt duration.second seconds_per_day else_fault fault.DurationValueTooLarge)
+    ∷ (nat_lt duration.microsecond 1000000 else_fault fault.DurationValueTooLarge)
+    ∷ []
+
+-- the duration of its numbers, or the fault of the first that is out of range
+abbrev pub duration_of : SpeedateDuration → Result DurationNumbers ParseError
+duration_of duration = meets (duration_table duration) (Ok (numbers_of duration))
+
+-- the flag of a sign
+abbrev pub shown_sign : Bool → ℕ
+shown_sign true = 0
+shown_sign false = 1
+
+-- a duration as it is written
+abbrev pub shown_duration : DurationNumbers → SpeedateDuration
+shown_duration numbers = record {
+  negative = shown_sign numbers.positive;
+  day = numbers.day;
+  second = numbers.second;
+  microsecond = numbers.microsecond;
+}

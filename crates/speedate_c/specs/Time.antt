@@ -1,0 +1,30 @@
+-- What a time from outside says, and how a time is written.
+use Rattle.std.specs.Prelude.{ℕ, ℤ, pos, Option, Some, None, Result}
+use Rattle.speedate.specs.declared.ParseError.{ParseError}
+use Rattle.speedate.specs.FromNumbers.{new_time_answer}
+use Rattle.speedate.specs.Requirement.{result_and_then}
+use Rattle.speedate.specs.TimeOfDay.{TimeOfDay}
+use Rattle.speedate_c.specs.Config.{offset_answer}
+use Rattle.speedate_c.specs.declared.time.SpeedateTime.{SpeedateTime}
+
+-- the time of its numbers, or the fault of one that is out of range: the offset is looked at first
+abbrev pub time_of : SpeedateTime → Result TimeOfDay ParseError
+time_of time =
+    result_and_then (λ offset. new_time_answer time.hour time.minute time.second time.microsecond offset)
+    (offset_answer time.has_offset time.offset)
+
+-- the flag of an offset and its seconds
+abbrev pub shown_offset : Option ℤ → ℕ × ℤ
+shown_offset (Some seconds) = (1, seconds)
+shown_offset None = (0, pos 0)
+
+-- a time as it is written
+abbrev pub shown_time : TimeOfDay → SpeedateTime
+shown_time time = record {
+  hour = time.hour;
+  minute = time.minute;
+  second = time.second;
+  has_offset = (shown_offset time.offset).0;
+  microsecond = time.microsecond;
+  offset = (shown_offset time.offset).1;
+}

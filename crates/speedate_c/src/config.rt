@@ -1,0 +1,126 @@
+//! Configurations from outside.
+
+ghost use Rattle.std.specs.Prelude.{◌≡◌, IfOk, slice_get};
+ghost use Rattle.std.specs.Option.{ForSome, option_map};
+ghost use Rattle.speedate.specs.Offset.{IsOffset};
+ghost use Rattle.speedate_c.specs.Config.{behaviors, choices, choices_of, flags, forms, offset_answer, orders, units};
+
+use speedate::{
+    DateTimeConfig, IsoOrder, MicrosecondsPrecisionOverflowBehavior, ParseError, Rfc3339Form,
+    TimeConfig, TimestampUnit,
+};
+
+/// How texts and timestamps are read. In each field 0 stands for the default.
+#[repr(C)]
+#[derive(Clone, Copy)]
+pub struct SpeedateConfig {
+    /// The offset that the value of a timestamp gets, in seconds.
+    pub timestamp_offset: i32,
+    /// Whether the value of a timestamp gets that offset: 1, or 0 for none.
+    pub has_timestamp_offset: u8,
+    /// The unit of timestamps: 0 to infer it, 1 for seconds, 2 for milliseconds, 3 for microseconds.
+    pub timestamp_unit: u8,
+    /// What is done with digits past the microsecond: 0 to refuse them, 1 to drop them.
+    pub overflow_behavior: u8,
+    /// The order of the components of a duration: 0 for any, 1 for the strict one.
+    pub iso_order: u8,
+    /// Which texts are times and date-times: 0 for the relaxed form, 1 for the strict one.
+    pub rfc3339_form: u8,
+}
+
+impl SpeedateConfig {
+    /// The configuration, where each number has a value.
+    #[inline]
+    pub(crate) fn checked(&self) -> Option<DateTimeConfig>
+        ensures choices { option_map choices result ≡ choices_of self.now }
+    {
+        Some(DateTimeConfig {
+            timestamp_unit: unit(self.timestamp_unit)?,
+            time_config: TimeConfig {
+                microseconds_precision_overflow_behavior: behavior(self.overflow_behavior)?,
+                iso_order: order(self.iso_order)?,
+                rfc3339_form: form(self.rfc3339_form)?,
+                unix_timestamp_offset: offset(
+                    self.has_timestamp_offset,
+                    self.timestamp_offset,
+                ).ok()?,
+            },
+        })
+    }
+}
+
+/// The unit of a number.
+#[inline]
+fn unit(number: u8) -> Option<TimestampUnit>
+    ensures { result ≡ slice_get units number }
+{
+    match number {
+        0 => Some(TimestampUnit::Infer),
+        1 => Some(TimestampUnit::Second),
+        2 => Some(TimestampUnit::Millisecond),
+        3 => Some(TimestampUnit::Microsecond),
+        _ => None,
+    }
+}
+
+/// The behavior of a number.
+#[inline]
+fn behavior(number: u8) -> Option<MicrosecondsPrecisionOverflowBehavior>
+    ensures { result ≡ slice_get behaviors number }
+{
+    match number {
+        0 => Some(MicrosecondsPrecisionOverflowBehavior::Error),
+        1 => Some(MicrosecondsPrecisionOverflowBehavior::Truncate),
+        _ => None,
+    }
+}
+
+/// The order of a number.
+#[inline]
+fn order(number: u8) -> Option<IsoOrder>
+    ensures { result ≡ slice_get orders number }
+{
+    match number {
+        0 => Some(IsoOrder::Lax),
+        1 => Some(IsoOrder::Strict),
+        _ => None,
+    }
+}
+
+/// The form of a number.
+#[inline]
+fn form(number: u8) -> Option<Rfc3339Form>
+    ensures { result ≡ slice_get forms number }
+{
+    match number {
+        0 => Some(Rfc3339Form::Relaxed),
+        1 => Some(Rfc3339Form::Strict),
+        _ => None,
+    }
+}
+
+/// What a flag says.
+#[inline]
+pub(crate) fn flag(number: u8) -> Option<bool>
+    ensures { result ≡ slice_get flags number }
+{
+    match number {
+        0 => Some(false),
+        1 => Some(true),
+        _ => None,
+    }
+}
+
+/// An offset by its flag and its seconds: none where the flag is 0, whatever the seconds.
+/// `OutOfRangeTz` where the flag is neither 0 nor 1, or the offset is of 24 hours or more.
+#[inline]
+pub(crate) fn offset(flag: u8, seconds: i32) -> Result<Option<i32>, ParseError>
+    ensures answer { result ≡ offset_answer flag seconds }
+    ensures range { IfOk result (λ offset. ForSome offset IsOffset) }
+{
+    match flag {
+        0 => Ok(None),
+        1 if seconds.unsigned_abs() < 86_400 => Ok(Some(seconds)),
+        _ => Err(ParseError::OutOfRangeTz),
+    }
+}

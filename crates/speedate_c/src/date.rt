@@ -1,0 +1,317 @@
+//! Dates as C sees them.
+
+ghost use Rattle.std.specs.Prelude.{◌≡◌, slice_get};
+ghost use Rattle.std.specs.Option.{option_map};
+ghost use Rattle.speedate.specs.Date.{parts};
+ghost use Rattle.speedate.specs.DateOrder.{date_order};
+ghost use Rattle.speedate.specs.DateText.{date_answer, date_front, date_text};
+ghost use Rattle.speedate.specs.DateTimestamp.{date_or_timestamp, date_timestamp_answer};
+ghost use Rattle.speedate.specs.DayNumber.{date_added, date_numbered, day_number, days_between, midnight_millisecond, midnight_second, ordinal_day};
+ghost use Rattle.speedate.specs.Requirement.{result_map};
+ghost use Rattle.speedate_c.specs.Code.{answer_code, config_out_of_range, order_number, value_out_of_range};
+ghost use Rattle.speedate_c.specs.Config.{choices_of, flags};
+ghost use Rattle.speedate_c.specs.Date.{date_of, shown_date};
+ghost use Rattle.speedate_c.specs.Left.{given, known, left, left_date, left_front, left_text, left_value};
+
+use crate::code::{
+    CONFIG_OUT_OF_RANGE, NO_SUCH_DATE, SUCCESS, VALUE_OUT_OF_RANGE, fault_code, order_number,
+};
+use crate::config::{SpeedateConfig, flag};
+use crate::text::write_text;
+use speedate::{Date, DateConfig, ParseError};
+
+/// A date.
+#[repr(C)]
+#[derive(Clone, Copy)]
+pub struct SpeedateDate {
+    /// The year, 0 to 9999.
+    pub year: u16,
+    /// The month, 1 to 12.
+    pub month: u8,
+    /// The day of the month, 1 to the month's length.
+    pub day: u8,
+}
+
+impl SpeedateDate {
+    /// The date of the numbers, or the fault of the first that is out of range.
+    #[inline]
+    pub(crate) fn checked(&self) -> Result<Date, ParseError>
+        ensures answer { result_map parts result ≡ date_of self.now }
+    {
+        Date::new(self.year, self.month, self.day)
+    }
+
+    /// The numbers of a date.
+    #[inline]
+    pub(crate) fn shown(date: &Date) -> Self
+        ensures numbers { result ≡ shown_date (parts date.now) }
+    {
+        SpeedateDate {
+            year: date.year,
+            month: date.month,
+            day: date.day,
+        }
+    }
+}
+
+/// Writes the date of an answer, and gives the code.
+#[inline]
+pub(crate) fn write_date(answer: Result<Date, ParseError>, out: &mut SpeedateDate) -> i32
+    ensures left { (result, out.new) ≡ left shown_date out.old (result_map parts answer) }
+{
+    match answer {
+        Ok(date) => {
+            *out = SpeedateDate::shown(&date);
+            SUCCESS
+        }
+        Err(fault) => fault_code(fault),
+    }
+}
+
+/// Writes a date, if there is one, and gives the code.
+#[inline]
+fn write_some(date: Option<Date>, out: &mut SpeedateDate) -> i32
+    ensures left { (result, out.new) ≡ left_date shown_date out.old (option_map parts date) }
+{
+    match date {
+        Some(date) => {
+            *out = SpeedateDate::shown(&date);
+            SUCCESS
+        }
+        None => NO_SUCH_DATE,
+    }
+}
+
+/// Prints a date into a buffer, and gives the code.
+#[inline]
+fn print_date(date: &Date, buffer: &mut [u8], length: &mut usize) -> i32
+    ensures left { (result, buffer.new, length.new) ≡ left_text (date_text (parts date.now)) buffer.old length.old }
+{
+    write_text(date.to_text().as_str(), buffer, length)
+}
+
+/// Reads a date from a text, or from a timestamp that stands there instead, in the unit of the
+/// configuration, as [`Date::parse_bytes_with_config`] does: 2020-02-29 from `2020-02-29`.
+///
+/// The faults are those of that call; `CONFIG_OUT_OF_RANGE` comes first.
+#[unsafe(no_mangle)]
+pub extern "C" fn speedate_date_parse(
+    text: &[u8],
+    config: SpeedateConfig,
+    out: &mut SpeedateDate,
+) -> i32
+    ensures answer { (result, out.new) ≡ known (choices_of config) (config_out_of_range, out.old)
+        (λ config. left shown_date out.old (date_or_timestamp config.unit text.now)) }
+{
+    let Some(config) = config.checked() else {
+        return CONFIG_OUT_OF_RANGE;
+    };
+    let config = DateConfig {
+        timestamp_unit: config.timestamp_unit,
+    };
+    write_date(Date::parse_bytes_with_config(text, &config), out)
+}
+
+/// Reads a date from a text, and no timestamp, as [`Date::parse_bytes_rfc3339`] does: 2020-02-29 from
+/// `2020-02-29`.
+#[unsafe(no_mangle)]
+pub extern "C" fn speedate_date_parse_rfc3339(text: &[u8], out: &mut SpeedateDate) -> i32
+    ensures answer { (result, out.new) ≡ left shown_date out.old (date_answer text.now) }
+{
+    write_date(Date::parse_bytes_rfc3339(text), out)
+}
+
+/// Reads the date at the front of a text, and writes how many bytes it takes, as [`Date::parse_front`]
+/// does: 2020-02-29, and 10, from `2020-02-29 opening balance`.
+#[unsafe(no_mangle)]
+pub extern "C" fn speedate_date_parse_front(
+    text: &[u8],
+    out: &mut SpeedateDate,
+    size: &mut usize,
+) -> i32
+    ensures answer { (result, out.new, size.new) ≡ left_front shown_date out.old size.old (date_front text.now) }
+{
+    match Date::parse_front(text) {
+        Ok((date, count)) => {
+            *out = SpeedateDate::shown(&date);
+            *size = count;
+            SUCCESS
+        }
+        Err(fault) => fault_code(fault),
+    }
+}
+
+/// Whether the numbers are those of a date, as [`Date::new`] tells: `SUCCESS`, or the fault of the first
+/// number that is out of range, `OutOfRangeDay` for 2021-02-29.
+#[unsafe(no_mangle)]
+pub extern "C" fn speedate_date_check(date: SpeedateDate) -> i32
+    ensures answer { result ≡ answer_code (date_of date) }
+{
+    match date.checked() {
+        Ok(_) => SUCCESS,
+        Err(fault) => fault_code(fault),
+    }
+}
+
+/// Prints a date into a buffer, with a zero byte after it, as [`Date::to_text`] gives it: `2020-02-29`.
+/// `VALUE_OUT_OF_RANGE` comes before `BUFFER_TOO_SMALL`.
+#[unsafe(no_mangle)]
+pub extern "C" fn speedate_date_to_text(
+    date: SpeedateDate,
+    buffer: &mut [u8],
+    length: &mut usize,
+) -> i32
+    ensures answer { (result, buffer.new, length.new) ≡ given (date_of date) (value_out_of_range, buffer.old, length.old)
+        (λ date. left_text (date_text date) buffer.old length.old) }
+{
+    let Ok(date) = date.checked() else {
+        return VALUE_OUT_OF_RANGE;
+    };
+    print_date(&date, buffer, length)
+}
+
+/// Compares two dates, as [`Date::cmp`] does: -1 where the first is the earlier one, 0 where they are equal,
+/// otherwise 1.
+#[unsafe(no_mangle)]
+pub extern "C" fn speedate_date_compare(
+    first: SpeedateDate,
+    second: SpeedateDate,
+    out: &mut i32,
+) -> i32
+    ensures answer { (result, out.new) ≡ given (date_of first) (value_out_of_range, out.old)
+        (λ first. given (date_of second) (value_out_of_range, out.old)
+        (λ second. left_value (order_number (date_order first second)))) }
+{
+    let Ok(first) = first.checked() else {
+        return VALUE_OUT_OF_RANGE;
+    };
+    let Ok(second) = second.checked() else {
+        return VALUE_OUT_OF_RANGE;
+    };
+    *out = order_number(first.cmp(&second));
+    SUCCESS
+}
+
+/// The date of a timestamp in the unit of the configuration, as [`Date::from_timestamp`] gives it: 1970-01-02
+/// for 86,400 seconds. Where `require_exact` is 1 the timestamp has to be a midnight.
+///
+/// `CONFIG_OUT_OF_RANGE` comes before `VALUE_OUT_OF_RANGE`, which is that of `require_exact`, and before the
+/// faults of that call.
+#[unsafe(no_mangle)]
+pub extern "C" fn speedate_date_from_timestamp(
+    timestamp: i64,
+    require_exact: u8,
+    config: SpeedateConfig,
+    out: &mut SpeedateDate,
+) -> i32
+    ensures answer { (result, out.new) ≡ known (choices_of config) (config_out_of_range, out.old)
+        (λ config. known (slice_get flags require_exact) (value_out_of_range, out.old)
+        (λ exact. left shown_date out.old (date_timestamp_answer config.unit exact timestamp))) }
+{
+    let Some(config) = config.checked() else {
+        return CONFIG_OUT_OF_RANGE;
+    };
+    let Some(exact) = flag(require_exact) else {
+        return VALUE_OUT_OF_RANGE;
+    };
+    let config = DateConfig {
+        timestamp_unit: config.timestamp_unit,
+    };
+    write_date(Date::from_timestamp(timestamp, exact, &config), out)
+}
+
+/// The second at which a date begins, as [`Date::timestamp`] gives it: 86,400 for 1970-01-02.
+#[unsafe(no_mangle)]
+pub extern "C" fn speedate_date_timestamp(date: SpeedateDate, out: &mut i64) -> i32
+    ensures answer { (result, out.new) ≡ given (date_of date) (value_out_of_range, out.old) (λ date. left_value (midnight_second date)) }
+{
+    let Ok(date) = date.checked() else {
+        return VALUE_OUT_OF_RANGE;
+    };
+    *out = date.timestamp();
+    SUCCESS
+}
+
+/// The millisecond at which a date begins, as [`Date::timestamp_ms`] gives it: 86,400,000 for 1970-01-02.
+#[unsafe(no_mangle)]
+pub extern "C" fn speedate_date_timestamp_ms(date: SpeedateDate, out: &mut i64) -> i32
+    ensures answer { (result, out.new) ≡ given (date_of date) (value_out_of_range, out.old) (λ date. left_value (midnight_millisecond date)) }
+{
+    let Ok(date) = date.checked() else {
+        return VALUE_OUT_OF_RANGE;
+    };
+    *out = date.timestamp_ms();
+    SUCCESS
+}
+
+/// The number of days from 0000-01-01 to a date, as [`Date::day_number`] gives it: 737,790 for 2020-01-01.
+#[unsafe(no_mangle)]
+pub extern "C" fn speedate_date_day_number(date: SpeedateDate, out: &mut u32) -> i32
+    ensures answer { (result, out.new) ≡ given (date_of date) (value_out_of_range, out.old) (λ date. left_value (day_number date)) }
+{
+    let Ok(date) = date.checked() else {
+        return VALUE_OUT_OF_RANGE;
+    };
+    *out = date.day_number();
+    SUCCESS
+}
+
+/// The date of a day number, as [`Date::from_day_number`] gives it: 0000-02-29 for 59. `NO_SUCH_DATE` where
+/// the number is over 3,652,424.
+#[unsafe(no_mangle)]
+pub extern "C" fn speedate_date_from_day_number(number: u32, out: &mut SpeedateDate) -> i32
+    ensures answer { (result, out.new) ≡ left_date shown_date out.old (date_numbered number) }
+{
+    write_some(Date::from_day_number(number), out)
+}
+
+/// The day of the year, as [`Date::ordinal_day`] gives it: 366 for 2020-12-31.
+#[unsafe(no_mangle)]
+pub extern "C" fn speedate_date_ordinal_day(date: SpeedateDate, out: &mut u16) -> i32
+    ensures answer { (result, out.new) ≡ given (date_of date) (value_out_of_range, out.old) (λ date. left_value (ordinal_day date)) }
+{
+    let Ok(date) = date.checked() else {
+        return VALUE_OUT_OF_RANGE;
+    };
+    *out = date.ordinal_day();
+    SUCCESS
+}
+
+/// The date so many days later, or earlier for a negative number, as [`Date::checked_add_days`] gives it:
+/// 2020-03-01 for 2020-02-28 and 2. `NO_SUCH_DATE` where that is before 0000-01-01 or after 9999-12-31.
+#[unsafe(no_mangle)]
+pub extern "C" fn speedate_date_add_days(
+    date: SpeedateDate,
+    days: i32,
+    out: &mut SpeedateDate,
+) -> i32
+    ensures answer { (result, out.new) ≡ given (date_of date) (value_out_of_range, out.old)
+        (λ date. left_date shown_date out.old (date_added days date)) }
+{
+    let Ok(date) = date.checked() else {
+        return VALUE_OUT_OF_RANGE;
+    };
+    write_some(date.checked_add_days(days), out)
+}
+
+/// The days from an earlier date to a date, as [`Date::days_since`] gives them: 2 for 2020-03-01 and the
+/// earlier 2020-02-28. They are negative where `earlier` is the later one.
+#[unsafe(no_mangle)]
+pub extern "C" fn speedate_date_days_since(
+    date: SpeedateDate,
+    earlier: SpeedateDate,
+    out: &mut i32,
+) -> i32
+    ensures answer { (result, out.new) ≡ given (date_of date) (value_out_of_range, out.old)
+        (λ date. given (date_of earlier) (value_out_of_range, out.old)
+        (λ earlier. left_value (days_between earlier date))) }
+{
+    let Ok(date) = date.checked() else {
+        return VALUE_OUT_OF_RANGE;
+    };
+    let Ok(earlier) = earlier.checked() else {
+        return VALUE_OUT_OF_RANGE;
+    };
+    *out = date.days_since(&earlier);
+    SUCCESS
+}

@@ -1,0 +1,281 @@
+//! Date-times as C sees them.
+
+ghost use Rattle.std.specs.Prelude.{◌≡◌};
+ghost use Rattle.speedate.specs.DateAndTime.{local_millisecond, local_second, utc_millisecond, utc_second};
+ghost use Rattle.speedate.specs.DateTime.{parts};
+ghost use Rattle.speedate.specs.DateTimeText.{date_time_answer, date_time_front, date_time_text};
+ghost use Rattle.speedate.specs.DateTimeTimestamp.{date_time_or_timestamp, date_time_timestamp_answer};
+ghost use Rattle.speedate.specs.InstantOrder.{date_time_instant_order};
+ghost use Rattle.speedate.specs.OffsetMove.{date_time_in_timezone};
+ghost use Rattle.speedate.specs.Requirement.{result_map};
+ghost use Rattle.speedate_c.specs.Code.{answer_code, config_out_of_range, order_number, value_out_of_range};
+ghost use Rattle.speedate_c.specs.Config.{choices_of};
+ghost use Rattle.speedate_c.specs.DateTime.{date_time_of, shown_date_time};
+ghost use Rattle.speedate_c.specs.Left.{given, known, left, left_front, left_text, left_value};
+
+use crate::code::{CONFIG_OUT_OF_RANGE, SUCCESS, VALUE_OUT_OF_RANGE, fault_code, order_number};
+use crate::config::SpeedateConfig;
+use crate::date::SpeedateDate;
+use crate::text::write_text;
+use crate::time::SpeedateTime;
+use speedate::{DateTime, ParseError};
+
+/// A date and a time of day, with an offset from UTC or without one.
+#[repr(C)]
+#[derive(Clone, Copy)]
+pub struct SpeedateDateTime {
+    /// The date, as a clock at the offset shows it.
+    pub date: SpeedateDate,
+    /// The time of day, as that clock shows it, and the offset.
+    pub time: SpeedateTime,
+}
+
+impl SpeedateDateTime {
+    /// The date-time of the numbers, or the fault of one that is out of range: the date is looked at first.
+    #[inline]
+    pub(crate) fn checked(&self) -> Result<DateTime, ParseError>
+        ensures answer { result_map parts result ≡ date_time_of self.now }
+    {
+        let date = self.date.checked()?;
+        let time = self.time.checked()?;
+        Ok(DateTime { date, time })
+    }
+
+    /// The numbers of a date-time.
+    #[inline]
+    fn shown(value: &DateTime) -> Self
+        ensures numbers { result ≡ shown_date_time (parts value.now) }
+    {
+        SpeedateDateTime {
+            date: SpeedateDate::shown(&value.date),
+            time: SpeedateTime::shown(&value.time),
+        }
+    }
+}
+
+/// Writes the date-time of an answer, and gives the code.
+#[inline]
+pub(crate) fn write_date_time(
+    answer: Result<DateTime, ParseError>,
+    out: &mut SpeedateDateTime,
+) -> i32
+    ensures left { (result, out.new) ≡ left shown_date_time out.old (result_map parts answer) }
+{
+    match answer {
+        Ok(value) => {
+            *out = SpeedateDateTime::shown(&value);
+            SUCCESS
+        }
+        Err(fault) => fault_code(fault),
+    }
+}
+
+/// Reads a date-time from a text, or from a timestamp that stands there instead, as
+/// [`DateTime::parse_bytes_with_config`] does: 12:13:14 on 29 February 2020 from `2020-02-29T12:13:14`.
+///
+/// The faults are those of that call; `CONFIG_OUT_OF_RANGE` comes first.
+#[unsafe(no_mangle)]
+pub extern "C" fn speedate_datetime_parse(
+    text: &[u8],
+    config: SpeedateConfig,
+    out: &mut SpeedateDateTime,
+) -> i32
+    ensures answer { (result, out.new) ≡ known (choices_of config) (config_out_of_range, out.old)
+        (λ config. left shown_date_time out.old
+        (date_time_or_timestamp config.unit config.form config.behavior config.offset text.now)) }
+{
+    let Some(config) = config.checked() else {
+        return CONFIG_OUT_OF_RANGE;
+    };
+    write_date_time(DateTime::parse_bytes_with_config(text, &config), out)
+}
+
+/// Reads a date-time from a text, and no timestamp, as [`DateTime::parse_bytes_rfc3339_with_config`] does: 12:13
+/// on 1 January 2020 from `2020-01-01_12:13`. `CONFIG_OUT_OF_RANGE` comes first.
+#[unsafe(no_mangle)]
+pub extern "C" fn speedate_datetime_parse_rfc3339(
+    text: &[u8],
+    config: SpeedateConfig,
+    out: &mut SpeedateDateTime,
+) -> i32
+    ensures answer { (result, out.new) ≡ known (choices_of config) (config_out_of_range, out.old)
+        (λ config. left shown_date_time out.old (date_time_answer config.form config.behavior text.now)) }
+{
+    let Some(config) = config.checked() else {
+        return CONFIG_OUT_OF_RANGE;
+    };
+    let answer = DateTime::parse_bytes_rfc3339_with_config(text, &config.time_config);
+    write_date_time(answer, out)
+}
+
+/// Reads the date-time at the front of a text, and writes how many bytes it takes, as
+/// [`DateTime::parse_front`] does: 12:13:14Z on 22 November 2026, and 20, from `2026-11-22T12:13:14Z GET /`.
+/// `CONFIG_OUT_OF_RANGE` comes first.
+#[unsafe(no_mangle)]
+pub extern "C" fn speedate_datetime_parse_front(
+    text: &[u8],
+    config: SpeedateConfig,
+    out: &mut SpeedateDateTime,
+    size: &mut usize,
+) -> i32
+    ensures answer { (result, out.new, size.new) ≡ known (choices_of config) (config_out_of_range, out.old, size.old)
+        (λ config. left_front shown_date_time out.old size.old (date_time_front config.form config.behavior text.now)) }
+{
+    let Some(config) = config.checked() else {
+        return CONFIG_OUT_OF_RANGE;
+    };
+    match DateTime::parse_front(text, &config.time_config) {
+        Ok((value, count)) => {
+            *out = SpeedateDateTime::shown(&value);
+            *size = count;
+            SUCCESS
+        }
+        Err(fault) => fault_code(fault),
+    }
+}
+
+/// Whether the numbers are those of a date-time: `SUCCESS`, or the fault of a number that is out of range. The
+/// date is looked at first.
+#[unsafe(no_mangle)]
+pub extern "C" fn speedate_datetime_check(value: SpeedateDateTime) -> i32
+    ensures answer { result ≡ answer_code (date_time_of value) }
+{
+    match value.checked() {
+        Ok(_) => SUCCESS,
+        Err(fault) => fault_code(fault),
+    }
+}
+
+/// Prints a date-time into a buffer, with a zero byte after it, as [`DateTime::to_text`] gives it:
+/// `2020-02-29T12:13:14.500000+01:30`. `VALUE_OUT_OF_RANGE` comes before `BUFFER_TOO_SMALL`.
+#[unsafe(no_mangle)]
+pub extern "C" fn speedate_datetime_to_text(
+    value: SpeedateDateTime,
+    buffer: &mut [u8],
+    length: &mut usize,
+) -> i32
+    ensures answer { (result, buffer.new, length.new) ≡ given (date_time_of value) (value_out_of_range, buffer.old, length.old)
+        (λ value. left_text (date_time_text value) buffer.old length.old) }
+{
+    let Ok(value) = value.checked() else {
+        return VALUE_OUT_OF_RANGE;
+    };
+    write_text(value.to_text().as_str(), buffer, length)
+}
+
+/// Compares two date-times by their instants, as [`DateTime::cmp_instant`] does: -1 where the first is the
+/// earlier one, 0 where they are the same instant, otherwise 1.
+#[unsafe(no_mangle)]
+pub extern "C" fn speedate_datetime_compare(
+    first: SpeedateDateTime,
+    second: SpeedateDateTime,
+    out: &mut i32,
+) -> i32
+    ensures answer { (result, out.new) ≡ given (date_time_of first) (value_out_of_range, out.old)
+        (λ first. given (date_time_of second) (value_out_of_range, out.old)
+        (λ second. left_value (order_number (date_time_instant_order first second)))) }
+{
+    let Ok(first) = first.checked() else {
+        return VALUE_OUT_OF_RANGE;
+    };
+    let Ok(second) = second.checked() else {
+        return VALUE_OUT_OF_RANGE;
+    };
+    *out = order_number(first.cmp_instant(&second));
+    SUCCESS
+}
+
+/// The date-time of a timestamp, in the unit of the configuration, and so many microseconds later, with the
+/// offset of the configuration, as [`DateTime::from_timestamp_with_config`] gives it: 1970-01-01T00:00:01.000002
+/// for 1 second and 2 microseconds. The offset is attached and shifts nothing.
+///
+/// The faults are those of that call; `CONFIG_OUT_OF_RANGE` comes first.
+#[unsafe(no_mangle)]
+pub extern "C" fn speedate_datetime_from_timestamp(
+    timestamp: i64,
+    microsecond: u32,
+    config: SpeedateConfig,
+    out: &mut SpeedateDateTime,
+) -> i32
+    ensures answer { (result, out.new) ≡ known (choices_of config) (config_out_of_range, out.old)
+        (λ config. left shown_date_time out.old
+        (date_time_timestamp_answer config.unit config.offset microsecond timestamp)) }
+{
+    let Some(config) = config.checked() else {
+        return CONFIG_OUT_OF_RANGE;
+    };
+    let answer = DateTime::from_timestamp_with_config(timestamp, microsecond, &config);
+    write_date_time(answer, out)
+}
+
+/// The second since 1970-01-01T00:00:00 that a clock at the offset shows, as [`DateTime::timestamp`] gives it:
+/// 86,400 for 1970-01-02T00:00:00+01:00.
+#[unsafe(no_mangle)]
+pub extern "C" fn speedate_datetime_timestamp(value: SpeedateDateTime, out: &mut i64) -> i32
+    ensures answer { (result, out.new) ≡ given (date_time_of value) (value_out_of_range, out.old) (λ value. left_value (local_second value)) }
+{
+    let Ok(value) = value.checked() else {
+        return VALUE_OUT_OF_RANGE;
+    };
+    *out = value.timestamp();
+    SUCCESS
+}
+
+/// The millisecond since 1970-01-01T00:00:00 that a clock at the offset shows, as [`DateTime::timestamp_ms`]
+/// gives it: 86,400,123 for 1970-01-02T00:00:00.123+01:00.
+#[unsafe(no_mangle)]
+pub extern "C" fn speedate_datetime_timestamp_ms(value: SpeedateDateTime, out: &mut i64) -> i32
+    ensures answer { (result, out.new) ≡ given (date_time_of value) (value_out_of_range, out.old) (λ value. left_value (local_millisecond value)) }
+{
+    let Ok(value) = value.checked() else {
+        return VALUE_OUT_OF_RANGE;
+    };
+    *out = value.timestamp_ms();
+    SUCCESS
+}
+
+/// The second since 1970-01-01T00:00:00 in UTC, as [`DateTime::timestamp_tz`] gives it: 82,800 for
+/// 1970-01-02T00:00:00+01:00.
+#[unsafe(no_mangle)]
+pub extern "C" fn speedate_datetime_timestamp_tz(value: SpeedateDateTime, out: &mut i64) -> i32
+    ensures answer { (result, out.new) ≡ given (date_time_of value) (value_out_of_range, out.old) (λ value. left_value (utc_second value)) }
+{
+    let Ok(value) = value.checked() else {
+        return VALUE_OUT_OF_RANGE;
+    };
+    *out = value.timestamp_tz();
+    SUCCESS
+}
+
+/// The millisecond since 1970-01-01T00:00:00 in UTC, as [`DateTime::timestamp_tz_ms`] gives it: 82,800,123 for
+/// 1970-01-02T00:00:00.123+01:00.
+#[unsafe(no_mangle)]
+pub extern "C" fn speedate_datetime_timestamp_tz_ms(value: SpeedateDateTime, out: &mut i64) -> i32
+    ensures answer { (result, out.new) ≡ given (date_time_of value) (value_out_of_range, out.old) (λ value. left_value (utc_millisecond value)) }
+{
+    let Ok(value) = value.checked() else {
+        return VALUE_OUT_OF_RANGE;
+    };
+    *out = value.timestamp_tz_ms();
+    SUCCESS
+}
+
+/// The date-time at the same instant, as a clock at another offset shows it, as [`DateTime::in_timezone`] gives
+/// it: 2020-01-02T00:30:00+01:00 for 2020-01-01T23:30:00Z and 3,600.
+///
+/// `VALUE_OUT_OF_RANGE` is that of the date-time; the faults of that call follow, with `OutOfRangeTz` for an
+/// offset of 24 hours or more.
+#[unsafe(no_mangle)]
+pub extern "C" fn speedate_datetime_in_timezone(
+    value: SpeedateDateTime,
+    offset: i32,
+    out: &mut SpeedateDateTime,
+) -> i32
+    ensures answer { (result, out.new) ≡ given (date_time_of value) (value_out_of_range, out.old)
+        (λ value. left shown_date_time out.old (date_time_in_timezone offset value)) }
+{
+    let Ok(value) = value.checked() else {
+        return VALUE_OUT_OF_RANGE;
+    };
+    write_date_time(value.in_timezone(offset), out)
+}

@@ -1,0 +1,230 @@
+//! Durations as C sees them.
+
+ghost use Rattle.std.specs.Prelude.{◌≡◌, nat_le, if◌then◌else◌};
+ghost use Rattle.speedate.specs.Duration.{parts};
+ghost use Rattle.speedate.specs.DurationAnswer.{duration_answer};
+ghost use Rattle.speedate.specs.DurationMove.{turned};
+ghost use Rattle.speedate.specs.DurationNumbers.{normal_form, signed_microsecond, signed_milliseconds, signed_seconds};
+ghost use Rattle.speedate.specs.DurationOrder.{duration_order};
+ghost use Rattle.speedate.specs.DurationText.{duration_text};
+ghost use Rattle.speedate.specs.Requirement.{result_map};
+ghost use Rattle.speedate_c.specs.Code.{answer_code, config_out_of_range, order_number, value_out_of_range};
+ghost use Rattle.speedate_c.specs.Config.{choices_of};
+ghost use Rattle.speedate_c.specs.Duration.{duration_of, numbers_of, shown_duration};
+ghost use Rattle.speedate_c.specs.Left.{given, known, left, left_text, left_value};
+
+use crate::code::{CONFIG_OUT_OF_RANGE, SUCCESS, VALUE_OUT_OF_RANGE, fault_code, order_number};
+use crate::config::SpeedateConfig;
+use crate::text::write_text;
+use speedate::{Duration, ParseError};
+
+/// A duration: days of 86,400 seconds, seconds of a day, and microseconds of a second, with a sign.
+#[repr(C)]
+#[derive(Clone, Copy)]
+pub struct SpeedateDuration {
+    /// Whether it is negative: 1, or 0.
+    pub negative: u32,
+    /// The days, 0 to 999,999,999.
+    pub day: u32,
+    /// The seconds of a day, 0 to 86,399.
+    pub second: u32,
+    /// The microseconds of a second, 0 to 999,999.
+    pub microsecond: u32,
+}
+
+impl SpeedateDuration {
+    /// The duration of the numbers, or the fault of the first that is out of range.
+    #[inline]
+    pub(crate) fn checked(&self) -> Result<Duration, ParseError>
+        ensures answer { result_map parts result ≡ duration_of self.now }
+    {
+        if self.negative > 1 {
+            return Err(ParseError::DurationValueTooLarge);
+        }
+        if self.day > 999_999_999 {
+            return Err(ParseError::DurationDaysTooLarge);
+        }
+        if self.second >= 86_400 {
+            return Err(ParseError::DurationValueTooLarge);
+        }
+        if self.microsecond >= 1_000_000 {
+            return Err(ParseError::DurationValueTooLarge);
+        }
+        Ok(Duration {
+            positive: self.negative == 0,
+            day: self.day,
+            second: self.second,
+            microsecond: self.microsecond,
+        })
+    }
+
+    /// The numbers of a duration.
+    #[inline]
+    pub(crate) fn shown(duration: &Duration) -> Self
+        ensures numbers { result ≡ shown_duration (parts duration.now) }
+    {
+        SpeedateDuration {
+            negative: if duration.positive { 0 } else { 1 },
+            day: duration.day,
+            second: duration.second,
+            microsecond: duration.microsecond,
+        }
+    }
+}
+
+/// Writes the duration of an answer, and gives the code.
+#[inline]
+fn write_duration(answer: Result<Duration, ParseError>, out: &mut SpeedateDuration) -> i32
+    ensures left { (result, out.new) ≡ left shown_duration out.old (result_map parts answer) }
+{
+    match answer {
+        Ok(duration) => {
+            *out = SpeedateDuration::shown(&duration);
+            SUCCESS
+        }
+        Err(fault) => fault_code(fault),
+    }
+}
+
+/// Reads a duration from a text under a configuration, as [`Duration::parse_bytes_with_config`] does: an hour
+/// and a half from `PT90M`.
+///
+/// The faults are those of that call; `CONFIG_OUT_OF_RANGE` comes first.
+#[unsafe(no_mangle)]
+pub extern "C" fn speedate_duration_parse(
+    text: &[u8],
+    config: SpeedateConfig,
+    out: &mut SpeedateDuration,
+) -> i32
+    ensures answer { (result, out.new) ≡ known (choices_of config) (config_out_of_range, out.old)
+        (λ config. left shown_duration out.old (duration_answer config.order config.behavior text.now)) }
+{
+    let Some(config) = config.checked() else {
+        return CONFIG_OUT_OF_RANGE;
+    };
+    let answer = Duration::parse_bytes_with_config(text, &config.time_config);
+    write_duration(answer, out)
+}
+
+/// The duration of so many days, seconds and microseconds, of any size, brought into their ranges, as
+/// [`Duration::new`] gives it: 2 days, 101 seconds and 123 microseconds for 1 day, 86,500 seconds and
+/// 1,000,123 microseconds.
+///
+/// `VALUE_OUT_OF_RANGE` where `negative` is neither 0 nor 1; then the faults of that call.
+#[unsafe(no_mangle)]
+pub extern "C" fn speedate_duration_normalize(
+    numbers: SpeedateDuration,
+    out: &mut SpeedateDuration,
+) -> i32
+    ensures answer { (result, out.new) ≡ (if nat_le numbers.negative 1
+        then left shown_duration out.old (normal_form (numbers_of numbers)) else (value_out_of_range, out.old)) }
+{
+    if numbers.negative > 1 {
+        return VALUE_OUT_OF_RANGE;
+    }
+    let positive = numbers.negative == 0;
+    let answer = Duration::new(positive, numbers.day, numbers.second, numbers.microsecond);
+    write_duration(answer, out)
+}
+
+/// Whether the numbers are those of a duration: `SUCCESS`, `DurationDaysTooLarge` where it has more than
+/// 999,999,999 days, `DurationValueTooLarge` for another number that is out of range.
+#[unsafe(no_mangle)]
+pub extern "C" fn speedate_duration_check(duration: SpeedateDuration) -> i32
+    ensures answer { result ≡ answer_code (duration_of duration) }
+{
+    match duration.checked() {
+        Ok(_) => SUCCESS,
+        Err(fault) => fault_code(fault),
+    }
+}
+
+/// Prints a duration into a buffer, with a zero byte after it, as [`Duration::to_text`] gives it: `PT1H30M`.
+/// `VALUE_OUT_OF_RANGE` comes before `BUFFER_TOO_SMALL`.
+#[unsafe(no_mangle)]
+pub extern "C" fn speedate_duration_to_text(
+    duration: SpeedateDuration,
+    buffer: &mut [u8],
+    length: &mut usize,
+) -> i32
+    ensures answer { (result, buffer.new, length.new) ≡ given (duration_of duration) (value_out_of_range, buffer.old, length.old)
+        (λ duration. left_text (duration_text duration) buffer.old length.old) }
+{
+    let Ok(duration) = duration.checked() else {
+        return VALUE_OUT_OF_RANGE;
+    };
+    write_text(duration.to_text().as_str(), buffer, length)
+}
+
+/// Compares two durations, as [`Duration::cmp`] does: -1 where the first is the smaller one, 0 where they are
+/// equal, otherwise 1.
+#[unsafe(no_mangle)]
+pub extern "C" fn speedate_duration_compare(
+    first: SpeedateDuration,
+    second: SpeedateDuration,
+    out: &mut i32,
+) -> i32
+    ensures answer { (result, out.new) ≡ given (duration_of first) (value_out_of_range, out.old)
+        (λ first. given (duration_of second) (value_out_of_range, out.old)
+        (λ second. left_value (order_number (duration_order first second)))) }
+{
+    let Ok(first) = first.checked() else {
+        return VALUE_OUT_OF_RANGE;
+    };
+    let Ok(second) = second.checked() else {
+        return VALUE_OUT_OF_RANGE;
+    };
+    *out = order_number(first.cmp(&second));
+    SUCCESS
+}
+
+/// The whole seconds with the sign, as [`Duration::signed_total_seconds`] gives them: -86,401 for a negative day
+/// and second.
+#[unsafe(no_mangle)]
+pub extern "C" fn speedate_duration_signed_total_seconds(
+    duration: SpeedateDuration,
+    out: &mut i64,
+) -> i32
+    ensures answer { (result, out.new) ≡ given (duration_of duration) (value_out_of_range, out.old)
+        (λ duration. left_value (signed_seconds duration)) }
+{
+    let Ok(duration) = duration.checked() else {
+        return VALUE_OUT_OF_RANGE;
+    };
+    *out = duration.signed_total_seconds();
+    SUCCESS
+}
+
+/// The milliseconds with the sign, cut toward zero, as [`Duration::signed_total_ms`] gives them: -1,001 for
+/// -1.0019 seconds.
+#[unsafe(no_mangle)]
+pub extern "C" fn speedate_duration_signed_total_ms(
+    duration: SpeedateDuration,
+    out: &mut i64,
+) -> i32
+    ensures answer { (result, out.new) ≡ given (duration_of duration) (value_out_of_range, out.old)
+        (λ duration. left_value (signed_milliseconds duration)) }
+{
+    let Ok(duration) = duration.checked() else {
+        return VALUE_OUT_OF_RANGE;
+    };
+    *out = duration.signed_total_ms();
+    SUCCESS
+}
+
+/// The microseconds of a second with the sign, as [`Duration::signed_microseconds`] gives them: -1,000 for a
+/// negative second and 1,000 microseconds.
+#[unsafe(no_mangle)]
+pub extern "C" fn speedate_duration_signed_microseconds(
+    duration: SpeedateDuration,
+    out: &mut i32,
+) -> i32
+    ensures answer { (result, out.new) ≡ given (duration_of duration) (value_out_of_range, out.old)
+        (λ duration. left_value (signed_microsecond duration)) }
+{
+    let Ok(duration) = duration.checked() else {
+        return VALUE_OUT_OF_RANGE;
+    };
+    *out = duration.signed_microseconds();
+    SUCCESS
+}

@@ -1,0 +1,163 @@
+//! The duration between two values, and the value so long after another, as C sees them.
+
+ghost use Rattle.std.specs.Prelude.{◌≡◌, neg_ℤ};
+ghost use Rattle.speedate.specs.DurationMove.{date_after_days, date_time_after, duration_between, duration_between_dates, signed_length, turned};
+ghost use Rattle.speedate_c.specs.Code.{value_out_of_range};
+ghost use Rattle.speedate_c.specs.Date.{date_of, shown_date};
+ghost use Rattle.speedate_c.specs.DateTime.{date_time_of, shown_date_time};
+ghost use Rattle.speedate_c.specs.Duration.{duration_of, shown_duration};
+ghost use Rattle.speedate_c.specs.Left.{given, left, left_value};
+
+use crate::code::{SUCCESS, VALUE_OUT_OF_RANGE};
+use crate::date::{SpeedateDate, write_date};
+use crate::datetime::{SpeedateDateTime, write_date_time};
+use crate::duration::SpeedateDuration;
+use speedate::Duration;
+
+/// The duration from one date-time to another, by their instants in UTC, as [`Duration::between`] gives it: an
+/// hour from 2020-01-01T12:00:00Z to 2020-01-01T12:00:00-01:00.
+#[unsafe(no_mangle)]
+pub extern "C" fn speedate_duration_between(
+    earlier: SpeedateDateTime,
+    later: SpeedateDateTime,
+    out: &mut SpeedateDuration,
+) -> i32
+    ensures answer { (result, out.new) ≡ given (date_time_of earlier) (value_out_of_range, out.old)
+        (λ earlier. given (date_time_of later) (value_out_of_range, out.old)
+        (λ later. left_value (shown_duration (duration_between earlier later)))) }
+{
+    let Ok(earlier) = earlier.checked() else {
+        return VALUE_OUT_OF_RANGE;
+    };
+    let Ok(later) = later.checked() else {
+        return VALUE_OUT_OF_RANGE;
+    };
+    *out = SpeedateDuration::shown(&Duration::between(&earlier, &later));
+    SUCCESS
+}
+
+/// The date-time so long after another, or before it where the duration is negative, as [`Duration::after`] gives
+/// it: 2020-03-01T00:30:00+01:00 for an hour and 2020-02-29T23:30:00+01:00. `VALUE_OUT_OF_RANGE` comes before the
+/// faults of that call.
+#[unsafe(no_mangle)]
+pub extern "C" fn speedate_duration_after(
+    duration: SpeedateDuration,
+    start: SpeedateDateTime,
+    out: &mut SpeedateDateTime,
+) -> i32
+    ensures answer { (result, out.new) ≡ given (duration_of duration) (value_out_of_range, out.old)
+        (λ duration. given (date_time_of start) (value_out_of_range, out.old)
+        (λ start. left shown_date_time out.old (date_time_after (signed_length duration) start))) }
+{
+    let Ok(duration) = duration.checked() else {
+        return VALUE_OUT_OF_RANGE;
+    };
+    let Ok(start) = start.checked() else {
+        return VALUE_OUT_OF_RANGE;
+    };
+    write_date_time(duration.after(&start), out)
+}
+
+/// The date-time so long before another, or after it where the duration is negative, as [`Duration::before`]
+/// gives it: 2020-02-29T23:30:00+01:00 for an hour and 2020-03-01T00:30:00+01:00. `VALUE_OUT_OF_RANGE` comes
+/// before the faults of that call.
+#[unsafe(no_mangle)]
+pub extern "C" fn speedate_duration_before(
+    duration: SpeedateDuration,
+    start: SpeedateDateTime,
+    out: &mut SpeedateDateTime,
+) -> i32
+    ensures answer { (result, out.new) ≡ given (duration_of duration) (value_out_of_range, out.old)
+        (λ duration. given (date_time_of start) (value_out_of_range, out.old)
+        (λ start. left shown_date_time out.old (date_time_after (neg_ℤ (signed_length duration)) start))) }
+{
+    let Ok(duration) = duration.checked() else {
+        return VALUE_OUT_OF_RANGE;
+    };
+    let Ok(start) = start.checked() else {
+        return VALUE_OUT_OF_RANGE;
+    };
+    write_date_time(duration.before(&start), out)
+}
+
+/// The duration from one date to another, whole days, as [`Duration::between_dates`] gives it: two days from
+/// 2020-02-28 to 2020-03-01.
+#[unsafe(no_mangle)]
+pub extern "C" fn speedate_duration_between_dates(
+    earlier: SpeedateDate,
+    later: SpeedateDate,
+    out: &mut SpeedateDuration,
+) -> i32
+    ensures answer { (result, out.new) ≡ given (date_of earlier) (value_out_of_range, out.old)
+        (λ earlier. given (date_of later) (value_out_of_range, out.old)
+        (λ later. left_value (shown_duration (duration_between_dates earlier later)))) }
+{
+    let Ok(earlier) = earlier.checked() else {
+        return VALUE_OUT_OF_RANGE;
+    };
+    let Ok(later) = later.checked() else {
+        return VALUE_OUT_OF_RANGE;
+    };
+    *out = SpeedateDuration::shown(&Duration::between_dates(&earlier, &later));
+    SUCCESS
+}
+
+/// The date so many days after another, or before it where the duration is negative, as
+/// [`Duration::after_date`] gives it: 2020-03-01 for two days and 2020-02-28. `VALUE_OUT_OF_RANGE` comes before
+/// the faults of that call.
+#[unsafe(no_mangle)]
+pub extern "C" fn speedate_duration_after_date(
+    duration: SpeedateDuration,
+    start: SpeedateDate,
+    out: &mut SpeedateDate,
+) -> i32
+    ensures answer { (result, out.new) ≡ given (duration_of duration) (value_out_of_range, out.old)
+        (λ duration. given (date_of start) (value_out_of_range, out.old)
+        (λ start. left shown_date out.old (date_after_days duration start))) }
+{
+    let Ok(duration) = duration.checked() else {
+        return VALUE_OUT_OF_RANGE;
+    };
+    let Ok(start) = start.checked() else {
+        return VALUE_OUT_OF_RANGE;
+    };
+    write_date(duration.after_date(&start), out)
+}
+
+/// The date so many days before another, or after it where the duration is negative, as
+/// [`Duration::before_date`] gives it: 2020-02-28 for two days and 2020-03-01. `VALUE_OUT_OF_RANGE` comes before
+/// the faults of that call.
+#[unsafe(no_mangle)]
+pub extern "C" fn speedate_duration_before_date(
+    duration: SpeedateDuration,
+    start: SpeedateDate,
+    out: &mut SpeedateDate,
+) -> i32
+    ensures answer { (result, out.new) ≡ given (duration_of duration) (value_out_of_range, out.old)
+        (λ duration. given (date_of start) (value_out_of_range, out.old)
+        (λ start. left shown_date out.old (date_after_days (turned duration) start))) }
+{
+    let Ok(duration) = duration.checked() else {
+        return VALUE_OUT_OF_RANGE;
+    };
+    let Ok(start) = start.checked() else {
+        return VALUE_OUT_OF_RANGE;
+    };
+    write_date(duration.before_date(&start), out)
+}
+
+/// The duration with the other sign, as [`Duration::negated`] gives it: -PT1S for PT1S.
+#[unsafe(no_mangle)]
+pub extern "C" fn speedate_duration_negate(
+    duration: SpeedateDuration,
+    out: &mut SpeedateDuration,
+) -> i32
+    ensures answer { (result, out.new) ≡ given (duration_of duration) (value_out_of_range, out.old)
+        (λ duration. left_value (shown_duration (turned duration))) }
+{
+    let Ok(duration) = duration.checked() else {
+        return VALUE_OUT_OF_RANGE;
+    };
+    *out = SpeedateDuration::shown(&duration.negated());
+    SUCCESS
+}

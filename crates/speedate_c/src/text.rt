@@ -1,0 +1,65 @@
+//! Texts in buffers of the caller's.
+
+ghost use Rattle.std.specs.Prelude.{◌≡◌, ◌+◌, ◌<◌, ◌∷◌, ◌++◌, drop, length};
+ghost use Rattle.speedate_c.specs.Code.{code_documentation, code_name, value_out_of_range};
+ghost use Rattle.speedate_c.specs.Left.{known, left_text};
+
+use crate::code::{BUFFER_TOO_SMALL, SUCCESS, VALUE_OUT_OF_RANGE, code_documentation, code_name};
+
+/// Writes a text and a zero byte after it into a buffer, and its length beside it, and gives the code.
+#[inline]
+pub(crate) fn write_text(text: &str, buffer: &mut [u8], length: &mut usize) -> i32
+    ensures left { (result, buffer.new, length.new) ≡ left_text text.now buffer.old length.old }
+{
+    let size = text.len();
+    if size >= buffer.len() {
+        return BUFFER_TOO_SMALL;
+    }
+    fill(text, buffer);
+    *length = size;
+    SUCCESS
+}
+
+/// Writes a text and a zero byte at the front of a buffer.
+#[inline]
+fn fill(text: &str, buffer: &mut [u8])
+    requires room { length text.now < length buffer.old }
+    ensures front { buffer.new ≡ text.now ++ 0 ∷ drop (length text.now + 1) buffer.old }
+{
+    let size = text.len();
+    buffer[..size].copy_from_slice(text.as_bytes());
+    buffer[size] = 0;
+}
+
+/// Prints the name of a code: `too_short` for 1.
+///
+/// `VALUE_OUT_OF_RANGE` for 0 and for a number that is no code, `BUFFER_TOO_SMALL` where the buffer has
+/// no room for the name and a zero byte.
+#[unsafe(no_mangle)]
+pub extern "C" fn speedate_code_name(code: i32, buffer: &mut [u8], length: &mut usize) -> i32
+    ensures answer { (result, buffer.new, length.new) ≡ known (code_name code) (value_out_of_range, buffer.old, length.old)
+        (λ name. left_text name buffer.old length.old) }
+{
+    let Some(name) = code_name(code) else {
+        return VALUE_OUT_OF_RANGE;
+    };
+    write_text(name, buffer, length)
+}
+
+/// Prints the documentation text of a code: `input is too short` for 1.
+///
+/// The refusals are those of [`speedate_code_name`].
+#[unsafe(no_mangle)]
+pub extern "C" fn speedate_code_documentation(
+    code: i32,
+    buffer: &mut [u8],
+    length: &mut usize,
+) -> i32
+    ensures answer { (result, buffer.new, length.new) ≡ known (code_documentation code) (value_out_of_range, buffer.old, length.old)
+        (λ text. left_text text buffer.old length.old) }
+{
+    let Some(text) = code_documentation(code) else {
+        return VALUE_OUT_OF_RANGE;
+    };
+    write_text(text, buffer, length)
+}

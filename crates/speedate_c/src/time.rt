@@ -1,0 +1,249 @@
+//! Times of day as C sees them.
+
+ghost use Rattle.std.specs.Prelude.{◌≡◌};
+ghost use Rattle.speedate.specs.OffsetMove.{time_in_timezone};
+ghost use Rattle.speedate.specs.InstantOrder.{time_instant_order};
+ghost use Rattle.speedate.specs.Requirement.{result_map};
+ghost use Rattle.speedate.specs.Time.{parts};
+ghost use Rattle.speedate.specs.TimeOfDay.{millisecond_of_day, second_of_day, timestamp_answer};
+ghost use Rattle.speedate.specs.TimeText.{time_answer, time_front, time_text};
+ghost use Rattle.speedate_c.specs.Code.{answer_code, config_out_of_range, order_number, value_out_of_range};
+ghost use Rattle.speedate_c.specs.Config.{choices_of};
+ghost use Rattle.speedate_c.specs.Left.{given, known, left, left_front, left_text, left_value};
+ghost use Rattle.speedate_c.specs.Time.{shown_time, time_of};
+
+use crate::code::{CONFIG_OUT_OF_RANGE, SUCCESS, VALUE_OUT_OF_RANGE, fault_code, order_number};
+use crate::config::{SpeedateConfig, offset};
+use crate::text::write_text;
+use speedate::{ParseError, Time};
+
+/// A time of day, with an offset from UTC or without one.
+#[repr(C)]
+#[derive(Clone, Copy)]
+pub struct SpeedateTime {
+    /// The hour, 0 to 23.
+    pub hour: u8,
+    /// The minute, 0 to 59.
+    pub minute: u8,
+    /// The second, 0 to 59.
+    pub second: u8,
+    /// Whether there is an offset: 1, or 0.
+    pub has_offset: u8,
+    /// The microsecond, 0 to 999,999.
+    pub microsecond: u32,
+    /// The offset from UTC in seconds, less than 24 hours; 0 where there is none.
+    pub offset: i32,
+}
+
+impl SpeedateTime {
+    /// The time of the numbers, or the fault of one that is out of range.
+    #[inline]
+    pub(crate) fn checked(&self) -> Result<Time, ParseError>
+        ensures answer { result_map parts result ≡ time_of self.now }
+    {
+        let offset = offset(self.has_offset, self.offset)?;
+        Time::new(
+            self.hour,
+            self.minute,
+            self.second,
+            self.microsecond,
+            offset,
+        )
+    }
+
+    /// The numbers of a time.
+    #[inline]
+    pub(crate) fn shown(time: &Time) -> Self
+        ensures numbers { result ≡ shown_time (parts time.now) }
+    {
+        let (has_offset, offset) = match time.tz_offset {
+            Some(seconds) => (1, seconds),
+            None => (0, 0),
+        };
+        SpeedateTime {
+            hour: time.hour,
+            minute: time.minute,
+            second: time.second,
+            has_offset,
+            microsecond: time.microsecond,
+            offset,
+        }
+    }
+}
+
+/// Writes the time of an answer, and gives the code.
+#[inline]
+fn write_time(answer: Result<Time, ParseError>, out: &mut SpeedateTime) -> i32
+    ensures left { (result, out.new) ≡ left shown_time out.old (result_map parts answer) }
+{
+    match answer {
+        Ok(time) => {
+            *out = SpeedateTime::shown(&time);
+            SUCCESS
+        }
+        Err(fault) => fault_code(fault),
+    }
+}
+
+/// Reads a time from a text under a configuration, as [`Time::parse_bytes_with_config`] does: 12:13:14.5, an
+/// hour east of UTC, from `12:13:14.5+01:00`.
+///
+/// The faults are those of that call; `CONFIG_OUT_OF_RANGE` comes first.
+#[unsafe(no_mangle)]
+pub extern "C" fn speedate_time_parse(
+    text: &[u8],
+    config: SpeedateConfig,
+    out: &mut SpeedateTime,
+) -> i32
+    ensures answer { (result, out.new) ≡ known (choices_of config) (config_out_of_range, out.old)
+        (λ config. left shown_time out.old (time_answer config.form config.behavior text.now)) }
+{
+    let Some(config) = config.checked() else {
+        return CONFIG_OUT_OF_RANGE;
+    };
+    write_time(
+        Time::parse_bytes_with_config(text, &config.time_config),
+        out,
+    )
+}
+
+/// Reads the time at the front of a text, and writes how many bytes it takes, as [`Time::parse_front`] does:
+/// 12:13:14Z, and 9, from `12:13:14Z GET /`. `CONFIG_OUT_OF_RANGE` comes first.
+#[unsafe(no_mangle)]
+pub extern "C" fn speedate_time_parse_front(
+    text: &[u8],
+    config: SpeedateConfig,
+    out: &mut SpeedateTime,
+    size: &mut usize,
+) -> i32
+    ensures answer { (result, out.new, size.new) ≡ known (choices_of config) (config_out_of_range, out.old, size.old)
+        (λ config. left_front shown_time out.old size.old (time_front config.form config.behavior text.now)) }
+{
+    let Some(config) = config.checked() else {
+        return CONFIG_OUT_OF_RANGE;
+    };
+    match Time::parse_front(text, &config.time_config) {
+        Ok((time, count)) => {
+            *out = SpeedateTime::shown(&time);
+            *size = count;
+            SUCCESS
+        }
+        Err(fault) => fault_code(fault),
+    }
+}
+
+/// Whether the numbers are those of a time, as [`Time::new`] tells: `SUCCESS`, or the fault of a number that
+/// is out of range. `OutOfRangeTz`, for the offset or its flag, comes first.
+#[unsafe(no_mangle)]
+pub extern "C" fn speedate_time_check(time: SpeedateTime) -> i32
+    ensures answer { result ≡ answer_code (time_of time) }
+{
+    match time.checked() {
+        Ok(_) => SUCCESS,
+        Err(fault) => fault_code(fault),
+    }
+}
+
+/// Prints a time into a buffer, with a zero byte after it, as [`Time::to_text`] gives it:
+/// `12:13:14.500000+01:30`. `VALUE_OUT_OF_RANGE` comes before `BUFFER_TOO_SMALL`.
+#[unsafe(no_mangle)]
+pub extern "C" fn speedate_time_to_text(
+    time: SpeedateTime,
+    buffer: &mut [u8],
+    length: &mut usize,
+) -> i32
+    ensures answer { (result, buffer.new, length.new) ≡ given (time_of time) (value_out_of_range, buffer.old, length.old)
+        (λ time. left_text (time_text time) buffer.old length.old) }
+{
+    let Ok(time) = time.checked() else {
+        return VALUE_OUT_OF_RANGE;
+    };
+    write_text(time.to_text().as_str(), buffer, length)
+}
+
+/// Compares two times by their instants, as [`Time::cmp_instant`] does: -1 where the first is the earlier one,
+/// 0 where they are the same instant, otherwise 1.
+#[unsafe(no_mangle)]
+pub extern "C" fn speedate_time_compare(
+    first: SpeedateTime,
+    second: SpeedateTime,
+    out: &mut i32,
+) -> i32
+    ensures answer { (result, out.new) ≡ given (time_of first) (value_out_of_range, out.old)
+        (λ first. given (time_of second) (value_out_of_range, out.old)
+        (λ second. left_value (order_number (time_instant_order first second)))) }
+{
+    let Ok(first) = first.checked() else {
+        return VALUE_OUT_OF_RANGE;
+    };
+    let Ok(second) = second.checked() else {
+        return VALUE_OUT_OF_RANGE;
+    };
+    *out = order_number(first.cmp_instant(&second));
+    SUCCESS
+}
+
+/// The time so many seconds and microseconds after midnight, with the offset of the configuration, as
+/// [`Time::from_timestamp_with_config`] gives it: 10:00:06.5 for 36,005 and 1,500,000.
+///
+/// The faults are those of that call; `CONFIG_OUT_OF_RANGE` comes first.
+#[unsafe(no_mangle)]
+pub extern "C" fn speedate_time_from_timestamp(
+    second: u32,
+    microsecond: u32,
+    config: SpeedateConfig,
+    out: &mut SpeedateTime,
+) -> i32
+    ensures answer { (result, out.new) ≡ known (choices_of config) (config_out_of_range, out.old)
+        (λ config. left shown_time out.old (timestamp_answer second microsecond config.offset)) }
+{
+    let Some(config) = config.checked() else {
+        return CONFIG_OUT_OF_RANGE;
+    };
+    let time = Time::from_timestamp_with_config(second, microsecond, &config.time_config);
+    write_time(time, out)
+}
+
+/// The seconds since midnight, as [`Time::total_seconds`] gives them: 43,994 for 12:13:14.5.
+#[unsafe(no_mangle)]
+pub extern "C" fn speedate_time_total_seconds(time: SpeedateTime, out: &mut u32) -> i32
+    ensures answer { (result, out.new) ≡ given (time_of time) (value_out_of_range, out.old) (λ time. left_value (second_of_day time)) }
+{
+    let Ok(time) = time.checked() else {
+        return VALUE_OUT_OF_RANGE;
+    };
+    *out = time.total_seconds();
+    SUCCESS
+}
+
+/// The milliseconds since midnight, rounded down, as [`Time::total_ms`] gives them: 43,994,500 for 12:13:14.5.
+#[unsafe(no_mangle)]
+pub extern "C" fn speedate_time_total_ms(time: SpeedateTime, out: &mut u32) -> i32
+    ensures answer { (result, out.new) ≡ given (time_of time) (value_out_of_range, out.old) (λ time. left_value (millisecond_of_day time)) }
+{
+    let Ok(time) = time.checked() else {
+        return VALUE_OUT_OF_RANGE;
+    };
+    *out = time.total_ms();
+    SUCCESS
+}
+
+/// The time at the same instant, as a clock at another offset shows it, as [`Time::in_timezone`] gives it:
+/// 16:00:00+01:00 for 15:00:00Z and 3,600.
+///
+/// `VALUE_OUT_OF_RANGE` is that of the time; the faults of that call follow, with `OutOfRangeTz` for an offset
+/// of 24 hours or more.
+#[unsafe(no_mangle)]
+pub extern "C" fn speedate_time_in_timezone(
+    time: SpeedateTime,
+    offset: i32,
+    out: &mut SpeedateTime,
+) -> i32
+    ensures answer { (result, out.new) ≡ given (time_of time) (value_out_of_range, out.old)
+        (λ time. left shown_time out.old (time_in_timezone offset time)) }
+{
+    let Ok(time) = time.checked() else {
+        return VALUE_OUT_OF_RANGE;
+    };
+    write_time(time.in_timezone(offset), out)
+}
