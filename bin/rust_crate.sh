@@ -1,0 +1,33 @@
+# For bin/compare and bin/bench, which set `name` and `root`: builds a Cargo project with the Rust crate speedate and
+# out/libspeedate.a. Status 3: something that it needs is missing.
+
+fail() {
+    echo "$name: $1" >&2
+    exit 3
+}
+
+# Builds out/libspeedate.a where it is missing, or older than a source.
+build_library() {
+    library=$root/out/libspeedate.a
+    newer=$(find "$root"/crates/speedate*/src ! -path '*/speedate_vectors/*' ! -path '*/speedate_lines/*' \
+        -newer "$library" 2>/dev/null)
+    if [ ! -f "$library" ] || [ -n "$newer" ]; then
+        "$root/bin/build_c" >&2 || fail 'out/libspeedate.a could not be built'
+    fi
+}
+
+# build FOLDER FLAG..: builds the project of a folder; the flags go to cargo.
+build() {
+    folder=$root/$1
+    shift
+    command -v cargo >/dev/null || fail 'cargo is not on the PATH'
+    command -v "${CC:-cc}" >/dev/null || fail "there is no C compiler (${CC:-cc}), by which cargo links"
+    build_library
+    if [ -n "${SPEEDATE_SOURCES-}" ]; then
+        sources=$(readlink -f "$SPEEDATE_SOURCES") && [ -f "$sources/Cargo.toml" ] ||
+            fail "SPEEDATE_SOURCES: $SPEEDATE_SOURCES has no Cargo.toml"
+        set -- --offline --config "patch.crates-io.speedate.path=\"$sources\"" "$@"
+    fi
+    (cd "$folder" && cargo build -q --release "$@") ||
+        fail 'cargo failed; where it cannot reach the crate, SPEEDATE_SOURCES may name a folder that has it'
+}
