@@ -1,20 +1,43 @@
 //! The calls that are compared, drawn with their arguments.
 
+use std::fmt;
+use std::ops::Deref;
+
 use crate::answer::Value;
 use crate::draw::{Draw, FIRST_SECOND, KINDS, Kind, LAST_SECOND};
 use crate::ffi::{Config, Date, DateTime, Duration, FORM_STRICT, ORDER_STRICT, Time};
+
+/// A text, which shows its bytes escaped and in hex.
+#[derive(Clone)]
+pub struct Bytes(Vec<u8>);
+
+impl Deref for Bytes {
+    type Target = [u8];
+
+    fn deref(&self) -> &[u8] {
+        &self.0
+    }
+}
+
+impl fmt::Debug for Bytes {
+    fn fmt(&self, f: &mut fmt::Formatter<'_>) -> fmt::Result {
+        write!(f, "\"{}\" (in hex ", self.escape_ascii())?;
+        self.iter().try_for_each(|byte| write!(f, "{byte:02x}"))?;
+        write!(f, ")")
+    }
+}
 
 /// A call with its arguments.
 #[derive(Clone, Debug)]
 pub enum Call {
     Read {
         kind: Kind,
-        text: Vec<u8>,
+        text: Bytes,
         config: Config,
     },
     ReadFront {
         kind: Kind,
-        text: Vec<u8>,
+        text: Bytes,
         config: Config,
     },
     Print(Value),
@@ -69,7 +92,7 @@ impl Call {
         }
         Call::Read {
             kind,
-            text: draw.text(kind),
+            text: Bytes(draw.text(kind)),
             config,
         }
     }
@@ -82,7 +105,7 @@ impl Call {
         }
         Call::ReadFront {
             kind,
-            text,
+            text: Bytes(text),
             config: Config {
                 timestamp_offset: 0,
                 ..config(draw)
@@ -168,14 +191,6 @@ impl Call {
             } => "texts of durations",
             Call::ReadFront { .. } => "texts with a value at their front",
             _ => "calls without a text",
-        }
-    }
-
-    /// The text that the call reads.
-    pub fn text(&self) -> Option<&[u8]> {
-        match self {
-            Call::Read { text, .. } | Call::ReadFront { text, .. } => Some(text),
-            _ => None,
         }
     }
 

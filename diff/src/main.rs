@@ -107,11 +107,6 @@ impl Difference {
     fn print(&self) {
         println!("No row of docs/DIFFERENCES.md explains this difference:");
         println!("  call          {:?}", self.call);
-        if let Some(text) = self.call.text() {
-            let hex: String = text.iter().map(|byte| format!("{byte:02x}")).collect();
-            println!("  text          \"{}\"", text.escape_ascii());
-            println!("  text in hex   {hex}");
-        }
         println!("  Rust crate    {:?}", self.rust);
         println!("  this library  {:?}", self.ours);
     }
