@@ -28,6 +28,8 @@ build() {
             fail "SPEEDATE_SOURCES: $SPEEDATE_SOURCES has no Cargo.toml"
         set -- --offline --config "patch.crates-io.speedate.path=\"$sources\"" "$@"
     fi
+    # It was written for the crates of the last run, which may have come from elsewhere.
+    rm -f "$folder/Cargo.lock"
     (cd "$folder" && cargo build -q --release "$@") ||
         fail 'cargo failed; where it cannot reach the crate, SPEEDATE_SOURCES may name a folder that has it'
 }
