@@ -4,7 +4,7 @@ use speedate::{DateConfig, DateTime, DateTimeConfig, TimeConfig, TimestampUnit};
 use speedate_diff::ffi::{self, Config};
 
 use crate::peers::PeerMoments;
-use crate::row::{Table, side};
+use crate::row::{Table, side, written};
 use crate::texts::{date_time, microseconds, texts};
 
 /// Two date-times in UTC, as each library has them.
@@ -17,7 +17,11 @@ pub struct Moments {
 
 impl Moments {
     fn of(texts: [&str; 2]) -> Self {
-        let ours = |text: &str| ffi::speedate_datetime_parse(text.as_bytes(), Config::default());
+        let ours = |text: &str| {
+            ffi::written(|out| {
+                ffi::speedate_datetime_parse(text.as_bytes(), Config::default(), out)
+            })
+        };
         Moments {
             rust: texts.map(|text| DateTime::parse_str(text).expect("a date-time")),
             ours: texts.map(|text| ours(text).expect("a date-time")),
@@ -45,7 +49,7 @@ fn date_rows(table: &mut Table, moments: &[Moments]) {
     });
     let ours = side("this library", |it: &Moments| {
         let [first, second] = it.ours.map(|value| value.date);
-        ffi::speedate_date_days_since(second, first)
+        written(|out| ffi::speedate_date_days_since(second, first, out))
     });
     table.row(
         "days since a date",
@@ -62,7 +66,7 @@ fn date_rows(table: &mut Table, moments: &[Moments]) {
         speedate::Date::from_timestamp(it.rust[0].date.timestamp() + 100 * 86_400, true, &config)
     });
     let ours = side("this library", |it: &Moments| {
-        ffi::speedate_date_add_days(it.ours[0].date, 100)
+        written(|out| ffi::speedate_date_add_days(it.ours[0].date, 100, out))
     });
     table.row(
         "days added to a date",
@@ -81,7 +85,7 @@ fn date_time_rows(table: &mut Table, moments: &[Moments]) {
         (second.0 - first.0, second.1 - first.1)
     });
     let ours = side("this library", |it: &Moments| {
-        ffi::speedate_duration_between(it.ours[0], it.ours[1])
+        written(|out| ffi::speedate_duration_between(it.ours[0], it.ours[1], out))
     });
     table.row(
         "between date-times",
@@ -114,7 +118,7 @@ fn date_time_rows(table: &mut Table, moments: &[Moments]) {
         microsecond: 500_000,
     };
     let ours = side("this library", move |it: &Moments| {
-        ffi::speedate_duration_after(length, it.ours[0])
+        written(|out| ffi::speedate_duration_after(length, it.ours[0], out))
     });
     table.row(
         "after a date-time",
@@ -126,7 +130,7 @@ fn date_time_rows(table: &mut Table, moments: &[Moments]) {
 
     let rust = side("Rust crate", |it: &Moments| it.rust[0].timestamp_tz());
     let ours = side("this library", |it: &Moments| {
-        ffi::speedate_datetime_timestamp_tz(it.ours[0])
+        written(|out| ffi::speedate_datetime_timestamp_tz(it.ours[0], out))
     });
     table.row(
         "timestamp of a date-time",

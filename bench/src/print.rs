@@ -5,7 +5,7 @@ use std::fmt::{self, Display, Write};
 use speedate_diff::draw::Draw;
 use speedate_diff::ffi::{self, Config};
 
-use crate::row::{Table, side};
+use crate::row::{Table, side, written};
 use crate::texts::{
     clock, date, date_time, iso_duration, iso_fraction, microseconds, offset, texts,
 };
@@ -40,7 +40,8 @@ macro_rules! print_row {
     ($table:expr, $name:literal, $text:expr, $kind:ident, $ours:ident, $to_text:path) => {{
         let value = |text: String| {
             let value = speedate::$kind::parse_str(&text).expect("a text of the kind");
-            let ours = ffi::$ours(text.as_bytes(), Config::default()).expect("a text of the kind");
+            let ours = ffi::written(|out| ffi::$ours(text.as_bytes(), Config::default(), out))
+                .expect("a text of the kind");
             (value, ours)
         };
         let values: Vec<(speedate::$kind, ffi::$kind)> =
@@ -51,7 +52,7 @@ macro_rules! print_row {
         );
         let ours = side(
             "this library",
-            |(_, value): &(speedate::$kind, ffi::$kind)| $to_text(*value),
+            |(_, value): &(speedate::$kind, ffi::$kind)| written(|out| $to_text(*value, out)),
         );
         $table.row($name, &values, rust, ours, vec![]);
     }};

@@ -1,11 +1,13 @@
 //! Rows of readers.
 
+use std::hint::black_box;
+
 use speedate::{Date, DateTime, Duration, Time};
 use speedate_diff::draw::Draw;
-use speedate_diff::ffi::{self, Config, FORM_STRICT};
+use speedate_diff::ffi::{self, Code, Config, FORM_STRICT};
 
 use crate::peers;
-use crate::row::{Side, Table, side};
+use crate::row::{Side, Table, side, written};
 use crate::texts::{clock, date, date_time, days, iso_duration, iso_fraction};
 use crate::texts::{microseconds, milliseconds, offset, refused, texts};
 
@@ -41,7 +43,7 @@ fn ours<T: 'static>(read: impl Fn(&[u8]) -> T + 'static) -> Side<String> {
 
 fn date_rows(table: &mut Table) {
     let mut row = |name: &str, text: fn(&mut Draw) -> String| {
-        let ours = ours(ffi::speedate_date_parse_rfc3339);
+        let ours = ours(|text| written(|out| ffi::speedate_date_parse_rfc3339(text, out)));
         table.row(
             name,
             &texts(text),
@@ -59,7 +61,7 @@ fn date_rows(table: &mut Table) {
 
 fn time_rows(table: &mut Table) {
     let mut row = |name: &str, text: fn(&mut Draw) -> String, others: Vec<Side<String>>| {
-        let ours = ours(|text| ffi::speedate_time_parse(text, DEFAULT));
+        let ours = ours(|text| written(|out| ffi::speedate_time_parse(text, DEFAULT, out)));
         table.row(name, &texts(text), rust(Time::parse_bytes), ours, others);
     };
     row("time", clock, peers::time());
@@ -91,7 +93,7 @@ fn time_rows(table: &mut Table) {
         vec![],
     );
     row("time, refused", |draw| refused_clock(draw), peers::time());
-    let strict = ours(|text| ffi::speedate_time_parse(text, STRICT));
+    let strict = ours(|text| written(|out| ffi::speedate_time_parse(text, STRICT, out)));
     table.row(
         "time, Z, strict",
         &texts(|draw| clock(draw) + "Z"),
@@ -113,7 +115,7 @@ fn refused_clock(draw: &mut Draw) -> String {
 
 fn date_time_rows(table: &mut Table) {
     let mut row = |name: &str, text: fn(&mut Draw) -> String, others: Vec<Side<String>>| {
-        let ours = ours(|text| ffi::speedate_datetime_parse(text, DEFAULT));
+        let ours = ours(|text| written(|out| ffi::speedate_datetime_parse(text, DEFAULT, out)));
         table.row(
             name,
             &texts(text),
@@ -152,7 +154,8 @@ fn date_time_rows(table: &mut Table) {
         peers::date_time_in_utc(),
     );
     let mut row = |name: &str, text: fn(&mut Draw) -> String| {
-        let strict = ours(|text| ffi::speedate_datetime_parse_rfc3339(text, STRICT));
+        let strict =
+            ours(|text| written(|out| ffi::speedate_datetime_parse_rfc3339(text, STRICT, out)));
         table.row(
             name,
             &texts(text),
@@ -175,7 +178,7 @@ fn fraction_and_offset(draw: &mut Draw) -> String {
 
 fn timestamp_rows(table: &mut Table) {
     let mut row = |name: &str, text: fn(&mut Draw) -> String| {
-        let ours = ours(|text| ffi::speedate_datetime_parse(text, DEFAULT));
+        let ours = ours(|text| written(|out| ffi::speedate_datetime_parse(text, DEFAULT, out)));
         table.row(
             name,
             &texts(text),
@@ -199,7 +202,7 @@ fn timestamp_rows(table: &mut Table) {
 
 fn duration_rows(table: &mut Table) {
     let mut row = |name: &str, text: fn(&mut Draw) -> String, others: Vec<Side<String>>| {
-        let ours = ours(|text| ffi::speedate_duration_parse(text, DEFAULT));
+        let ours = ours(|text| written(|out| ffi::speedate_duration_parse(text, DEFAULT, out)));
         table.row(
             name,
             &texts(text),
@@ -234,25 +237,33 @@ fn lines(value: fn(&mut Draw) -> String) -> Vec<Line> {
         .collect()
 }
 
+/// The code of a reader of the front, whose value and size stay where it wrote them.
+fn front<T: Default>(call: impl FnOnce(&mut T, &mut usize) -> Code) -> Code {
+    let mut taken = 0;
+    let code = written(|out| call(out, &mut taken));
+    black_box(&taken);
+    code
+}
+
 fn front_rows(table: &mut Table) {
     let rust = side("Rust crate", |(_, value): &Line| {
         Date::parse_bytes_rfc3339(value.as_bytes())
     });
     let ours = side("this library", |(line, _): &Line| {
-        ffi::speedate_date_parse_front(line.as_bytes())
+        front(|out, taken| ffi::speedate_date_parse_front(line.as_bytes(), out, taken))
     });
     let whole = side("alone", |(_, value): &Line| {
-        ffi::speedate_date_parse_rfc3339(value.as_bytes())
+        written(|out| ffi::speedate_date_parse_rfc3339(value.as_bytes(), out))
     });
     table.row("date at the front", &lines(date), rust, ours, vec![whole]);
     let rust = side("Rust crate", |(_, value): &Line| {
         Time::parse_bytes(value.as_bytes())
     });
     let ours = side("this library", |(line, _): &Line| {
-        ffi::speedate_time_parse_front(line.as_bytes(), DEFAULT)
+        front(|out, taken| ffi::speedate_time_parse_front(line.as_bytes(), DEFAULT, out, taken))
     });
     let whole = side("alone", |(_, value): &Line| {
-        ffi::speedate_time_parse(value.as_bytes(), DEFAULT)
+        written(|out| ffi::speedate_time_parse(value.as_bytes(), DEFAULT, out))
     });
     table.row(
         "time at the front",
@@ -265,10 +276,10 @@ fn front_rows(table: &mut Table) {
         DateTime::parse_bytes_rfc3339(value.as_bytes())
     });
     let ours = side("this library", |(line, _): &Line| {
-        ffi::speedate_datetime_parse_front(line.as_bytes(), DEFAULT)
+        front(|out, taken| ffi::speedate_datetime_parse_front(line.as_bytes(), DEFAULT, out, taken))
     });
     let whole = side("alone", |(_, value): &Line| {
-        ffi::speedate_datetime_parse_rfc3339(value.as_bytes(), DEFAULT)
+        written(|out| ffi::speedate_datetime_parse_rfc3339(value.as_bytes(), DEFAULT, out))
     });
     table.row("date-time at the front", &lines(z), rust, ours, vec![whole]);
 }

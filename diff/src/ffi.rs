@@ -1,8 +1,7 @@
-//! The functions of `c/speedate.h`, each with its C name. This is the one module with unsafe code: each call
-//! gets the addresses of variables of the right types, and reads what it wrote only where it answered 0.
+//! The functions of `c/speedate.h`, each with its C name. This is the one module with unsafe code: each call gets the
+//! addresses of variables of its types. Each answers a code, and writes to `out` if and only if the code is 0.
 
 use std::ffi::{c_char, c_int};
-use std::mem::MaybeUninit;
 
 /// A date.
 #[repr(C)]
@@ -77,8 +76,17 @@ impl Config {
     }
 }
 
-/// A code other than 0.
+/// 0, or why a call refuses.
 pub type Code = c_int;
+
+/// What a call writes, where it answers 0.
+pub fn written<T: Default>(call: impl FnOnce(&mut T) -> Code) -> Result<T, Code> {
+    let mut out = T::default();
+    match call(&mut out) {
+        0 => Ok(out),
+        code => Err(code),
+    }
+}
 
 /// Room for every text that is printed, with its zero byte.
 const TEXT_SIZE: usize = 64;
@@ -90,21 +98,19 @@ pub struct Text {
     length: usize,
 }
 
+impl Default for Text {
+    fn default() -> Self {
+        Text {
+            bytes: [0; TEXT_SIZE],
+            length: 0,
+        }
+    }
+}
+
 impl Text {
     /// The bytes, without the zero byte after them.
     pub fn as_bytes(&self) -> &[u8] {
         &self.bytes[..self.length]
-    }
-}
-
-/// What a call wrote, where it answered 0.
-#[inline]
-fn written<T>(call: impl FnOnce(*mut T) -> c_int) -> Result<T, Code> {
-    let mut out = MaybeUninit::uninit();
-    match call(out.as_mut_ptr()) {
-        // SAFETY: a call that answers 0 has written the whole value.
-        0 => Ok(unsafe { out.assume_init() }),
-        code => Err(code),
     }
 }
 
@@ -113,12 +119,12 @@ macro_rules! values {
     ($(fn $name:ident($($argument:ident: $kind:ty),*) -> $answer:ty;)*) => {
         $(
             #[inline]
-            pub fn $name($($argument: $kind),*) -> Result<$answer, Code> {
+            pub fn $name($($argument: $kind,)* out: &mut $answer) -> Code {
                 unsafe extern "C" {
-                    fn $name($($argument: $kind,)* out: *mut $answer) -> c_int;
+                    fn $name($($argument: $kind,)* out: *mut $answer) -> Code;
                 }
                 // SAFETY: `out` is the address of a variable of its type.
-                written(|out| unsafe { $name($($argument,)* out) })
+                unsafe { $name($($argument,)* out) }
             }
         )*
     };
@@ -129,12 +135,12 @@ macro_rules! readers {
     ($(fn $name:ident(text $(, $config:ident: $kind:ty)?) -> $answer:ty;)*) => {
         $(
             #[inline]
-            pub fn $name(text: &[u8] $(, $config: $kind)?) -> Result<$answer, Code> {
+            pub fn $name(text: &[u8] $(, $config: $kind)?, out: &mut $answer) -> Code {
                 unsafe extern "C" {
-                    fn $name(text: *const c_char, size: usize, $($config: $kind,)? out: *mut $answer) -> c_int;
+                    fn $name(text: *const c_char, size: usize, $($config: $kind,)? out: *mut $answer) -> Code;
                 }
                 // SAFETY: the address and the size are those of the text, and `out` is a variable of its type.
-                written(|out| unsafe { $name(text.as_ptr().cast(), text.len(), $($config,)? out) })
+                unsafe { $name(text.as_ptr().cast(), text.len(), $($config,)? out) }
             }
         )*
     };
@@ -145,18 +151,14 @@ macro_rules! front_readers {
     ($(fn $name:ident(text $(, $config:ident: $kind:ty)?) -> $answer:ty;)*) => {
         $(
             #[inline]
-            pub fn $name(text: &[u8] $(, $config: $kind)?) -> Result<($answer, usize), Code> {
+            pub fn $name(text: &[u8] $(, $config: $kind)?, out: &mut $answer, taken: &mut usize) -> Code {
                 unsafe extern "C" {
                     fn $name(
                         text: *const c_char, size: usize, $($config: $kind,)? out: *mut $answer, taken: *mut usize,
-                    ) -> c_int;
+                    ) -> Code;
                 }
-                let mut taken = 0;
                 // SAFETY: as for a reader; `taken` is a variable of its type.
-                let value = written(|out| unsafe {
-                    $name(text.as_ptr().cast(), text.len(), $($config,)? out, &mut taken)
-                })?;
-                Ok((value, taken))
+                unsafe { $name(text.as_ptr().cast(), text.len(), $($config,)? out, taken) }
             }
         )*
     };
@@ -167,16 +169,12 @@ macro_rules! printers {
     ($(fn $name:ident($value:ident: $kind:ty);)*) => {
         $(
             #[inline]
-            pub fn $name($value: $kind) -> Result<Text, Code> {
+            pub fn $name($value: $kind, out: &mut Text) -> Code {
                 unsafe extern "C" {
-                    fn $name($value: $kind, buffer: *mut c_char, size: usize, length: *mut usize) -> c_int;
+                    fn $name($value: $kind, buffer: *mut c_char, size: usize, length: *mut usize) -> Code;
                 }
-                let mut text = Text { bytes: [0; TEXT_SIZE], length: 0 };
                 // SAFETY: the address and the size are those of the buffer, and `length` is a variable of its type.
-                match unsafe { $name($value, text.bytes.as_mut_ptr().cast(), TEXT_SIZE, &mut text.length) } {
-                    0 => Ok(text),
-                    code => Err(code),
-                }
+                unsafe { $name($value, out.bytes.as_mut_ptr().cast(), TEXT_SIZE, &mut out.length) }
             }
         )*
     };

@@ -5,7 +5,7 @@ use std::sync::OnceLock;
 use crate::answer::{Answer, NO_FRONT, Value};
 use crate::call::Call;
 use crate::draw::Kind;
-use crate::ffi::{self, Code, Config, Text};
+use crate::ffi::{self, Code, Config, Text, written};
 
 /// The answer to a call.
 pub fn answer(call: &Call) -> Answer {
@@ -19,112 +19,138 @@ pub fn answer(call: &Call) -> Answer {
 }
 
 fn called(call: &Call) -> Result<Value, Code> {
-    Ok(match call {
-        Call::Read { kind, text, config } => return read(*kind, text, *config),
-        Call::ReadFront { kind, text, config } => read_front(*kind, text, *config)?.0,
-        Call::Print(value) => Value::Text(print(value)?.as_bytes().to_vec()),
-        Call::Compare(first, second) => Value::Numbers(vec![compare(first, second)?.into()]),
-        Call::Totals(value) => Value::Numbers(totals(value)?),
-        Call::InTimezone(Value::Time(time), offset) => {
-            Value::Time(ffi::speedate_time_in_timezone(*time, *offset)?)
+    match call {
+        Call::Read { kind, text, config } => read(*kind, text, *config),
+        Call::ReadFront { kind, text, config } => {
+            read_front(*kind, text, *config).map(|(value, _)| value)
         }
-        Call::InTimezone(Value::DateTime(value), offset) => {
-            Value::DateTime(ffi::speedate_datetime_in_timezone(*value, *offset)?)
-        }
-        Call::InTimezone(value, _) => unreachable!("{value:?} has no offset"),
+        Call::Print(value) => print(value).map(|text| Value::Text(text.as_bytes().to_vec())),
+        Call::Compare(first, second) => compare(first, second).map(number),
+        Call::Totals(value) => totals(value).map(Value::Numbers),
+        Call::InTimezone(value, offset) => in_timezone(value, *offset),
         Call::DateFromTimestamp {
             timestamp,
             is_exact,
             config,
-        } => Value::Date(ffi::speedate_date_from_timestamp(
-            *timestamp,
-            (*is_exact).into(),
-            *config,
-        )?),
+        } => {
+            let is_exact = (*is_exact).into();
+            written(|out| ffi::speedate_date_from_timestamp(*timestamp, is_exact, *config, out))
+                .map(Value::Date)
+        }
         Call::TimeFromTimestamp {
             second,
             microsecond,
             config,
-        } => Value::Time(ffi::speedate_time_from_timestamp(
-            *second,
-            *microsecond,
-            *config,
-        )?),
+        } => written(|out| ffi::speedate_time_from_timestamp(*second, *microsecond, *config, out))
+            .map(Value::Time),
         Call::DateTimeFromTimestamp {
             timestamp,
             microsecond,
             config,
-        } => Value::DateTime(ffi::speedate_datetime_from_timestamp(
-            *timestamp,
-            *microsecond,
-            *config,
-        )?),
-        Call::NewDuration(numbers) => Value::Duration(ffi::speedate_duration_normalize(*numbers)?),
-        Call::FromDayNumber(number) => Value::Date(ffi::speedate_date_from_day_number(*number)?),
-        Call::AddDays(date, days) => Value::Date(ffi::speedate_date_add_days(*date, *days)?),
+        } => written(|out| {
+            ffi::speedate_datetime_from_timestamp(*timestamp, *microsecond, *config, out)
+        })
+        .map(Value::DateTime),
+        Call::NewDuration(it) => {
+            written(|out| ffi::speedate_duration_normalize(*it, out)).map(Value::Duration)
+        }
+        Call::FromDayNumber(it) => {
+            written(|out| ffi::speedate_date_from_day_number(*it, out)).map(Value::Date)
+        }
+        Call::AddDays(date, days) => {
+            written(|out| ffi::speedate_date_add_days(*date, *days, out)).map(Value::Date)
+        }
         Call::DaysSince(date, earlier) => {
-            Value::Numbers(vec![ffi::speedate_date_days_since(*date, *earlier)?.into()])
+            written(|out| ffi::speedate_date_days_since(*date, *earlier, out)).map(number)
         }
         Call::Between(earlier, later) => {
-            Value::Duration(ffi::speedate_duration_between(*earlier, *later)?)
+            written(|out| ffi::speedate_duration_between(*earlier, *later, out))
+                .map(Value::Duration)
         }
         Call::After(duration, start) => {
-            Value::DateTime(ffi::speedate_duration_after(*duration, *start)?)
+            written(|out| ffi::speedate_duration_after(*duration, *start, out)).map(Value::DateTime)
         }
-    })
+    }
+}
+
+fn number(number: i32) -> Value {
+    Value::Numbers(vec![number.into()])
+}
+
+fn in_timezone(value: &Value, offset: i32) -> Result<Value, Code> {
+    match value {
+        Value::Time(time) => {
+            written(|out| ffi::speedate_time_in_timezone(*time, offset, out)).map(Value::Time)
+        }
+        Value::DateTime(value) => {
+            written(|out| ffi::speedate_datetime_in_timezone(*value, offset, out))
+                .map(Value::DateTime)
+        }
+        _ => unreachable!("{value:?} has no offset"),
+    }
 }
 
 fn read(kind: Kind, text: &[u8], config: Config) -> Result<Value, Code> {
     match kind {
-        Kind::Date => ffi::speedate_date_parse(text, config).map(Value::Date),
-        Kind::DateRfc3339 => ffi::speedate_date_parse_rfc3339(text).map(Value::Date),
-        Kind::Time => ffi::speedate_time_parse(text, config).map(Value::Time),
-        Kind::DateTime => ffi::speedate_datetime_parse(text, config).map(Value::DateTime),
-        Kind::DateTimeRfc3339 => {
-            ffi::speedate_datetime_parse_rfc3339(text, config).map(Value::DateTime)
+        Kind::Date => written(|out| ffi::speedate_date_parse(text, config, out)).map(Value::Date),
+        Kind::DateRfc3339 => {
+            written(|out| ffi::speedate_date_parse_rfc3339(text, out)).map(Value::Date)
         }
-        Kind::Duration => ffi::speedate_duration_parse(text, config).map(Value::Duration),
+        Kind::Time => written(|out| ffi::speedate_time_parse(text, config, out)).map(Value::Time),
+        Kind::DateTime => {
+            written(|out| ffi::speedate_datetime_parse(text, config, out)).map(Value::DateTime)
+        }
+        Kind::DateTimeRfc3339 => {
+            written(|out| ffi::speedate_datetime_parse_rfc3339(text, config, out))
+                .map(Value::DateTime)
+        }
+        Kind::Duration => {
+            written(|out| ffi::speedate_duration_parse(text, config, out)).map(Value::Duration)
+        }
     }
 }
 
 /// The value at the front of a text, and how many bytes it takes.
 pub fn read_front(kind: Kind, text: &[u8], config: Config) -> Result<(Value, usize), Code> {
-    Ok(match kind {
+    let mut taken = 0;
+    let value = match kind {
         Kind::DateRfc3339 => {
-            let (date, taken) = ffi::speedate_date_parse_front(text)?;
-            (Value::Date(date), taken)
+            written(|out| ffi::speedate_date_parse_front(text, out, &mut taken)).map(Value::Date)
         }
-        Kind::Time => {
-            let (time, taken) = ffi::speedate_time_parse_front(text, config)?;
-            (Value::Time(time), taken)
-        }
+        Kind::Time => written(|out| ffi::speedate_time_parse_front(text, config, out, &mut taken))
+            .map(Value::Time),
         Kind::DateTimeRfc3339 => {
-            let (value, taken) = ffi::speedate_datetime_parse_front(text, config)?;
-            (Value::DateTime(value), taken)
+            written(|out| ffi::speedate_datetime_parse_front(text, config, out, &mut taken))
+                .map(Value::DateTime)
         }
         _ => unreachable!("{kind:?} is not read at the front of a text"),
-    })
+    }?;
+    Ok((value, taken))
 }
 
 fn print(value: &Value) -> Result<Text, Code> {
     match value {
-        Value::Date(date) => ffi::speedate_date_to_text(*date),
-        Value::Time(time) => ffi::speedate_time_to_text(*time),
-        Value::DateTime(value) => ffi::speedate_datetime_to_text(*value),
-        Value::Duration(duration) => ffi::speedate_duration_to_text(*duration),
+        Value::Date(date) => written(|out| ffi::speedate_date_to_text(*date, out)),
+        Value::Time(time) => written(|out| ffi::speedate_time_to_text(*time, out)),
+        Value::DateTime(value) => written(|out| ffi::speedate_datetime_to_text(*value, out)),
+        Value::Duration(duration) => written(|out| ffi::speedate_duration_to_text(*duration, out)),
         _ => unreachable!("{value:?} has no text"),
     }
 }
 
 fn compare(first: &Value, second: &Value) -> Result<i32, Code> {
     match (first, second) {
-        (Value::Date(first), Value::Date(second)) => ffi::speedate_date_compare(*first, *second),
-        (Value::Time(first), Value::Time(second)) => ffi::speedate_time_compare(*first, *second),
+        (Value::Date(first), Value::Date(second)) => {
+            written(|out| ffi::speedate_date_compare(*first, *second, out))
+        }
+        (Value::Time(first), Value::Time(second)) => {
+            written(|out| ffi::speedate_time_compare(*first, *second, out))
+        }
         (Value::DateTime(first), Value::DateTime(second)) => {
-            ffi::speedate_datetime_compare(*first, *second)
+            written(|out| ffi::speedate_datetime_compare(*first, *second, out))
         }
         (Value::Duration(first), Value::Duration(second)) => {
-            ffi::speedate_duration_compare(*first, *second)
+            written(|out| ffi::speedate_duration_compare(*first, *second, out))
         }
         _ => unreachable!("{first:?} and {second:?} have no order"),
     }
@@ -133,25 +159,25 @@ fn compare(first: &Value, second: &Value) -> Result<i32, Code> {
 fn totals(value: &Value) -> Result<Vec<i64>, Code> {
     Ok(match value {
         Value::Date(date) => vec![
-            ffi::speedate_date_timestamp(*date)?,
-            ffi::speedate_date_timestamp_ms(*date)?,
-            ffi::speedate_date_ordinal_day(*date)?.into(),
-            ffi::speedate_date_day_number(*date)?.into(),
+            written(|out| ffi::speedate_date_timestamp(*date, out))?,
+            written(|out| ffi::speedate_date_timestamp_ms(*date, out))?,
+            written(|out| ffi::speedate_date_ordinal_day(*date, out))?.into(),
+            written(|out| ffi::speedate_date_day_number(*date, out))?.into(),
         ],
         Value::Time(time) => vec![
-            ffi::speedate_time_total_seconds(*time)?.into(),
-            ffi::speedate_time_total_ms(*time)?.into(),
+            written(|out| ffi::speedate_time_total_seconds(*time, out))?.into(),
+            written(|out| ffi::speedate_time_total_ms(*time, out))?.into(),
         ],
         Value::DateTime(value) => vec![
-            ffi::speedate_datetime_timestamp(*value)?,
-            ffi::speedate_datetime_timestamp_ms(*value)?,
-            ffi::speedate_datetime_timestamp_tz(*value)?,
-            ffi::speedate_datetime_timestamp_tz_ms(*value)?,
+            written(|out| ffi::speedate_datetime_timestamp(*value, out))?,
+            written(|out| ffi::speedate_datetime_timestamp_ms(*value, out))?,
+            written(|out| ffi::speedate_datetime_timestamp_tz(*value, out))?,
+            written(|out| ffi::speedate_datetime_timestamp_tz_ms(*value, out))?,
         ],
         Value::Duration(duration) => vec![
-            ffi::speedate_duration_signed_total_seconds(*duration)?,
-            ffi::speedate_duration_signed_total_ms(*duration)?,
-            ffi::speedate_duration_signed_microseconds(*duration)?.into(),
+            written(|out| ffi::speedate_duration_signed_total_seconds(*duration, out))?,
+            written(|out| ffi::speedate_duration_signed_total_ms(*duration, out))?,
+            written(|out| ffi::speedate_duration_signed_microseconds(*duration, out))?.into(),
         ],
         _ => unreachable!("{value:?} has no totals"),
     })
@@ -164,7 +190,7 @@ fn name(code: Code) -> &'static str {
 }
 
 fn asked_name(code: Code) -> String {
-    match ffi::speedate_code_name(code) {
+    match written(|out| ffi::speedate_code_name(code, out)) {
         Ok(text) => String::from_utf8_lossy(text.as_bytes()).into_owned(),
         Err(_) => format!("code {code}"),
     }
