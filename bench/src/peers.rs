@@ -1,12 +1,7 @@
 //! Other crates, each behind the feature of its name, where they read the texts of a row or have its call.
 
 #![cfg_attr(
-    not(all(
-        feature = "chrono",
-        feature = "time",
-        feature = "humantime",
-        feature = "iso8601"
-    )),
+    not(all(feature = "chrono", feature = "time", feature = "humantime", feature = "iso8601")),
     allow(unused_mut, unused_imports, dead_code)
 )]
 
@@ -25,9 +20,7 @@ fn format(text: &'static str) -> &'static [FormatItem<'static>] {
 pub fn date() -> Vec<Side<String>> {
     let mut sides = Vec::new();
     #[cfg(feature = "chrono")]
-    sides.push(side("chrono", |text: &String| {
-        text.parse::<chrono::NaiveDate>()
-    }));
+    sides.push(side("chrono", |text: &String| text.parse::<chrono::NaiveDate>()));
     #[cfg(feature = "time")]
     sides.push({
         let format = format("[year]-[month]-[day]");
@@ -41,9 +34,7 @@ pub fn date() -> Vec<Side<String>> {
 pub fn time() -> Vec<Side<String>> {
     let mut sides = Vec::new();
     #[cfg(feature = "chrono")]
-    sides.push(side("chrono", |text: &String| {
-        text.parse::<chrono::NaiveTime>()
-    }));
+    sides.push(side("chrono", |text: &String| text.parse::<chrono::NaiveTime>()));
     #[cfg(feature = "time")]
     sides.push({
         let format = format("[hour]:[minute]:[second]");
@@ -58,9 +49,7 @@ pub fn time() -> Vec<Side<String>> {
 pub fn time_with_fraction() -> Vec<Side<String>> {
     let mut sides = Vec::new();
     #[cfg(feature = "chrono")]
-    sides.push(side("chrono", |text: &String| {
-        text.parse::<chrono::NaiveTime>()
-    }));
+    sides.push(side("chrono", |text: &String| text.parse::<chrono::NaiveTime>()));
     #[cfg(feature = "time")]
     sides.push({
         let format = format("[hour]:[minute]:[second].[subsecond]");
@@ -72,22 +61,16 @@ pub fn time_with_fraction() -> Vec<Side<String>> {
 pub fn date_time() -> Vec<Side<String>> {
     let mut sides = Vec::new();
     #[cfg(feature = "chrono")]
-    sides.push(side("chrono", |text: &String| {
-        chrono::DateTime::parse_from_rfc3339(text)
-    }));
+    sides.push(side("chrono", |text: &String| chrono::DateTime::parse_from_rfc3339(text)));
     #[cfg(feature = "time")]
-    sides.push(side("time", |text: &String| {
-        time::OffsetDateTime::parse(text, &Rfc3339)
-    }));
+    sides.push(side("time", |text: &String| time::OffsetDateTime::parse(text, &Rfc3339)));
     sides
 }
 
 pub fn date_time_in_utc() -> Vec<Side<String>> {
     let mut sides = date_time();
     #[cfg(feature = "humantime")]
-    sides.push(side("humantime", |text: &String| {
-        humantime::parse_rfc3339(text)
-    }));
+    sides.push(side("humantime", |text: &String| humantime::parse_rfc3339(text)));
     #[cfg(feature = "iso8601")]
     sides.push(side("iso8601", |text: &String| iso8601::datetime(text)));
     sides
@@ -112,11 +95,9 @@ impl PeerMoments {
     pub fn of(_texts: [&str; 2]) -> Self {
         PeerMoments {
             #[cfg(feature = "chrono")]
-            chrono: _texts
-                .map(|text| chrono::DateTime::parse_from_rfc3339(text).expect("a date-time")),
+            chrono: _texts.map(|text| chrono::DateTime::parse_from_rfc3339(text).expect("a date-time")),
             #[cfg(feature = "time")]
-            time: _texts
-                .map(|text| time::OffsetDateTime::parse(text, &Rfc3339).expect("a date-time")),
+            time: _texts.map(|text| time::OffsetDateTime::parse(text, &Rfc3339).expect("a date-time")),
         }
     }
 
@@ -139,30 +120,19 @@ impl PeerMoments {
         let mut sides = Vec::new();
         #[cfg(feature = "chrono")]
         sides.push(side("chrono", |it: &Moments| {
-            it.others.chrono[0]
-                .naive_utc()
-                .date()
-                .checked_add_signed(chrono::Duration::days(100))
+            it.others.chrono[0].naive_utc().date().checked_add_signed(chrono::Duration::days(100))
         }));
         #[cfg(feature = "time")]
-        sides.push(side("time", |it: &Moments| {
-            it.others.time[0]
-                .date()
-                .checked_add(time::Duration::days(100))
-        }));
+        sides.push(side("time", |it: &Moments| it.others.time[0].date().checked_add(time::Duration::days(100))));
         sides
     }
 
     pub fn between() -> Vec<Side<Moments>> {
         let mut sides = Vec::new();
         #[cfg(feature = "chrono")]
-        sides.push(side("chrono", |it: &Moments| {
-            it.others.chrono[1].signed_duration_since(it.others.chrono[0])
-        }));
+        sides.push(side("chrono", |it: &Moments| it.others.chrono[1].signed_duration_since(it.others.chrono[0])));
         #[cfg(feature = "time")]
-        sides.push(side("time", |it: &Moments| {
-            it.others.time[1] - it.others.time[0]
-        }));
+        sides.push(side("time", |it: &Moments| it.others.time[1] - it.others.time[0]));
         sides
     }
 
@@ -182,13 +152,9 @@ impl PeerMoments {
     pub fn timestamp() -> Vec<Side<Moments>> {
         let mut sides = Vec::new();
         #[cfg(feature = "chrono")]
-        sides.push(side("chrono", |it: &Moments| {
-            it.others.chrono[0].timestamp()
-        }));
+        sides.push(side("chrono", |it: &Moments| it.others.chrono[0].timestamp()));
         #[cfg(feature = "time")]
-        sides.push(side("time", |it: &Moments| {
-            it.others.time[0].unix_timestamp()
-        }));
+        sides.push(side("time", |it: &Moments| it.others.time[0].unix_timestamp()));
         sides
     }
 }

@@ -8,8 +8,7 @@ use speedate_diff::ffi::{self, Code, Config, FORM_STRICT};
 
 use crate::peers;
 use crate::row::{Side, Table, side, written};
-use crate::texts::{clock, date, date_time, days, iso_duration, iso_fraction};
-use crate::texts::{microseconds, milliseconds, offset, refused, texts};
+use crate::texts::*;
 
 const DEFAULT: Config = Config {
     timestamp_offset: 0,
@@ -19,10 +18,7 @@ const DEFAULT: Config = Config {
     iso_order: 0,
     rfc3339_form: 0,
 };
-const STRICT: Config = Config {
-    rfc3339_form: FORM_STRICT,
-    ..DEFAULT
-};
+const STRICT: Config = Config { rfc3339_form: FORM_STRICT, ..DEFAULT };
 
 pub fn rows(table: &mut Table) {
     date_rows(table);
@@ -44,19 +40,10 @@ fn ours<T: 'static>(read: impl Fn(&[u8]) -> T + 'static) -> Side<String> {
 fn date_rows(table: &mut Table) {
     let mut row = |name: &str, text: fn(&mut Draw) -> String| {
         let ours = ours(|text| written(|out| ffi::speedate_date_parse_rfc3339(text, out)));
-        table.row(
-            name,
-            &texts(text),
-            rust(Date::parse_bytes_rfc3339),
-            ours,
-            peers::date(),
-        );
+        table.row(name, &texts(text), rust(Date::parse_bytes_rfc3339), ours, peers::date());
     };
     row("date", date);
-    row("date, refused", |draw| {
-        let text = date(draw);
-        refused(draw, text)
-    });
+    row("date, refused", refused_date);
 }
 
 fn time_rows(table: &mut Table) {
@@ -66,134 +53,43 @@ fn time_rows(table: &mut Table) {
     };
     row("time", clock, peers::time());
     row("time, Z", |draw| clock(draw) + "Z", vec![]);
-    row(
-        "time, fraction",
-        |draw| clock(draw) + &microseconds(draw),
-        peers::time_with_fraction(),
-    );
-    row(
-        "time, milliseconds",
-        |draw| clock(draw) + &milliseconds(draw),
-        peers::time_with_fraction(),
-    );
+    row("time, fraction", |draw| clock(draw) + &microseconds(draw), peers::time_with_fraction());
+    row("time, milliseconds", |draw| clock(draw) + &milliseconds(draw), peers::time_with_fraction());
     row("time, minutes", |draw| clock(draw)[..5].to_owned(), vec![]);
-    row(
-        "time, comma",
-        |draw| clock(draw) + &microseconds(draw).replace('.', ","),
-        vec![],
-    );
-    row(
-        "time, 1 to 5 digits",
-        |draw| one_to_five_digits(draw),
-        peers::time_with_fraction(),
-    );
-    row(
-        "time, fraction, offset",
-        |draw| clock(draw) + &microseconds(draw) + &offset(draw),
-        vec![],
-    );
-    row("time, refused", |draw| refused_clock(draw), peers::time());
+    row("time, comma", |draw| clock(draw) + &microseconds(draw).replace('.', ","), vec![]);
+    row("time, 1 to 5 digits", one_to_five_digits, peers::time_with_fraction());
+    row("time, fraction, offset", |draw| clock(draw) + &microseconds(draw) + &offset(draw), vec![]);
+    row("time, refused", refused_clock, peers::time());
     let strict = ours(|text| written(|out| ffi::speedate_time_parse(text, STRICT, out)));
-    table.row(
-        "time, Z, strict",
-        &texts(|draw| clock(draw) + "Z"),
-        rust(Time::parse_bytes),
-        strict,
-        vec![],
-    );
-}
-
-fn one_to_five_digits(draw: &mut Draw) -> String {
-    let count = 1 + draw.below(5);
-    clock(draw) + "." + &draw.digits(count)
-}
-
-fn refused_clock(draw: &mut Draw) -> String {
-    let text = clock(draw);
-    refused(draw, text)
+    table.row("time, Z, strict", &texts(|draw| clock(draw) + "Z"), rust(Time::parse_bytes), strict, vec![]);
 }
 
 fn date_time_rows(table: &mut Table) {
     let mut row = |name: &str, text: fn(&mut Draw) -> String, others: Vec<Side<String>>| {
         let ours = ours(|text| written(|out| ffi::speedate_datetime_parse(text, DEFAULT, out)));
-        table.row(
-            name,
-            &texts(text),
-            rust(DateTime::parse_bytes),
-            ours,
-            others,
-        );
+        table.row(name, &texts(text), rust(DateTime::parse_bytes), ours, others);
     };
     row("date-time, Z", z, peers::date_time_in_utc());
-    row(
-        "date-time, milliseconds, Z",
-        |draw| date_time(draw, milliseconds) + "Z",
-        peers::date_time_in_utc(),
-    );
-    row(
-        "date-time, offset",
-        |draw| date_time(draw, offset),
-        peers::date_time(),
-    );
-    row(
-        "date-time, space, no offset",
-        |draw| date(draw) + " " + &clock(draw),
-        vec![],
-    );
-    row(
-        "date-time, fraction, offset",
-        fraction_and_offset,
-        peers::date_time(),
-    );
-    row(
-        "date-time, refused",
-        |draw| {
-            let text = z(draw);
-            refused(draw, text)
-        },
-        peers::date_time_in_utc(),
-    );
+    row("date-time, milliseconds, Z", |draw| date_time(draw, milliseconds) + "Z", peers::date_time_in_utc());
+    row("date-time, offset", |draw| date_time(draw, offset), peers::date_time());
+    row("date-time, space, no offset", |draw| date(draw) + " " + &clock(draw), vec![]);
+    row("date-time, fraction, offset", fraction_and_offset, peers::date_time());
+    row("date-time, refused", refused_date_time, peers::date_time_in_utc());
     let mut row = |name: &str, text: fn(&mut Draw) -> String| {
-        let strict =
-            ours(|text| written(|out| ffi::speedate_datetime_parse_rfc3339(text, STRICT, out)));
-        table.row(
-            name,
-            &texts(text),
-            rust(DateTime::parse_bytes_rfc3339),
-            strict,
-            vec![],
-        );
+        let strict = ours(|text| written(|out| ffi::speedate_datetime_parse_rfc3339(text, STRICT, out)));
+        table.row(name, &texts(text), rust(DateTime::parse_bytes_rfc3339), strict, vec![]);
     };
     row("date-time, Z, strict", z);
     row("date-time, fraction, offset, strict", fraction_and_offset);
 }
 
-fn z(draw: &mut Draw) -> String {
-    date_time(draw, |_| "Z".to_owned())
-}
-
-fn fraction_and_offset(draw: &mut Draw) -> String {
-    date_time(draw, |draw| microseconds(draw) + &offset(draw))
-}
-
 fn timestamp_rows(table: &mut Table) {
     let mut row = |name: &str, text: fn(&mut Draw) -> String| {
         let ours = ours(|text| written(|out| ffi::speedate_datetime_parse(text, DEFAULT, out)));
-        table.row(
-            name,
-            &texts(text),
-            rust(DateTime::parse_bytes),
-            ours,
-            vec![],
-        );
+        table.row(name, &texts(text), rust(DateTime::parse_bytes), ours, vec![]);
     };
-    row("timestamp, seconds", |draw| {
-        draw.within(1_000_000_000..=3_000_000_000).to_string()
-    });
-    row("timestamp, milliseconds", |draw| {
-        draw.within(1_654_646_404_123..=1_656_646_404_123)
-            .to_string()
-    });
+    row("timestamp, seconds", |draw| draw.within(1_000_000_000..=3_000_000_000).to_string());
+    row("timestamp, milliseconds", |draw| draw.within(1_654_646_404_123..=1_656_646_404_123).to_string());
     row("timestamp, decimal", |draw| {
         let count = 1 + draw.below(6);
         format!("{}.{}", draw.within(0..=2_000_000_000), draw.digits(count))
@@ -203,25 +99,11 @@ fn timestamp_rows(table: &mut Table) {
 fn duration_rows(table: &mut Table) {
     let mut row = |name: &str, text: fn(&mut Draw) -> String, others: Vec<Side<String>>| {
         let ours = ours(|text| written(|out| ffi::speedate_duration_parse(text, DEFAULT, out)));
-        table.row(
-            name,
-            &texts(text),
-            rust(Duration::parse_bytes),
-            ours,
-            others,
-        );
+        table.row(name, &texts(text), rust(Duration::parse_bytes), ours, others);
     };
     row("duration, clock", clock, vec![]);
-    row(
-        "duration, clock, fraction",
-        |draw| clock(draw) + &microseconds(draw),
-        vec![],
-    );
-    row(
-        "duration, whole days",
-        |draw| format!("{}d", draw.within(1..=99_999)),
-        vec![],
-    );
+    row("duration, clock, fraction", |draw| clock(draw) + &microseconds(draw), vec![]);
+    row("duration, whole days", |draw| format!("{}d", draw.within(1..=99_999)), vec![]);
     row("duration, days", days, vec![]);
     row("duration, ISO 8601", iso_duration, peers::duration());
     row("duration, ISO 8601, fraction", iso_fraction, vec![]);
@@ -231,10 +113,7 @@ fn duration_rows(table: &mut Table) {
 type Line = (String, String);
 
 fn lines(value: fn(&mut Draw) -> String) -> Vec<Line> {
-    texts(value)
-        .into_iter()
-        .map(|value| (value.clone() + " GET /index.html 200", value))
-        .collect()
+    texts(value).into_iter().map(|value| (value.clone() + " GET /index.html 200", value)).collect()
 }
 
 /// The code of a reader of the front, whose value and size stay where it wrote them.
@@ -246,35 +125,21 @@ fn front<T: Default>(call: impl FnOnce(&mut T, &mut usize) -> Code) -> Code {
 }
 
 fn front_rows(table: &mut Table) {
-    let rust = side("Rust crate", |(_, value): &Line| {
-        Date::parse_bytes_rfc3339(value.as_bytes())
-    });
+    let rust = side("Rust crate", |(_, value): &Line| Date::parse_bytes_rfc3339(value.as_bytes()));
     let ours = side("this library", |(line, _): &Line| {
         front(|out, taken| ffi::speedate_date_parse_front(line.as_bytes(), out, taken))
     });
-    let whole = side("alone", |(_, value): &Line| {
-        written(|out| ffi::speedate_date_parse_rfc3339(value.as_bytes(), out))
-    });
+    let whole =
+        side("alone", |(_, value): &Line| written(|out| ffi::speedate_date_parse_rfc3339(value.as_bytes(), out)));
     table.row("date at the front", &lines(date), rust, ours, vec![whole]);
-    let rust = side("Rust crate", |(_, value): &Line| {
-        Time::parse_bytes(value.as_bytes())
-    });
+    let rust = side("Rust crate", |(_, value): &Line| Time::parse_bytes(value.as_bytes()));
     let ours = side("this library", |(line, _): &Line| {
         front(|out, taken| ffi::speedate_time_parse_front(line.as_bytes(), DEFAULT, out, taken))
     });
-    let whole = side("alone", |(_, value): &Line| {
-        written(|out| ffi::speedate_time_parse(value.as_bytes(), DEFAULT, out))
-    });
-    table.row(
-        "time at the front",
-        &lines(|draw| clock(draw) + "Z"),
-        rust,
-        ours,
-        vec![whole],
-    );
-    let rust = side("Rust crate", |(_, value): &Line| {
-        DateTime::parse_bytes_rfc3339(value.as_bytes())
-    });
+    let whole =
+        side("alone", |(_, value): &Line| written(|out| ffi::speedate_time_parse(value.as_bytes(), DEFAULT, out)));
+    table.row("time at the front", &lines(|draw| clock(draw) + "Z"), rust, ours, vec![whole]);
+    let rust = side("Rust crate", |(_, value): &Line| DateTime::parse_bytes_rfc3339(value.as_bytes()));
     let ours = side("this library", |(line, _): &Line| {
         front(|out, taken| ffi::speedate_datetime_parse_front(line.as_bytes(), DEFAULT, out, taken))
     });

@@ -14,10 +14,7 @@ pub struct Side<I> {
 }
 
 /// A library by its name, and its call.
-pub fn side<I: 'static, T: 'static>(
-    name: &'static str,
-    call: impl Fn(&I) -> T + 'static,
-) -> Side<I> {
+pub fn side<I: 'static, T: 'static>(name: &'static str, call: impl Fn(&I) -> T + 'static) -> Side<I> {
     let round = move |items: &[I]| {
         let start = Instant::now();
         for item in items {
@@ -25,10 +22,7 @@ pub fn side<I: 'static, T: 'static>(
         }
         start.elapsed().as_nanos() as f64 / items.len() as f64
     };
-    Side {
-        name,
-        round: Box::new(round),
-    }
+    Side { name, round: Box::new(round) }
 }
 
 /// The code of a call of this library, whose value stays where the call wrote it.
@@ -53,39 +47,21 @@ pub struct Table {
 
 impl Table {
     pub fn new(prefix: String) -> Self {
-        println!(
-            "{:34} {:>10} {:>12} {:>6}  others",
-            "nanoseconds a call", "Rust crate", "this library", "ratio"
-        );
+        println!("{:34} {:>10} {:>12} {:>6}  others", "nanoseconds a call", "Rust crate", "this library", "ratio");
         Table { prefix }
     }
 
     /// Times the Rust crate, this library and the others on the items, in turns.
-    pub fn row<I>(
-        &mut self,
-        name: &str,
-        items: &[I],
-        rust: Side<I>,
-        ours: Side<I>,
-        others: Vec<Side<I>>,
-    ) {
+    pub fn row<I>(&mut self, name: &str, items: &[I], rust: Side<I>, ours: Side<I>, others: Vec<Side<I>>) {
         if !name.starts_with(&self.prefix) {
             return;
         }
         let sides: Vec<Side<I>> = [rust, ours].into_iter().chain(others).collect();
         let lowest = lowest_rounds(&sides, items);
-        let others: Vec<String> = sides
-            .iter()
-            .zip(&lowest)
-            .skip(2)
-            .map(|(side, time)| format!("{} {time:.2}", side.name))
-            .collect();
+        let others: Vec<String> =
+            sides.iter().zip(&lowest).skip(2).map(|(side, time)| format!("{} {time:.2}", side.name)).collect();
         let (rust, ours) = (lowest[0], lowest[1]);
-        println!(
-            "{name:34} {rust:>10.2} {ours:>12.2} {:>6.2}  {}",
-            ours / rust,
-            others.join(", ")
-        );
+        println!("{name:34} {rust:>10.2} {ours:>12.2} {:>6.2}  {}", ours / rust, others.join(", "));
     }
 }
 

@@ -85,16 +85,10 @@ impl Call {
         let mut config = config(draw);
         match kind {
             Kind::Duration if draw.once_in(8) => config.iso_order = ORDER_STRICT,
-            Kind::Time | Kind::DateTimeRfc3339 if draw.once_in(8) => {
-                config.rfc3339_form = FORM_STRICT
-            }
+            Kind::Time | Kind::DateTimeRfc3339 if draw.once_in(8) => config.rfc3339_form = FORM_STRICT,
             _ => {}
         }
-        Call::Read {
-            kind,
-            text: Bytes(draw.text(kind)),
-            config,
-        }
+        Call::Read { kind, text: Bytes(draw.text(kind)), config }
     }
 
     fn read_front(draw: &mut Draw) -> Self {
@@ -103,35 +97,16 @@ impl Call {
         if draw.once_in(2) {
             text.extend(draw.text(kind));
         }
-        Call::ReadFront {
-            kind,
-            text: Bytes(text),
-            config: Config {
-                timestamp_offset: 0,
-                ..config(draw)
-            },
-        }
+        Call::ReadFront { kind, text: Bytes(text), config: Config { timestamp_offset: 0, ..config(draw) } }
     }
 
     fn from_timestamp(draw: &mut Draw) -> Self {
         let (timestamp, config) = (draw.timestamp(), config(draw));
         let microsecond = draw.inside(0..=u32::MAX.into()) as u32 >> draw.below(16);
         match draw.below(3) {
-            0 => Call::DateFromTimestamp {
-                timestamp,
-                is_exact: draw.once_in(2),
-                config,
-            },
-            1 => Call::TimeFromTimestamp {
-                second: draw.near(0..=86_400).max(0) as u32,
-                microsecond,
-                config,
-            },
-            _ => Call::DateTimeFromTimestamp {
-                timestamp,
-                microsecond,
-                config,
-            },
+            0 => Call::DateFromTimestamp { timestamp, is_exact: draw.once_in(2), config },
+            1 => Call::TimeFromTimestamp { second: draw.near(0..=86_400).max(0) as u32, microsecond, config },
+            _ => Call::DateTimeFromTimestamp { timestamp, microsecond, config },
         }
     }
 
@@ -140,20 +115,9 @@ impl Call {
         match draw.below(4) {
             0 => Call::Print(first),
             1 => Call::Totals(first),
-            2 => Call::Compare(
-                first.clone(),
-                if draw.once_in(8) {
-                    first
-                } else {
-                    value_like(draw, &first)
-                },
-            ),
+            2 => Call::Compare(first.clone(), if draw.once_in(8) { first } else { value_like(draw, &first) }),
             _ => Call::InTimezone(
-                if draw.once_in(2) {
-                    Value::Time(time(draw))
-                } else {
-                    Value::DateTime(date_time(draw))
-                },
+                if draw.once_in(2) { Value::Time(time(draw)) } else { Value::DateTime(date_time(draw)) },
                 new_offset(draw),
             ),
         }
@@ -174,21 +138,10 @@ impl Call {
     /// The word under which the call is counted.
     pub fn group(&self) -> &'static str {
         match self {
-            Call::Read {
-                kind: Kind::Date | Kind::DateRfc3339,
-                ..
-            } => "texts of dates",
-            Call::Read {
-                kind: Kind::Time, ..
-            } => "texts of times",
-            Call::Read {
-                kind: Kind::DateTime | Kind::DateTimeRfc3339,
-                ..
-            } => "texts of date-times",
-            Call::Read {
-                kind: Kind::Duration,
-                ..
-            } => "texts of durations",
+            Call::Read { kind: Kind::Date | Kind::DateRfc3339, .. } => "texts of dates",
+            Call::Read { kind: Kind::Time, .. } => "texts of times",
+            Call::Read { kind: Kind::DateTime | Kind::DateTimeRfc3339, .. } => "texts of date-times",
+            Call::Read { kind: Kind::Duration, .. } => "texts of durations",
             Call::ReadFront { .. } => "texts with a value at their front",
             _ => "calls without a text",
         }
@@ -216,11 +169,7 @@ fn config(draw: &mut Draw) -> Config {
         timestamp_unit: draw.below(3) as u8,
         overflow_behavior: draw.below(2) as u8,
         has_timestamp_offset: draw.below(2) as u8,
-        timestamp_offset: if draw.once_in(64) {
-            draw.number() as i32
-        } else {
-            offset(draw)
-        },
+        timestamp_offset: if draw.once_in(64) { draw.number() as i32 } else { offset(draw) },
         ..Config::default()
     }
 }
@@ -262,10 +211,7 @@ fn time(draw: &mut Draw) -> Time {
 }
 
 fn date_time(draw: &mut Draw) -> DateTime {
-    DateTime {
-        date: date(draw),
-        time: time(draw),
-    }
+    DateTime { date: date(draw), time: time(draw) }
 }
 
 fn duration(draw: &mut Draw) -> Duration {
@@ -281,12 +227,7 @@ fn duration(draw: &mut Draw) -> Duration {
 fn duration_numbers(draw: &mut Draw) -> Duration {
     let mut number = || draw.inside(0..=u32::MAX.into()) as u32 >> draw.below(24);
     let (day, second, microsecond) = (number(), number(), number());
-    Duration {
-        negative: draw.below(2) as u32,
-        day,
-        second,
-        microsecond,
-    }
+    Duration { negative: draw.below(2) as u32, day, second, microsecond }
 }
 
 /// An offset of less than a day.

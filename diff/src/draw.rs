@@ -102,17 +102,13 @@ impl Draw {
     }
 
     pub fn digits(&mut self, count: usize) -> String {
-        (0..count)
-            .map(|_| self.pick(b"0123456789") as char)
-            .collect()
+        (0..count).map(|_| self.pick(b"0123456789") as char).collect()
     }
 
     /// A timestamp, often near the end of a range.
     pub fn timestamp(&mut self) -> i64 {
         match self.below(4) {
-            0 => self
-                .pick(&TIMESTAMP_ENDS)
-                .saturating_add(self.within(-2..=2)),
+            0 => self.pick(&TIMESTAMP_ENDS).saturating_add(self.within(-2..=2)),
             1 => self.within(FIRST_SECOND..=LAST_SECOND),
             2 => self.within(FIRST_SECOND * 1_000..=LAST_SECOND * 1_000),
             _ => self.within(-40_000..=40_000) * 86_400 * self.pick(&[1, 1_000]),
@@ -209,16 +205,8 @@ impl Draw {
             1 => self.below(20),
             _ => self.below(8),
         };
-        let digits = if self.once_in(4) {
-            self.near_tie()
-        } else {
-            self.digits(count)
-        };
-        let exponent = if self.once_in(16) {
-            self.exponent()
-        } else {
-            String::new()
-        };
+        let digits = if self.once_in(4) { self.near_tie() } else { self.digits(count) };
+        let exponent = if self.once_in(16) { self.exponent() } else { String::new() };
         self.whole_number() + "." + &digits + &exponent
     }
 
@@ -252,15 +240,11 @@ impl Draw {
         let mut text = "P".to_owned();
         let dates = self.designators("YMWD");
         let times = self.designators("HMS");
-        dates
-            .chars()
-            .for_each(|designator| self.push_component(&mut text, designator));
+        dates.chars().for_each(|designator| self.push_component(&mut text, designator));
         if !times.is_empty() || self.once_in(16) {
             text.push('T');
         }
-        times
-            .chars()
-            .for_each(|designator| self.push_component(&mut text, designator));
+        times.chars().for_each(|designator| self.push_component(&mut text, designator));
         if self.once_in(3) {
             let last = text.pop();
             text += &self.iso_fraction();
@@ -284,14 +268,7 @@ impl Draw {
 
     fn push_component(&mut self, text: &mut String, designator: char) {
         let number = match self.below(24) {
-            0 => self.pick(&[
-                4_294_967_295,
-                4_294_967_296,
-                999_999_999,
-                1_000_000_000,
-                11_767_033,
-                71_582_788,
-            ]),
+            0 => self.pick(&[4_294_967_295, 4_294_967_296, 999_999_999, 1_000_000_000, 11_767_033, 71_582_788]),
             1 => self.within(0..=4_294_967_295),
             _ => self.within(0..=400),
         };
@@ -306,22 +283,12 @@ impl Draw {
             1..=3 => self.below(20),
             _ => self.below(8),
         };
-        mark + &if self.once_in(4) {
-            self.near_tie()
-        } else {
-            self.digits(count)
-        }
+        mark + &if self.once_in(4) { self.near_tie() } else { self.digits(count) }
     }
 
     fn long_clock(&mut self) -> String {
         let hours = match self.below(4) {
-            0 => self.pick(&[
-                0,
-                2_400_000_000,
-                2_400_000_001,
-                9_999_999_999,
-                10_000_000_000,
-            ]),
+            0 => self.pick(&[0, 2_400_000_000, 2_400_000_001, 9_999_999_999, 10_000_000_000]),
             1 => self.within(0..=3_000_000_000),
             _ => self.within(0..=30),
         };
@@ -333,15 +300,9 @@ impl Draw {
             0 => self.pick(&[0, 999_999_999, 1_000_000_000, 4_294_967_295, 4_294_967_296]),
             _ => self.within(0..=100_000),
         };
-        let word = self.pick(&[
-            "d", "D", " d", " day", " days", "day", "DAYS", " Day", " DAy", "da",
-        ]);
+        let word = self.pick(&["d", "D", " d", " day", " days", "day", "DAYS", " Day", " DAy", "da"]);
         let link = self.pick(&["", ",", " ", ", ", ",, "]);
-        let clock = if self.once_in(3) {
-            String::new()
-        } else {
-            self.clock()
-        };
+        let clock = if self.once_in(3) { String::new() } else { self.clock() };
         format!("{days}{word}{link}{clock}")
     }
 
@@ -356,9 +317,7 @@ impl Draw {
 
     fn noise(&mut self, kind: Kind) -> Vec<u8> {
         let count = self.below(24);
-        (0..count)
-            .map(|_| self.pick(Self::alphabet(kind)))
-            .collect()
+        (0..count).map(|_| self.pick(Self::alphabet(kind))).collect()
     }
 
     /// Any byte, mostly one that some grammar uses.

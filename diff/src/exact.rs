@@ -28,11 +28,7 @@ impl Exact {
     pub fn gap(&self, other: &Answer) -> Option<i128> {
         match other {
             Ok(value) => microseconds(value).map(|other| (other - self.microseconds).abs()),
-            Err(_) => self
-                .ends
-                .iter()
-                .map(|end| (end - self.microseconds).abs())
-                .min(),
+            Err(_) => self.ends.iter().map(|end| (end - self.microseconds).abs()).min(),
         }
     }
 }
@@ -69,10 +65,7 @@ fn fraction_of_unit(digits: &[u8], unit: u64, is_tie_up: bool) -> (i128, i128) {
 
 /// The digits at the front of a text, and what follows them.
 pub fn split_digits(text: &[u8]) -> (&[u8], &[u8]) {
-    let end = text
-        .iter()
-        .position(|byte| !byte.is_ascii_digit())
-        .unwrap_or(text.len());
+    let end = text.iter().position(|byte| !byte.is_ascii_digit()).unwrap_or(text.len());
     text.split_at(end)
 }
 
@@ -104,13 +97,7 @@ impl<'a> IsoFraction<'a> {
         let (before, (digits, after)) = (&text[..=mark], split_digits(&text[mark + 1..]));
         let is_clock = before.contains(&b'T');
         let unit = seconds_of(is_clock, *after.first()?)?;
-        Some(IsoFraction {
-            before,
-            digits,
-            after,
-            is_clock,
-            unit,
-        })
+        Some(IsoFraction { before, digits, after, is_clock, unit })
     }
 
     /// The seconds of the components before the mark: of those before the `T`, and of those after it.
@@ -134,36 +121,22 @@ impl<'a> IsoFraction<'a> {
     pub fn exact(&self, config: &Config) -> Option<Exact> {
         let (dates, clock) = self.sums()?;
         let (floor, extra) = fraction_of_unit(self.digits, self.unit * 1_000_000, true);
-        let (sum, unit) = if self.is_clock {
-            (clock, 1)
-        } else {
-            (dates, 86_400)
-        };
+        let (sum, unit) = if self.is_clock { (clock, 1) } else { (dates, 86_400) };
         let total = (dates + clock) * MICROSECONDS_A_SECOND + extra;
         // The seconds after the `T` have an end before days are carried.
-        let seconds_end = if self.is_clock {
-            dates + END
-        } else {
-            END * 86_400
-        };
+        let seconds_end = if self.is_clock { dates + END } else { END * 86_400 };
         let ends = [seconds_end, END * 86_400, 1_000_000_000 * 86_400];
         let [seconds_end, days_end, end] = ends.map(|end| end * MICROSECONDS_A_SECOND);
         let is_negative = self.before.starts_with(b"-");
         let too_large = || Err("duration_value_too_large".to_owned());
         let answer = match rust::read(Kind::Duration, &[self.before, self.after].concat(), config) {
-            _ if (sum * MICROSECONDS_A_SECOND + floor) / (unit * MICROSECONDS_A_SECOND) >= END => {
-                too_large()
-            }
+            _ if (sum * MICROSECONDS_A_SECOND + floor) / (unit * MICROSECONDS_A_SECOND) >= END => too_large(),
             Err(fault) if !fault.ends_with("_too_large") => Err(fault),
             _ if total >= seconds_end || total >= days_end => too_large(),
             _ if total >= end => Err("duration_days_too_large".to_owned()),
             _ => Ok(Value::Duration(of_length(is_negative, total))),
         };
-        Some(Exact {
-            answer,
-            microseconds: total,
-            ends: vec![seconds_end, days_end, end],
-        })
+        Some(Exact { answer, microseconds: total, ends: vec![seconds_end, days_end, end] })
     }
 }
 
@@ -204,31 +177,19 @@ impl<'a> Decimal<'a> {
         let (is_negative, rest) = split_sign(text);
         let (whole, rest) = split_digits(rest);
         let (fraction, rest) = split_digits(rest.strip_prefix(b".")?);
-        (!whole.is_empty() || !fraction.is_empty()).then_some((
-            Decimal {
-                is_negative,
-                whole,
-                fraction,
-            },
-            rest,
-        ))
+        (!whole.is_empty() || !fraction.is_empty()).then_some((Decimal { is_negative, whole, fraction }, rest))
     }
 
     /// The decimal that is a whole text.
     pub fn of(text: &'a [u8]) -> Option<Self> {
-        Self::front(text)
-            .filter(|(_, rest)| rest.is_empty())
-            .map(|(decimal, _)| decimal)
+        Self::front(text).filter(|(_, rest)| rest.is_empty()).map(|(decimal, _)| decimal)
     }
 
     /// The whole part without its sign, or a larger number than any timestamp.
     fn whole_number(&self) -> i128 {
         let zeros = self.whole.iter().take_while(|&&byte| byte == b'0').count();
         let digits = &self.whole[zeros..];
-        digits
-            .iter()
-            .take(MANY_DIGITS)
-            .fold(0, |number, byte| number * 10 + i128::from(byte - b'0'))
+        digits.iter().take(MANY_DIGITS).fold(0, |number, byte| number * 10 + i128::from(byte - b'0'))
     }
 
     /// The unit of the decimal as a timestamp.
@@ -236,9 +197,7 @@ impl<'a> Decimal<'a> {
         let largest = i128::from(LARGEST_SECOND);
         let has_fraction = self.fraction.iter().any(|&byte| byte != b'0');
         match (config.timestamp_unit, self.whole_number()) {
-            (UNIT_INFER, number) if number > largest || number == largest && has_fraction => {
-                UNIT_MILLISECOND
-            }
+            (UNIT_INFER, number) if number > largest || number == largest && has_fraction => UNIT_MILLISECOND,
             (UNIT_INFER, _) => UNIT_SECOND,
             (unit, _) => unit,
         }
@@ -257,13 +216,7 @@ impl<'a> Decimal<'a> {
             OVERFLOW_ERROR if self.fraction.len() > digits => Err(too_long.to_owned()),
             _ => rust::date_time_at(microseconds, config.offset()),
         };
-        let ends = [FIRST_SECOND, LAST_SECOND + 1]
-            .map(|end| i128::from(end) * MICROSECONDS_A_SECOND)
-            .to_vec();
-        Exact {
-            answer,
-            microseconds,
-            ends,
-        }
+        let ends = [FIRST_SECOND, LAST_SECOND + 1].map(|end| i128::from(end) * MICROSECONDS_A_SECOND).to_vec();
+        Exact { answer, microseconds, ends }
     }
 }

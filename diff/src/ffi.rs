@@ -100,10 +100,7 @@ pub struct Text {
 
 impl Default for Text {
     fn default() -> Self {
-        Text {
-            bytes: [0; TEXT_SIZE],
-            length: 0,
-        }
+        Text { bytes: [0; TEXT_SIZE], length: 0 }
     }
 }
 

@@ -4,9 +4,7 @@ use crate::answer::{Answer, PANIC, Value, is_fault};
 use crate::call::Call;
 use crate::draw::{Kind, LARGEST_SECOND};
 use crate::exact::{Decimal, IsoFraction, split_digits, split_sign};
-use crate::ffi::{
-    Config, FORM_STRICT, ORDER_STRICT, OVERFLOW_TRUNCATE, Time, UNIT_INFER, UNIT_MILLISECOND,
-};
+use crate::ffi::{Config, FORM_STRICT, ORDER_STRICT, OVERFLOW_TRUNCATE, Time, UNIT_INFER, UNIT_MILLISECOND};
 use crate::rust;
 
 /// A power of ten of so many digits is beyond the floats, and the Rust crate loses the fraction.
@@ -20,57 +18,22 @@ pub struct Known {
 }
 
 pub const KNOWN: [Known; 11] = [
-    Known {
-        row: "fractions of ISO 8601 durations",
-        explains: is_iso_fraction,
-    },
-    Known {
-        row: "the order of components in an ISO 8601 duration",
-        explains: is_iso_order,
-    },
-    Known {
-        row: "a clock of a duration, with `Truncate`",
-        explains: is_cut_clock,
-    },
-    Known {
-        row: "exponents of decimals",
-        explains: is_exponent,
-    },
-    Known {
-        row: "decimal timestamps, `from_float_with_config`",
-        explains: is_decimal_timestamp,
-    },
-    Known {
-        row: "the inferred unit of a decimal timestamp",
-        explains: is_inferred_unit,
-    },
-    Known {
-        row: "`in_timezone` and `now` of `DateTime`",
-        explains: is_late_date_time,
-    },
-    Known {
-        row: "`in_timezone` of `Time`",
-        explains: is_moved_time,
-    },
-    Known {
-        row: "the offset `i32::MIN`",
-        explains: is_smallest_offset,
-    },
-    Known {
-        row: "`unix_timestamp_offset`",
-        explains: is_timestamp_offset,
-    },
-    Known {
-        row: "`TimeConfigBuilder::rfc3339_form`, `Rfc3339Form`",
-        explains: is_strict_form,
-    },
+    Known { row: "fractions of ISO 8601 durations", explains: is_iso_fraction },
+    Known { row: "the order of components in an ISO 8601 duration", explains: is_iso_order },
+    Known { row: "a clock of a duration, with `Truncate`", explains: is_cut_clock },
+    Known { row: "exponents of decimals", explains: is_exponent },
+    Known { row: "decimal timestamps, `from_float_with_config`", explains: is_decimal_timestamp },
+    Known { row: "the inferred unit of a decimal timestamp", explains: is_inferred_unit },
+    Known { row: "`in_timezone` and `now` of `DateTime`", explains: is_late_date_time },
+    Known { row: "`in_timezone` of `Time`", explains: is_moved_time },
+    Known { row: "the offset `i32::MIN`", explains: is_smallest_offset },
+    Known { row: "`unix_timestamp_offset`", explains: is_timestamp_offset },
+    Known { row: "`TimeConfigBuilder::rfc3339_form`, `Rfc3339Form`", explains: is_strict_form },
 ];
 
 /// The place in `KNOWN` of the row that explains the difference.
 pub fn place(call: &Call, rust: &Answer, ours: &Answer) -> Option<usize> {
-    KNOWN
-        .iter()
-        .position(|known| (known.explains)(call, rust, ours))
+    KNOWN.iter().position(|known| (known.explains)(call, rust, ours))
 }
 
 impl Known {
@@ -83,12 +46,7 @@ impl Known {
 
 /// Every digit counts here; there a float is off by no more than its rounding, or has lost the fraction.
 fn is_iso_fraction(call: &Call, rust: &Answer, ours: &Answer) -> bool {
-    let Call::Read {
-        kind: Kind::Duration,
-        text,
-        config,
-    } = call
-    else {
+    let Call::Read { kind: Kind::Duration, text, config } = call else {
         return false;
     };
     let Some(fraction) = IsoFraction::of(text) else {
@@ -99,19 +57,13 @@ fn is_iso_fraction(call: &Call, rust: &Answer, ours: &Answer) -> bool {
     };
     let count = fraction.digits.len();
     let rounding = 1 + ((i128::from(fraction.unit) * 1_000_000 * count as i128) >> 50);
-    *ours == exact.answer
-        && (count > DIGITS_OF_A_FLOAT || exact.gap(rust).is_some_and(|gap| gap <= rounding))
+    *ours == exact.answer && (count > DIGITS_OF_A_FLOAT || exact.gap(rust).is_some_and(|gap| gap <= rounding))
 }
 
 /// The strict order refuses components that are out of order or repeated. Up to there the text has no other fault,
 /// but that it may be too long a duration.
 fn is_iso_order(call: &Call, _rust: &Answer, ours: &Answer) -> bool {
-    let Call::Read {
-        kind: Kind::Duration,
-        text,
-        config,
-    } = call
-    else {
+    let Call::Read { kind: Kind::Duration, text, config } = call else {
         return false;
     };
     let Some(place) = place_out_of_order(text) else {
@@ -120,9 +72,7 @@ fn is_iso_order(call: &Call, _rust: &Answer, ours: &Answer) -> bool {
     let lax = rust::read(Kind::Duration, &text[..=place], config);
     config.iso_order == ORDER_STRICT
         && is_fault(ours, "duration_unit_order")
-        && (lax.is_ok()
-            || is_fault(&lax, "duration_value_too_large")
-            || is_fault(&lax, "duration_days_too_large"))
+        && (lax.is_ok() || is_fault(&lax, "duration_value_too_large") || is_fault(&lax, "duration_days_too_large"))
 }
 
 /// Where on one side of the `T` a designator comes after itself or after one of a smaller unit.
@@ -144,12 +94,7 @@ fn place_out_of_order(text: &[u8]) -> Option<usize> {
 
 /// There what follows the sixth digit is cut, whatever it is; here it has to be digits.
 fn is_cut_clock(call: &Call, _rust: &Answer, ours: &Answer) -> bool {
-    let Call::Read {
-        kind: Kind::Duration,
-        text,
-        config,
-    } = call
-    else {
+    let Call::Read { kind: Kind::Duration, text, config } = call else {
         return false;
     };
     let Some(colon) = text.iter().position(|&byte| byte == b':') else {
@@ -166,12 +111,7 @@ fn is_cut_clock(call: &Call, _rust: &Answer, ours: &Answer) -> bool {
 
 /// A decimal with an exponent is no number here: the fault is that of a text that is no date-time.
 fn is_exponent(call: &Call, _rust: &Answer, ours: &Answer) -> bool {
-    let Call::Read {
-        kind: Kind::DateTime,
-        text,
-        config,
-    } = call
-    else {
+    let Call::Read { kind: Kind::DateTime, text, config } = call else {
         return false;
     };
     let Some((_, [b'e' | b'E', exponent @ ..])) = Decimal::front(text) else {
@@ -185,12 +125,7 @@ fn is_exponent(call: &Call, _rust: &Answer, ours: &Answer) -> bool {
 
 /// Every digit counts here; there a float is off by no more than its rounding.
 fn is_decimal_timestamp(call: &Call, rust: &Answer, ours: &Answer) -> bool {
-    let Call::Read {
-        kind: Kind::DateTime,
-        text,
-        config,
-    } = call
-    else {
+    let Call::Read { kind: Kind::DateTime, text, config } = call else {
         return false;
     };
     let Some(decimal) = Decimal::of(text) else {
@@ -203,20 +138,13 @@ fn is_decimal_timestamp(call: &Call, rust: &Answer, ours: &Answer) -> bool {
 
 /// The decimal is over the largest second here; there the float is equal to it.
 fn is_inferred_unit(call: &Call, _rust: &Answer, ours: &Answer) -> bool {
-    let Call::Read {
-        kind: Kind::DateTime,
-        text,
-        config,
-    } = call
-    else {
+    let Call::Read { kind: Kind::DateTime, text, config } = call else {
         return false;
     };
     let Some(decimal) = Decimal::of(text) else {
         return false;
     };
-    let float = str::from_utf8(text)
-        .ok()
-        .and_then(|text| text.parse::<f64>().ok());
+    let float = str::from_utf8(text).ok().and_then(|text| text.parse::<f64>().ok());
     config.timestamp_unit == UNIT_INFER
         && decimal.unit(config) == UNIT_MILLISECOND
         && float.is_some_and(|float| float.abs() == LARGEST_SECOND as f64)
@@ -254,20 +182,12 @@ fn moved_time(time: &Time, seconds: i32, offset: i32) -> Answer {
     }
     let (hour, minute, second) = (second / 3_600, second / 60 % 60, second % 60);
     let (hour, minute, second) = (hour as u8, minute as u8, second as u8);
-    Ok(Value::Time(Time {
-        hour,
-        minute,
-        second,
-        offset,
-        ..*time
-    }))
+    Ok(Value::Time(Time { hour, minute, second, offset, ..*time }))
 }
 
 /// The offset overflows there.
 fn is_smallest_offset(call: &Call, rust: &Answer, ours: &Answer) -> bool {
-    matches!(call, Call::InTimezone(_, i32::MIN))
-        && is_fault(rust, PANIC)
-        && is_fault(ours, "out_of_range_tz")
+    matches!(call, Call::InTimezone(_, i32::MIN)) && is_fault(rust, PANIC) && is_fault(ours, "out_of_range_tz")
 }
 
 /// A configured offset of a day or more is refused here.
@@ -304,19 +224,14 @@ fn has_strict_time(text: &[u8]) -> bool {
         [b'.', digit, rest @ ..] if digit.is_ascii_digit() => split_digits(rest).1,
         _ => rest,
     };
-    let is_offset =
-        matches!(offset, b"Z" | b"z") || fits(offset, b"+00:00") || fits(offset, b"-00:00");
+    let is_offset = matches!(offset, b"Z" | b"z") || fits(offset, b"+00:00") || fits(offset, b"-00:00");
     fits(clock, b"00:00:00") && is_offset
 }
 
 /// Whether a text has a digit where the pattern has `0`, and elsewhere the pattern's byte.
 fn fits(text: &[u8], pattern: &[u8]) -> bool {
     let fits_byte = |(byte, wanted): (&u8, &u8)| {
-        if *wanted == b'0' {
-            byte.is_ascii_digit()
-        } else {
-            byte == wanted
-        }
+        if *wanted == b'0' { byte.is_ascii_digit() } else { byte == wanted }
     };
     text.len() == pattern.len() && text.iter().zip(pattern).all(fits_byte)
 }

@@ -39,10 +39,7 @@ fn main() -> ExitCode {
 
 /// How many comparisons, and the seed that they are drawn from.
 fn arguments() -> Option<(u64, u64)> {
-    let numbers: Vec<u64> = std::env::args()
-        .skip(1)
-        .map(|word| word.parse().ok())
-        .collect::<Option<_>>()?;
+    let numbers: Vec<u64> = std::env::args().skip(1).map(|word| word.parse().ok()).collect::<Option<_>>()?;
     match numbers[..] {
         [] => Some((DEFAULT_COUNT, seed_of_clock())),
         [count] => Some((count, seed_of_clock())),
@@ -52,9 +49,7 @@ fn arguments() -> Option<(u64, u64)> {
 }
 
 fn seed_of_clock() -> u64 {
-    SystemTime::UNIX_EPOCH
-        .elapsed()
-        .map_or(0, |time| time.as_secs())
+    SystemTime::UNIX_EPOCH.elapsed().map_or(0, |time| time.as_secs())
 }
 
 /// How many calls were compared, and how many differed as a row says.

@@ -21,51 +21,30 @@ pub fn answer(call: &Call) -> Answer {
 fn called(call: &Call) -> Result<Value, Code> {
     match call {
         Call::Read { kind, text, config } => read(*kind, text, *config),
-        Call::ReadFront { kind, text, config } => {
-            read_front(*kind, text, *config).map(|(value, _)| value)
-        }
+        Call::ReadFront { kind, text, config } => read_front(*kind, text, *config).map(|(value, _)| value),
         Call::Print(value) => print(value).map(|text| Value::Text(text.as_bytes().to_vec())),
         Call::Compare(first, second) => compare(first, second).map(number),
         Call::Totals(value) => totals(value).map(Value::Numbers),
         Call::InTimezone(value, offset) => in_timezone(value, *offset),
-        Call::DateFromTimestamp {
-            timestamp,
-            is_exact,
-            config,
-        } => {
+        Call::DateFromTimestamp { timestamp, is_exact, config } => {
             let is_exact = (*is_exact).into();
-            written(|out| ffi::speedate_date_from_timestamp(*timestamp, is_exact, *config, out))
-                .map(Value::Date)
+            written(|out| ffi::speedate_date_from_timestamp(*timestamp, is_exact, *config, out)).map(Value::Date)
         }
-        Call::TimeFromTimestamp {
-            second,
-            microsecond,
-            config,
-        } => written(|out| ffi::speedate_time_from_timestamp(*second, *microsecond, *config, out))
-            .map(Value::Time),
-        Call::DateTimeFromTimestamp {
-            timestamp,
-            microsecond,
-            config,
-        } => written(|out| {
-            ffi::speedate_datetime_from_timestamp(*timestamp, *microsecond, *config, out)
-        })
-        .map(Value::DateTime),
-        Call::NewDuration(it) => {
-            written(|out| ffi::speedate_duration_normalize(*it, out)).map(Value::Duration)
+        Call::TimeFromTimestamp { second, microsecond, config } => {
+            written(|out| ffi::speedate_time_from_timestamp(*second, *microsecond, *config, out)).map(Value::Time)
         }
-        Call::FromDayNumber(it) => {
-            written(|out| ffi::speedate_date_from_day_number(*it, out)).map(Value::Date)
+        Call::DateTimeFromTimestamp { timestamp, microsecond, config } => {
+            written(|out| ffi::speedate_datetime_from_timestamp(*timestamp, *microsecond, *config, out))
+                .map(Value::DateTime)
         }
-        Call::AddDays(date, days) => {
-            written(|out| ffi::speedate_date_add_days(*date, *days, out)).map(Value::Date)
-        }
+        Call::NewDuration(it) => written(|out| ffi::speedate_duration_normalize(*it, out)).map(Value::Duration),
+        Call::FromDayNumber(it) => written(|out| ffi::speedate_date_from_day_number(*it, out)).map(Value::Date),
+        Call::AddDays(date, days) => written(|out| ffi::speedate_date_add_days(*date, *days, out)).map(Value::Date),
         Call::DaysSince(date, earlier) => {
             written(|out| ffi::speedate_date_days_since(*date, *earlier, out)).map(number)
         }
         Call::Between(earlier, later) => {
-            written(|out| ffi::speedate_duration_between(*earlier, *later, out))
-                .map(Value::Duration)
+            written(|out| ffi::speedate_duration_between(*earlier, *later, out)).map(Value::Duration)
         }
         Call::After(duration, start) => {
             written(|out| ffi::speedate_duration_after(*duration, *start, out)).map(Value::DateTime)
@@ -79,12 +58,9 @@ fn number(number: i32) -> Value {
 
 fn in_timezone(value: &Value, offset: i32) -> Result<Value, Code> {
     match value {
-        Value::Time(time) => {
-            written(|out| ffi::speedate_time_in_timezone(*time, offset, out)).map(Value::Time)
-        }
+        Value::Time(time) => written(|out| ffi::speedate_time_in_timezone(*time, offset, out)).map(Value::Time),
         Value::DateTime(value) => {
-            written(|out| ffi::speedate_datetime_in_timezone(*value, offset, out))
-                .map(Value::DateTime)
+            written(|out| ffi::speedate_datetime_in_timezone(*value, offset, out)).map(Value::DateTime)
         }
         _ => unreachable!("{value:?} has no offset"),
     }
@@ -93,20 +69,13 @@ fn in_timezone(value: &Value, offset: i32) -> Result<Value, Code> {
 fn read(kind: Kind, text: &[u8], config: Config) -> Result<Value, Code> {
     match kind {
         Kind::Date => written(|out| ffi::speedate_date_parse(text, config, out)).map(Value::Date),
-        Kind::DateRfc3339 => {
-            written(|out| ffi::speedate_date_parse_rfc3339(text, out)).map(Value::Date)
-        }
+        Kind::DateRfc3339 => written(|out| ffi::speedate_date_parse_rfc3339(text, out)).map(Value::Date),
         Kind::Time => written(|out| ffi::speedate_time_parse(text, config, out)).map(Value::Time),
-        Kind::DateTime => {
-            written(|out| ffi::speedate_datetime_parse(text, config, out)).map(Value::DateTime)
-        }
+        Kind::DateTime => written(|out| ffi::speedate_datetime_parse(text, config, out)).map(Value::DateTime),
         Kind::DateTimeRfc3339 => {
-            written(|out| ffi::speedate_datetime_parse_rfc3339(text, config, out))
-                .map(Value::DateTime)
+            written(|out| ffi::speedate_datetime_parse_rfc3339(text, config, out)).map(Value::DateTime)
         }
-        Kind::Duration => {
-            written(|out| ffi::speedate_duration_parse(text, config, out)).map(Value::Duration)
-        }
+        Kind::Duration => written(|out| ffi::speedate_duration_parse(text, config, out)).map(Value::Duration),
     }
 }
 
@@ -114,14 +83,10 @@ fn read(kind: Kind, text: &[u8], config: Config) -> Result<Value, Code> {
 pub fn read_front(kind: Kind, text: &[u8], config: Config) -> Result<(Value, usize), Code> {
     let mut taken = 0;
     let value = match kind {
-        Kind::DateRfc3339 => {
-            written(|out| ffi::speedate_date_parse_front(text, out, &mut taken)).map(Value::Date)
-        }
-        Kind::Time => written(|out| ffi::speedate_time_parse_front(text, config, out, &mut taken))
-            .map(Value::Time),
+        Kind::DateRfc3339 => written(|out| ffi::speedate_date_parse_front(text, out, &mut taken)).map(Value::Date),
+        Kind::Time => written(|out| ffi::speedate_time_parse_front(text, config, out, &mut taken)).map(Value::Time),
         Kind::DateTimeRfc3339 => {
-            written(|out| ffi::speedate_datetime_parse_front(text, config, out, &mut taken))
-                .map(Value::DateTime)
+            written(|out| ffi::speedate_datetime_parse_front(text, config, out, &mut taken)).map(Value::DateTime)
         }
         _ => unreachable!("{kind:?} is not read at the front of a text"),
     }?;
@@ -140,12 +105,8 @@ fn print(value: &Value) -> Result<Text, Code> {
 
 fn compare(first: &Value, second: &Value) -> Result<i32, Code> {
     match (first, second) {
-        (Value::Date(first), Value::Date(second)) => {
-            written(|out| ffi::speedate_date_compare(*first, *second, out))
-        }
-        (Value::Time(first), Value::Time(second)) => {
-            written(|out| ffi::speedate_time_compare(*first, *second, out))
-        }
+        (Value::Date(first), Value::Date(second)) => written(|out| ffi::speedate_date_compare(*first, *second, out)),
+        (Value::Time(first), Value::Time(second)) => written(|out| ffi::speedate_time_compare(*first, *second, out)),
         (Value::DateTime(first), Value::DateTime(second)) => {
             written(|out| ffi::speedate_datetime_compare(*first, *second, out))
         }

@@ -5,8 +5,8 @@ use std::cmp::Ordering;
 use std::panic::{self, AssertUnwindSafe};
 
 use speedate::{
-    Date, DateConfig, DateTime, DateTimeConfig, Duration, MicrosecondsPrecisionOverflowBehavior,
-    ParseError, Time, TimeConfig, TimestampUnit,
+    Date, DateConfig, DateTime, DateTimeConfig, Duration, MicrosecondsPrecisionOverflowBehavior, ParseError, Time,
+    TimeConfig, TimestampUnit,
 };
 
 use crate::answer::{Answer, NO_FRONT, PANIC, Value};
@@ -47,57 +47,26 @@ fn called(call: &Call) -> Answer {
         Call::Print(value) => Ok(Value::Text(print(value).into_bytes())),
         Call::Compare(first, second) => compare(first, second).ok_or_else(|| "no order".to_owned()),
         Call::Totals(value) => Ok(Value::Numbers(totals(value))),
-        Call::InTimezone(Value::Time(time), offset) => {
-            shown(Time::from(*time).in_timezone(*offset))
-        }
-        Call::InTimezone(Value::DateTime(value), offset) => {
-            shown(DateTime::from(*value).in_timezone(*offset))
-        }
+        Call::InTimezone(Value::Time(time), offset) => shown(Time::from(*time).in_timezone(*offset)),
+        Call::InTimezone(Value::DateTime(value), offset) => shown(DateTime::from(*value).in_timezone(*offset)),
         Call::InTimezone(value, _) => unreachable!("{value:?} has no offset"),
-        Call::DateFromTimestamp {
-            timestamp,
-            is_exact,
-            config,
-        } => shown(Date::from_timestamp(
-            *timestamp,
-            *is_exact,
-            &date_config(config),
-        )),
-        Call::TimeFromTimestamp {
-            second,
-            microsecond,
-            config,
-        } => shown(Time::from_timestamp_with_config(
-            *second,
-            *microsecond,
-            &time_config(config),
-        )),
-        Call::DateTimeFromTimestamp {
-            timestamp,
-            microsecond,
-            config,
-        } => shown(DateTime::from_timestamp_with_config(
-            *timestamp,
-            *microsecond,
-            &date_time_config(config),
-        )),
-        Call::NewDuration(it) => shown(Duration::new(
-            it.negative == 0,
-            it.day,
-            it.second,
-            it.microsecond,
-        )),
-        Call::FromDayNumber(number) => date_at(FIRST_SECOND / SECONDS_A_DAY + i64::from(*number)),
-        Call::AddDays(date, days) => {
-            date_at(Date::from(*date).timestamp() / SECONDS_A_DAY + i64::from(*days))
+        Call::DateFromTimestamp { timestamp, is_exact, config } => {
+            shown(Date::from_timestamp(*timestamp, *is_exact, &date_config(config)))
         }
+        Call::TimeFromTimestamp { second, microsecond, config } => {
+            shown(Time::from_timestamp_with_config(*second, *microsecond, &time_config(config)))
+        }
+        Call::DateTimeFromTimestamp { timestamp, microsecond, config } => {
+            shown(DateTime::from_timestamp_with_config(*timestamp, *microsecond, &date_time_config(config)))
+        }
+        Call::NewDuration(it) => shown(Duration::new(it.negative == 0, it.day, it.second, it.microsecond)),
+        Call::FromDayNumber(number) => date_at(FIRST_SECOND / SECONDS_A_DAY + i64::from(*number)),
+        Call::AddDays(date, days) => date_at(Date::from(*date).timestamp() / SECONDS_A_DAY + i64::from(*days)),
         Call::DaysSince(date, earlier) => {
             let seconds = Date::from(*date).timestamp() - Date::from(*earlier).timestamp();
             Ok(Value::Numbers(vec![seconds / SECONDS_A_DAY]))
         }
-        Call::Between(earlier, later) => {
-            between(&DateTime::from(*earlier), &DateTime::from(*later))
-        }
+        Call::Between(earlier, later) => between(&DateTime::from(*earlier), &DateTime::from(*later)),
         Call::After(duration, start) => after(&Duration::from(*duration), &DateTime::from(*start)),
     }
 }
@@ -108,18 +77,9 @@ pub fn read(kind: Kind, text: &[u8], config: &Config) -> Answer {
         Kind::Date => shown(Date::parse_bytes_with_config(text, &date_config(config))),
         Kind::DateRfc3339 => shown(Date::parse_bytes_rfc3339(text)),
         Kind::Time => shown(Time::parse_bytes_with_config(text, &time_config(config))),
-        Kind::DateTime => shown(DateTime::parse_bytes_with_config(
-            text,
-            &date_time_config(config),
-        )),
-        Kind::DateTimeRfc3339 => shown(DateTime::parse_bytes_rfc3339_with_config(
-            text,
-            &time_config(config),
-        )),
-        Kind::Duration => shown(Duration::parse_bytes_with_config(
-            text,
-            &time_config(config),
-        )),
+        Kind::DateTime => shown(DateTime::parse_bytes_with_config(text, &date_time_config(config))),
+        Kind::DateTimeRfc3339 => shown(DateTime::parse_bytes_rfc3339_with_config(text, &time_config(config))),
+        Kind::Duration => shown(Duration::parse_bytes_with_config(text, &time_config(config))),
     }
 }
 
@@ -145,12 +105,8 @@ fn print(value: &Value) -> String {
 
 fn compare(first: &Value, second: &Value) -> Option<Value> {
     let order = match (first, second) {
-        (Value::Date(first), Value::Date(second)) => {
-            Date::from(*first).partial_cmp(&Date::from(*second))
-        }
-        (Value::Time(first), Value::Time(second)) => {
-            Time::from(*first).partial_cmp(&Time::from(*second))
-        }
+        (Value::Date(first), Value::Date(second)) => Date::from(*first).partial_cmp(&Date::from(*second)),
+        (Value::Time(first), Value::Time(second)) => Time::from(*first).partial_cmp(&Time::from(*second)),
         (Value::DateTime(first), Value::DateTime(second)) => {
             DateTime::from(*first).partial_cmp(&DateTime::from(*second))
         }
@@ -175,12 +131,7 @@ fn totals(value: &Value) -> Vec<i64> {
         Value::Date(date) => {
             let date = Date::from(*date);
             let number = (date.timestamp() - FIRST_SECOND) / SECONDS_A_DAY;
-            vec![
-                date.timestamp(),
-                date.timestamp_ms(),
-                date.ordinal_day().into(),
-                number,
-            ]
+            vec![date.timestamp(), date.timestamp_ms(), date.ordinal_day().into(), number]
         }
         Value::Time(time) => {
             let time = Time::from(*time);
@@ -188,21 +139,12 @@ fn totals(value: &Value) -> Vec<i64> {
         }
         Value::DateTime(value) => {
             let value = DateTime::from(*value);
-            vec![
-                value.timestamp(),
-                value.timestamp_ms(),
-                value.timestamp_tz(),
-                value.timestamp_tz_ms(),
-            ]
+            vec![value.timestamp(), value.timestamp_ms(), value.timestamp_tz(), value.timestamp_tz_ms()]
         }
         Value::Duration(duration) => {
             let duration = Duration::from(*duration);
             let microseconds = duration.signed_microseconds().into();
-            vec![
-                duration.signed_total_seconds(),
-                duration.signed_total_ms(),
-                microseconds,
-            ]
+            vec![duration.signed_total_seconds(), duration.signed_total_ms(), microseconds]
         }
         _ => unreachable!("{value:?} has no totals"),
     }
@@ -210,63 +152,35 @@ fn totals(value: &Value) -> Vec<i64> {
 
 /// The date so many days after 1970-01-01.
 pub fn date_of_day(day: i64) -> Option<ffi::Date> {
-    let config = DateConfig {
-        timestamp_unit: TimestampUnit::Second,
-    };
-    Date::from_timestamp(day * SECONDS_A_DAY, true, &config)
-        .ok()
-        .map(|date| (&date).into())
+    let config = DateConfig { timestamp_unit: TimestampUnit::Second };
+    Date::from_timestamp(day * SECONDS_A_DAY, true, &config).ok().map(|date| (&date).into())
 }
 
 fn date_at(day: i64) -> Answer {
-    date_of_day(day)
-        .map(Value::Date)
-        .ok_or_else(|| "no_such_date".to_owned())
+    date_of_day(day).map(Value::Date).ok_or_else(|| "no_such_date".to_owned())
 }
 
 fn between(earlier: &DateTime, later: &DateTime) -> Answer {
-    let instant =
-        |value: &DateTime| value.timestamp_tz() * 1_000_000 + i64::from(value.time.microsecond);
+    let instant = |value: &DateTime| value.timestamp_tz() * 1_000_000 + i64::from(value.time.microsecond);
     let length = instant(later) - instant(earlier);
     let (second, microsecond) = (length.abs() / 1_000_000, length.abs() % 1_000_000);
     let (day, second) = (second / SECONDS_A_DAY, second % SECONDS_A_DAY);
-    shown(Duration::new(
-        length >= 0,
-        day as u32,
-        second as u32,
-        microsecond as u32,
-    ))
+    shown(Duration::new(length >= 0, day as u32, second as u32, microsecond as u32))
 }
 
 fn after(duration: &Duration, start: &DateTime) -> Answer {
     let second = start.timestamp() + duration.signed_total_seconds();
-    let microsecond =
-        i128::from(start.time.microsecond) + i128::from(duration.signed_microseconds());
-    date_time_at(
-        i128::from(second) * 1_000_000 + microsecond,
-        start.time.tz_offset,
-    )
+    let microsecond = i128::from(start.time.microsecond) + i128::from(duration.signed_microseconds());
+    date_time_at(i128::from(second) * 1_000_000 + microsecond, start.time.tz_offset)
 }
 
 /// The date-time so many microseconds after 1970-01-01T00:00:00, with an offset that shifts nothing.
 pub fn date_time_at(microseconds: i128, offset: Option<i32>) -> Answer {
-    let second = microseconds
-        .div_euclid(1_000_000)
-        .clamp(i64::MIN.into(), i64::MAX.into()) as i64;
+    let second = microseconds.div_euclid(1_000_000).clamp(i64::MIN.into(), i64::MAX.into()) as i64;
     let microsecond = microseconds.rem_euclid(1_000_000) as u32;
-    let time_config = TimeConfig {
-        unix_timestamp_offset: offset,
-        ..TimeConfig::default()
-    };
-    let config = DateTimeConfig {
-        timestamp_unit: TimestampUnit::Second,
-        time_config,
-    };
-    shown(DateTime::from_timestamp_with_config(
-        second,
-        microsecond,
-        &config,
-    ))
+    let time_config = TimeConfig { unix_timestamp_offset: offset, ..TimeConfig::default() };
+    let config = DateTimeConfig { timestamp_unit: TimestampUnit::Second, time_config };
+    shown(DateTime::from_timestamp_with_config(second, microsecond, &config))
 }
 
 fn shown<T>(answer: Result<T, ParseError>) -> Answer
@@ -280,9 +194,7 @@ where
 }
 
 pub fn date_config(config: &Config) -> DateConfig {
-    DateConfig {
-        timestamp_unit: unit(config.timestamp_unit),
-    }
+    DateConfig { timestamp_unit: unit(config.timestamp_unit) }
 }
 
 pub fn time_config(config: &Config) -> TimeConfig {
@@ -296,10 +208,7 @@ pub fn time_config(config: &Config) -> TimeConfig {
 }
 
 pub fn date_time_config(config: &Config) -> DateTimeConfig {
-    DateTimeConfig {
-        timestamp_unit: unit(config.timestamp_unit),
-        time_config: time_config(config),
-    }
+    DateTimeConfig { timestamp_unit: unit(config.timestamp_unit), time_config: time_config(config) }
 }
 
 fn unit(number: u8) -> TimestampUnit {
@@ -312,54 +221,32 @@ fn unit(number: u8) -> TimestampUnit {
 
 impl From<ffi::Date> for Date {
     fn from(it: ffi::Date) -> Self {
-        Date {
-            year: it.year,
-            month: it.month,
-            day: it.day,
-        }
+        Date { year: it.year, month: it.month, day: it.day }
     }
 }
 
 impl From<ffi::Time> for Time {
     fn from(it: ffi::Time) -> Self {
         let (hour, minute, second) = (it.hour, it.minute, it.second);
-        Time {
-            hour,
-            minute,
-            second,
-            microsecond: it.microsecond,
-            tz_offset: it.offset(),
-        }
+        Time { hour, minute, second, microsecond: it.microsecond, tz_offset: it.offset() }
     }
 }
 
 impl From<ffi::DateTime> for DateTime {
     fn from(it: ffi::DateTime) -> Self {
-        DateTime {
-            date: it.date.into(),
-            time: it.time.into(),
-        }
+        DateTime { date: it.date.into(), time: it.time.into() }
     }
 }
 
 impl From<ffi::Duration> for Duration {
     fn from(it: ffi::Duration) -> Self {
-        Duration {
-            positive: it.negative == 0,
-            day: it.day,
-            second: it.second,
-            microsecond: it.microsecond,
-        }
+        Duration { positive: it.negative == 0, day: it.day, second: it.second, microsecond: it.microsecond }
     }
 }
 
 impl From<&Date> for ffi::Date {
     fn from(it: &Date) -> Self {
-        ffi::Date {
-            year: it.year,
-            month: it.month,
-            day: it.day,
-        }
+        ffi::Date { year: it.year, month: it.month, day: it.day }
     }
 }
 
@@ -390,10 +277,7 @@ impl From<&Time> for Value {
 
 impl From<&DateTime> for Value {
     fn from(it: &DateTime) -> Self {
-        Value::DateTime(ffi::DateTime {
-            date: (&it.date).into(),
-            time: (&it.time).into(),
-        })
+        Value::DateTime(ffi::DateTime { date: (&it.date).into(), time: (&it.time).into() })
     }
 }
 
