@@ -21,6 +21,12 @@
 #define UNTOUCHED 0xA5
 #define FIELDS 8
 
+/* No struct of a value has padding. */
+typedef char date_has_no_padding[sizeof(SpeedateDate) == 4 ? 1 : -1];
+typedef char time_has_no_padding[sizeof(SpeedateTime) == 12 ? 1 : -1];
+typedef char datetime_has_no_padding[sizeof(SpeedateDateTime) == 16 ? 1 : -1];
+typedef char duration_has_no_padding[sizeof(SpeedateDuration) == 16 ? 1 : -1];
+
 static char *fields[FIELDS];
 static int field;
 static char answer[256];
@@ -359,6 +365,22 @@ static int cut(char *row) {
     return count;
 }
 
+/* Each code has a name and a documentation text, for which there is room, and no other number has either. */
+static void try_codes(void) {
+    for (int code = -2; code < 200; code++) {
+        char text[SPEEDATE_CODE_TEXT_SIZE];
+        size_t length = 0;
+        int is_one = (code >= SPEEDATE_TOO_SHORT && code <= SPEEDATE_MICROSECOND_FRACTION_TOO_LONG) ||
+                     (code >= SPEEDATE_VALUE_OUT_OF_RANGE && code <= SPEEDATE_NO_SUCH_DATE);
+        int wanted = is_one ? SPEEDATE_OK : SPEEDATE_VALUE_OUT_OF_RANGE;
+        if (speedate_code_name(code, text, sizeof text, &length) != wanted ||
+            speedate_code_documentation(code, text, sizeof text, &length) != wanted) {
+            fprintf(stderr, "the code %d is named by mistake, or not at all\n", code);
+            failures++;
+        }
+    }
+}
+
 /* Whether a field is the name of a code, with which the answer begins. */
 static int is_code(const char *it) {
     char name[SPEEDATE_CODE_TEXT_SIZE];
@@ -411,6 +433,7 @@ int main(void) {
         return 1;
     }
     first_page = pages + page;
+    try_codes();
     while (fgets(row, sizeof row, stdin)) {
         row[strcspn(row, "\n")] = 0;
         if (row[0] == 0 || row[0] == '#')

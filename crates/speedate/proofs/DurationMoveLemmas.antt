@@ -1,19 +1,22 @@
 -- The duration between two values, and the value so long after another: lengths with their sign, and the instants that they lead to.
-use Rattle.std.specs.Prelude.{◌≡◌, ℕ, zero, suc, ◌+◌, ◌*◌, ◌<◌, Bool, true, false, not, ◌||◌, ◌==◌, ℤ, pos, negsuc, neg_ℤ, ◌+ℤ◌, ◌-ℤ◌, ◌*ℤ◌, Option, Result, Ok, Err, IfOk, unsigned_abs, refl}
+use Rattle.std.specs.Prelude.{◌≡◌, ℕ, zero, suc, ◌+◌, ◌*◌, ◌<◌, ◌≤◌, Bool, true, false, not, ◌||◌, ◌==◌, ℤ, pos, negsuc, neg_ℤ, ◌+ℤ◌, ◌-ℤ◌, ◌*ℤ◌, ◌≤ℤ◌, Option, Result, Ok, Err, IfOk, unsigned_abs, refl}
 use Rattle.std.specs.Option.{unwrap_or}
 use Rattle.std.specs.Ordering.{int_cmp}
 use Rattle.std.proofs.Common.{arith, ◌∙◌, ap, sym}
 use Rattle.std.proofs.lemmas.Bool.Decides.{nat_tests}
 use Rattle.std.proofs.lemmas.Int.{ints}
+use Rattle.std.proofs.lemmas.Result.{IfOk-weaker}
 use Rattle.speedate_base.specs.declared.faults.ParseError.{ParseError}
 use Rattle.speedate_base.specs.Numbers.{with_sign}
-use Rattle.speedate_base.specs.Timestamp.{Instant, instant_at}
+use Rattle.speedate_base.specs.Offset.{seconds_per_day}
+use Rattle.speedate_base.specs.Timestamp.{Instant, first_second, last_second, instant_at}
 use Rattle.speedate_base.proofs.TimestampLemmas.{instant_microsecond}
 use Rattle.speedate_civil.specs.declared.datetime.DateTime.{DateTime}
-use Rattle.speedate_civil.specs.DateAndTime.{DateAndTime, local_second, local_microsecond, utc_microsecond}
+use Rattle.speedate_civil.specs.DateAndTime.{DateAndTime, IsDateAndTime, local_second, local_microsecond, utc_microsecond}
 use Rattle.speedate_civil.specs.DateTime.{parts as date_time_parts}
-use Rattle.speedate_civil.proofs.DateTimeInstantLemmas.{million-each, instant_date_time-shown}
 use Rattle.speedate_civil.specs.DateTimeTimestamp.{IsShownAt}
+use Rattle.speedate_civil.proofs.DateTimeInstantLemmas.{million-each, instant_date_time-shown}
+use Rattle.speedate_civil.proofs.DateTimeValueLemmas.{offset-small, local_second-late, local_second-early}
 use Rattle.speedate_civil.proofs.InstantOrderLemmas.{left-order}
 use Rattle.speedate.proofs.DurationLemmas.{of_length-only}
 use Rattle.speedate.specs.DurationMove.{signed_length, duration_of_length, with_positive_zero, duration_between, date_time_after}
@@ -55,19 +58,15 @@ duration_of_length-signed_length numbers valid =
     ∙ ap (λ (found : DurationNumbers). record found { positive = positive }) (of_length-only numbers valid)
 
 -- how large the seconds of a duration are
-signs-small : (negative : Bool) (size : ℕ) → size < 86400000000000 → unsigned_abs (with_sign negative size) < 86400000000000
-signs-small true size small = omega (arith, ints, small)
-signs-small false size small = small
-
-small-sign : (negative : Bool) (size : ℕ) → size < 1000000 → unsigned_abs (with_sign negative size) < 1000000
-small-sign true size small = omega (arith, ints, small)
-small-sign false size small = small
+size-kept : (negative : Bool) (size bound : ℕ) → size < bound → unsigned_abs (with_sign negative size) < bound
+size-kept true size bound small = omega (arith, ints, small)
+size-kept false size bound small = small
 
 pub signed_seconds-small : (numbers : DurationNumbers) → IsDuration numbers → unsigned_abs (signed_seconds numbers) < 86400000000000
-signed_seconds-small numbers valid = signs-small (not numbers.positive) (length_seconds numbers) (omega (arith, valid.day, valid.second))
+signed_seconds-small numbers valid = size-kept (not numbers.positive) (length_seconds numbers) 86400000000000 (omega (arith, valid.day, valid.second))
 
 pub signed_microsecond-small : (numbers : DurationNumbers) → IsDuration numbers → unsigned_abs (signed_microsecond numbers) < 1000000
-signed_microsecond-small numbers valid = small-sign (not numbers.positive) numbers.microsecond valid.microsecond
+signed_microsecond-small numbers valid = size-kept (not numbers.positive) numbers.microsecond 1000000 valid.microsecond
 
 -- the instant of the seconds of both and of the microseconds that are left of both
 sums-joined : (second length seconds microseconds : ℤ) (own : ℕ) → length ≡ pos 1000000 *ℤ seconds +ℤ microseconds
@@ -117,8 +116,9 @@ pub shown-ends : (result : Result DateTime ParseError) (length : ℤ) (start : D
     → instant ≡ instant_at 1000000 (local_microsecond start +ℤ length)
     → IfOk result (λ value. IsShownAt start.time.offset instant (date_time_parts value))
     → IfOk result (λ end. utc_microsecond (date_time_parts end) ≡ utc_microsecond start +ℤ length)
-shown-ends (Ok value) length start instant same shown = shown-later start (date_time_parts value) instant length same shown
-shown-ends (Err fault) length start instant same shown = tt
+shown-ends result length start instant same shown =
+    IfOk-weaker result (λ value. IsShownAt start.time.offset instant (date_time_parts value)) (λ end. utc_microsecond (date_time_parts end) ≡ utc_microsecond start +ℤ length)
+    (λ value. shown-later start (date_time_parts value) instant length same) shown
 
 -- from a start to the end of a duration after it is that duration
 between-again : (start end length : ℤ) → end ≡ start +ℤ length → end -ℤ start ≡ length
@@ -127,10 +127,11 @@ between-again start end length same = omega (arith, ints, same)
 pub ends-between : (result : Result DateTime ParseError) (start : DateAndTime) (numbers : DurationNumbers) → IsDuration numbers
     → IfOk result (λ end. utc_microsecond (date_time_parts end) ≡ utc_microsecond start +ℤ signed_length numbers)
     → IfOk result (λ end. duration_between start (date_time_parts end) ≡ with_positive_zero numbers)
-ends-between (Ok end) start numbers valid same =
-    ap duration_of_length (between-again (utc_microsecond start) (utc_microsecond (date_time_parts end)) (signed_length numbers) same)
-    ∙ duration_of_length-signed_length numbers valid
-ends-between (Err fault) start numbers valid same = tt
+ends-between result start numbers valid same =
+    IfOk-weaker result (λ end. utc_microsecond (date_time_parts end) ≡ utc_microsecond start +ℤ signed_length numbers)
+    (λ end. duration_between start (date_time_parts end) ≡ with_positive_zero numbers)
+    (λ end is. ap duration_of_length (between-again (utc_microsecond start) (utc_microsecond (date_time_parts end)) (signed_length numbers) is)
+    ∙ duration_of_length-signed_length numbers valid) same
 
 -- the end of a longer duration is later
 sum-order : (start one two : ℤ) → int_cmp (start +ℤ one) (start +ℤ two) ≡ int_cmp one two
@@ -142,27 +143,44 @@ sum-order start one two =
 order-after : (end : ℤ) (answer : Result DateAndTime ParseError) (start one two : ℤ) → end ≡ start +ℤ one
     → IfOk answer (λ next. utc_microsecond next ≡ start +ℤ two)
     → IfOk answer (λ next. int_cmp end (utc_microsecond next) ≡ int_cmp one two)
-order-after end (Ok next) start one two same later =
-    ap (λ (n : ℤ). int_cmp n (utc_microsecond next)) same ∙ ap (int_cmp (start +ℤ one)) later ∙ sum-order start one two
-order-after end (Err fault) start one two same later = tt
+order-after end answer start one two same later =
+    IfOk-weaker answer (λ next. utc_microsecond next ≡ start +ℤ two) (λ next. int_cmp end (utc_microsecond next) ≡ int_cmp one two)
+    (λ next is. ap (λ (n : ℤ). int_cmp n (utc_microsecond next)) same ∙ ap (int_cmp (start +ℤ one)) is ∙ sum-order start one two) later
 
 pub ends-order : (result : Result DateTime ParseError) (start : DateAndTime) (one two : ℤ)
     → IfOk result (λ end. utc_microsecond (date_time_parts end) ≡ utc_microsecond start +ℤ one)
     → IfOk result (λ end. IfOk (date_time_after two start) (λ next. int_cmp (utc_microsecond (date_time_parts end)) (utc_microsecond next) ≡ int_cmp one two))
-ends-order (Ok end) start one two same =
-    order-after (utc_microsecond (date_time_parts end)) (date_time_after two start) (utc_microsecond start) one two same (date_time_after-ends two start)
-ends-order (Err fault) start one two same = tt
+ends-order result start one two same =
+    IfOk-weaker result (λ end. utc_microsecond (date_time_parts end) ≡ utc_microsecond start +ℤ one)
+    (λ end. IfOk (date_time_after two start) (λ next. int_cmp (utc_microsecond (date_time_parts end)) (utc_microsecond next) ≡ int_cmp one two))
+    (λ end is. order-after (utc_microsecond (date_time_parts end)) (date_time_after two start) (utc_microsecond start) one two is (date_time_after-ends two start)) same
 
 -- after the duration between two date-times comes the instant of the second
 back : (earlier later length : ℤ) → length ≡ later -ℤ earlier → earlier +ℤ length ≡ later
 back earlier later length same = omega (arith, ints, same)
 
-reached : (answer : Result DateAndTime ParseError) (earlier later length : ℤ) → length ≡ later -ℤ earlier
-    → IfOk answer (λ end. utc_microsecond end ≡ earlier +ℤ length) → IfOk answer (λ end. utc_microsecond end ≡ later)
-reached (Ok end) earlier later length same ends = ends ∙ back earlier later length same
-reached (Err fault) earlier later length same ends = tt
-
 pub between-ends : (earlier later : DateAndTime) (length : ℤ) → length ≡ utc_microsecond later -ℤ utc_microsecond earlier
     → IfOk (date_time_after length earlier) (λ end. utc_microsecond end ≡ utc_microsecond later)
 between-ends earlier later length same =
-    reached (date_time_after length earlier) (utc_microsecond earlier) (utc_microsecond later) length same (date_time_after-ends length earlier)
+    IfOk-weaker (date_time_after length earlier) (λ end. utc_microsecond end ≡ utc_microsecond earlier +ℤ length) (λ end. utc_microsecond end ≡ utc_microsecond later)
+    (λ end is. is ∙ back (utc_microsecond earlier) (utc_microsecond later) length same) (date_time_after-ends length earlier)
+
+-- there are fewer than 3,652,427 days between two date-times
+few-days : (length : ℤ) → unsigned_abs length < 315569692800000000 → (duration_of_length length).day ≤ 3652426
+few-days (pos length) small = omega (arith, ints, small)
+few-days (negsuc below) small = omega (arith, ints, small)
+
+apart : (one two : ℕ) (second seconds offset other : ℤ) → first_second ≤ℤ second → second ≤ℤ last_second → first_second ≤ℤ seconds → seconds ≤ℤ last_second
+    → unsigned_abs offset < seconds_per_day → unsigned_abs other < seconds_per_day → one ≤ 999999 → two ≤ 999999
+    → unsigned_abs ((pos 1000000 *ℤ (second -ℤ offset) +ℤ pos one) -ℤ (pos 1000000 *ℤ (seconds -ℤ other) +ℤ pos two)) < 315569692800000000
+apart one two second seconds offset other late early later earlier near by small little = omega (arith, ints)
+
+pub between-days : (numbers : DurationNumbers) (length : ℤ) (earlier later : DateAndTime) → IsDateAndTime earlier → IsDateAndTime later
+    → numbers ≡ duration_of_length length → length ≡ utc_microsecond later -ℤ utc_microsecond earlier → numbers.day ≤ 3652426
+between-days numbers length earlier later valid other is same =
+    rw (is, same)
+    (few-days (utc_microsecond later -ℤ utc_microsecond earlier)
+    (apart later.time.microsecond earlier.time.microsecond (local_second later) (local_second earlier) (unwrap_or later.time.offset (pos 0)) (unwrap_or earlier.time.offset (pos 0))
+    (local_second-late later other) (local_second-early later other) (local_second-late earlier valid) (local_second-early earlier valid)
+    (offset-small later.time.offset other.time.offset) (offset-small earlier.time.offset valid.time.offset)
+    other.time.microsecond valid.time.microsecond))

@@ -3,6 +3,7 @@ mod DurationAnswerLemmas
 mod StandardFacts
 mod DurationLemmas
 mod DurationMoveLemmas
+mod DurationOrderLemmas
 pub mod DurationTextLemmas
 mod ExchangedLemmas
 mod InOrderLemmas

@@ -1,20 +1,16 @@
--- What is printed in two, four or six digits is digits, is ASCII, and spells the number that was printed.
+-- What is printed in two, four or six digits is digits, and spells the number that was printed.
 use Rattle.std.specs.Prelude.{◌≡◌, ℕ, ◌/◌, ◌%◌, ◌<◌, ◌++◌, true, List, [], refl}
 use Rattle.std.specs.Char.{is_ascii_digit}
 use Rattle.std.specs.List.{list_all}
 use Rattle.std.proofs.Common.{arith}
 use Rattle.std.proofs.lemmas.Bool.{and_from}
 use Rattle.std.proofs.lemmas.Bool.Decides.{nat_tests}
-use Rattle.speedate_base.specs.Digits.{digit, one_digit_value, two_digits_at, two_digit_text, two_digit_value, four_digit_text, four_digits_at, four_digit_value, six_digit_text}
+use Rattle.speedate_base.specs.Digits.{digit, two_digits_at, two_digit_text, two_digit_value, four_digit_text, four_digits_at, four_digit_value, six_digit_text}
 use Rattle.speedate_base.specs.DigitRuns.{fraction_value}
 
 -- a digit is printed as a digit
 pub digit-printed : (n : ℕ) → n < 10 → is_ascii_digit (digit n) ≡ true
 digit-printed n small = grind (arith, nat_tests)
-
--- and stands for itself
-pub one_digit_value-printed : (n : ℕ) → one_digit_value (digit n) ≡ n
-one_digit_value-printed n = omega arith
 
 -- the digits of a number below 100
 pub two_digits-printed : (n : ℕ) → n < 100 → two_digits_at (two_digit_text n) 0 ≡ true

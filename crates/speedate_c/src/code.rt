@@ -1,6 +1,6 @@
 //! The codes that calls answer, and their names.
 
-ghost use Rattle.std.specs.Prelude.{◌≡◌, ◌-◌, ◌≤◌, Some, pos, slice_get};
+ghost use Rattle.std.specs.Prelude.{◌≡◌, Some, pos, slice_get};
 ghost use Rattle.std.specs.Option.{option_map};
 ghost use Rattle.speedate_c.specs.Code.{code_documentation, code_name, fault_code, fault_number, fault_of, faults, order_number, refusal_documentation, refusal_name};
 

@@ -1,6 +1,6 @@
 //! Dates as C sees them.
 
-ghost use Rattle.std.specs.Prelude.{◌≡◌, slice_get};
+ghost use Rattle.std.specs.Prelude.{◌≡◌, ◌≢◌, ◌≤◌, length, slice_get};
 ghost use Rattle.std.specs.Option.{option_map};
 ghost use Rattle.speedate.specs.Date.{parts};
 ghost use Rattle.speedate.specs.DateOrder.{date_order};
@@ -8,7 +8,7 @@ ghost use Rattle.speedate.specs.DateText.{date_answer, date_front, date_text};
 ghost use Rattle.speedate.specs.DateTimestamp.{date_or_timestamp, date_timestamp_answer};
 ghost use Rattle.speedate.specs.DayNumber.{date_added, date_numbered, day_number, days_between, midnight_millisecond, midnight_second, ordinal_day};
 ghost use Rattle.speedate.specs.Requirement.{result_map};
-ghost use Rattle.speedate_c.specs.Code.{answer_code, config_out_of_range, order_number, value_out_of_range};
+ghost use Rattle.speedate_c.specs.Code.{answer_code, buffer_too_small, config_out_of_range, order_number, success, value_out_of_range};
 ghost use Rattle.speedate_c.specs.Config.{choices_of, flags};
 ghost use Rattle.speedate_c.specs.Date.{date_of, shown_date};
 ghost use Rattle.speedate_c.specs.Left.{given, known, left, left_date, left_front, left_text, left_value};
@@ -84,10 +84,11 @@ fn write_some(date: Option<Date>, out: &mut SpeedateDate) -> i32
 
 /// Prints a date into a buffer, and gives the code.
 #[inline]
-fn print_date(date: &Date, buffer: &mut [u8], length: &mut usize) -> i32
-    ensures left { (result, buffer.new, length.new) ≡ left_text (date_text (parts date.now)) buffer.old length.old }
+fn print_date(date: &Date, buffer: &mut [u8], text_length: &mut usize) -> i32
+    ensures left { (result, buffer.new, text_length.new) ≡ left_text (date_text (parts date.now)) buffer.old text_length.old }
+    ensures room { 11 ≤ length buffer.old → result ≡ success }
 {
-    write_text(date.to_text().as_str(), buffer, length)
+    write_text(date.to_text().as_str(), buffer, text_length)
 }
 
 /// Reads a date from a text, or from a timestamp that stands there instead, in the unit of the
@@ -159,15 +160,16 @@ pub extern "C" fn speedate_date_check(date: SpeedateDate) -> i32
 pub extern "C" fn speedate_date_to_text(
     date: SpeedateDate,
     buffer: &mut [u8],
-    length: &mut usize,
+    text_length: &mut usize,
 ) -> i32
-    ensures answer { (result, buffer.new, length.new) ≡ given (date_of date) (value_out_of_range, buffer.old, length.old)
-        (λ date. left_text (date_text date) buffer.old length.old) }
+    ensures answer { (result, buffer.new, text_length.new) ≡ given (date_of date) (value_out_of_range, buffer.old, text_length.old)
+        (λ date. left_text (date_text date) buffer.old text_length.old) }
+    ensures room { 11 ≤ length buffer.old → result ≢ buffer_too_small }
 {
     let Ok(date) = date.checked() else {
         return VALUE_OUT_OF_RANGE;
     };
-    print_date(&date, buffer, length)
+    print_date(&date, buffer, text_length)
 }
 
 /// Compares two dates, as [`Date::cmp`] does: -1 where the first is the earlier one, 0 where they are equal,

@@ -1,6 +1,6 @@
 //! Date-times as C sees them.
 
-ghost use Rattle.std.specs.Prelude.{◌≡◌};
+ghost use Rattle.std.specs.Prelude.{◌≡◌, ◌≢◌, ◌≤◌, length};
 ghost use Rattle.speedate.specs.DateAndTime.{local_millisecond, local_second, utc_millisecond, utc_second};
 ghost use Rattle.speedate.specs.DateTime.{parts};
 ghost use Rattle.speedate.specs.DateTimeText.{date_time_answer, date_time_front, date_time_text};
@@ -8,7 +8,7 @@ ghost use Rattle.speedate.specs.DateTimeTimestamp.{date_time_or_timestamp, date_
 ghost use Rattle.speedate.specs.InstantOrder.{date_time_instant_order};
 ghost use Rattle.speedate.specs.OffsetMove.{date_time_in_timezone};
 ghost use Rattle.speedate.specs.Requirement.{result_map};
-ghost use Rattle.speedate_c.specs.Code.{answer_code, config_out_of_range, order_number, value_out_of_range};
+ghost use Rattle.speedate_c.specs.Code.{answer_code, buffer_too_small, config_out_of_range, order_number, value_out_of_range};
 ghost use Rattle.speedate_c.specs.Config.{choices_of};
 ghost use Rattle.speedate_c.specs.DateTime.{date_time_of, shown_date_time};
 ghost use Rattle.speedate_c.specs.Left.{given, known, left, left_front, left_text, left_value};
@@ -152,15 +152,16 @@ pub extern "C" fn speedate_datetime_check(value: SpeedateDateTime) -> i32
 pub extern "C" fn speedate_datetime_to_text(
     value: SpeedateDateTime,
     buffer: &mut [u8],
-    length: &mut usize,
+    text_length: &mut usize,
 ) -> i32
-    ensures answer { (result, buffer.new, length.new) ≡ given (date_time_of value) (value_out_of_range, buffer.old, length.old)
-        (λ value. left_text (date_time_text value) buffer.old length.old) }
+    ensures answer { (result, buffer.new, text_length.new) ≡ given (date_time_of value) (value_out_of_range, buffer.old, text_length.old)
+        (λ value. left_text (date_time_text value) buffer.old text_length.old) }
+    ensures room { 33 ≤ length buffer.old → result ≢ buffer_too_small }
 {
     let Ok(value) = value.checked() else {
         return VALUE_OUT_OF_RANGE;
     };
-    write_text(value.to_text().as_str(), buffer, length)
+    write_text(value.to_text().as_str(), buffer, text_length)
 }
 
 /// Compares two date-times by their instants, as [`DateTime::cmp_instant`] does: -1 where the first is the

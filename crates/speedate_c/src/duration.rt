@@ -1,14 +1,13 @@
 //! Durations as C sees them.
 
-ghost use Rattle.std.specs.Prelude.{◌≡◌, nat_le, if◌then◌else◌};
+ghost use Rattle.std.specs.Prelude.{◌≡◌, ◌≢◌, ◌≤◌, if◌then◌else◌, length, nat_le};
 ghost use Rattle.speedate.specs.Duration.{parts};
 ghost use Rattle.speedate.specs.DurationAnswer.{duration_answer};
-ghost use Rattle.speedate.specs.DurationMove.{turned};
 ghost use Rattle.speedate.specs.DurationNumbers.{normal_form, signed_microsecond, signed_milliseconds, signed_seconds};
 ghost use Rattle.speedate.specs.DurationOrder.{duration_order};
 ghost use Rattle.speedate.specs.DurationText.{duration_text};
 ghost use Rattle.speedate.specs.Requirement.{result_map};
-ghost use Rattle.speedate_c.specs.Code.{answer_code, config_out_of_range, order_number, value_out_of_range};
+ghost use Rattle.speedate_c.specs.Code.{answer_code, buffer_too_small, config_out_of_range, order_number, value_out_of_range};
 ghost use Rattle.speedate_c.specs.Config.{choices_of};
 ghost use Rattle.speedate_c.specs.Duration.{duration_of, numbers_of, shown_duration};
 ghost use Rattle.speedate_c.specs.Left.{given, known, left, left_text, left_value};
@@ -145,15 +144,16 @@ pub extern "C" fn speedate_duration_check(duration: SpeedateDuration) -> i32
 pub extern "C" fn speedate_duration_to_text(
     duration: SpeedateDuration,
     buffer: &mut [u8],
-    length: &mut usize,
+    text_length: &mut usize,
 ) -> i32
-    ensures answer { (result, buffer.new, length.new) ≡ given (duration_of duration) (value_out_of_range, buffer.old, length.old)
-        (λ duration. left_text (duration_text duration) buffer.old length.old) }
+    ensures answer { (result, buffer.new, text_length.new) ≡ given (duration_of duration) (value_out_of_range, buffer.old, text_length.old)
+        (λ duration. left_text (duration_text duration) buffer.old text_length.old) }
+    ensures room { 32 ≤ length buffer.old → result ≢ buffer_too_small }
 {
     let Ok(duration) = duration.checked() else {
         return VALUE_OUT_OF_RANGE;
     };
-    write_text(duration.to_text().as_str(), buffer, length)
+    write_text(duration.to_text().as_str(), buffer, text_length)
 }
 
 /// Compares two durations, as [`Duration::cmp`] does: -1 where the first is the smaller one, 0 where they are

@@ -1,7 +1,7 @@
 //! The duration between two values, and the value so long after another, as C sees them.
 
 ghost use Rattle.std.specs.Prelude.{◌≡◌, neg_ℤ};
-ghost use Rattle.speedate.specs.DurationMove.{date_after_days, date_time_after, duration_between, duration_between_dates, signed_length, turned};
+ghost use Rattle.speedate.specs.DurationMove.{date_after_days, date_time_after, duration_between, duration_between_dates, negated, signed_length};
 ghost use Rattle.speedate_c.specs.Code.{value_out_of_range};
 ghost use Rattle.speedate_c.specs.Date.{date_of, shown_date};
 ghost use Rattle.speedate_c.specs.DateTime.{date_time_of, shown_date_time};
@@ -135,7 +135,7 @@ pub extern "C" fn speedate_duration_before_date(
 ) -> i32
     ensures answer { (result, out.new) ≡ given (duration_of duration) (value_out_of_range, out.old)
         (λ duration. given (date_of start) (value_out_of_range, out.old)
-        (λ start. left shown_date out.old (date_after_days (turned duration) start))) }
+        (λ start. left shown_date out.old (date_after_days (negated duration) start))) }
 {
     let Ok(duration) = duration.checked() else {
         return VALUE_OUT_OF_RANGE;
@@ -153,7 +153,7 @@ pub extern "C" fn speedate_duration_negate(
     out: &mut SpeedateDuration,
 ) -> i32
     ensures answer { (result, out.new) ≡ given (duration_of duration) (value_out_of_range, out.old)
-        (λ duration. left_value (shown_duration (turned duration))) }
+        (λ duration. left_value (shown_duration (negated duration))) }
 {
     let Ok(duration) = duration.checked() else {
         return VALUE_OUT_OF_RANGE;

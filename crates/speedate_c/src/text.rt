@@ -1,22 +1,23 @@
 //! Texts in buffers of the caller's.
 
 ghost use Rattle.std.specs.Prelude.{◌≡◌, ◌+◌, ◌<◌, ◌∷◌, ◌++◌, drop, length};
-ghost use Rattle.speedate_c.specs.Code.{code_documentation, code_name, value_out_of_range};
+ghost use Rattle.speedate_c.specs.Code.{code_documentation, code_name, success, value_out_of_range};
 ghost use Rattle.speedate_c.specs.Left.{known, left_text};
 
 use crate::code::{BUFFER_TOO_SMALL, SUCCESS, VALUE_OUT_OF_RANGE, code_documentation, code_name};
 
 /// Writes a text and a zero byte after it into a buffer, and its length beside it, and gives the code.
 #[inline]
-pub(crate) fn write_text(text: &str, buffer: &mut [u8], length: &mut usize) -> i32
-    ensures left { (result, buffer.new, length.new) ≡ left_text text.now buffer.old length.old }
+pub(crate) fn write_text(text: &str, buffer: &mut [u8], text_length: &mut usize) -> i32
+    ensures left { (result, buffer.new, text_length.new) ≡ left_text text.now buffer.old text_length.old }
+    ensures room { length text.now < length buffer.old → result ≡ success }
 {
     let size = text.len();
     if size >= buffer.len() {
         return BUFFER_TOO_SMALL;
     }
     fill(text, buffer);
-    *length = size;
+    *text_length = size;
     SUCCESS
 }
 
@@ -36,14 +37,14 @@ fn fill(text: &str, buffer: &mut [u8])
 /// `VALUE_OUT_OF_RANGE` for 0 and for a number that is no code, `BUFFER_TOO_SMALL` where the buffer has
 /// no room for the name and a zero byte.
 #[unsafe(no_mangle)]
-pub extern "C" fn speedate_code_name(code: i32, buffer: &mut [u8], length: &mut usize) -> i32
-    ensures answer { (result, buffer.new, length.new) ≡ known (code_name code) (value_out_of_range, buffer.old, length.old)
-        (λ name. left_text name buffer.old length.old) }
+pub extern "C" fn speedate_code_name(code: i32, buffer: &mut [u8], text_length: &mut usize) -> i32
+    ensures answer { (result, buffer.new, text_length.new) ≡ known (code_name code) (value_out_of_range, buffer.old, text_length.old)
+        (λ name. left_text name buffer.old text_length.old) }
 {
     let Some(name) = code_name(code) else {
         return VALUE_OUT_OF_RANGE;
     };
-    write_text(name, buffer, length)
+    write_text(name, buffer, text_length)
 }
 
 /// Prints the documentation text of a code: `input is too short` for 1.
@@ -53,13 +54,13 @@ pub extern "C" fn speedate_code_name(code: i32, buffer: &mut [u8], length: &mut 
 pub extern "C" fn speedate_code_documentation(
     code: i32,
     buffer: &mut [u8],
-    length: &mut usize,
+    text_length: &mut usize,
 ) -> i32
-    ensures answer { (result, buffer.new, length.new) ≡ known (code_documentation code) (value_out_of_range, buffer.old, length.old)
-        (λ text. left_text text buffer.old length.old) }
+    ensures answer { (result, buffer.new, text_length.new) ≡ known (code_documentation code) (value_out_of_range, buffer.old, text_length.old)
+        (λ text. left_text text buffer.old text_length.old) }
 {
     let Some(text) = code_documentation(code) else {
         return VALUE_OUT_OF_RANGE;
     };
-    write_text(text, buffer, length)
+    write_text(text, buffer, text_length)
 }

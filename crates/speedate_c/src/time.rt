@@ -1,13 +1,13 @@
 //! Times of day as C sees them.
 
-ghost use Rattle.std.specs.Prelude.{◌≡◌};
+ghost use Rattle.std.specs.Prelude.{◌≡◌, ◌≢◌, ◌≤◌, length};
 ghost use Rattle.speedate.specs.OffsetMove.{time_in_timezone};
 ghost use Rattle.speedate.specs.InstantOrder.{time_instant_order};
 ghost use Rattle.speedate.specs.Requirement.{result_map};
 ghost use Rattle.speedate.specs.Time.{parts};
 ghost use Rattle.speedate.specs.TimeOfDay.{millisecond_of_day, second_of_day, timestamp_answer};
 ghost use Rattle.speedate.specs.TimeText.{time_answer, time_front, time_text};
-ghost use Rattle.speedate_c.specs.Code.{answer_code, config_out_of_range, order_number, value_out_of_range};
+ghost use Rattle.speedate_c.specs.Code.{answer_code, buffer_too_small, config_out_of_range, order_number, value_out_of_range};
 ghost use Rattle.speedate_c.specs.Config.{choices_of};
 ghost use Rattle.speedate_c.specs.Left.{given, known, left, left_front, left_text, left_value};
 ghost use Rattle.speedate_c.specs.Time.{shown_time, time_of};
@@ -150,15 +150,16 @@ pub extern "C" fn speedate_time_check(time: SpeedateTime) -> i32
 pub extern "C" fn speedate_time_to_text(
     time: SpeedateTime,
     buffer: &mut [u8],
-    length: &mut usize,
+    text_length: &mut usize,
 ) -> i32
-    ensures answer { (result, buffer.new, length.new) ≡ given (time_of time) (value_out_of_range, buffer.old, length.old)
-        (λ time. left_text (time_text time) buffer.old length.old) }
+    ensures answer { (result, buffer.new, text_length.new) ≡ given (time_of time) (value_out_of_range, buffer.old, text_length.old)
+        (λ time. left_text (time_text time) buffer.old text_length.old) }
+    ensures room { 22 ≤ length buffer.old → result ≢ buffer_too_small }
 {
     let Ok(time) = time.checked() else {
         return VALUE_OUT_OF_RANGE;
     };
-    write_text(time.to_text().as_str(), buffer, length)
+    write_text(time.to_text().as_str(), buffer, text_length)
 }
 
 /// Compares two times by their instants, as [`Time::cmp_instant`] does: -1 where the first is the earlier one,

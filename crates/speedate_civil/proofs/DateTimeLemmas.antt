@@ -18,7 +18,7 @@ use Rattle.speedate_civil.specs.DateAndTime.{DateAndTime, IsDateAndTime}
 use Rattle.speedate_civil.proofs.DateLemmas.{date_text-front}
 use Rattle.speedate_civil.specs.DateTimeText.{is_separator, date_and_time, with_time, date_time_front, date_time_answer, date_time_text}
 use Rattle.speedate_civil.specs.OffsetText.{end_fault}
-use Rattle.speedate_civil.specs.TimeText.{time_text, is_after_time, is_of_form}
+use Rattle.speedate_civil.specs.TimeText.{time_front, time_text, is_after_time, is_of_form}
 use Rattle.speedate_civil.proofs.TimeLemmas.{time_text-front, nothing-after}
 
 -- `T` parts date and time in both forms
@@ -27,15 +27,21 @@ separated : (form : Rfc3339Form) (next : Result (DateAndTime × ℕ) ParseError)
 separated rfc3339.Relaxed next = refl
 separated rfc3339.Strict next = refl
 
+-- the printed date is read, and then the time after it
+pub date_time_text-parted : (form : Rfc3339Form) (behavior : MicrosecondsPrecisionOverflowBehavior) (value : DateAndTime) (rest : List ℕ) → IsDateAndTime value
+    → date_time_front form behavior (date_time_text value ++ rest)
+    ≡ result_map (date_and_time value.date) (time_front form behavior (time_text value.time ++ rest))
+date_time_text-parted form behavior value rest valid =
+    ap (result_and_then (with_time form behavior (date_time_text value ++ rest))) (date_text-front value.date (capital_t ∷ time_text value.time ++ rest) valid.date)
+    ∙ separated form _
+
 -- the text by which a date-time is printed, at the front of another that is no part of it, is read as that date-time
 pub date_time_text-front : (form : Rfc3339Form) (behavior : MicrosecondsPrecisionOverflowBehavior) (value : DateAndTime) (rest : List ℕ) → IsDateAndTime value
     → is_of_form form value.time.offset ≡ true → IsWholeMinutes value.time.offset → is_after_time value.time rest ≡ true
     → date_time_front form behavior (date_time_text value ++ rest) ≡ Ok (value, length (date_time_text value))
 date_time_text-front form behavior value rest valid given whole after =
-    let text = date_time_text value ++ rest in
     let long : 11 + length (time_text value.time) ≡ length (date_time_text value) = omega arith in
-    ap (result_and_then (with_time form behavior text)) (date_text-front value.date (capital_t ∷ time_text value.time ++ rest) valid.date)
-    ∙ separated form _
+    date_time_text-parted form behavior value rest valid
     ∙ ap (result_map (date_and_time value.date)) (time_text-front form behavior value.time rest given valid.time whole after)
     ∙ ap (λ (size : ℕ). Ok (value, size)) long
 

@@ -1,9 +1,10 @@
 -- What every `DateTime` is, and how large its seconds are.
 use Rattle.std.proofs.Common.{◌<◌, arith, lit<, Option, None, Some, refl}
-use Rattle.std.specs.Prelude.{ℤ, pos, ◌-ℤ◌, unsigned_abs}
+use Rattle.std.specs.Prelude.{ℤ, pos, ◌-ℤ◌, ◌≤ℤ◌, unsigned_abs}
 use Rattle.std.specs.Option.{ForSome, unwrap_or}
 use Rattle.std.proofs.lemmas.Int.{ints}
 use Rattle.speedate_base.specs.Offset.{IsOffset, seconds_per_day}
+use Rattle.speedate_base.specs.Timestamp.{first_second, last_second}
 use Rattle.speedate_civil.specs.declared.datetime.DateTime.{DateTime}
 use Rattle.speedate_civil.specs.DateAndTime.{DateAndTime, IsDateAndTime, local_second, utc_second}
 use Rattle.speedate_civil.specs.DateTime.{parts}
@@ -21,6 +22,14 @@ offset-small (Some offset) valid = valid offset refl
 
 pub local_second-small : (value : DateAndTime) → IsDateAndTime value → unsigned_abs (local_second value) < 300000000000
 local_second-small value valid =
+    omega (arith, ints, day_number-small value.date valid.date.day valid.date.year, valid.time.hour, valid.time.minute, valid.time.second)
+
+-- a clock shows the years 0000 to 9999
+pub local_second-late : (value : DateAndTime) → IsDateAndTime value → first_second ≤ℤ local_second value
+local_second-late value valid = omega (arith, ints)
+
+pub local_second-early : (value : DateAndTime) → IsDateAndTime value → local_second value ≤ℤ last_second
+local_second-early value valid =
     omega (arith, ints, day_number-small value.date valid.date.day valid.date.year, valid.time.hour, valid.time.minute, valid.time.second)
 
 -- two sizes add up

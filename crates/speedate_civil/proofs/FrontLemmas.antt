@@ -14,7 +14,6 @@ use Rattle.speedate_base.specs.Ascii.{colon, hyphen, plus_sign}
 use Rattle.speedate_base.specs.DigitRuns.{run_length, run_digits}
 use Rattle.speedate_base.specs.Digits.{two_digit_value}
 use Rattle.speedate_base.specs.Form.{is_strict}
-use Rattle.speedate_base.specs.Numbers.{with_sign}
 use Rattle.speedate_base.specs.Requirement.{AllHold, alone, meets, result_map, result_and_then}
 use Rattle.speedate_base.proofs.RequirementLemmas.{alone-whole, and_then-ok, map-ok, meets-all, meets-ok, meets-value}
 use Rattle.speedate_civil.specs.Calendar.{Ymd}
@@ -22,8 +21,8 @@ use Rattle.speedate_civil.specs.ClockText.{Clock, at_hour, is_decimal_mark, leas
 use Rattle.speedate_civil.specs.DateAndTime.{DateAndTime}
 use Rattle.speedate_civil.specs.DateText.{date_front, date_answer, date_numbers, date_table}
 use Rattle.speedate_civil.specs.DateTimeText.{date_and_time, date_time_answer, date_time_front, is_separator, separator_table, with_time}
-use Rattle.speedate_civil.specs.OffsetText.{end_fault, has_minus_sign, is_utc, unsigned_table, unsigned_front, offset_front, offset_digits, offset_ranges, offset_size, signed_front, offset_digits_length}
-use Rattle.speedate_civil.proofs.OffsetLemmas.{StrictOffset, strict-offset, without_sign, one_byte, three_bytes, no_byte, no_minus, no_minus-utc, no_minus_sign, utc-read, strict-unsigned, relaxed-unsigned}
+use Rattle.speedate_civil.specs.OffsetText.{end_fault, has_minus_sign, is_utc, unsigned_table, unsigned_front, offset_front, signed_front, offset_digits_length}
+use Rattle.speedate_civil.proofs.OffsetLemmas.{signed-offset, StrictOffset, strict-offset, strict-unsigned, relaxed-unsigned, minus_sign-front, signed-front, unsigned-front, utc-front}
 use Rattle.speedate_civil.specs.TimeOfDay.{TimeOfDay}
 use Rattle.speedate_civil.specs.TimeText.{joined, with_offset, time_front, time_answer}
 
@@ -110,13 +109,9 @@ digits-taken form west sign numbers false there =
     rw (there) cc
 
 -- the sign of an offset
-pub signed-taken : (form : Rfc3339Form) (west : Bool) (sign : ℕ) (rest : List ℕ) (front : Option ℤ × ℕ) → signed_front form west sign (drop sign rest) ≡ Ok front
+signed-taken : (form : Rfc3339Form) (west : Bool) (sign : ℕ) (rest : List ℕ) (front : Option ℤ × ℕ) → signed_front form west sign (drop sign rest) ≡ Ok front
     → front.1 ≡ sign + offset_digits_length (drop sign rest)
-signed-taken form west sign rest front read =
-    let numbers : List ℕ = drop sign rest in
-    let next : Result (Option ℤ × ℕ) ParseError = meets (offset_ranges numbers) (Ok (Some (with_sign west (offset_size numbers)), sign + offset_digits_length numbers)) in
-    let last = meets-value (offset_ranges numbers) _ front (meets-ok (offset_digits form numbers) next front read).1 in
-    sym (ap (λ (pair : Option ℤ × ℕ). pair.1) last.1)
+signed-taken form west sign rest front read = sym (ap (λ (pair : Option ℤ × ℕ). pair.1) (signed-offset form west sign (drop sign rest) front read).is)
 
 -- no offset, which the relaxed form takes
 nothing-read : (form : Rfc3339Form) → is_strict form ≡ false → offset_front form [] ≡ Ok (None, 0)
@@ -139,37 +134,31 @@ offset-by : (form : Rfc3339Form) (rest : List ℕ) (front : Option ℤ × ℕ) (
     → offset_front form rest ≡ Ok front → offset_front form (take front.1 rest) ≡ Ok front
 offset-by form rest front true signed utc there some zulu read =
     let numbers : List ℕ = drop 3 rest in
-    let digits = sym (three_bytes form (has_minus_sign form rest) (slice_index rest 0 == plus_sign) (slice_index rest 0 == hyphen) (without_sign form rest) rest there) ∙ read in
+    let digits = sym (minus_sign-front form rest there) ∙ read in
     let text : List ℕ = take (3 + offset_digits_length numbers) rest in
     let still : has_minus_sign form text ≡ true =
     rw (get_or-take (3 + offset_digits_length numbers) rest 0 0 (omega arith), get_or-take (3 + offset_digits_length numbers) rest 1 0 (omega arith), get_or-take (3 + offset_digits_length numbers) rest 2 0 (omega arith)) there in
     ap (λ (n : ℕ). offset_front form (take n rest)) (signed-taken form true 3 rest front digits)
-    ∙ three_bytes form (has_minus_sign form text) (slice_index text 0 == plus_sign) (slice_index text 0 == hyphen) (without_sign form text) text still
+    ∙ minus_sign-front form text still
     ∙ ap (signed_front form true 3) (drop-take 3 (offset_digits_length numbers) rest) ∙ digits-taken form true 3 numbers _ refl ∙ digits
 offset-by form rest front false true utc none some zulu read =
     let numbers : List ℕ = drop 1 rest in
     let byte = slice_index rest 0 in
-    let digits = sym (one_byte form (has_minus_sign form rest) (byte == plus_sign) (byte == hyphen) (without_sign form rest) rest none some) ∙ read in
+    let digits = sym (signed-front form rest some) ∙ read in
     let text : List ℕ = take (1 + offset_digits_length numbers) rest in
     let same : slice_index text 0 ≡ byte = get_or-take (1 + offset_digits_length numbers) rest 0 0 (omega arith) in
     let still : ((slice_index text 0 == plus_sign) || (slice_index text 0 == hyphen)) ≡ true = rw (same) some in
     ap (λ (n : ℕ). offset_front form (take n rest)) (signed-taken form (byte == hyphen) 1 rest front digits)
-    ∙ one_byte form (has_minus_sign form text) (slice_index text 0 == plus_sign) (slice_index text 0 == hyphen) (without_sign form text) text (no_minus_sign form _ (no_minus (slice_index text 0) _ _ still)) still
+    ∙ signed-front form text still
     ∙ ap (λ (b : ℕ). signed_front form (b == hyphen) 1 (drop 1 text)) same
     ∙ ap (signed_front form (byte == hyphen) 1) (drop-take 1 (offset_digits_length numbers) rest) ∙ digits-taken form (byte == hyphen) 1 numbers _ refl ∙ digits
 offset-by form rest front false false true none no_sign zulu read =
-    let text : List ℕ = take 1 rest in
-    let same : slice_index text 0 ≡ slice_index rest 0 = get_or-take 1 rest 0 0 (lit< tt) in
-    let still : is_utc text ≡ true = rw (same) zulu in
-    let unsigned_still : ((slice_index text 0 == plus_sign) || (slice_index text 0 == hyphen)) ≡ false = rw (same) no_sign in
-    let is : ◌≡◌ {A = Result (Option ℤ × ℕ) ParseError} (Ok (Some (pos 0), 1)) (Ok front) =
-    sym (utc-read form rest zulu) ∙ sym (no_byte form (has_minus_sign form rest) (slice_index rest 0 == plus_sign) (slice_index rest 0 == hyphen) (without_sign form rest) rest none no_sign) ∙ read in
+    let still : is_utc (take 1 rest) ≡ true = rw (get_or-take 1 rest 0 0 (lit< tt)) zulu in
+    let is : ◌≡◌ {A = Result (Option ℤ × ℕ) ParseError} (Ok (Some (pos 0), 1)) (Ok front) = sym (utc-front form rest zulu) ∙ read in
     let front_is : ◌≡◌ {A = Option ℤ × ℕ} (Some (pos 0), 1) front = cc in
-    ap (λ (pair : Option ℤ × ℕ). offset_front form (take pair.1 rest)) (sym front_is)
-    ∙ no_byte form (has_minus_sign form text) (slice_index text 0 == plus_sign) (slice_index text 0 == hyphen) (without_sign form text) text (no_minus_sign form _ (no_minus-utc (slice_index text 0) _ _ still)) unsigned_still
-    ∙ utc-read form text still ∙ is
+    ap (λ (pair : Option ℤ × ℕ). offset_front form (take pair.1 rest)) (sym front_is) ∙ utc-front form (take 1 rest) still ∙ is
 offset-by form rest front false false false none no_sign other read =
-    no-offset form rest front (is_strict form) refl other (sym (no_byte form (has_minus_sign form rest) (slice_index rest 0 == plus_sign) (slice_index rest 0 == hyphen) (without_sign form rest) rest none no_sign) ∙ read)
+    no-offset form rest front (is_strict form) refl other (sym (unsigned-front form rest none no_sign) ∙ read)
 
 offset-taken : (form : Rfc3339Form) (rest : List ℕ) (front : Option ℤ × ℕ) → offset_front form rest ≡ Ok front → offset_front form (take front.1 rest) ≡ Ok front
 offset-taken form rest front read = offset-by form rest front _ _ _ refl refl refl read
@@ -220,7 +209,7 @@ clock-second behavior text clock read = (clock-read rfc3339.Strict behavior text
 offset-due : (rest : List ℕ) (front : Option ℤ × ℕ) → StrictOffset rest front → 1 ≤ front.1
 offset-due rest front (inl after) =
     omega (arith, signed-taken rfc3339.Strict (slice_index rest 0 == hyphen) 1 rest front after.1)
-offset-due rest front (inr utc) = omega (arith, ap (λ (pair : Option ℤ × ℕ). pair.1) utc.2)
+offset-due rest front (inr utc) = omega (arith, ap (λ (pair : Option ℤ × ℕ). pair.1) utc.1)
 
 minute-size-second : (second fraction : Bool) (run : ℕ) → second ≡ true → 5 ≤ (if fraction then 6 + run else (if second then 5 else 2))
 minute-size-second second true run there = omega arith

@@ -1,3 +1,4 @@
+mod AfterTimeLemmas
 mod CalendarFacts
 mod DaysLemmas
 mod ClockLemmas

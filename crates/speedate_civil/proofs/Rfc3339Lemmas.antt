@@ -25,7 +25,7 @@ use Rattle.speedate_base.specs.Numbers.{with_sign}
 use Rattle.speedate_base.proofs.NumberLemmas.{run-digits}
 use Rattle.speedate_base.specs.Offset.{seconds_per_day}
 use Rattle.speedate_base.specs.Refusal.{refuses_digits}
-use Rattle.speedate_base.specs.Requirement.{◌implies◌, alone, meets, result_map, result_and_then}
+use Rattle.speedate_base.specs.Requirement.{◌implies◌, alone, result_map, result_and_then}
 use Rattle.speedate_base.proofs.RequirementLemmas.{alone-iff, alone-whole, and_then-ok, map-ok, meets-ok, meets-value}
 use Rattle.speedate_civil.specs.declared.datetime.DateTime.{DateTime}
 use Rattle.speedate_civil.specs.declared.time.Time.{Time}
@@ -37,9 +37,9 @@ use Rattle.speedate_civil.specs.DateText.{date_front, date_numbers, date_table, 
 use Rattle.speedate_civil.proofs.DateLemmas.{date_text-front}
 use Rattle.speedate_civil.specs.DateTime.{parts as date_time_parts}
 use Rattle.speedate_civil.specs.DateTimeText.{date_and_time, date_time_answer, date_time_front, is_separator, separator_table, with_time}
-use Rattle.speedate_civil.proofs.FrontLemmas.{clock-read, signed-taken}
-use Rattle.speedate_civil.specs.OffsetText.{end_fault, offset_digits, offset_digits_length, offset_front, offset_ranges, offset_size, signed_front}
-use Rattle.speedate_civil.proofs.OffsetLemmas.{StrictOffset, strict-offset}
+use Rattle.speedate_civil.proofs.FrontLemmas.{clock-read}
+use Rattle.speedate_civil.specs.OffsetText.{end_fault, offset_front, signed_front}
+use Rattle.speedate_civil.proofs.OffsetLemmas.{signed-offset, StrictOffset, strict-offset}
 use Rattle.speedate_civil.specs.Rfc3339Text.{IsFullDate, IsDateTime, IsTwoDigits, IsSecfrac, IsPartialTime, IsNumoffset, IsTimeOffset, IsFullTime}
 use Rattle.speedate_civil.specs.Time.{parts as time_parts}
 use Rattle.speedate_civil.specs.TimeOfDay.{TimeOfDay}
@@ -165,20 +165,18 @@ numoffset : (byte : ℕ) (numbers : List ℕ) (front : Option ℤ × ℕ) → ((
     → signed_front rfc3339.Strict (byte == hyphen) 1 numbers ≡ Ok front → length numbers ≡ 5 → IsNumoffset (byte ∷ numbers)
 numoffset byte (a ∷ b ∷ c ∷ d ∷ e ∷ []) front some read five =
     let numbers : List ℕ = a ∷ b ∷ c ∷ d ∷ e ∷ [] in
-    let next : Result (Option ℤ × ℕ) ParseError = meets (offset_ranges numbers) (Ok (Some (with_sign (byte == hyphen) (offset_size numbers)), 1 + offset_digits_length numbers)) in
-    let digits = meets-ok (offset_digits rfc3339.Strict numbers) next front read in
-    let ranges = meets-ok (offset_ranges numbers) _ front digits.1 in
-    let there = digits.0.1.0 in
-    let minute_digits = subst (λ (test : Bool). two_digits_at numbers (if test then 3 else 2) ≡ true) there digits.0.1.1.0 in
-    let minute_small = subst (λ (test : Bool). nat_le (two_digit_value numbers (if test then 3 else 2)) 59 ≡ true) there ranges.0.0 in
-    let small = subst (λ (test : Bool). nat_lt (3600 * two_digit_value numbers 0 + 60 * two_digit_value numbers (if test then 3 else 2)) seconds_per_day ≡ true) there ranges.0.1.0 in
+    let rows = signed-offset rfc3339.Strict (byte == hyphen) 1 numbers front read in
+    let there = rows.digits.1.0 in
+    let minute_digits = subst (λ (test : Bool). two_digits_at numbers (if test then 3 else 2) ≡ true) there rows.digits.1.1.0 in
+    let minute_small = subst (λ (test : Bool). nat_le (two_digit_value numbers (if test then 3 else 2)) 59 ≡ true) there rows.ranges.0 in
+    let small = subst (λ (test : Bool). nat_lt (3600 * two_digit_value numbers 0 + 60 * two_digit_value numbers (if test then 3 else 2)) seconds_per_day ≡ true) there rows.ranges.1.0 in
     let hour_small : 10 * one_digit_value a + one_digit_value b ≤ 23 = omega (arith, ltb-true _ seconds_per_day small) in
     record {
       sign = byte;
       hour = a ∷ b ∷ [];
       minute = d ∷ e ∷ [];
       is_sign = one-of byte plus_sign hyphen _ _ refl refl some;
-      is_hour = two-digits-le 23 a b digits.0.0 hour_small;
+      is_hour = two-digits-le 23 a b rows.digits.0 hour_small;
       is_minute = two-digits 59 d e minute_digits minute_small;
       together = ap (λ (x : ℕ). byte ∷ a ∷ b ∷ x ∷ d ∷ e ∷ []) (eqb-true c colon there);
     }
@@ -191,10 +189,8 @@ numoffset byte (a ∷ b ∷ c ∷ d ∷ e ∷ f ∷ more) front some read five =
 
 numoffset-length : (numbers : List ℕ) (front : Option ℤ × ℕ) (west : Bool) → signed_front rfc3339.Strict west 1 numbers ≡ Ok front → front.1 ≡ 1 + length numbers → length numbers ≡ 5
 numoffset-length numbers front west read whole =
-    let next : Result (Option ℤ × ℕ) ParseError = meets (offset_ranges numbers) (Ok (Some (with_sign west (offset_size numbers)), 1 + offset_digits_length numbers)) in
-    let digits = meets-ok (offset_digits rfc3339.Strict numbers) next front read in
-    let size = signed-taken rfc3339.Strict west 1 (0 ∷ numbers) front read in
-    let five = subst (λ (test : Bool). front.1 ≡ 1 + ((if test then 3 else 2) + 2)) digits.0.1.0 size in
+    let rows = signed-offset rfc3339.Strict west 1 numbers front read in
+    let five = subst (λ (test : Bool). 1 + ((if test then 3 else 2) + 2) ≡ front.1) rows.digits.1.0 (ap (λ (pair : Option ℤ × ℕ). pair.1) rows.is) in
     omega (arith, five, whole)
 
 nothing-left : (numbers : List ℕ) → length numbers ≡ 0 → numbers ≡ []
@@ -211,8 +207,8 @@ offset-parts byte numbers front (inl after) whole =
     let all : front.1 ≡ 1 + length numbers = omega (arith, whole) in
     inr (inr (numoffset byte numbers front after.0 after.1 (numoffset-length numbers front (byte == hyphen) after.1 all)))
 offset-parts byte numbers front (inr utc) whole =
-    let none : numbers ≡ [] = nothing-left numbers (omega (arith, ap (λ (pair : Option ℤ × ℕ). pair.1) utc.2, whole)) in
-    subst (λ (left : List ℕ). IsTimeOffset (byte ∷ left)) (sym none) (utc-of byte (one-of byte capital_z small_z _ _ refl refl utc.1))
+    let none : numbers ≡ [] = nothing-left numbers (omega (arith, ap (λ (pair : Option ℤ × ℕ). pair.1) utc.1, whole)) in
+    subst (λ (left : List ℕ). IsTimeOffset (byte ∷ left)) (sym none) (utc-of byte (one-of byte capital_z small_z _ _ refl refl utc.0))
 
 offset-all : (rest : List ℕ) (front : Option ℤ × ℕ) → offset_front rfc3339.Strict rest ≡ Ok front → front.1 ≡ length rest → IsTimeOffset rest
 offset-all [] front read whole = absurd (cc)

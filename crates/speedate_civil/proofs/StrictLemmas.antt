@@ -8,7 +8,7 @@ use Rattle.speedate_base.specs.declared.config.MicrosecondsPrecisionOverflowBeha
 use Rattle.speedate_base.specs.declared.config.Rfc3339Form.{Rfc3339Form}
 use Rattle.speedate_base.specs.declared.config.Rfc3339Form.TheVariants as rfc3339
 use Rattle.speedate_base.specs.declared.faults.ParseError.{ParseError}
-use Rattle.speedate_base.specs.Ascii.{comma, full_stop, hyphen, plus_sign}
+use Rattle.speedate_base.specs.Ascii.{comma, full_stop, hyphen}
 use Rattle.speedate_base.specs.DigitRuns.{run_length, run_digits, fraction_value}
 use Rattle.speedate_base.specs.Digits.{two_digit_value}
 use Rattle.speedate_base.specs.Numbers.{with_sign}
@@ -20,8 +20,8 @@ use Rattle.speedate_civil.specs.DateAndTime.{DateAndTime}
 use Rattle.speedate_civil.specs.DateText.{date_front}
 use Rattle.speedate_civil.specs.DateTimeText.{date_and_time, date_time_front, date_time_answer, is_separator, separator_table, with_time}
 use Rattle.speedate_civil.proofs.FrontLemmas.{clock-read, clock-size, clock-second}
-use Rattle.speedate_civil.specs.OffsetText.{end_fault, has_minus_sign, offset_digits, offset_digits_length, offset_front, offset_ranges, offset_size, signed_front}
-use Rattle.speedate_civil.proofs.OffsetLemmas.{StrictOffset, strict-offset, without_sign, one_byte, no_byte, no_minus, no_minus-utc, utc-read}
+use Rattle.speedate_civil.specs.OffsetText.{end_fault, offset_digits, offset_digits_length, offset_front, offset_ranges, offset_size, signed_front}
+use Rattle.speedate_civil.proofs.OffsetLemmas.{signed-offset, StrictOffset, strict-offset, signed-front, utc-front}
 use Rattle.speedate_civil.specs.TimeOfDay.{TimeOfDay}
 use Rattle.speedate_civil.specs.TimeText.{joined, with_offset, time_front, time_answer}
 
@@ -29,27 +29,21 @@ use Rattle.speedate_civil.specs.TimeText.{joined, with_offset, time_front, time_
 signed-relaxed : (west : Bool) (sign : ℕ) (numbers : List ℕ) (front : Option ℤ × ℕ) → signed_front rfc3339.Strict west sign numbers ≡ Ok front
     → signed_front rfc3339.Relaxed west sign numbers ≡ Ok front
 signed-relaxed west sign numbers front read =
-    let next : Result (Option ℤ × ℕ) ParseError = meets (offset_ranges numbers) (Ok (Some (with_sign west (offset_size numbers)), sign + offset_digits_length numbers)) in
-    let met = meets-ok (offset_digits rfc3339.Strict numbers) next front read in
-    meets-all (offset_digits rfc3339.Relaxed numbers) next (met.0.0, (refl, met.0.1.1)) ∙ met.1
+    let value : Option ℤ × ℕ = (Some (with_sign west (offset_size numbers)), sign + offset_digits_length numbers) in
+    let rows = signed-offset rfc3339.Strict west sign numbers front read in
+    meets-all (offset_digits rfc3339.Relaxed numbers) (meets (offset_ranges numbers) (Ok value)) (rows.digits.0, (refl, rows.digits.1.1))
+    ∙ meets-all (offset_ranges numbers) (Ok value) rows.ranges ∙ ap Ok rows.is
 
 -- an offset is read in both forms, and no decimal mark begins it
 offset-relaxed : (rest : List ℕ) (front : Option ℤ × ℕ) → StrictOffset rest front
     → (offset_front rfc3339.Relaxed rest ≡ Ok front) × (is_decimal_mark rfc3339.Relaxed (slice_index rest 0) ≡ false)
 offset-relaxed rest front (inl after) =
     let byte = slice_index rest 0 in
-    let signed = after.0 in (
-      one_byte rfc3339.Relaxed (has_minus_sign rfc3339.Relaxed rest) (byte == plus_sign) (byte == hyphen) (without_sign rfc3339.Relaxed rest) rest (no_minus byte _ _ signed) signed
-          ∙ signed-relaxed (byte == hyphen) 1 (drop 1 rest) front after.1,
-      grind (arith, nat_tests),
-    )
+    let signed = after.0 in
+    (signed-front rfc3339.Relaxed rest signed ∙ signed-relaxed (byte == hyphen) 1 (drop 1 rest) front after.1, grind (arith, nat_tests))
 offset-relaxed rest front (inr utc) =
-    let byte = slice_index rest 0 in
-    let zulu = utc.1 in (
-      no_byte rfc3339.Relaxed (has_minus_sign rfc3339.Relaxed rest) (byte == plus_sign) (byte == hyphen) (without_sign rfc3339.Relaxed rest) rest (no_minus-utc byte _ _ zulu) utc.0
-          ∙ utc-read rfc3339.Relaxed rest zulu ∙ ap Ok utc.2,
-      grind (arith, nat_tests),
-    )
+    let zulu = utc.0 in
+    (utc-front rfc3339.Relaxed rest zulu ∙ ap Ok utc.1, grind (arith, nat_tests))
 
 -- the clock, from its minute on, where the mark is the same
 minute-relaxed : (behavior : MicrosecondsPrecisionOverflowBehavior) (rest : List ℕ) → has_point rfc3339.Relaxed rest ≡ has_point rfc3339.Strict rest

@@ -45,7 +45,7 @@ date_after (suc days) = day_after (date_after days)
 abbrev pub date_numbered : ℕ → Option Ymd
 date_numbered number = if nat_le number 3652424 then Some (date_after number) else None
 
--- the date so many days after 0000-01-01, or before it where there are fewer than none: none outside the years 0000 to 9999
+-- the date so many days after 0000-01-01, if it is in the years 0000 to 9999
 abbrev pub date_counted : ℤ → Option Ymd
 date_counted (pos number) = date_numbered number
 date_counted (negsuc before) = None
@@ -54,7 +54,7 @@ date_counted (negsuc before) = None
 abbrev pub date_added : ℤ → Ymd → Option Ymd
 date_added days date = date_counted (pos (day_number date) +ℤ days)
 
--- the days from the one date to the other, negative where that is the earlier one
+-- the days from one date to another, negative where the other one is earlier
 abbrev pub days_between : Ymd → Ymd → ℤ
 days_between earlier later = pos (day_number later) -ℤ pos (day_number earlier)
 

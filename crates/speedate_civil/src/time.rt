@@ -131,8 +131,8 @@ impl Time {
     ///
     /// The time goes as far as [`Time::parse_bytes_with_config`] reads on: where a `:` follows the
     /// minute, two digits have to follow it, where a decimal mark follows the second, a digit, and
-    /// where `+`, `-` or U+2212 follows the clock, an offset. `Z` or `z` is one too. Any other byte
-    /// after the clock, or none, ends a time without an offset. The faults are those of
+    /// where a sign follows the clock, an offset. `Z` or `z` is an offset too. In the form `Relaxed`
+    /// any other byte after the clock, or none, ends a time without an offset. The faults are those of
     /// [`Time::parse_bytes_with_config`] but for `ExtraCharacters`, and in the form `Relaxed` but for
     /// `InvalidCharTzSign`, in that order.
     #[inline(always)]
@@ -144,7 +144,8 @@ impl Time {
             → (time_answer config.now.rfc3339_form config.now.microseconds_precision_overflow_behavior bytes.now ≡ Ok time)
             ↔ (result_map (with_size parts) result ≡ Ok (time, length bytes.now)) }
         ensures alone { IfOk result (λ front.
-            time_answer config.now.rfc3339_form config.now.microseconds_precision_overflow_behavior (take front.1 bytes.now) ≡ Ok (parts front.0)) }
+            time_answer config.now.rfc3339_form config.now.microseconds_precision_overflow_behavior (take front.1 bytes.now)
+            ≡ Ok (parts front.0)) }
     {
         Self::front_at(
             bytes,

@@ -1,5 +1,5 @@
 -- What has gone out of some bytes, step by step.
-use Rattle.std.proofs.Common.{◌≡◌, ◌∙◌, ap, sym, subst, List, [], ◌++◌, ℕ, refl, append-nil, append_assoc, take, drop, take-append-drop, Result, Ok, Err}
+use Rattle.std.proofs.Common.{◌≡◌, ◌∙◌, ap, sym, subst, List, [], ◌++◌, ℕ, refl, append_assoc, take, drop, take-append-drop, Result, Ok, Err}
 use Rattle.std.specs.Prelude.{Option, OnErr}
 use Rattle.std.specs.Io.KnownBytes.{Appends, Keeps}
 use Rattle.std.proofs.KnownBytes.{Appends-nil, Appends-trans, Appends-kept}
@@ -8,10 +8,6 @@ use Rattle.speedate_lines.specs.Sent.{AppendsBut, AppendsBeginning, AppendsFrom}
 -- nothing has been written
 pub AppendsBut-all : (a : Option (List ℕ)) (bytes : List ℕ) → AppendsBut bytes a a bytes
 AppendsBut-all a bytes = record { written = []; sent = Appends-nil a; whole = refl }
-
--- all has been written
-pub AppendsBut-nil : (a b : Option (List ℕ)) (bytes : List ℕ) → Appends a b bytes → AppendsBut [] a b bytes
-AppendsBut-nil a b bytes sent = record { written = bytes; sent = sent; whole = sym (append-nil bytes) }
 
 -- of what was left an end is left
 pub AppendsBut-trans : {a b c : Option (List ℕ)} {left rest bytes : List ℕ} → AppendsBut left a b bytes → AppendsBut rest b c left → AppendsBut rest a c bytes
@@ -53,11 +49,6 @@ pub Appends-left : (a b c : Option (List ℕ)) {left bytes : List ℕ} → Appen
 Appends-left a b c {left = left} sent last =
     subst (Appends a c) (sym sent.whole) (Appends-trans a b c sent.written left sent.sent last)
 
--- nothing was left
-pub Appends-nothing_left : {a b : Option (List ℕ)} {left bytes : List ℕ} → AppendsBut left a b bytes → left ≡ [] → Appends a b bytes
-Appends-nothing_left {a = a} {b = b} sent none =
-    subst (Appends a b) (sym (sent.whole ∙ ap (λ (end : List ℕ). sent.written ++ end) none ∙ append-nil sent.written)) sent.sent
-
 -- of what was left a beginning has been written
 pub AppendsBeginning-left : {a b c : Option (List ℕ)} {left bytes : List ℕ} → AppendsBut left a b bytes → AppendsBeginning b c left → AppendsBeginning a c bytes
 AppendsBeginning-left sent part = record { left = part.left; sent = AppendsBut-trans sent part.sent }
@@ -69,10 +60,6 @@ AppendsBeginning-more more part = record { left = part.left ++ more; sent = Appe
 -- the same of the same bytes
 pub AppendsBeginning-same : {a b : Option (List ℕ)} {bytes all : List ℕ} → AppendsBeginning a b bytes → all ≡ bytes → AppendsBeginning a b all
 AppendsBeginning-same part whole = record { left = part.left; sent = AppendsBut-same part.sent refl whole }
-
--- all is a beginning
-pub AppendsBeginning-all : (a b c : Option (List ℕ)) (bytes : List ℕ) → Appends a b bytes → Keeps b c → AppendsBeginning a c bytes
-AppendsBeginning-all a b c bytes sent kept = record { left = []; sent = AppendsBut-nil a c bytes (Appends-kept a b c bytes sent kept) }
 
 -- after the first bytes a beginning of the others has been written
 pub AppendsFrom-beginning : {a b c : Option (List ℕ)} {others bytes : List ℕ} (first : List ℕ) → Appends a b first → AppendsBeginning b c others → bytes ≡ first ++ others

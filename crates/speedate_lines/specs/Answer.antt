@@ -59,7 +59,7 @@ strict_duration_kind = record {
 abbrev pub strict_time_kind : Kind
 strict_time_kind = record { word = codes "time-strict"; reply_to = λ text. reply time_text (time_answer rfc3339.Strict behavior.Error text) }
 
--- it reads no timestamps: they are no texts of the standard
+-- it reads no timestamps, which the standard does not have
 abbrev pub strict_date_time_kind : Kind
 strict_date_time_kind = record {
   word = codes "datetime-strict";

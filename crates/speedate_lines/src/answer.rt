@@ -116,7 +116,7 @@ fn answer_date_time(text: &[u8], pending: &mut Pending)
     ensures answered { pending.new.bytes ≡ pending.old.bytes
         ++ (date_time_kind.reply_to text.now ++ line_feed ∷ []) }
 {
-    answer_read(DateTime::parse_bytes(text), pending)
+    reply_date_time(DateTime::parse_bytes(text), pending)
 }
 
 /// Appends the answer to the text of a date-time in the strict form.
@@ -127,20 +127,20 @@ fn answer_strict_date_time(text: &[u8], pending: &mut Pending)
         ++ (strict_date_time_kind.reply_to text.now ++ line_feed ∷ []) }
 {
     let config = form_config(Rfc3339Form::Strict);
-    answer_read(
+    reply_date_time(
         DateTime::parse_bytes_rfc3339_with_config(text, &config),
         pending,
     )
 }
 
-/// Appends the answer to a text that was read as a date-time, or refused.
+/// Appends the reply to what a reader of date-times answered.
 #[inline(always)]
-fn answer_read(read: Result<DateTime, ParseError>, pending: &mut Pending)
+fn reply_date_time(answer: Result<DateTime, ParseError>, pending: &mut Pending)
     requires { array_string_len pending.old + ANSWER_MAX ≤ PENDING_MAX }
     ensures answered { pending.new.bytes ≡ pending.old.bytes
-        ++ (reply date_time_text (result_map parts read) ++ line_feed ∷ []) }
+        ++ (reply date_time_text (result_map parts answer) ++ line_feed ∷ []) }
 {
-    match read {
+    match answer {
         Ok(value) => {
             pending.push_str(ACCEPTED);
             value.push_onto(pending);

@@ -1,7 +1,9 @@
-//! Readers and writers for tests, which take their time or fail.
+//! Readers and writers for tests, which take their time or fail, and the comparison of what is found.
 
 use std::alloc::Global;
+use std::fmt::Debug;
 use std::io::{self, ErrorKind, Read, Write};
+use std::process::Abort;
 
 /// Calls of an end, counted from 0.
 #[derive(Clone, Copy, Debug)]
@@ -122,4 +124,14 @@ impl Write for Sink {
         }
         Ok(())
     }
+}
+
+/// What was found is to be what the row wants.
+pub fn same<T: PartialEq + Debug + Copy, Row: Debug, R: Abort>(
+    rt: &R,
+    found: T,
+    want: T,
+    row: &Row,
+) {
+    assert_eq!(rt; found, want, "{row:?}");
 }

@@ -16,15 +16,3 @@ pub fn outcome(ended: Result<(), RunError>) -> (u8, &'static str)
         Err(RunError::Write) => (2, "output failed"),
     }
 }
-
-#[cfg(test)]
-mod tests {
-    use super::*;
-
-    #[test]
-    fn tells_each_end(rt: HostRuntime) {
-        assert_eq!(rt; outcome(Ok(())), (0, ""));
-        assert_eq!(rt; outcome(Err(RunError::Read)), (1, "input failed"));
-        assert_eq!(rt; outcome(Err(RunError::Write)), (2, "output failed"));
-    }
-}

@@ -44,7 +44,7 @@ fn day_numbers(rt: HostRuntime) {
         same(&rt, date.day_number(), number, row);
         same(&rt, Date::from_day_number(number), Some(date), row);
     }
-    assert_eq!(rt; Date::from_day_number(3_652_425), None);
+    same(&rt, Date::from_day_number(3_652_425), None, "3652425");
 }
 
 #[test]
@@ -67,6 +67,23 @@ fn days_of_the_year_and_midnights(rt: HostRuntime) {
     }
 }
 
+/// The date in `jiff`'s civil calendar.
+fn civil_date(date: &Date) -> Result<civil::Date, jiff::Error> {
+    civil::Date::new(date.year as i16, date.month as i8, date.day as i8)
+}
+
+#[test]
+fn days_between_dates_all_over_the_calendar(rt: HostRuntime) -> Result<(), Fail> {
+    for step in 0..20_000 {
+        let date = Date::from_day_number(step * 7_919 % 3_652_425).expect(&rt, "a date");
+        let other = Date::from_day_number(step * 104_729 % 3_652_425).expect(&rt, "a date");
+        let days = civil_date(&date)?.until(civil_date(&other)?)?.get_days();
+        assert_eq!(rt; other.days_since(&date), days, "{date} {other}");
+        assert_eq!(rt; date.checked_add_days(days), Some(other), "{date} {days}");
+    }
+    Ok(())
+}
+
 #[test]
 fn each_day_of_the_calendar(rt: HostRuntime) -> Result<(), Fail> {
     let first = value::<Date, _>(&rt, "0000-01-01");
@@ -75,24 +92,30 @@ fn each_day_of_the_calendar(rt: HostRuntime) -> Result<(), Fail> {
     for number in 0..3_652_425 {
         let date = next.expect(&rt, "a date");
         let day = civil?;
-        assert_eq!(rt; Date::from_day_number(number), Some(date), "{number}");
         let found = (
-            i32::from(date.year),
-            i32::from(date.month),
-            i32::from(date.day),
+            Date::from_day_number(number),
+            first.checked_add_days(number as i32),
+            date.days_since(&first),
+            (
+                i32::from(date.year),
+                i32::from(date.month),
+                i32::from(date.day),
+            ),
         );
         let want = (
-            i32::from(day.year()),
-            i32::from(day.month()),
-            i32::from(day.day()),
+            Some(date),
+            Some(date),
+            number as i32,
+            (
+                i32::from(day.year()),
+                i32::from(day.month()),
+                i32::from(day.day()),
+            ),
         );
         assert_eq!(rt; found, want, "{number}");
-        assert_eq!(rt; date.days_since(&first), number as i32, "{date}");
-        assert_eq!(rt; first.checked_add_days(number as i32), Some(date), "{date}");
         next = date.next_day();
         civil = day.tomorrow();
     }
-    assert_eq!(rt; next, None);
-    assert!(rt; civil.is_err());
+    assert!(rt; next.is_none() && civil.is_err());
     Ok(())
 }

@@ -86,12 +86,16 @@ fn choices_of_names(rt: HostRuntime) {
 
 #[test]
 fn names_of_choices(rt: HostRuntime) {
-    assert_eq!(rt; TimestampUnit::Microsecond.name(), "us");
-    assert_eq!(rt;
-        MicrosecondsPrecisionOverflowBehavior::Truncate.name(),
-        "truncate"
-    );
-    assert_eq!(rt; IsoOrder::Strict.name(), "strict");
-    assert_eq!(rt; Rfc3339Form::Relaxed.name(), "relaxed");
-    assert_eq!(rt; Rfc3339Form::Strict.name(), "strict");
+    for (name, want) in [
+        (TimestampUnit::Microsecond.name(), "us"),
+        (
+            MicrosecondsPrecisionOverflowBehavior::Truncate.name(),
+            "truncate",
+        ),
+        (IsoOrder::Strict.name(), "strict"),
+        (Rfc3339Form::Relaxed.name(), "relaxed"),
+        (Rfc3339Form::Strict.name(), "strict"),
+    ] {
+        same(&rt, name, want, want);
+    }
 }

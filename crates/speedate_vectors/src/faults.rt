@@ -96,7 +96,7 @@ MicrosecondFractionTooLong  microsecond_fraction_too_long  microsecond timestamp
 
 #[test]
 fn of_texts_that_are_read(rt: HostRuntime) {
-    assert_eq!(rt; TEXTS.lines().count(), 42);
+    same(&rt, TEXTS.lines().count(), 42, "how many faults");
     for (fault, row) in FAULTS.iter().zip(TEXTS.lines()) {
         let (variant, texts) = row.split_once(' ').expect(&rt, row);
         let (name, documentation) = texts.trim_start().split_once(' ').expect(&rt, row);
@@ -111,11 +111,11 @@ fn of_texts_that_are_read(rt: HostRuntime) {
 #[test]
 fn of_choices(rt: HostRuntime) {
     let unit = ConfigError::UnknownTimestampUnitString;
-    assert_eq!(rt; unit.get_documentation(), None);
+    same(&rt, unit.get_documentation(), None, "a unit");
     expect_shown(&rt, &unit, "unknown_timestamp_unit_string");
     expect_debug(&rt, &unit, "UnknownTimestampUnitString");
     let behavior = ConfigError::UnknownMicrosecondsPrecisionOverflowBehaviorString;
-    assert_eq!(rt; behavior.get_documentation(), None);
+    same(&rt, behavior.get_documentation(), None, "a behavior");
     expect_shown(
         &rt,
         &behavior,
@@ -127,11 +127,11 @@ fn of_choices(rt: HostRuntime) {
         "UnknownMicrosecondsPrecisionOverflowBehaviorString",
     );
     let order = ConfigError::UnknownIsoOrderString;
-    assert_eq!(rt; order.get_documentation(), None);
+    same(&rt, order.get_documentation(), None, "an order");
     expect_shown(&rt, &order, "unknown_iso_order_string");
     expect_debug(&rt, &order, "UnknownIsoOrderString");
     let form = ConfigError::UnknownRfc3339FormString;
-    assert_eq!(rt; form.get_documentation(), None);
+    same(&rt, form.get_documentation(), None, "a form");
     expect_shown(&rt, &form, "unknown_rfc3339_form_string");
     expect_debug(&rt, &form, "UnknownRfc3339FormString");
 }

@@ -1,7 +1,6 @@
 //! Values at the fronts of texts, and how many bytes they take.
 
 use crate::configs::time_config;
-use crate::logs::{are_in_order, is_between, is_in_order};
 use crate::rows::{bytes, expect_front, quoted, value, words};
 use arrayvec::ArrayString;
 use speedate::{Date, DateTime, ParseError, Time, TimeConfig};
@@ -283,26 +282,39 @@ fn after(last: &str, byte: u8, behavior: &str) -> &'static str {
     }
 }
 
+/// The clock of a row with further bytes is to be read so as [`after`] says.
+fn expect_after<R: AllocGlobal + Abort>(
+    rt: &R,
+    row: &str,
+    further: &[u8],
+    behavior: &str,
+    made: &str,
+) -> Result<(), Fail> {
+    let (_, clock, rest) = quoted(rt, row);
+    let [shown, ..] = words(rest);
+    let mut text = bytes(rt, clock)?;
+    text.extend_from_slice(further)?;
+    let (size, longer) = (clock.len(), clock.len().saturating_add(1));
+    let mut want = ArrayString::<64>::new();
+    let written = match made {
+        "" => write!(want, "{shown} {size}"),
+        "Z" => write!(want, "{shown}Z {longer}"),
+        "0" => write!(want, "{shown} {longer}"),
+        fault => write!(want, "{fault}"),
+    };
+    assert!(rt; written.is_ok(), "{row}");
+    expect_time(rt, &text, &time_config(rt, behavior), want.as_str(), row)
+}
+
 #[test]
 fn bytes_after_a_time(rt: HostRuntime) -> Result<(), Fail> {
     for row in CLOCKS.lines() {
-        let (_, clock, rest) = quoted(&rt, row);
-        let [shown, last, ..] = words(rest);
-        let size = clock.len();
+        let (_, _, rest) = quoted(&rt, row);
+        let [_, last, ..] = words(rest);
         for behavior in ["error", "truncate"] {
-            let config = time_config(&rt, behavior);
             for byte in 0..=255u8 {
-                let mut text = bytes(&rt, clock)?;
-                text.push(byte)?;
-                let mut want = ArrayString::<64>::new();
-                let written = match after(last, byte, behavior) {
-                    "" => write!(want, "{shown} {size}"),
-                    "Z" => write!(want, "{shown}Z {}", size.saturating_add(1)),
-                    "0" => write!(want, "{shown} {}", size.saturating_add(1)),
-                    fault => write!(want, "{fault}"),
-                };
-                assert!(rt; written.is_ok(), "{row}");
-                expect_time(&rt, &text, &config, want.as_str(), row)?;
+                let made = after(last, byte, behavior);
+                expect_after(&rt, row, &[byte], behavior, made)?;
             }
         }
     }
@@ -312,19 +324,15 @@ fn bytes_after_a_time(rt: HostRuntime) -> Result<(), Fail> {
 #[test]
 fn bytes_of_a_minus_sign(rt: HostRuntime) -> Result<(), Fail> {
     for row in CLOCKS.lines() {
-        let (_, clock, rest) = quoted(&rt, row);
-        let [shown, last, ..] = words(rest);
+        let (_, _, rest) = quoted(&rt, row);
+        let [_, last, ..] = words(rest);
         for byte in 0..=255u8 {
-            let mut text = bytes(&rt, clock)?;
-            text.extend_from_slice(&[0xe2, 0x88, byte])?;
-            let mut want = ArrayString::<64>::new();
-            let written = if byte == 0x92 && last != "offset" {
-                write!(want, "invalid_char_tz_hour")
+            let made = if byte == 0x92 && last != "offset" {
+                "invalid_char_tz_hour"
             } else {
-                write!(want, "{shown} {}", clock.len())
+                ""
             };
-            assert!(rt; written.is_ok(), "{row}");
-            expect_time(&rt, &text, &time_config(&rt, "error"), want.as_str(), row)?;
+            expect_after(&rt, row, &[0xe2, 0x88, byte], "error", made)?;
         }
     }
     Ok(())
@@ -360,55 +368,4 @@ fn cuts(rt: HostRuntime) {
             want,
         );
     }
-}
-
-/// Lines of a log, and whether they lie between 12:13:14 and 12:13:15 in UTC on 22 November 2026.
-const LOG: &str = "\
-2026-11-22T12:13:13.999999Z GET /     no
-2026-11-22T12:13:14Z GET /            yes
-2026-11-22T13:13:14.5+01:00 GET /     yes
-2026-11-22 12:13:15.9999994321 GET /  yes
-2026-11-22T12:13:16Z GET /            no
-2026-11-22T12:13:14+01:00 GET /       no
-2026-11-22T12:13:14+25:00 GET /       no
-2026-11-22T12:13: GET /               no
-GET / 2026-11-22T12:13:14Z            no";
-
-/// Lines of a ledger, the next ones, and whether their dates are in order.
-const LEDGER: &str = "\
-2026-11-22 opening balance, 2026-11-22 rent    yes
-2026-11-22 rent, 2026-12-01 rent               yes
-2026-12-31 rent, 2027-01-01T00:00 closed       yes
-2026-12-01 rent, 2026-11-30 food               no
-2026-11-30 food, 2026-11-31 food               no
-2026-11-31 food, 2026-12-01 rent               no
-rent 2026-12-01, 2026-12-01 rent               no";
-
-#[test]
-fn lines_of_a_log(rt: HostRuntime) {
-    let config = time_config(&rt, "truncate");
-    let (first, last) = (1_795_349_594, 1_795_349_595);
-    for row in LOG.lines() {
-        let (line, kept) = row.rsplit_once(' ').expect(&rt, row);
-        let found = is_between(line.as_bytes(), &config, first, last);
-        assert_eq!(rt; found, kept == "yes", "{row}");
-    }
-}
-
-#[test]
-fn lines_of_a_ledger(rt: HostRuntime) {
-    for row in LEDGER.lines() {
-        let (line, rest) = row.split_once(", ").expect(&rt, row);
-        let (next, ordered) = rest.rsplit_once(' ').expect(&rt, row);
-        let found = is_in_order(line.as_bytes(), next.as_bytes());
-        assert_eq!(rt; found, ordered == "yes", "{row}");
-    }
-    let lines: [&[u8]; 3] = [
-        b"2026-11-22 opening balance",
-        b"2026-11-22 rent",
-        b"2026-12-01 rent",
-    ];
-    assert!(rt; are_in_order(&lines));
-    assert!(rt; !are_in_order(&[lines[0], lines[2], lines[1]]));
-    assert!(rt; !are_in_order(&[lines[0], lines[1], b"rent"]));
 }

@@ -1,11 +1,9 @@
 //! Tests of the library through its public paths: worked examples, and the cases that the Rust
-//! crate's own tests hold. Laws of what the library derives, and callers of it, as a crate outside this
-//! workspace would write them.
+//! crate's own tests hold. Laws of what the library derives.
 #![tactic(auto)]
 
 #[cfg(test)]
 mod calendar;
-pub mod callers;
 #[cfg(test)]
 mod choices;
 #[cfg(test)]
@@ -23,7 +21,6 @@ mod fractions;
 #[cfg(test)]
 mod fronts;
 pub mod laws;
-pub mod logs;
 #[cfg(test)]
 mod moved;
 #[cfg(test)]
@@ -34,7 +31,6 @@ mod offsets;
 mod orders;
 #[cfg(test)]
 mod rows;
-pub mod schedules;
 #[cfg(test)]
 mod shown;
 #[cfg(test)]

@@ -1,8 +1,7 @@
 //! Days added and counted, durations between two values, and values so long after another.
 
 use crate::rows::{expect, value, words};
-use crate::schedules::timeout_ms;
-use speedate::{Date, DateTime, Duration, ParseError};
+use speedate::{Date, DateTime, Duration};
 
 /// A date, days, and the date so many days later.
 const ADDED: &str = "\
@@ -72,10 +71,10 @@ fn days_added_and_counted(rt: HostRuntime) {
         let (date, days): (Date, i32) = (value(&rt, date), value(&rt, days));
         match date.checked_add_days(days) {
             Some(later) => {
-                assert_eq!(rt; later, value(&rt, want), "{row}");
-                assert_eq!(rt; later.days_since(&date), days, "{row}");
+                same(&rt, later, value(&rt, want), row);
+                same(&rt, later.days_since(&date), days, row);
             }
-            None => assert_eq!(rt; want, "none", "{row}"),
+            None => same(&rt, want, "none", row),
         }
     }
 }
@@ -97,14 +96,6 @@ fn date_times_after_a_duration(rt: HostRuntime) {
         expect(&rt, duration.after(&start), want, row);
         expect(&rt, duration.negated().before(&start), want, row);
     }
-}
-
-#[test]
-fn timeouts(rt: HostRuntime) {
-    assert_eq!(rt; timeout_ms("PT30S"), Ok(Some(30_000)));
-    assert_eq!(rt; timeout_ms("PT0.0019S"), Ok(Some(1)));
-    assert_eq!(rt; timeout_ms("-PT30S"), Ok(None));
-    assert_eq!(rt; timeout_ms("PT"), Err(ParseError::TooShort));
 }
 
 #[test]

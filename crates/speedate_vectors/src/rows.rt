@@ -82,8 +82,8 @@ pub fn expect_front<T: Display + Copy, R: Abort>(
     match answer {
         Ok((read, taken)) => {
             expect(rt, Ok(read), want, row);
-            assert_eq!(rt; taken, value(rt, size), "{row}");
+            same(rt, taken, value(rt, size), row);
         }
-        Err(fault) => assert_eq!(rt; fault.name(), want, "{row}"),
+        Err(fault) => same(rt, fault.name(), want, row),
     }
 }

@@ -2,33 +2,27 @@
 
 ghost use Rattle.std.specs.Prelude.{◌<◌};
 
+use crate::rows::same;
+use arrayvec::ArrayString;
 use speedate::{
     Date, DateConfig, DateTime, DateTimeConfig, Duration, IntFloat, Moment, Time, TimeConfig,
     float_parse_str,
 };
-use std::fmt::{self, Debug, Display, Write};
+use std::fmt::{Debug, Display, Write};
 use std::process::Abort;
 
-/// A writer that takes nothing.
-#[derive(Drop)]
-struct Full;
-
-impl Write for Full {
-    fn write_str(&mut self, _text: &str) -> fmt::Result {
-        Err(fmt::Error)
-    }
-}
-
-/// A value is to be written as the text, whatever precision, sign, width, fill or form is asked for.
+/// A value is to be written as the text, whatever precision, sign, width, fill or form is asked for, and
+/// not where there is no room.
 pub fn expect_shown<T: Display, R: AllocGlobal + Abort>(rt: &R, value: &T, want: &str) {
     let shown = format!(in rt.alloc();
         "{value} {value:.3} {value:+} {value:08} {value:#} {value:*>40}"
     );
     let shown = shown.ok().expect(rt, want);
     for text in shown.split(' ') {
-        assert_eq!(rt; text, want);
+        same(rt, text, want, want);
     }
-    assert!(rt; write!(Full, "{value}").is_err(), "{want}");
+    let mut none = ArrayString::<0>::new();
+    assert!(rt; write!(none, "{value}").is_err(), "{want}");
 }
 
 /// The next drawn number, below `end`; each fourth one is 0.
@@ -76,7 +70,7 @@ fn values(rt: HostRuntime) {
 /// A value is to be written by Debug as the text.
 pub fn expect_debug<T: Debug, R: AllocGlobal + Abort>(rt: &R, value: &T, want: &str) {
     let written = format!(in rt.alloc(); "{value:?}").ok().expect(rt, want);
-    assert_eq!(rt; written.as_str(), want);
+    same(rt, written.as_str(), want, want);
 }
 
 #[test]

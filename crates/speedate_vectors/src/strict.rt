@@ -1,5 +1,5 @@
 //! Times and date-times in the relaxed form and in the strict one, which is that of RFC 3339: the texts
-//! that JSON Schema's own tests have, and each row that the strict form has more.
+//! of JSON Schema's own tests, and texts for each row that the strict form alone has.
 
 use crate::configs::{date_time_config, time_config};
 use crate::rows::{expect, quoted, same, value, words};
@@ -176,7 +176,7 @@ truncate  -     relaxed  '12:13:14.1234567'       12:13:14.123456
 error     0     strict   '12:13:14'               too_short
 error     0     strict   '12:13:14.5'             tz_required";
 
-/// Texts that are timestamps, which the form leaves as they are, and the date-time with the offset 3,600.
+/// Texts that are timestamps, which both forms read alike, and the date-time with the offset 3,600.
 const TIMESTAMPS: &str = "\
 '1654646404'    2022-06-08T00:00:04+01:00
 '1654646404.5'  2022-06-08T00:00:04.500000+01:00

@@ -1,6 +1,6 @@
 //! The duration between two values, and the value so long after another or before it.
 
-ghost use Rattle.std.specs.Prelude.{◌≡◌, ◌<◌, ◌+ℤ◌, ◌-ℤ◌, ◌*ℤ◌, IfOk, Ok, pos, neg_ℤ, unsigned_abs};
+ghost use Rattle.std.specs.Prelude.{◌≡◌, ◌<◌, ◌≤◌, ◌+ℤ◌, ◌-ℤ◌, ◌*ℤ◌, IfOk, Ok, pos, neg_ℤ, unsigned_abs};
 ghost use Rattle.std.specs.Ordering.{int_cmp};
 ghost use Rattle.speedate_base.specs.Requirement.{result_map};
 ghost use Rattle.speedate_base.specs.Timestamp.{instant_at};
@@ -22,7 +22,7 @@ use speedate_civil::datetime::{DateTime, of_instant};
 impl Duration {
     /// The duration from one date-time to another, by their instants in UTC: an hour from
     /// 2020-01-01T12:00:00Z to 2020-01-01T12:00:00-01:00. It is negative where `later` is the earlier
-    /// one. A date-time without an offset is taken to be in UTC.
+    /// one, and has at most 3,652,426 days. A date-time without an offset is taken to be in UTC.
     #[inline]
     pub fn between(earlier: &DateTime, later: &DateTime) -> Duration
         ensures answer { parts result ≡ duration_between (date_time_parts earlier.now) (date_time_parts later.now) }
@@ -30,6 +30,7 @@ impl Duration {
             ≡ utc_microsecond (date_time_parts later.now) -ℤ utc_microsecond (date_time_parts earlier.now) }
         ensures ends { IfOk (date_time_after (signed_length (parts result)) (date_time_parts earlier.now))
             (λ end. utc_microsecond end ≡ utc_microsecond (date_time_parts later.now)) }
+        ensures days { result.day ≤ 3652426 }
     {
         Self::of_microseconds(utc_microsecond(later) - utc_microsecond(earlier))
     }

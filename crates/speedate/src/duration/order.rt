@@ -4,8 +4,9 @@ ghost use Rattle.std.specs.Prelude.{◌≡◌, Some};
 ghost use Rattle.std.proofs.Common.{rules};
 ghost use Rattle.std.specs.Cmp.{po, on_total};
 ghost use Rattle.std.specs.Cmp.Rules.{comparing};
-ghost use Rattle.std.specs.Ordering.{on, as_partial_cmp};
+ghost use Rattle.std.specs.Ordering.{on, as_partial_cmp, bool_cmp, int_cmp, ordering_then};
 ghost use Rattle.speedate.specs.Duration.{parts};
+ghost use Rattle.speedate.specs.DurationMove.{signed_length};
 ghost use Rattle.speedate.specs.DurationOrderTotal.{duration_order-total};
 ghost use Rattle.speedate.specs.DurationOrder.{size_order, duration_order};
 
@@ -40,6 +41,8 @@ impl Ord for Duration {
     #[inline]
     fn cmp(&self, other: &Duration) -> Ordering
         ensures order { result ≡ duration_order (parts self.now) (parts other.now) }
+        ensures length { result ≡ ordering_then (int_cmp (signed_length (parts self.now)) (signed_length (parts other.now)))
+            (bool_cmp self.now.positive other.now.positive) }
     {
         match (self.positive, other.positive) {
             (true, true) => self.size_cmp(other),
@@ -60,6 +63,8 @@ impl PartialOrd for Duration {
     #[inline]
     fn partial_cmp(&self, other: &Duration) -> Option<Ordering>
         ensures order { result ≡ Some (duration_order (parts self.now) (parts other.now)) }
+        ensures length { result ≡ Some (ordering_then (int_cmp (signed_length (parts self.now)) (signed_length (parts other.now)))
+            (bool_cmp self.now.positive other.now.positive)) }
     {
         Some(self.cmp(other))
     }

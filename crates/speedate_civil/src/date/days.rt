@@ -27,7 +27,7 @@ impl Date {
     /// The days from an earlier date to this one: 2 for 2020-03-01 and the earlier 2020-02-28. They are
     /// negative where `earlier` is the later one.
     ///
-    /// Added to `earlier` by [`Date::checked_add_days`] they lead to this date. They are negative, none
+    /// Added to `earlier` by [`Date::checked_add_days`] they lead to this date. They are negative, 0
     /// or positive as this date is before `earlier`, equal to it or after it.
     #[inline]
     pub fn days_since(&self, earlier: &Date) -> i32

@@ -25,10 +25,10 @@ impl DateTime {
     /// The canonical text, `YYYY-MM-DDTHH:MM:SS`, with a point and six digits where the microsecond
     /// is not 0, and the offset where there is one: `2020-02-29T12:13:14.500000+01:30`.
     ///
-    /// It reads back as the date-time where the offset is absent or whole minutes, under every
-    /// configuration but for one: in the strict form a time has an offset. It reads back at the front
-    /// of a text too, where what follows is no part of a time: neither a digit, a decimal mark, `Z`,
-    /// `z` nor a sign. The seconds of another offset are not printed.
+    /// Where the offset is absent or whole minutes, the text reads back as the date-time under every
+    /// configuration whose form may have it: in the strict form a time has an offset. At the front of
+    /// a text it reads back, with its own length, if and only if what follows is no part of it, as
+    /// [`Time::to_text`] says. The seconds of an offset that is not whole minutes are not printed.
     #[inline]
     pub fn to_text(&self) -> ArrayString<TEXT_MAX>
         ensures text { result.bytes ≡ date_time_text (parts self.now) }
@@ -43,8 +43,8 @@ impl DateTime {
         ensures reads_front { IsWholeMinutes self.now.time.tz_offset → (config : TimeConfig) (rest : List ℕ)
             → IsTrue (is_of_form config.rfc3339_form self.now.time.tz_offset)
             → IsTrue (is_after_time (parts self.now).time rest)
-            → date_time_front config.rfc3339_form config.microseconds_precision_overflow_behavior (result.bytes ++ rest)
-            ≡ Ok (parts self.now, length result.bytes) }
+            ↔ (date_time_front config.rfc3339_form config.microseconds_precision_overflow_behavior (result.bytes ++ rest)
+            ≡ Ok (parts self.now, length result.bytes)) }
         ensures canonical { IsWholeMinutes self.now.time.tz_offset → (config : TimeConfig)
             → IsTrue (is_of_form config.rfc3339_form self.now.time.tz_offset)
             → result_map date_time_text (date_time_answer config.rfc3339_form config.microseconds_precision_overflow_behavior result.bytes)

@@ -6,7 +6,6 @@ ghost use Rattle.speedate_civil.specs.FromNumbers.{new_time_answer};
 ghost use Rattle.speedate_civil.specs.Time.{parts};
 
 use super::Time;
-use speedate_base::config::is_offset;
 use speedate_base::faults::ParseError;
 
 impl Time {
@@ -41,15 +40,13 @@ impl Time {
         if microsecond > 999_999 {
             return Err(ParseError::TimeTooLarge);
         }
-        match tz_offset {
-            Some(offset) if !is_offset(offset) => Err(ParseError::OutOfRangeTz),
-            _ => Ok(Time {
-                hour,
-                minute,
-                second,
-                microsecond,
-                tz_offset,
-            }),
-        }
+        let time = Time {
+            hour,
+            minute,
+            second,
+            microsecond,
+            tz_offset: None,
+        };
+        time.with_timezone_offset(tz_offset)
     }
 }

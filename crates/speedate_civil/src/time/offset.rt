@@ -65,8 +65,8 @@ pub(crate) fn end_fault(offset: Option<i32>) -> ParseError
     }
 }
 
-/// Whether a byte is `+` or `-`, the neighbours of `,`. They come as often, so that a test of each
-/// would be foreseen wrongly for half of all texts.
+/// Whether a byte is `+` or `-`, the neighbours of `,`. Both are as common, so that a branch for each
+/// would be mispredicted for half of all texts.
 #[inline(always)]
 fn is_plus_or_minus(byte: u8) -> bool
     ensures value { result ≡ ((byte == plus_sign) || (byte == hyphen)) }
@@ -106,8 +106,8 @@ fn is_utc(byte: u8) -> bool
     byte == b'Z' || byte == b'z'
 }
 
-/// The offset whose hour begins at `place`, and how many bytes it takes with its sign, which has
-/// `sign` bytes and says whether the offset is west of UTC.
+/// The offset whose hour begins at `place`, west of UTC or east of it, and how many bytes it takes
+/// with its sign, which has `sign` bytes.
 #[inline(always)]
 fn signed_offset(
     west: bool,

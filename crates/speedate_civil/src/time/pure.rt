@@ -87,8 +87,8 @@ impl PureTime {
 
     /// Reads a time of hour 0 from its minute on, which begins at `place`, whatever follows it: 13
     /// minutes and 14 seconds, in five bytes, from `b"12:13:14"` at place 3. The faults are
-    /// `InvalidCharMinute`, where two digits are not there too, and those of
-    /// [`PureTime::parse`] after it but for the hour's.
+    /// `InvalidCharMinute`, also where fewer than two bytes are there, and then those of
+    /// [`PureTime::parse`] from `OutOfRangeMinute` on.
     #[inline(always)]
     pub fn parse_from_minute(
         bytes: &[u8],
@@ -197,7 +197,7 @@ impl PureTime {
     }
 }
 
-/// The second in the front of a text, as [`PureTime`] reads it, whose first `fits` bytes are as in
+/// The second, as [`PureTime`] reads it, in the front of a text whose first `fits` bytes are as in
 /// `00:00:00`.
 #[inline(always)]
 fn second_there(front: u8x8, fits: usize) -> Option<Option<u8>>

@@ -42,7 +42,7 @@ impl Time {
     ///
     /// - `OutOfRangeTz` where the offset is of 24 hours or more;
     /// - `TzRequired` where the time has no offset;
-    /// - `TimeTooLarge` where that clock shows another day, the one before too.
+    /// - `TimeTooLarge` where that clock shows another day, also where it is the one before.
     #[inline]
     pub fn in_timezone(&self, tz_offset: i32) -> Result<Self, ParseError>
         ensures answer { result_map parts result ≡ time_in_timezone tz_offset (parts self.now) }

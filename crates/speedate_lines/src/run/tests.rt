@@ -3,15 +3,87 @@
 mod failures;
 
 use super::{RunError, run};
-use crate::ends::{Sink, Source};
+use crate::ends::{Sink, Source, same};
 use crate::watched::Watched;
 use std::alloc::{AllocError, Global};
 use std::process::Abort;
-use std::test::Fail;
 
-const INPUT: &[u8] = b"date 2020-01-01\nx\ndate 123x";
+/// Inputs in quotes, and the answers to their lines. `|` stands for a line feed, `~` for the byte ff,
+/// and `<x*4097>` for 4,097 times `x`.
+const SHORT: &str = "\
+'date 2020-01-01|x|date 123x' ok 2020-01-01|err unknown_kind|err too_short|
+''
+'|' err unknown_kind|
+'||' err unknown_kind|err unknown_kind|
+'date ' err too_short|
+'date' err unknown_kind|
+'date 2020-04-01 ' err extra_characters|
+'date 2020-04-01\r|' err extra_characters|
+'date 1654560000' ok 2022-06-07|
+'date -62167219200001' err date_too_small|
+'date  2020-01-01' err invalid_char_year|
+'Date 2020-01-01' err unknown_kind|
+'date ~~~~~~~~~~' err invalid_char_year|
+'time 12:13' ok 12:13:00|
+'time 12:00:00+0130' ok 12:00:00+01:30|
+'time 12:13:14,5z' ok 12:13:14.500000Z|
+'time 24:00' err out_of_range_hour|
+'time 12345' err invalid_char_time_sep|
+'time ' err too_short|
+'time' err unknown_kind|
+'time 12:13\r|' err invalid_char_tz_sign|
+'datetime 1654646404' ok 2022-06-08T00:00:04|
+'datetime 1654646404.5' ok 2022-06-08T00:00:04.500000|
+'datetime 1654646404.1234567' err second_fraction_too_long|
+'datetime 2022-01-01_12:13:14.5+0000|' ok 2022-01-01T12:13:14.500000Z|
+'datetime' err unknown_kind|
+'datetime2020-01-01' err unknown_kind|
+'duration P0.1Y' ok P36DT12H|
+'duration P1Y2Y' ok P3Y|
+'duration 1 day' ok P1D|
+'duration -PT0S' ok -PT0S|
+'duration P99999999999X' err duration_value_too_large|
+'duration P1DT1MT1S' err duration_t_repeated|
+'duration P1DT24H' ok P2D|
+'duration -P2739725Y364DT23H59M59.999999S' ok -P2739725Y364DT23H59M59.999999S|
+'duration ' err too_short|
+'duration' err unknown_kind|
+'duration-strict P1Y2Y' err duration_unit_order|
+'duration-strict P1MT1M' ok P30DT1M|
+'duration-strict -1 day, 01:00' ok -P1DT1H|
+'duration-strict' err unknown_kind|
+'duration-lax P1Y' err unknown_kind|
+'time-strict 12:13:14.5z' ok 12:13:14.500000Z|
+'time-strict 12:13:14' err too_short|
+'time-strict 12:13:14,5Z' err invalid_char_tz_sign|
+'time-strict 01:02:03+0030' err invalid_char_tz_minute|
+'time-strict' err unknown_kind|
+'time-strict12:13:14Z' err unknown_kind|
+'time-lax 12:13' err unknown_kind|
+'datetime-strict 1963-06-19t08:30:06.283185z' ok 1963-06-19T08:30:06.283185Z|
+'datetime-strict 1963-06-19 08:30:06Z' err invalid_char_date_time_sep|
+'datetime-strict 2020-01-01T12:13:14.1234567Z' err second_fraction_too_long|
+'datetime-strict 1654646404' err invalid_char_date_sep|
+'datetime-strict' err unknown_kind|
+'time 23:59|date 2000-02-29|time 2000-02-29|date 23:59' ok 23:59:00|ok 2000-02-29|err invalid_char_time_sep|err too_short|";
 
-const OUTPUT: &[u8] = b"ok 2020-01-01\nerr unknown_kind\nerr too_short\n";
+/// The same with long lines, and many of them.
+const LONG: &str = "\
+'date <1*4091>' err invalid_char_date_sep|
+'date <1*4092>' err line_too_long|
+'date <1*4092>|date 1999-12-31' err line_too_long|ok 1999-12-31|
+'date 2020-01-01< *4081>' err extra_characters|
+'date 2020-01-01< *4081>|date 1999-12-31' err extra_characters|ok 1999-12-31|
+'time 12:13:14.<1*4082>' err second_fraction_too_long|
+'time 12:13:14.<1*4083>' err line_too_long|
+'<x*4096>' err unknown_kind|
+'<x*4096>|date 1999-12-31' err unknown_kind|ok 1999-12-31|
+'<x*4097>' err line_too_long|
+'<x*4097>|date 1999-12-31' err line_too_long|ok 1999-12-31|
+'<x*10000>|x' err line_too_long|err unknown_kind|
+'<x*69633>|date 1999-12-31' err line_too_long|ok 1999-12-31|
+'<x*200000>|date 1999-12-31' err line_too_long|ok 1999-12-31|
+'<|date 2020-02-29|*20000>' <err unknown_kind|ok 2020-02-29|*20000>";
 
 /// How a run ended, what was written, which end had failed, how often each was called, and how many
 /// bytes were left to read and were given last.
@@ -19,8 +91,8 @@ const OUTPUT: &[u8] = b"ok 2020-01-01\nerr unknown_kind\nerr too_short\n";
 struct Ended {
     result: Result<(), RunError>,
     written: Vec<u8>,
-    input_failed: bool,
-    output_failed: bool,
+    /// Whether the input had failed, and whether the output had.
+    failed: (bool, bool),
     reads: u64,
     writes: u64,
     flushes: u64,
@@ -32,14 +104,13 @@ fn run_over(source: Source<'_>, sink: Sink) -> Ended {
     let mut input = Watched::new(source);
     let mut output = Watched::new(sink);
     let result = run(&mut input, &mut output);
-    let (input_failed, output_failed) = (input.failed(), output.failed());
+    let failed = (input.failed(), output.failed());
     let source = input.into_inner();
     let sink = output.into_inner();
     Ended {
         result,
         written: sink.taken,
-        input_failed,
-        output_failed,
+        failed,
         reads: source.calls,
         writes: sink.calls,
         flushes: sink.flushes,
@@ -48,210 +119,75 @@ fn run_over(source: Source<'_>, sink: Sink) -> Ended {
     }
 }
 
-/// The answers to an input that comes in pieces of `step` bytes, over ends that do not fail.
-fn answers<R: AllocGlobal + Abort>(rt: &R, input: &[u8], step: usize) -> Vec<u8> {
-    let ended = run_over(Source::new(input, step), Sink::new(rt.alloc(), usize::MAX));
-    let failed = (ended.input_failed, ended.output_failed);
-    let row = (input.len(), step);
-    assert_eq!(rt; ended.result, Ok(()), "{row:?}");
-    assert_eq!(rt; (ended.flushes, failed), (1, (false, false)), "{row:?}");
-    ended.written
-}
-
-/// `front`, and after it so many bytes.
-fn padded(alloc: Global, front: &[u8], byte: u8, count: usize) -> Result<Vec<u8>, AllocError> {
-    let mut line = Vec::new(alloc);
-    line.extend_from_slice(front)?;
-    for _ in 0..count {
-        line.push(byte)?;
+/// The bytes that a part of a row stands for.
+fn bytes<R: AllocGlobal + Abort>(rt: &R, text: &str) -> Result<Vec<u8>, AllocError> {
+    let mut bytes = Vec::new(rt.alloc());
+    let (front, rest) = text.split_once('<').unwrap_or((text, "*0>"));
+    let (repeated, rest) = rest.split_once('*').expect(rt, text);
+    let (count, back) = rest.split_once('>').expect(rt, text);
+    push_bytes(&mut bytes, front)?;
+    for _ in 0..count.parse::<u32>().ok().expect(rt, text) {
+        push_bytes(&mut bytes, repeated)?;
     }
-    Ok(line)
+    push_bytes(&mut bytes, back)?;
+    Ok(bytes)
 }
 
-#[test]
-fn answers_each_line(rt: HostRuntime) {
-    let cases: [(&[u8], &[u8]); 55] = [
-        (INPUT, OUTPUT),
-        (b"", b""),
-        (b"\n", b"err unknown_kind\n"),
-        (b"\n\n", b"err unknown_kind\nerr unknown_kind\n"),
-        (b"date ", b"err too_short\n"),
-        (b"date", b"err unknown_kind\n"),
-        (b"date 2020-04-01 ", b"err extra_characters\n"),
-        (b"date 2020-04-01\r\n", b"err extra_characters\n"),
-        (b"date 1654560000", b"ok 2022-06-07\n"),
-        (b"date -62167219200001", b"err date_too_small\n"),
-        (b"date  2020-01-01", b"err invalid_char_year\n"),
-        (b"Date 2020-01-01", b"err unknown_kind\n"),
-        (
-            b"date \xff\xff\xff\xff\xff\xff\xff\xff\xff\xff",
-            b"err invalid_char_year\n",
-        ),
-        (b"time 12:13", b"ok 12:13:00\n"),
-        (b"time 12:00:00+0130", b"ok 12:00:00+01:30\n"),
-        (b"time 12:13:14,5z", b"ok 12:13:14.500000Z\n"),
-        (b"time 24:00", b"err out_of_range_hour\n"),
-        (b"time 12345", b"err invalid_char_time_sep\n"),
-        (b"time ", b"err too_short\n"),
-        (b"time", b"err unknown_kind\n"),
-        (b"datetime 1654646404", b"ok 2022-06-08T00:00:04\n"),
-        (b"datetime 1654646404.5", b"ok 2022-06-08T00:00:04.500000\n"),
-        (
-            b"datetime 1654646404.1234567",
-            b"err second_fraction_too_long\n",
-        ),
-        (
-            b"datetime 2022-01-01_12:13:14.5+0000\n",
-            b"ok 2022-01-01T12:13:14.500000Z\n",
-        ),
-        (b"datetime", b"err unknown_kind\n"),
-        (b"datetime2020-01-01", b"err unknown_kind\n"),
-        (b"duration P0.1Y", b"ok P36DT12H\n"),
-        (b"duration P1Y2Y", b"ok P3Y\n"),
-        (b"duration-strict P1Y2Y", b"err duration_unit_order\n"),
-        (b"duration-strict P1MT1M", b"ok P30DT1M\n"),
-        (b"duration-strict -1 day, 01:00", b"ok -P1DT1H\n"),
-        (b"duration-strict", b"err unknown_kind\n"),
-        (b"duration-lax P1Y", b"err unknown_kind\n"),
-        (b"time-strict 12:13:14.5z", b"ok 12:13:14.500000Z\n"),
-        (b"time-strict 12:13:14", b"err too_short\n"),
-        (b"time-strict 12:13:14,5Z", b"err invalid_char_tz_sign\n"),
-        (
-            b"time-strict 01:02:03+0030",
-            b"err invalid_char_tz_minute\n",
-        ),
-        (b"time-strict", b"err unknown_kind\n"),
-        (b"time-strict12:13:14Z", b"err unknown_kind\n"),
-        (b"time-lax 12:13", b"err unknown_kind\n"),
-        (
-            b"datetime-strict 1963-06-19t08:30:06.283185z",
-            b"ok 1963-06-19T08:30:06.283185Z\n",
-        ),
-        (
-            b"datetime-strict 1963-06-19 08:30:06Z",
-            b"err invalid_char_date_time_sep\n",
-        ),
-        (
-            b"datetime-strict 2020-01-01T12:13:14.1234567Z",
-            b"err second_fraction_too_long\n",
-        ),
-        (
-            b"datetime-strict 1654646404",
-            b"err invalid_char_date_sep\n",
-        ),
-        (b"datetime-strict", b"err unknown_kind\n"),
-        (b"duration 1 day", b"ok P1D\n"),
-        (b"duration -PT0S", b"ok -PT0S\n"),
-        (b"duration P99999999999X", b"err duration_value_too_large\n"),
-        (b"duration P1DT1MT1S", b"err duration_t_repeated\n"),
-        (b"duration P1DT24H", b"ok P2D\n"),
-        (
-            b"duration -P2739725Y364DT23H59M59.999999S",
-            b"ok -P2739725Y364DT23H59M59.999999S\n",
-        ),
-        (b"duration ", b"err too_short\n"),
-        (b"duration", b"err unknown_kind\n"),
-        (b"time 12:13\r\n", b"err invalid_char_tz_sign\n"),
-        (
-            b"time 23:59\ndate 2000-02-29\ntime 2000-02-29\ndate 23:59",
-            b"ok 23:59:00\nok 2000-02-29\nerr invalid_char_time_sep\nerr too_short\n",
-        ),
-    ];
-    for (input, output) in cases {
-        for step in [1, 2, 7, usize::MAX] {
-            assert_eq!(rt;
-                answers(&rt, input, step).as_slice(),
-                output,
-                "{input:?} by {step}"
-            );
-        }
+fn push_bytes(bytes: &mut Vec<u8>, text: &str) -> Result<(), AllocError> {
+    for &byte in text.as_bytes() {
+        bytes.push(match byte {
+            b'|' => b'\n',
+            b'~' => 0xff,
+            other => other,
+        })?;
     }
+    Ok(())
 }
 
-#[test]
-fn limits_a_line(rt: HostRuntime) -> Result<(), Fail> {
-    let cases: [(&[u8], u8, usize, &[u8]); 10] = [
-        (b"date ", b'1', 4091, b"err invalid_char_date_sep\n"),
-        (b"date ", b'1', 4092, b"err line_too_long\n"),
-        (b"", b'x', 4096, b"err unknown_kind\n"),
-        (b"", b'x', 4097, b"err line_too_long\n"),
-        (b"", b'x', 10_000, b"err line_too_long\n"),
-        (b"", b'x', 69_633, b"err line_too_long\n"),
-        (b"", b'x', 200_000, b"err line_too_long\n"),
-        (b"date 2020-01-01", b' ', 4081, b"err extra_characters\n"),
-        (
-            b"time 12:13:14.",
-            b'1',
-            4082,
-            b"err second_fraction_too_long\n",
-        ),
-        (b"time 12:13:14.", b'1', 4083, b"err line_too_long\n"),
-    ];
-    for (front, byte, count, want) in cases {
-        let line = padded(rt.alloc(), front, byte, count)?;
-        let mut twice = Vec::new(rt.alloc());
-        twice.extend_from_slice(&line)?;
-        twice.extend_from_slice(b"\ndate 1999-12-31")?;
-        let mut both = Vec::new(rt.alloc());
-        both.extend_from_slice(want)?;
-        both.extend_from_slice(b"ok 1999-12-31\n")?;
-        for step in [4096, 4097, 65_536, usize::MAX] {
-            assert_eq!(rt;
-                answers(&rt, &line, step).as_slice(),
-                want,
-                "{count} by {step}"
-            );
-            assert_eq!(rt;
-                answers(&rt, &twice, step).as_slice(),
-                both.as_slice(),
-                "{count} by {step}"
-            );
+/// The input of a row, and the answers to it.
+fn parts<R: AllocGlobal + Abort>(rt: &R, row: &str) -> Result<(Vec<u8>, Vec<u8>), AllocError> {
+    let (input, answers) = row.rsplit_once('\'').expect(rt, row);
+    let input = input.trim_start_matches('\'');
+    Ok((bytes(rt, input)?, bytes(rt, answers.trim_start())?))
+}
+
+/// An input is to have these answers, over ends that give and take so many bytes a call and do not fail.
+fn expect<R: AllocGlobal + Abort>(
+    rt: &R,
+    input: &[u8],
+    steps: (usize, usize),
+    want: &[u8],
+    row: &str,
+) {
+    let ended = run_over(Source::new(input, steps.0), Sink::new(rt.alloc(), steps.1));
+    let found = (ended.result, ended.failed, ended.flushes);
+    same(rt, found, (Ok(()), (false, false), 1), &(row, steps));
+    same(rt, ended.written.as_slice(), want, &(row, steps));
+}
+
+/// The rows of a table are to have their answers, over readers that give so many bytes a call.
+fn expect_rows<R: AllocGlobal + Abort>(
+    rt: &R,
+    rows: &str,
+    read_steps: [usize; 4],
+) -> Result<(), AllocError> {
+    for row in rows.lines() {
+        let (input, want) = parts(rt, row)?;
+        for read_step in read_steps {
+            for write_step in [1, usize::MAX] {
+                expect(rt, &input, (read_step, write_step), &want, row);
+            }
         }
     }
     Ok(())
 }
 
 #[test]
-fn answers_a_line_after_a_long_one(rt: HostRuntime) -> Result<(), Fail> {
-    let mut input = padded(rt.alloc(), b"", b'x', 10_000)?;
-    input.extend_from_slice(b"\nx")?;
-    for step in [1, 4096, 4097, usize::MAX] {
-        assert_eq!(rt;
-            answers(&rt, &input, step).as_slice(),
-            b"err line_too_long\nerr unknown_kind\n".as_slice(),
-            "by {step}"
-        );
-    }
-    Ok(())
+fn answers_each_line(rt: HostRuntime) -> Result<(), AllocError> {
+    expect_rows(&rt, SHORT, [1, 2, 7, usize::MAX])
 }
 
 #[test]
-fn answers_many_lines(rt: HostRuntime) -> Result<(), Fail> {
-    let mut input = Vec::new(rt.alloc());
-    let mut output = Vec::new(rt.alloc());
-    for _ in 0..20_000 {
-        input.extend_from_slice(b"\ndate 2020-02-29\n")?;
-        output.extend_from_slice(b"err unknown_kind\nok 2020-02-29\n")?;
-    }
-    for step in [1000, 65_536, usize::MAX] {
-        assert!(rt;
-            answers(&rt, &input, step).as_slice() == output.as_slice(),
-            "by {step}"
-        );
-    }
-    Ok(())
-}
-
-#[test]
-fn takes_and_gives_one_byte_a_call(rt: HostRuntime) {
-    let ended = run_over(Source::new(INPUT, 1), Sink::new(rt.alloc(), 1));
-    assert_eq!(rt; ended.result, Ok(()));
-    assert_eq!(rt; ended.written.as_slice(), OUTPUT);
-}
-
-#[test]
-fn an_empty_input_is_flushed(rt: HostRuntime) {
-    let ended = run_over(Source::new(b"", 1), Sink::new(rt.alloc(), 1));
-    assert_eq!(rt; ended.result, Ok(()));
-    assert_eq!(rt; (ended.reads, ended.writes, ended.flushes), (1, 0, 1));
+fn limits_a_line(rt: HostRuntime) -> Result<(), AllocError> {
+    expect_rows(&rt, LONG, [4096, 4097, 65_536, usize::MAX])
 }

@@ -1,53 +1,58 @@
 //! Each call of a `Watched`, over ends that fail or do not.
 
 use super::{Failed, Watched};
-use crate::ends::{Calls, Sink, Source};
+use crate::ends::{Calls, Sink, Source, same};
+use std::process::Abort;
 
 const INPUT: &[u8] = b"date 2020-01-01";
 
 #[test]
-fn each_call_is_one_call(rt: HostRuntime) {
-    for fails in [Calls::None, Calls::One(0)] {
-        let source = Source {
-            fails,
-            ..Source::new(INPUT, 4)
-        };
+fn a_read_is_one_call(rt: HostRuntime) {
+    for (fails, want) in [(Calls::None, Ok(4)), (Calls::One(0), Err(Failed))] {
+        let mut source = Source::new(INPUT, 4);
+        source.fails = fails;
         let mut input = Watched::new(source);
         let mut buffer = [0; 8];
-        let count = input.read(&mut buffer);
-        let failed = fails.has(0);
-        assert_eq!(rt; count, if failed { Err(Failed) } else { Ok(4) });
-        assert_eq!(rt; input.failed(), failed);
-        assert_eq!(rt; input.into_inner().calls, 1);
+        let found = (input.read(&mut buffer), input.failed());
+        same(&rt, found, (want, want.is_err()), &fails);
+        same(&rt, input.into_inner().calls, 1, &fails);
     }
-    for (fails, refuses) in [
-        (Calls::None, Calls::None),
-        (Calls::One(0), Calls::None),
-        (Calls::None, Calls::One(0)),
-    ] {
-        let sink = Sink {
-            fails,
-            refuses,
-            ..Sink::new(rt.alloc(), 4)
-        };
+}
+
+#[test]
+fn a_write_is_one_call(rt: HostRuntime) {
+    expect_write(&rt, Calls::None, Calls::None, Ok(4));
+    expect_write(&rt, Calls::One(0), Calls::None, Err(Failed));
+    expect_write(&rt, Calls::None, Calls::One(0), Err(Failed));
+}
+
+/// A write whose calls fail so, or take nothing, is to answer this, by one call of the writer.
+fn expect_write<R: AllocGlobal + Abort>(
+    rt: &R,
+    fails: Calls,
+    refuses: Calls,
+    want: Result<usize, Failed>,
+) {
+    let mut sink = Sink::new(rt.alloc(), 4);
+    sink.fails = fails;
+    sink.refuses = refuses;
+    let mut output = Watched::new(sink);
+    let found = (output.write(INPUT), output.failed());
+    let row = (fails, refuses);
+    same(rt, found, (want, want.is_err()), &row);
+    let sink = output.into_inner();
+    same(rt, (sink.calls, sink.flushes), (1, 0), &row);
+}
+
+#[test]
+fn a_flush_is_one_call(rt: HostRuntime) {
+    for (flush_fails, want) in [(false, Ok(())), (true, Err(Failed))] {
+        let mut sink = Sink::new(rt.alloc(), 4);
+        sink.flush_fails = flush_fails;
         let mut output = Watched::new(sink);
-        let count = output.write(INPUT);
-        let failed = fails.has(0) || refuses.has(0);
-        assert_eq!(rt; count, if failed { Err(Failed) } else { Ok(4) });
-        assert_eq!(rt; output.failed(), failed);
+        let found = (output.flush(), output.failed());
+        same(&rt, found, (want, want.is_err()), &flush_fails);
         let sink = output.into_inner();
-        assert_eq!(rt; (sink.calls, sink.flushes), (1, 0));
-    }
-    for flush_fails in [false, true] {
-        let sink = Sink {
-            flush_fails,
-            ..Sink::new(rt.alloc(), 4)
-        };
-        let mut output = Watched::new(sink);
-        let flushed = output.flush();
-        assert_eq!(rt; flushed, if flush_fails { Err(Failed) } else { Ok(()) });
-        assert_eq!(rt; output.failed(), flush_fails);
-        let sink = output.into_inner();
-        assert_eq!(rt; (sink.calls, sink.flushes), (0, 1));
+        same(&rt, (sink.calls, sink.flushes), (0, 1), &flush_fails);
     }
 }

@@ -4,7 +4,8 @@ use Rattle.speedate_base.proofs.TextLemmas.{text-alone, text-canonical}
 use Rattle.speedate_civil.specs.DateTime.{parts}
 use Rattle.speedate_civil.specs.DateTimeText.{date_time_answer, date_time_text}
 use Rattle.speedate_civil.specs.DateTimeTimestamp.{date_time_number_answer, date_time_or_timestamp}
-use Rattle.speedate_civil.proofs.DateTimeLemmas.{date_time_text-front, date_time_text-reads, date_time_text-distinct}
+use Rattle.speedate_civil.proofs.AfterTimeLemmas.{date_time_text-front-iff}
+use Rattle.speedate_civil.proofs.DateTimeLemmas.{date_time_text-reads, date_time_text-distinct}
 use Rattle.speedate_civil.specs.NumberText.{or_number}
 use Rattle.speedate_civil.proofs.DateTimeValueLemmas.{is_date_and_time}
 use Rattle.speedate_civil.proofs.datetime.DateTime.to_text.Goals as goal
@@ -30,12 +31,12 @@ returns-clause-reads_back_with_config c whole config given =
     (date_time_text-reads form behavior (parts value) (is_date_and_time value) given whole)
 
 pub returns-clause-reads_front : goal.returns-clause-reads_front
-returns-clause-reads_front c whole config rest given after =
+returns-clause-reads_front c whole config rest given =
     let value = parts c.args.self.now in
     let form = config.rfc3339_form in
     let behavior = config.microseconds_precision_overflow_behavior in
     let bytes = text-alone _ _ _ c.new-text.ensures c.push_onto.ensures.text in
-    rw (bytes) (date_time_text-front form behavior value rest (is_date_and_time c.args.self.now) given whole after)
+    rw (bytes) (date_time_text-front-iff form behavior value rest (is_date_and_time c.args.self.now) given whole)
 
 pub returns-clause-canonical : goal.returns-clause-canonical
 returns-clause-canonical c whole config given =

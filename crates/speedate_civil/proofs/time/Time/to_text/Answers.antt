@@ -2,7 +2,8 @@ use Rattle.std.proofs.Common.{◌∙◌, sym, ap}
 use Rattle.speedate_civil.specs.Time.{parts}
 use Rattle.speedate_base.proofs.TextLemmas.{text-alone, text-canonical}
 use Rattle.speedate_civil.specs.TimeText.{time_answer, time_text}
-use Rattle.speedate_civil.proofs.TimeLemmas.{time_text-front, time_text-reads, time_text-distinct}
+use Rattle.speedate_civil.proofs.AfterTimeLemmas.{time_text-front-iff}
+use Rattle.speedate_civil.proofs.TimeLemmas.{time_text-reads, time_text-distinct}
 use Rattle.speedate_civil.proofs.TimeValueLemmas.{is_time}
 use Rattle.speedate_civil.proofs.time.Time.to_text.Goals as goal
 
@@ -15,12 +16,12 @@ returns-clause-reads_back c whole config given =
     ap (time_answer form behavior) bytes ∙ time_text-reads form behavior (parts time) given (is_time time) whole
 
 pub returns-clause-reads_front : goal.returns-clause-reads_front
-returns-clause-reads_front c whole config rest given after =
+returns-clause-reads_front c whole config rest given =
     let time = parts c.args.self.now in
     let form = config.rfc3339_form in
     let behavior = config.microseconds_precision_overflow_behavior in
     let bytes = text-alone _ _ _ c.new-text.ensures c.push_onto.ensures.text in
-    rw (bytes) (time_text-front form behavior time rest given (is_time c.args.self.now) whole after)
+    rw (bytes) (time_text-front-iff form behavior time rest given (is_time c.args.self.now) whole)
 
 pub returns-clause-canonical : goal.returns-clause-canonical
 returns-clause-canonical c whole config given =

@@ -1,0 +1,4 @@
+pub mod Ledger
+pub mod Log
+pub mod Schedule
+pub mod Trace

@@ -1,0 +1,29 @@
+-- When a job that runs every so often runs next, by microseconds of any size.
+use Rattle.std.specs.Prelude.{◌≡◌, ℕ, ◌+◌, ◌*◌, ◌/◌, ◌≤◌, if◌then◌else◌, Option, Some, None, ℤ, pos, negsuc, ◌+ℤ◌, ◌-ℤ◌, ◌*ℤ◌, ◌<ℤ◌, ◌≤ℤ◌, int_lt, Result, Ok}
+use Rattle.speedate.specs.declared.ParseError.{ParseError}
+use Rattle.speedate.specs.DateAndTime.{DateAndTime, utc_microsecond}
+use Rattle.speedate.specs.DurationMove.{signed_length, date_time_after}
+use Rattle.speedate.specs.DurationNumbers.{DurationNumbers, length_microseconds}
+use Rattle.speedate.specs.Requirement.{result_map}
+
+-- which run after the last one is the first that is later than now, where a job runs every so many microseconds and so many have
+-- gone by since the last run; where a clock was set back it is the one after the last
+abbrev pub next_count : ℕ → ℤ → ℕ
+next_count every (pos gone) = gone / every + 1
+next_count every (negsuc below) = 1
+
+-- the next run, as a clock at the offset of the last one shows it, or the fault of one outside the years 0000 to 9999; none
+-- where the time between two runs is not positive
+abbrev pub next_run_answer : DateAndTime → DurationNumbers → DateAndTime → Result (Option DateAndTime) ParseError
+next_run_answer last every now =
+    let length = length_microseconds every in
+    if int_lt (pos 0) (signed_length every)
+    then result_map Some (date_time_after (pos (next_count length (utc_microsecond now -ℤ utc_microsecond last) * length)) last)
+    else Ok None
+
+-- an instant is the first run later than now: it comes one or more times `every` after the last run, it is later than now, and
+-- so is no run before it
+pub record IsNextRun (last every now run : ℤ) : Type 0 where
+  pub due : (count : ℕ) × (1 ≤ count) × (run ≡ last +ℤ pos count *ℤ every)
+  pub later : now <ℤ run
+  pub first : (count : ℕ) → 1 ≤ count → now <ℤ (last +ℤ pos count *ℤ every) → run ≤ℤ (last +ℤ pos count *ℤ every)

@@ -1,0 +1,74 @@
+//! The clock of the machine.
+
+ghost use Rattle.std.specs.Prelude.{◌≡◌, ◌/◌, ◌%◌, Option};
+ghost use Rattle.std.specs.Time.{system_time_nanos};
+ghost use Rattle.speedate.specs.declared.Moment.{Moment};
+ghost use Rattle.speedate.specs.DateTime.{parts};
+ghost use Rattle.speedate.specs.Moment.{now_answer};
+ghost use Rattle.speedate.specs.Requirement.{result_map};
+
+use speedate::{DateTime, Moment, ParseError};
+use std::time::{Clock, SystemTime};
+
+/// The date-time that the machine's clock tells, as a clock at an offset, in seconds, shows it.
+pub fn local_time(clock: &impl Clock, tz_offset: i32) -> Result<DateTime, ParseError>
+    ensures told { (told : Option Moment) × (result_map parts result ≡ now_answer tz_offset told) }
+{
+    DateTime::now(|| told(clock), tz_offset)
+}
+
+/// What the machine's clock tells, or none where it cannot be read or stands before 1970.
+fn told(clock: &impl Clock) -> Option<Moment> {
+    let time = SystemTime::now(clock).ok()?;
+    Some(moment(time))
+}
+
+/// A reading of the clock without what is less than a microsecond.
+pub fn moment(time: SystemTime) -> Moment
+    ensures second { result.second ≡ system_time_nanos time / 1000000000 }
+    ensures microsecond { result.microsecond ≡ system_time_nanos time % 1000000000 / 1000 }
+{
+    let since = time.duration_since(SystemTime::UNIX_EPOCH).unwrap();
+    Moment {
+        second: since.as_secs(),
+        microsecond: since.subsec_micros(),
+    }
+}
+
+#[cfg(test)]
+mod tests {
+    use super::local_time;
+    use speedate::DateTime;
+    use std::io;
+    use std::test::Fail;
+    use std::time::{Clock, Duration};
+
+    /// A clock that stands still.
+    #[derive(Drop)]
+    struct Stopped(Duration);
+
+    impl Clock for Stopped {
+        fn monotonic(&self) -> io::Result<Duration> {
+            Ok(self.0)
+        }
+
+        fn since_1970(&self) -> io::Result<Duration> {
+            Ok(self.0)
+        }
+    }
+
+    #[test]
+    fn a_clock_that_stands_still(rt: HostRuntime) -> Result<(), Fail> {
+        let clock = Stopped(Duration::new(1_654_646_399, 123_456_999));
+        let time = local_time(&clock, 3_600)?;
+        assert_eq!(rt; time.to_text().as_str(), "2022-06-08T00:59:59.123456+01:00");
+        Ok(())
+    }
+
+    #[test]
+    fn the_clock_of_the_machine(rt: HostRuntime) -> Result<(), Fail> {
+        let earliest: DateTime = "2020-01-01T00:00:00Z".parse()?;
+        assert!(rt; earliest.cmp_instant(&local_time(&rt, 0)?).is_lt());
+        Ok(())
+    }
+}

@@ -1,0 +1,101 @@
+//! A ledger: lines that begin with dates, in order and sorted.
+
+ghost use Rattle.std.specs.Prelude.{◌≡◌, OnErr, OnOk, map};
+ghost use Rattle.std.specs.List.{IsAllAdjacentAnswer};
+ghost use Rattle.std.specs.List.Sorted.{IsPermutation, IsSortedByKey};
+ghost use Rattle.speedate.specs.Date.{parts};
+ghost use Rattle.speedate.specs.DateOrder.{date_order};
+ghost use Rattle.speedate_uses.specs.Ledger.{is_in_order};
+
+use speedate::Date;
+use std::alloc::{AllocError, Allocator};
+
+/// Whether two lines of a ledger begin with dates, and the second's is not before the first's: false
+/// for `2026-11-22 opening balance` and `2026-11-21 rent`.
+pub fn is_in_order(line: &[u8], next: &[u8]) -> bool
+    ensures order { result ≡ is_in_order line.now next.now }
+{
+    match (Date::parse_front(line), Date::parse_front(next)) {
+        (Ok((date, _)), Ok((later, _))) => date.cmp(&later).is_le(),
+        _ => false,
+    }
+}
+
+/// Whether the lines of a ledger are in order, each and the next one: false where one of several
+/// begins with no date.
+pub fn are_in_order(lines: &[&[u8]]) -> bool
+    ensures order { IsAllAdjacentAnswer (λ line next answer. answer ≡ is_in_order line.now next.now) lines.now result }
+{
+    lines.is_sorted_by(|line, next| is_in_order(line, next))
+}
+
+/// An entry of a ledger: its date, and its amount in cents.
+#[derive(Clone, Copy, Debug, PartialEq, Eq)]
+pub struct Entry {
+    pub date: Date,
+    pub cents: i64,
+}
+
+/// Sorts the entries of a ledger by date. Those of one day stay in their order.
+pub fn sort_by_date<A: Allocator>(alloc: A, entries: &mut [Entry]) -> Result<(), AllocError>
+    ensures same { IsPermutation entries.old entries.new }
+    ensures sorted { OnOk result (IsSortedByKey (λ entry. parts entry.date) date_order entries.new) }
+    ensures err { OnErr result (entries.new ≡ entries.old) }
+{
+    entries.sort_by_key(alloc, |entry| entry.date)
+}
+
+#[cfg(test)]
+mod tests {
+    use super::{Entry, are_in_order, is_in_order, sort_by_date};
+    use std::test::Fail;
+
+    /// Lines of a ledger, the next ones, and whether their dates are in order.
+    const LEDGER: &str = "\
+2026-11-22 opening balance, 2026-11-22 rent    yes
+2026-11-22 rent, 2026-12-01 rent               yes
+2026-12-31 rent, 2027-01-01T00:00 closed       yes
+2026-12-01 rent, 2026-11-30 food               no
+2026-11-30 food, 2026-11-31 food               no
+2026-11-31 food, 2026-12-01 rent               no
+rent 2026-12-01, 2026-12-01 rent               no";
+
+    #[test]
+    fn lines_of_a_ledger(rt: HostRuntime) -> Result<(), Fail> {
+        for row in LEDGER.lines() {
+            let (line, rest) = row.split_once(", ").ok_or("a row")?;
+            let (next, ordered) = rest.rsplit_once(' ').ok_or("a row")?;
+            let found = is_in_order(line.as_bytes(), next.as_bytes());
+            assert_eq!(rt; found, ordered == "yes", "{row}");
+        }
+        let lines: [&[u8]; 3] = [
+            b"2026-11-22 opening balance",
+            b"2026-11-22 rent",
+            b"2026-12-01 rent",
+        ];
+        assert!(rt; are_in_order(&lines));
+        assert!(rt; !are_in_order(&[lines[0], lines[2], lines[1]]));
+        assert!(rt; !are_in_order(&[lines[0], lines[1], b"rent"]));
+        Ok(())
+    }
+
+    #[test]
+    fn entries_by_date(rt: HostRuntime) -> Result<(), Fail> {
+        let rent = Entry {
+            date: "2026-12-01".parse()?,
+            cents: -90_000,
+        };
+        let food = Entry {
+            date: "2026-11-30".parse()?,
+            cents: -4_250,
+        };
+        let wages = Entry {
+            date: rent.date,
+            cents: 250_000,
+        };
+        let mut entries = [rent, wages, food];
+        sort_by_date(rt.alloc(), &mut entries)?;
+        assert!(rt; entries == [food, rent, wages]);
+        Ok(())
+    }
+}

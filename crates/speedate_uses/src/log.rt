@@ -1,0 +1,113 @@
+//! A log: lines that begin with date-times, taken apart and chosen.
+
+ghost use Rattle.std.specs.Prelude.{◌≡◌, ℕ, IfOk, List, drop, filter};
+ghost use Rattle.speedate.specs.DateAndTime.{DateAndTime};
+ghost use Rattle.speedate.specs.DateTime.{parts};
+ghost use Rattle.speedate.specs.DateTimeText.{date_time_front};
+ghost use Rattle.speedate.specs.Requirement.{result_map};
+ghost use Rattle.speedate_uses.specs.Log.{is_between};
+
+use speedate::{DateTime, ParseError, TimeConfig};
+use std::alloc::{AllocError, Allocator};
+
+/// The date-time at the front of a line of a log, and what follows it there: 12:13:14 in UTC on
+/// 22 November 2026, and ` GET /`, of `2026-11-22T12:13:14Z GET /`.
+pub fn log_entry<'a>(
+    line: &'a [u8],
+    config: &TimeConfig,
+) -> Result<(DateTime, &'a [u8]), ParseError>
+    ensures entry { result_map {B = DateAndTime × List ℕ} (λ entry. (parts entry.0, entry.1.now)) result
+        ≡ result_map (λ front. (front.0, drop front.1 line.now))
+        (date_time_front config.now.rfc3339_form config.now.microseconds_precision_overflow_behavior line.now) }
+{
+    let (value, size) = DateTime::parse_front(line, config)?;
+    Ok((value, &line[size..]))
+}
+
+/// Whether a line of a log begins with a date-time between two others, both among them, by instant:
+/// `2026-11-22T12:13:14Z GET /` lies between 12:13 and 12:14 in UTC on that day.
+pub fn is_between(line: &[u8], config: &TimeConfig, first: &DateTime, last: &DateTime) -> bool
+    ensures kept { result ≡ is_between config.now.rfc3339_form config.now.microseconds_precision_overflow_behavior
+        (parts first.now) (parts last.now) line.now }
+{
+    match DateTime::parse_front(line, config) {
+        Ok((value, _)) => first.cmp_instant(&value).is_le() && value.cmp_instant(last).is_le(),
+        Err(_) => false,
+    }
+}
+
+/// The lines of a log that [`is_between`] keeps, in their order.
+pub fn lines_between<'a, A: Allocator>(
+    alloc: A,
+    lines: &[&'a [u8]],
+    config: &TimeConfig,
+    first: &DateTime,
+    last: &DateTime,
+) -> Result<Vec<&'a [u8], A>, AllocError>
+    ensures kept { IfOk result (λ kept. kept.items
+        ≡ filter (λ line. is_between config.now.rfc3339_form config.now.microseconds_precision_overflow_behavior
+        (parts first.now) (parts last.now) line.now) lines.now) }
+{
+    lines
+        .iter()
+        .copied()
+        .filter(|line| is_between(line, config, first, last))
+        .collect(alloc)
+}
+
+#[cfg(test)]
+mod tests {
+    use super::{is_between, lines_between, log_entry};
+    use speedate::{DateTime, MicrosecondsPrecisionOverflowBehavior, TimeConfig};
+    use std::test::Fail;
+
+    /// Lines of a log, and whether they lie between 12:13:14 and 12:13:16 in UTC on 22 November 2026.
+    const LOG: &str = "\
+2026-11-22T12:13:13.999999Z GET /       no
+2026-11-22T12:13:14Z GET /              yes
+2026-11-22T13:13:14.5+01:00 GET /       yes
+2026-11-22 12:13:15.9999994321 GET /    yes
+2026-11-22T12:13:16.0000009Z GET /      yes
+2026-11-22T12:13:16.000001Z GET /       no
+2026-11-22T12:13:14+01:00 GET /         no
+2026-11-22T12:13:14+25:00 GET /         no
+2026-11-22T12:13: GET /                 no
+GET / 2026-11-22T12:13:14Z              no";
+
+    fn truncating() -> TimeConfig {
+        TimeConfig::builder()
+            .microseconds_precision_overflow_behavior(
+                MicrosecondsPrecisionOverflowBehavior::Truncate,
+            )
+            .build()
+    }
+
+    #[test]
+    fn lines_of_a_log(rt: HostRuntime) -> Result<(), Fail> {
+        let config = truncating();
+        let first: DateTime = "2026-11-22T12:13:14Z".parse()?;
+        let last: DateTime = "2026-11-22T12:13:16Z".parse()?;
+        for row in LOG.lines() {
+            let (line, kept) = row.rsplit_once(' ').ok_or("a row")?;
+            let found = is_between(line.as_bytes(), &config, &first, &last);
+            assert_eq!(rt; found, kept == "yes", "{row}");
+        }
+        let lines: [&[u8]; 3] = [
+            b"2026-11-22T12:13:13Z GET /",
+            b"2026-11-22T12:13:14Z GET /",
+            b"GET /",
+        ];
+        let kept = lines_between(rt.alloc(), &lines, &config, &first, &last)?;
+        assert_eq!(rt; kept.len(), 1);
+        assert_eq!(rt; kept[0], lines[1]);
+        Ok(())
+    }
+
+    #[test]
+    fn a_line_in_two_parts(rt: HostRuntime) -> Result<(), Fail> {
+        let (value, rest) = log_entry(b"2026-11-22T12:13:14Z GET /", &truncating())?;
+        assert_eq!(rt; value.to_text().as_str(), "2026-11-22T12:13:14Z");
+        assert_eq!(rt; rest, b" GET /".as_slice());
+        Ok(())
+    }
+}

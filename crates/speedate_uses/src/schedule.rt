@@ -1,0 +1,134 @@
+//! A scheduler: when a job runs next.
+
+ghost use Rattle.std.specs.Prelude.{◌≡◌, ◌↔◌, ◌*◌, ◌<◌, ◌≤◌, ◌^◌, ◌<ℤ◌, ◌≤ℤ◌, IfOk, IfSome, None, Ok, int_lt, option_map, pos};
+ghost use Rattle.speedate.specs.DateAndTime.{utc_microsecond};
+ghost use Rattle.speedate.specs.DateTime.{parts};
+ghost use Rattle.speedate.specs.Duration.{parts as duration_parts};
+ghost use Rattle.speedate.specs.DurationMove.{signed_length};
+ghost use Rattle.speedate.specs.DurationNumbers.{length_microseconds};
+ghost use Rattle.speedate.specs.Requirement.{result_map};
+ghost use Rattle.speedate_uses.specs.Schedule.{IsNextRun, next_count, next_run_answer};
+
+use speedate::{DateTime, Duration, ParseError};
+
+/// The next run of a job that last ran at `last` and runs every so often: the first that is later than
+/// `now`, as a clock at the offset of `last` shows it. Runs that were missed are left out, and where the
+/// clock was set back to before `last`, no run comes twice. There is none where `every` is not positive.
+///
+/// `DateTooLarge` where the run is after the year 9999.
+pub fn next_run(
+    last: &DateTime,
+    every: &Duration,
+    now: &DateTime,
+) -> Result<Option<DateTime>, ParseError>
+    ensures answer { result_map (option_map parts) result
+        ≡ next_run_answer (parts last.now) (duration_parts every.now) (parts now.now) }
+    ensures first { IfOk result (λ next. IfSome next (λ run. IsNextRun (utc_microsecond (parts last.now))
+        (signed_length (duration_parts every.now)) (utc_microsecond (parts now.now)) (utc_microsecond (parts run)))) }
+    ensures offset { IfOk result (λ next. IfSome next (λ run. run.time.tz_offset ≡ last.now.time.tz_offset)) }
+    ensures none { (result ≡ Ok None) ↔ (signed_length (duration_parts every.now) ≤ℤ pos 0) }
+{
+    if !is_positive(every) {
+        return Ok(None);
+    }
+    let wait = next_wait(&Duration::between(last, now), every);
+    Ok(Some(wait.after(last)?))
+}
+
+const NO_TIME: Duration = Duration {
+    positive: true,
+    day: 0,
+    second: 0,
+    microsecond: 0,
+};
+
+fn is_positive(every: &Duration) -> bool
+    ensures { result ≡ int_lt (pos 0) (signed_length (duration_parts every.now)) }
+{
+    every.cmp(&NO_TIME).is_gt()
+}
+
+/// How long after its last run a job runs next, where so much time has gone by since: the first whole
+/// number of times `every` that is longer.
+fn next_wait(gone: &Duration, every: &Duration) -> Duration
+    requires positive { pos 0 <ℤ signed_length (duration_parts every.now) }
+    requires days { gone.now.day ≤ 3652426 }
+    ensures length { let every = length_microseconds (duration_parts every.now) in
+        signed_length (duration_parts result) ≡ pos (next_count every (signed_length (duration_parts gone.now)) * every) }
+{
+    if every.cmp(gone).is_gt() {
+        return *every;
+    }
+    let (gone, every) = (microseconds(gone), microseconds(every));
+    of_microseconds(gone - gone % every + every)
+}
+
+fn microseconds(duration: &Duration) -> u64
+    requires { length_microseconds (duration_parts duration.now) < 2 ^ 63 }
+    ensures { result ≡ length_microseconds (duration_parts duration.now) }
+{
+    let seconds = 86_400 * u64::from(duration.day) + u64::from(duration.second);
+    1_000_000 * seconds + u64::from(duration.microsecond)
+}
+
+fn of_microseconds(length: u64) -> Duration
+    requires { length < 2 ^ 63 }
+    ensures { signed_length (duration_parts result) ≡ pos length }
+{
+    let seconds = length / 1_000_000;
+    Duration {
+        positive: true,
+        day: (seconds / 86_400) as u32,
+        second: (seconds % 86_400) as u32,
+        microsecond: (length % 1_000_000) as u32,
+    }
+}
+
+#[cfg(test)]
+mod tests {
+    use super::next_run;
+    use speedate::{DateTime, Duration};
+    use std::test::Fail;
+
+    /// When a job ran last, how often it runs, now, and when it runs next.
+    const RUNS: &str = "\
+2026-11-22T12:00:00Z       PT1H         2026-11-22T12:30:00Z         2026-11-22T13:00:00Z
+2026-11-22T12:00:00Z       PT1H         2026-11-22T12:59:59.999999Z  2026-11-22T13:00:00Z
+2026-11-22T12:00:00Z       PT1H         2026-11-22T12:00:00Z         2026-11-22T13:00:00Z
+2026-11-22T12:00:00Z       PT1H         2026-11-22T14:00:00Z         2026-11-22T15:00:00Z
+2026-11-22T12:00:00Z       PT1H         2026-11-22T11:00:00Z         2026-11-22T13:00:00Z
+2026-11-22T12:00:00Z       PT1H         0000-01-01T00:00:00Z         2026-11-22T13:00:00Z
+2026-01-01T00:00:00Z       PT7M         2026-01-02T00:00:00Z         2026-01-02T00:02:00Z
+2020-02-28T06:00:00Z       P1D          2020-02-28T12:00:00Z         2020-02-29T06:00:00Z
+2020-02-28T06:00:00Z       P1D          2020-02-29T12:00:00Z         2020-03-01T06:00:00Z
+2100-02-28T06:00:00Z       P1D          2100-02-28T12:00:00Z         2100-03-01T06:00:00Z
+2026-11-22T12:00:00+01:00  PT6H         2026-11-22T12:00:00-05:00    2026-11-23T00:00:00+01:00
+2026-11-22T12:00:00        PT1H         2026-11-22T13:30:00+01:00    2026-11-22T13:00:00
+2026-11-22T12:00:00+01:00  PT1H         2026-11-22T11:30:00          2026-11-22T13:00:00+01:00
+9999-12-31T22:00:00Z       PT1H         9999-12-31T22:30:00Z         9999-12-31T23:00:00Z
+9999-12-31T22:00:00Z       PT1H         9999-12-31T23:00:00Z         date_too_large
+9999-12-31T22:00:00+23:59  PT2H         0000-01-01T00:00:00Z         date_too_large
+0000-01-01T00:00:00Z       PT0.000001S  9999-12-31T23:59:59.999998Z  9999-12-31T23:59:59.999999Z
+0000-01-01T00:00:00Z       PT0.000001S  9999-12-31T23:59:59.999999Z  date_too_large
+0000-01-01T00:00:00Z       999999999d   0000-01-01T00:00:00Z         date_too_large
+2026-11-22T12:00:00Z       PT0S         2026-11-22T12:30:00Z         none
+2026-11-22T12:00:00Z       -PT0S        2026-11-22T12:30:00Z         none
+2026-11-22T12:00:00Z       -PT1H        2026-11-22T12:30:00Z         none";
+
+    #[test]
+    fn runs(rt: HostRuntime) -> Result<(), Fail> {
+        for row in RUNS.lines() {
+            let mut words = row.split_whitespace();
+            let last: DateTime = words.next().unwrap_or("").parse()?;
+            let every: Duration = words.next().unwrap_or("").parse()?;
+            let now: DateTime = words.next().unwrap_or("").parse()?;
+            let want = words.next().unwrap_or("");
+            match next_run(&last, &every, &now) {
+                Ok(Some(run)) => assert_eq!(rt; run.to_text().as_str(), want, "{row}"),
+                Ok(None) => assert_eq!(rt; "none", want, "{row}"),
+                Err(fault) => assert_eq!(rt; fault.name(), want, "{row}"),
+            }
+        }
+        Ok(())
+    }
+}

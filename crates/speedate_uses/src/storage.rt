@@ -1,0 +1,43 @@
+//! A store: a value that is kept as its text.
+
+ghost use Rattle.std.specs.Prelude.{◌≡◌, IsTrue, Ok};
+ghost use Rattle.speedate.specs.Offset.{IsWholeMinutes};
+ghost use Rattle.speedate.specs.Requirement.{result_map};
+ghost use Rattle.speedate.specs.Time.{parts};
+ghost use Rattle.speedate.specs.TimeText.{is_of_form};
+
+use speedate::{ParseError, Time, TimeConfig};
+
+/// The time that is read from a text that was stored: the same one, under any configuration whose form
+/// it is of.
+pub fn stored_and_read(time: &Time, config: &TimeConfig) -> Result<Time, ParseError>
+    requires offset { IsWholeMinutes time.now.tz_offset }
+    requires form { IsTrue (is_of_form config.now.rfc3339_form time.now.tz_offset) }
+    ensures same { result_map parts result ≡ Ok (parts time.now) }
+{
+    let stored = time.to_text();
+    Time::parse_bytes_with_config(stored.as_str().as_bytes(), config)
+}
+
+#[cfg(test)]
+mod tests {
+    use super::stored_and_read;
+    use speedate::{Time, TimeConfig};
+    use std::test::Fail;
+
+    #[test]
+    fn a_time_is_kept(rt: HostRuntime) -> Result<(), Fail> {
+        let time = Time {
+            hour: 23,
+            minute: 59,
+            second: 59,
+            microsecond: 999_999,
+            tz_offset: Some(-3_600),
+        };
+        assert_eq!(rt;
+            stored_and_read(&time, &TimeConfig::builder().build()),
+            Ok(time)
+        );
+        Ok(())
+    }
+}

@@ -1,0 +1,38 @@
+//! A configuration's timeout.
+
+ghost use Rattle.std.specs.Prelude.{◌≡◌, Some, None, if◌then◌else◌, unsigned_abs};
+ghost use Rattle.speedate.specs.declared.IsoOrder.TheVariants as order;
+ghost use Rattle.speedate.specs.declared.MicrosecondsPrecisionOverflowBehavior.TheVariants as behavior;
+ghost use Rattle.speedate.specs.DurationAnswer.{duration_answer};
+ghost use Rattle.speedate.specs.DurationNumbers.{signed_milliseconds};
+ghost use Rattle.speedate.specs.Requirement.{result_map};
+
+use speedate::{Duration, ParseError};
+
+/// The whole milliseconds of a timeout, as a configuration has it: 30,000 for `"PT30S"`. There are none
+/// where it has the negative sign.
+pub fn timeout_ms(text: &str) -> Result<Option<u64>, ParseError>
+    ensures timeout { result ≡ result_map
+        (λ timeout. if timeout.positive then Some (unsigned_abs (signed_milliseconds timeout)) else None)
+        (duration_answer order.Lax behavior.Error text.now) }
+{
+    let timeout = Duration::parse_str(text)?;
+    if !timeout.positive {
+        return Ok(None);
+    }
+    Ok(Some(timeout.signed_total_ms().unsigned_abs()))
+}
+
+#[cfg(test)]
+mod tests {
+    use super::timeout_ms;
+    use speedate::ParseError;
+
+    #[test]
+    fn timeouts(rt: HostRuntime) {
+        assert_eq!(rt; timeout_ms("PT30S"), Ok(Some(30_000)));
+        assert_eq!(rt; timeout_ms("PT0.0019S"), Ok(Some(1)));
+        assert_eq!(rt; timeout_ms("-PT30S"), Ok(None));
+        assert_eq!(rt; timeout_ms("PT"), Err(ParseError::TooShort));
+    }
+}

@@ -1,0 +1,73 @@
+//! A validator of JSON Schema's format `date-time`: the fault of a field, by its name and in words.
+
+ghost use Rattle.std.specs.Prelude.{◌≡◌, MatchResult, List, ℕ, Result, Ok, Err};
+ghost use Rattle.speedate.specs.declared.ParseError.{ParseError};
+ghost use Rattle.speedate.specs.DateTime.{parts};
+ghost use Rattle.speedate.specs.DateTimeText.{date_time_answer};
+ghost use Rattle.speedate.specs.Fault.{fault_name};
+ghost use Rattle.speedate.specs.FaultDocumentation.{fault_documentation};
+ghost use Rattle.speedate.specs.Requirement.{result_map};
+
+use speedate::{
+    DateTime, MicrosecondsPrecisionOverflowBehavior, ParseError, Rfc3339Form, TimeConfig,
+};
+
+/// What is wrong with a field: its name, and the fault's name and text, as `birth`, `too_short` and
+/// `input is too short`.
+#[derive(Clone, Copy, Debug)]
+pub struct FieldFault<'a> {
+    pub field: &'a str,
+    pub fault: &'static str,
+    pub text: &'static str,
+}
+
+/// The date-time that a field has, or what is wrong with it.
+pub fn date_time_field<'a>(field: &'a str, text: &str) -> Result<DateTime, FieldFault<'a>>
+    ensures answer { MatchResult result
+        (λ value. date_time_answer Rfc3339Form.Strict MicrosecondsPrecisionOverflowBehavior.Truncate text.now ≡ Ok (parts value))
+        (λ found. (fault : ParseError) × (found.field.now ≡ field.now) × (found.fault.now ≡ fault_name fault) × (found.text.now ≡ fault_documentation fault)
+        × (date_time_answer Rfc3339Form.Strict MicrosecondsPrecisionOverflowBehavior.Truncate text.now ≡ Err fault)) }
+{
+    match schema_date_time(text) {
+        Ok(value) => Ok(value),
+        Err(fault) => Err(FieldFault {
+            field,
+            fault: fault.name(),
+            text: fault.get_documentation().unwrap_or_default(),
+        }),
+    }
+}
+
+/// The date-time that a text of JSON Schema's format `date-time` is, or the fault of a text that is none:
+/// digits past the microsecond are dropped.
+pub fn schema_date_time(text: &str) -> Result<DateTime, ParseError>
+    ensures answer { result_map parts result
+        ≡ date_time_answer Rfc3339Form.Strict MicrosecondsPrecisionOverflowBehavior.Truncate text.now }
+{
+    let config = TimeConfig::builder()
+        .rfc3339_form(Rfc3339Form::Strict)
+        .microseconds_precision_overflow_behavior(MicrosecondsPrecisionOverflowBehavior::Truncate)
+        .build();
+    DateTime::parse_bytes_rfc3339_with_config(text.as_bytes(), &config)
+}
+
+#[cfg(test)]
+mod tests {
+    use super::date_time_field;
+    use std::test::Fail;
+
+    #[test]
+    fn fields(rt: HostRuntime) -> Result<(), Fail> {
+        let due = date_time_field("due", "2026-11-22T12:13:14.1234567Z")
+            .ok()
+            .ok_or("a value")?;
+        assert_eq!(rt; due.to_text().as_str(), "2026-11-22T12:13:14.123456Z");
+        let fault = date_time_field("due", "2026-11-22T12:13")
+            .err()
+            .ok_or("a fault")?;
+        assert_eq!(rt; fault.field, "due");
+        assert_eq!(rt; fault.fault, "too_short");
+        assert_eq!(rt; fault.text, "input is too short");
+        Ok(())
+    }
+}
