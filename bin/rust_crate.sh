@@ -9,8 +9,8 @@ fail() {
 # Builds out/libspeedate.a where it is missing, or older than a source.
 build_library() {
     library=$root/out/libspeedate.a
-    newer=$(find "$root"/crates/speedate*/src ! -path '*/speedate_vectors/*' ! -path '*/speedate_lines/*' \
-        -newer "$library" 2>/dev/null)
+    newer=$(find "$root/crates/speedate_base/src" "$root/crates/speedate_civil/src" "$root/crates/speedate/src" \
+        "$root/crates/speedate_c/src" -newer "$library" 2>/dev/null)
     if [ ! -f "$library" ] || [ -n "$newer" ]; then
         "$root/bin/build_c" >&2 || fail 'out/libspeedate.a could not be built'
     fi
