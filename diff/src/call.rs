@@ -85,7 +85,7 @@ impl Call {
         let mut config = config(draw);
         match kind {
             Kind::Duration if draw.once_in(8) => config.iso_order = ORDER_STRICT,
-            Kind::Time | Kind::DateTimeRfc3339 if draw.once_in(8) => config.rfc3339_form = FORM_STRICT,
+            Kind::Time | Kind::DateTime | Kind::DateTimeRfc3339 if draw.once_in(8) => config.rfc3339_form = FORM_STRICT,
             _ => {}
         }
         Call::Read { kind, text: Bytes(draw.text(kind)), config }

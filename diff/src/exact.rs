@@ -11,8 +11,8 @@ const MICROSECONDS_A_DAY: i128 = 86_400 * MICROSECONDS_A_SECOND;
 /// One more than the most days, and the most seconds, that a sum of a duration may have.
 const END: i128 = 1 << 32;
 
-/// More digits than any whole number of an `i64` has.
-const MANY_DIGITS: usize = 25;
+/// More than any number of a duration, or any timestamp, may be.
+const TOO_LARGE: i128 = 1 << 70;
 
 /// The answer to a text, and how far it is from where answers become faults.
 pub struct Exact {
@@ -105,7 +105,7 @@ impl<'a> IsoFraction<'a> {
         let (mut sums, mut number, mut is_clock) = ([0, 0], 0_i128, false);
         for &byte in &split_sign(self.before).1[1..] {
             match byte {
-                b'0'..=b'9' => number = number * 10 + i128::from(byte - b'0'),
+                b'0'..=b'9' => number = (number * 10 + i128::from(byte - b'0')).min(TOO_LARGE),
                 b'T' => is_clock = true,
                 b'.' | b',' => sums[usize::from(is_clock)] += number * i128::from(self.unit),
                 _ => {
@@ -117,7 +117,12 @@ impl<'a> IsoFraction<'a> {
         Some((sums[0], sums[1]))
     }
 
-    /// The duration of the text. The Rust crate tells the faults that are none of size, by the text without the digits.
+    /// What the Rust crate answers to the text without the digits.
+    pub fn without_digits(&self, config: &Config) -> Answer {
+        rust::read(Kind::Duration, &[self.before, self.after].concat(), config)
+    }
+
+    /// The duration of the text. Its faults that are none of size are those of the text without the digits.
     pub fn exact(&self, config: &Config) -> Option<Exact> {
         let (dates, clock) = self.sums()?;
         let (floor, extra) = fraction_of_unit(self.digits, self.unit * 1_000_000, true);
@@ -129,7 +134,7 @@ impl<'a> IsoFraction<'a> {
         let [seconds_end, days_end, end] = ends.map(|end| end * MICROSECONDS_A_SECOND);
         let is_negative = self.before.starts_with(b"-");
         let too_large = || Err("duration_value_too_large".to_owned());
-        let answer = match rust::read(Kind::Duration, &[self.before, self.after].concat(), config) {
+        let answer = match self.without_digits(config) {
             _ if (sum * MICROSECONDS_A_SECOND + floor) / (unit * MICROSECONDS_A_SECOND) >= END => too_large(),
             Err(fault) if !fault.ends_with("_too_large") => Err(fault),
             _ if total >= seconds_end || total >= days_end => too_large(),
@@ -187,9 +192,7 @@ impl<'a> Decimal<'a> {
 
     /// The whole part without its sign, or a larger number than any timestamp.
     fn whole_number(&self) -> i128 {
-        let zeros = self.whole.iter().take_while(|&&byte| byte == b'0').count();
-        let digits = &self.whole[zeros..];
-        digits.iter().take(MANY_DIGITS).fold(0, |number, byte| number * 10 + i128::from(byte - b'0'))
+        self.whole.iter().fold(0, |number, byte| (number * 10 + i128::from(byte - b'0')).min(TOO_LARGE))
     }
 
     /// The unit of the decimal as a timestamp.

@@ -4,7 +4,9 @@ use crate::answer::{Answer, PANIC, Value, is_fault};
 use crate::call::Call;
 use crate::draw::{Kind, LARGEST_SECOND};
 use crate::exact::{Decimal, IsoFraction, split_digits, split_sign};
-use crate::ffi::{Config, FORM_STRICT, ORDER_STRICT, OVERFLOW_TRUNCATE, Time, UNIT_INFER, UNIT_MILLISECOND};
+use crate::ffi::{
+    Config, FORM_STRICT, ORDER_STRICT, OVERFLOW_TRUNCATE, Time, UNIT_INFER, UNIT_MILLISECOND, UNIT_SECOND,
+};
 use crate::rust;
 
 /// A power of ten of so many digits is beyond the floats, and the Rust crate loses the fraction.
@@ -57,7 +59,9 @@ fn is_iso_fraction(call: &Call, rust: &Answer, ours: &Answer) -> bool {
     };
     let count = fraction.digits.len();
     let rounding = 1 + ((i128::from(fraction.unit) * 1_000_000 * count as i128) >> 50);
-    *ours == exact.answer && (count > DIGITS_OF_A_FLOAT || exact.gap(rust).is_some_and(|gap| gap <= rounding))
+    let is_rounded = exact.gap(rust).is_some_and(|gap| gap <= rounding);
+    let is_lost = count > DIGITS_OF_A_FLOAT && *rust == fraction.without_digits(config);
+    *ours == exact.answer && (is_rounded || is_lost)
 }
 
 /// The strict order refuses components that are out of order or repeated. Up to there the text has no other fault,
@@ -136,8 +140,8 @@ fn is_decimal_timestamp(call: &Call, rust: &Answer, ours: &Answer) -> bool {
     *ours == exact.answer && exact.gap(rust).is_some_and(|gap| gap <= rounding)
 }
 
-/// The decimal is over the largest second here; there the float is equal to it.
-fn is_inferred_unit(call: &Call, _rust: &Answer, ours: &Answer) -> bool {
+/// The decimal is over the largest second here; there the float is equal to it, and seconds.
+fn is_inferred_unit(call: &Call, rust: &Answer, ours: &Answer) -> bool {
     let Call::Read { kind: Kind::DateTime, text, config } = call else {
         return false;
     };
@@ -149,30 +153,39 @@ fn is_inferred_unit(call: &Call, _rust: &Answer, ours: &Answer) -> bool {
         && decimal.unit(config) == UNIT_MILLISECOND
         && float.is_some_and(|float| float.abs() == LARGEST_SECOND as f64)
         && *ours == decimal.exact(config).answer
+        && *rust == rust::read(Kind::DateTime, text, &Config { timestamp_unit: UNIT_SECOND, ..*config })
 }
 
 /// The second at the new offset is taken for milliseconds there, and never here.
-fn is_late_date_time(call: &Call, _rust: &Answer, ours: &Answer) -> bool {
+fn is_late_date_time(call: &Call, rust: &Answer, ours: &Answer) -> bool {
     let Call::InTimezone(Value::DateTime(value), offset) = call else {
         return false;
     };
     let Some(old) = value.time.offset().filter(|_| is_offset(*offset)) else {
         return false;
     };
-    let second = speedate::DateTime::from(*value).timestamp() + i64::from(offset - old);
-    let microseconds = i128::from(second) * 1_000_000 + i128::from(value.time.microsecond);
-    second.abs() > LARGEST_SECOND && *ours == rust::date_time_at(microseconds, Some(*offset))
+    let (microsecond, offset) = (value.time.microsecond, *offset);
+    let timestamp = speedate::DateTime::from(*value).timestamp() + i64::from(offset - old);
+    let config = |timestamp_unit| Config {
+        has_timestamp_offset: 1,
+        timestamp_offset: offset,
+        timestamp_unit,
+        ..Config::default()
+    };
+    let answer = |unit| rust::answer(&Call::DateTimeFromTimestamp { timestamp, microsecond, config: config(unit) });
+    timestamp.abs() > LARGEST_SECOND && *rust == answer(UNIT_INFER) && *ours == answer(UNIT_SECOND)
 }
 
 /// The instant is kept here, or the call refused; there the difference of the offsets is stored.
-fn is_moved_time(call: &Call, _rust: &Answer, ours: &Answer) -> bool {
+fn is_moved_time(call: &Call, rust: &Answer, ours: &Answer) -> bool {
     let Call::InTimezone(Value::Time(time), offset) = call else {
         return false;
     };
     let Some(old) = time.offset().filter(|_| is_offset(*offset)) else {
         return false;
     };
-    *ours == moved_time(time, offset - old, *offset)
+    let is_stored = matches!(rust, Ok(Value::Time(it)) if it.offset() == Some(offset - old));
+    is_stored && *ours == moved_time(time, offset - old, *offset)
 }
 
 fn moved_time(time: &Time, seconds: i32, offset: i32) -> Answer {
@@ -196,7 +209,7 @@ fn is_timestamp_offset(call: &Call, _rust: &Answer, ours: &Answer) -> bool {
     offset.is_some_and(|offset| !is_offset(offset)) && is_fault(ours, "config_out_of_range")
 }
 
-/// The strict form refuses a text that does not have the form of RFC 3339.
+/// The strict form refuses a text that is no timestamp and does not have the form of RFC 3339.
 fn is_strict_form(call: &Call, _rust: &Answer, ours: &Answer) -> bool {
     match call {
         Call::Read { kind, text, config } => {
@@ -209,9 +222,8 @@ fn is_strict_form(call: &Call, _rust: &Answer, ours: &Answer) -> bool {
 fn has_strict_form(kind: Kind, text: &[u8]) -> bool {
     match (kind, text.split_at_checked(11)) {
         (Kind::Time, _) => has_strict_time(text),
-        (Kind::DateTimeRfc3339, Some((date, time))) => {
-            (fits(date, b"0000-00-00T") || fits(date, b"0000-00-00t")) && has_strict_time(time)
-        }
+        (Kind::DateTime, _) if is_number(text) => true,
+        (_, Some((date, time))) => (fits(date, b"0000-00-00T") || fits(date, b"0000-00-00t")) && has_strict_time(time),
         _ => false,
     }
 }
@@ -226,6 +238,11 @@ fn has_strict_time(text: &[u8]) -> bool {
     };
     let is_offset = matches!(offset, b"Z" | b"z") || fits(offset, b"+00:00") || fits(offset, b"-00:00");
     fits(clock, b"00:00:00") && is_offset
+}
+
+fn is_number(text: &[u8]) -> bool {
+    let (digits, rest) = split_digits(split_sign(text).1);
+    !digits.is_empty() && rest.is_empty() || Decimal::of(text).is_some()
 }
 
 /// Whether a text has a digit where the pattern has `0`, and elsewhere the pattern's byte.
