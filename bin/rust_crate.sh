@@ -16,17 +16,22 @@ build_library() {
     fi
 }
 
+# Where Debian's packages librust-*-dev put crates.
+debian=${DEBIAN_CRATES:-/usr/share/cargo/registry}
+
 # build FOLDER FLAG..: builds the project of a folder; the flags go to cargo.
 build() {
     folder=$root/$1
     shift
     command -v cargo >/dev/null || fail 'cargo is not on the PATH'
-    command -v "${CC:-cc}" >/dev/null || fail "there is no C compiler (${CC:-cc}), by which cargo links"
+    command -v cc >/dev/null || fail 'there is no C compiler (cc), by which cargo links'
     build_library
     if [ -n "${SPEEDATE_SOURCES-}" ]; then
         sources=$(readlink -f "$SPEEDATE_SOURCES") && [ -f "$sources/Cargo.toml" ] ||
             fail "SPEEDATE_SOURCES: $SPEEDATE_SOURCES has no Cargo.toml"
         set -- --offline --config "patch.crates-io.speedate.path=\"$sources\"" "$@"
+        [ ! -d "$debian" ] ||
+            set -- --config 'source.crates-io.replace-with="debian"' --config "source.debian.directory=\"$debian\"" "$@"
     fi
     # It was written for the crates of the last run, which may have come from elsewhere.
     rm -f "$folder/Cargo.lock"
