@@ -1,5 +1,6 @@
 # For bin/compare and bin/bench, which set `name` and `root`: builds a Cargo project with the Rust crate speedate and
 # out/libspeedate.a. Status 3: something that it needs is missing.
+# shellcheck shell=sh disable=SC2154
 
 fail() {
     echo "$name: $1" >&2
@@ -27,8 +28,8 @@ build() {
     command -v cc >/dev/null || fail 'there is no C compiler (cc), by which cargo links'
     build_library
     if [ -n "${SPEEDATE_SOURCES-}" ]; then
-        sources=$(readlink -f "$SPEEDATE_SOURCES") && [ -f "$sources/Cargo.toml" ] ||
-            fail "SPEEDATE_SOURCES: $SPEEDATE_SOURCES has no Cargo.toml"
+        sources=$(readlink -f "$SPEEDATE_SOURCES")
+        [ -f "$sources/Cargo.toml" ] || fail "SPEEDATE_SOURCES: $SPEEDATE_SOURCES has no Cargo.toml"
         set -- --offline --config "patch.crates-io.speedate.path=\"$sources\"" "$@"
         [ ! -d "$debian" ] ||
             set -- --config 'source.crates-io.replace-with="debian"' --config "source.debian.directory=\"$debian\"" "$@"

@@ -4,8 +4,9 @@ use std::fmt;
 use std::ops::Deref;
 
 use crate::answer::Value;
-use crate::draw::{Draw, FIRST_SECOND, KINDS, Kind, LAST_SECOND};
+use crate::draw::Draw;
 use crate::ffi::{Config, Date, DateTime, Duration, FORM_STRICT, ORDER_STRICT, Time};
+use crate::text::{FIRST_SECOND, KINDS, Kind, LAST_SECOND};
 
 /// A text, which shows its bytes escaped and in hex.
 #[derive(Clone)]

@@ -1,9 +1,9 @@
 //! What a text with a fraction means by all its digits, without floats.
 
 use crate::answer::{Answer, Value};
-use crate::draw::{FIRST_SECOND, Kind, LARGEST_SECOND, LAST_SECOND};
 use crate::ffi::{Config, Duration, OVERFLOW_ERROR, UNIT_INFER, UNIT_MILLISECOND, UNIT_SECOND};
 use crate::rust;
+use crate::text::{FIRST_SECOND, Kind, LARGEST_SECOND, LAST_SECOND};
 
 const MICROSECONDS_A_SECOND: i128 = 1_000_000;
 const MICROSECONDS_A_DAY: i128 = 86_400 * MICROSECONDS_A_SECOND;

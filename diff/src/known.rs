@@ -2,12 +2,12 @@
 
 use crate::answer::{Answer, PANIC, Value, is_fault};
 use crate::call::Call;
-use crate::draw::{Kind, LARGEST_SECOND};
 use crate::exact::{Decimal, IsoFraction, split_digits, split_sign};
 use crate::ffi::{
     Config, FORM_STRICT, ORDER_STRICT, OVERFLOW_TRUNCATE, Time, UNIT_INFER, UNIT_MILLISECOND, UNIT_SECOND,
 };
 use crate::rust;
+use crate::text::{Kind, LARGEST_SECOND};
 
 /// A power of ten of so many digits is beyond the floats, and the Rust crate loses the fraction.
 const DIGITS_OF_A_FLOAT: usize = 308;

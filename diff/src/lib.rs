@@ -11,3 +11,4 @@ pub mod ffi;
 pub mod known;
 pub mod ours;
 pub mod rust;
+pub mod text;

@@ -4,8 +4,8 @@ use std::sync::OnceLock;
 
 use crate::answer::{Answer, NO_FRONT, Value};
 use crate::call::Call;
-use crate::draw::Kind;
 use crate::ffi::{self, Code, Config, Text, written};
+use crate::text::Kind;
 
 /// The answer to a call.
 pub fn answer(call: &Call) -> Answer {

@@ -11,9 +11,9 @@ use speedate::{
 
 use crate::answer::{Answer, NO_FRONT, PANIC, Value};
 use crate::call::Call;
-use crate::draw::{FIRST_SECOND, Kind};
 use crate::ffi::{self, Config};
 use crate::ours;
+use crate::text::{FIRST_SECOND, Kind};
 
 const SECONDS_A_DAY: i64 = 86_400;
 
