@@ -56,7 +56,7 @@ fits sums component =
     nat_le (digits_value component.number) 4294967295
     && (nat_le (with_item (Component component) sums).day 4294967295 && nat_le (with_item (Component component) sums).second 4294967295)
 
--- two rows of one fault are one row
+-- two rows with the same fault are a single row
 two-rows : {A : Type 0} (number sums : Bool) (fault : ParseError) (next : Result A ParseError)
     → (if number then (if sums then next else Err fault) else Err fault) ≡ (if number && sums then next else Err fault)
 two-rows true sums fault next = refl
@@ -204,7 +204,7 @@ after-exchanged sums (item ∷ items) first second rest free whole one two =
     ∙ ap (meets (item_table sums item)) (after-exchanged (with_item item sums) items first second rest (item-free item sums free) whole.1 one two)
     ∙ sym (read (item_text (Component second) ++ (item_text (Component first) ++ rest)))
 
--- texts that are one but for that order have one answer
+-- texts that differ only in that order have the same answer
 pub duration_answer-exchanged : (asked : IsoOrder) (behavior : MicrosecondsPrecisionOverflowBehavior) (one two : List ℕ)
     → asked ≡ order.Lax → AreExchanged one two → duration_answer asked behavior one ≡ duration_answer asked behavior two
 duration_answer-exchanged asked behavior one two lax are =

@@ -477,7 +477,7 @@ duration_text-reads order behavior numbers valid =
     ∙ start-answer order behavior numbers.positive text ∙ ap (result_and_then (signed_form numbers.positive)) (sym reads)
     ∙ normal_form-same numbers valid
 
--- so two durations with one text are one duration
+-- so two durations with the same text are equal
 pub duration_text-distinct : (first second : DurationNumbers) → IsDuration first → IsDuration second → duration_text first ≡ duration_text second → first ≡ second
 duration_text-distinct first second one two =
     text-distinct duration_text (duration_answer order.Lax behavior.Error) first second

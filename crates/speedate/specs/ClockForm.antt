@@ -13,7 +13,7 @@ use Rattle.speedate_base.specs.Requirement.{Requirement, ◌else_fault◌, ◌im
 use Rattle.speedate_civil.specs.ClockText.{Clock, minute_front}
 use Rattle.speedate.specs.DurationNumbers.{UnsignedDuration}
 
--- how many bytes stand before the first `:`, or in all where there is none
+-- how many bytes come before the first `:`, or how many there are if there is none
 abbrev pub colon_place : List ℕ → ℕ
 colon_place text = position_or_len (λ byte. byte == colon) text
 
@@ -24,7 +24,7 @@ hours text = take (colon_place text) text
 abbrev pub from_minute : List ℕ → List ℕ
 from_minute text = drop (colon_place text + 1) text
 
--- at most ten digits, or none, and `:` begin a text
+-- a text begins with at most ten digits, or none, and a `:`
 abbrev pub has_hours : List ℕ → Bool
 has_hours text = nat_lt (colon_place text) (length text) && nat_le (colon_place text) 10 && list_all is_ascii_digit (hours text)
 
@@ -38,7 +38,7 @@ hours_table text =
     ∷ []
 
 -- and then to go on to the minute: there are at most 2,400,000,000 hours, and what follows them has at least two bytes,
--- and at most 12 where digits are refused
+-- and at most 12 if digits are refused
 abbrev pub hours_range : MicrosecondsPrecisionOverflowBehavior → ℕ → List ℕ → List Requirement
 hours_range behavior hours rest =
     (nat_le hours 2400000000 else_fault fault.DurationHourValueTooLarge)

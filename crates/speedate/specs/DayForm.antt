@@ -14,7 +14,7 @@ use Rattle.speedate.specs.DurationNumbers.{UnsignedDuration}
 abbrev pub is_day_letter : ℕ → Bool
 is_day_letter byte = (byte == small_d) || (byte == capital_d)
 
--- what follows the first of some texts with which a text begins: all of it where it begins with none of them
+-- what follows the first of some texts that a text begins with, or the whole text if it begins with none of them
 abbrev pub after_one_of : List (List ℕ) → List ℕ → List ℕ
 after_one_of [] text = text
 after_one_of (one ∷ others) text = if starts_with nat_eq text one then drop (length one) text else after_one_of others text
@@ -32,7 +32,7 @@ day_endings = codes "ays" ∷ codes "AYS" ∷ codes "ay" ∷ codes "AY" ∷ []
 abbrev pub ending_letters : List (List ℕ)
 ending_letters = codes "a" ∷ codes "A" ∷ []
 
--- what may part the days from a clock
+-- what may come between the days and a clock
 abbrev pub gaps : List (List ℕ)
 gaps = codes ", " ∷ codes "," ∷ codes " " ∷ []
 

@@ -11,7 +11,7 @@ use Rattle.speedate.specs.DurationForm.{form_answer}
 use Rattle.speedate.specs.DurationNumbers.{DurationNumbers, UnsignedDuration, signed_form}
 use Rattle.speedate.specs.IsoForm.{Sums, no_sums, item_at, item_length, item_table, with_item, sums_length}
 
--- the answer to what is left of a text after some items, where at most so many further items are left
+-- the answer to what is left of a text after some items, with at most so many further items left
 unfoldable pub iso_answer : ℕ → Sums → List ℕ → Result UnsignedDuration ParseError
 iso_answer most sums [] = if sums.some then Ok (sums_length sums) else Err fault.TooShort
 iso_answer zero sums (byte ∷ rest) = Err fault.TooShort

@@ -17,7 +17,7 @@ use Rattle.speedate.specs.DurationNumbers.{DurationNumbers, UnsignedDuration, si
 abbrev pub has_day_letter : List ℕ → Bool
 has_day_letter text = list_any is_day_letter text
 
--- a text has days: by that letter, or since it is too short for a clock
+-- a text has days: it has that letter, or is too short for a clock
 abbrev pub has_days : List ℕ → Bool
 has_days text = nat_lt (length text) 5 || has_day_letter text
 
@@ -27,12 +27,12 @@ form_answer behavior text =
     if length text == 0 then Err fault.TooShort
     else (if has_days text then day_form behavior text else clock_form behavior text)
 
--- the answer to a text without a sign: as ISO 8601 has durations where it begins with `P`
+-- the answer to a text without a sign: that of an ISO 8601 duration if it begins with `P`
 abbrev pub IsFormAnswer : IsoOrder → MicrosecondsPrecisionOverflowBehavior → List ℕ → Result UnsignedDuration ParseError → Type 0
 IsFormAnswer order behavior text answer =
     MatchBool (slice_index text 0 == capital_p) (IsIsoAnswer order (drop 1 text) answer) (answer ≡ form_answer behavior text)
 
--- the answer to a text: the duration that it is, or its fault. The sign comes last, and with it the normal form
+-- the answer to a text: the duration that it is, or its fault. The sign and the normal form are applied last
 abbrev pub IsDurationAnswer : IsoOrder → MicrosecondsPrecisionOverflowBehavior → List ℕ → Result DurationNumbers ParseError → Type 0
 IsDurationAnswer order behavior text answer =
     (form : Result UnsignedDuration ParseError) × IsFormAnswer order behavior (drop (sign_length text) text) form

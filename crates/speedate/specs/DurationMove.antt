@@ -15,7 +15,7 @@ use Rattle.speedate.specs.DurationNumbers.{DurationNumbers, length_microseconds,
 abbrev pub signed_length : DurationNumbers → ℤ
 signed_length numbers = with_sign (not numbers.positive) (length_microseconds numbers)
 
--- the duration of so many microseconds; of none it is positive
+-- the duration of so many microseconds; zero is positive
 abbrev pub duration_of_length : ℤ → DurationNumbers
 duration_of_length (pos length) = of_length true length
 duration_of_length (negsuc below) = of_length false (suc below)
@@ -24,20 +24,20 @@ duration_of_length (negsuc below) = of_length false (suc below)
 abbrev pub negated : DurationNumbers → DurationNumbers
 negated numbers = record numbers { positive = not numbers.positive }
 
--- a duration, but for the negative one of no length, which is the positive one here
+-- a duration, but positive zero for negative zero
 abbrev pub with_positive_zero : DurationNumbers → DurationNumbers
 with_positive_zero numbers = record numbers { positive = numbers.positive || (length_microseconds numbers == 0) }
 
--- the duration from one date-time to another, by their instants in UTC; it is negative where the other one is earlier
+-- the duration from one date-time to another, by their instants in UTC; it is negative if the other one is earlier
 abbrev pub duration_between : DateAndTime → DateAndTime → DurationNumbers
 duration_between earlier later = duration_of_length (utc_microsecond later -ℤ utc_microsecond earlier)
 
--- the date-time so many microseconds after another, as a clock at its offset shows it, or the fault of one outside the years 0000
--- to 9999 of that clock
+-- the date-time so many microseconds after another, at its offset, or the fault of a date that is outside the years 0000 to
+-- 9999 there
 abbrev pub date_time_after : ℤ → DateAndTime → Result DateAndTime ParseError
 date_time_after length start = instant_date_time start.time.offset (instant_at 1000000 (local_microsecond start +ℤ length))
 
--- the duration of so many days; of none it is positive
+-- the duration of so many days; zero is positive
 abbrev pub duration_of_days : ℤ → DurationNumbers
 duration_of_days days = record { positive = int_le (pos 0) days; day = unsigned_abs days; second = 0; microsecond = 0 }
 
@@ -49,7 +49,7 @@ duration_between_dates earlier later = duration_of_days (days_between earlier la
 abbrev pub is_whole_days : DurationNumbers → Bool
 is_whole_days numbers = (numbers.second == 0) && (numbers.microsecond == 0)
 
--- a date, or the fault of one outside the years 0000 to 9999: before them where it is counted back
+-- a date, or the fault of one outside the years 0000 to 9999: after them if it is counted onward, before them if back
 abbrev pub date_or_fault : Bool → Option Ymd → Result Ymd ParseError
 date_or_fault onward (Some date) = Ok date
 date_or_fault onward None = Err (if onward then fault.DateTooLarge else fault.DateTooSmall)

@@ -17,7 +17,7 @@ IsWhole sums TimeDesignator = Unit {0}
 IsWhole sums (Component component) =
     IsItem (Component component) × (nat_lt 0 (length component.number) ≡ true) × (is_some (unit_in (units sums.is_time) component.designator) ≡ true)
 
--- each of a list of items is, whether it meets its table or not
+-- each item of a list is whole, whether it meets its table or not
 abbrev pub AreWhole : Sums → List Item → Type 0
 AreWhole sums [] = Unit {0}
 AreWhole sums (item ∷ items) = IsWhole sums item × AreWhole (with_item item sums) items

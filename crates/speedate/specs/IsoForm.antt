@@ -121,7 +121,7 @@ unit_seconds unit = seconds_per_day * unit.day + unit.second
 abbrev pub fraction_seconds : DurationUnit → List ℕ → ℕ
 fraction_seconds unit digits = digits_value digits * unit_seconds unit / 10 ^ length digits
 
--- the nearest microseconds of a fraction of a unit, less those whole seconds: 1,000,000 where it is rounded up to a second
+-- the nearest microseconds of a fraction of a unit, less those whole seconds: 1,000,000 if it is rounded up to a second
 abbrev pub fraction_microseconds : DurationUnit → List ℕ → ℕ
 fraction_microseconds unit digits =
     unsigned_abs (nearest (pos (digits_value digits * (1000000 * unit_seconds unit))) (10 ^ length digits))
@@ -193,7 +193,7 @@ AreGood sums (item ∷ items) = IsItem item × AllHold (item_table sums item) ×
 abbrev pub sums_length : Sums → UnsignedDuration
 sums_length sums = record { day = sums.day; second = sums.second; microsecond = sums.microsecond }
 
--- how good items end: with nothing after them, and then with a component among them or not; or with what has a fault
+-- how good items end: with nothing after them, and a component among them or not; or with an item that fails
 abbrev pub Ends : Sums → List ℕ → Result UnsignedDuration ParseError → Type 0
 Ends sums [] answer = answer ≡ (if sums.some then Ok (sums_length sums) else Err fault.TooShort)
 Ends sums (byte ∷ rest) answer =

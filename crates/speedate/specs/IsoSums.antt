@@ -35,7 +35,7 @@ sums_parts sums = record {
   microsecond = sums.microsecond;
 }
 
--- so many of a unit, where there is one, are added to sums that stay counted in 32 bits
+-- so many of a unit, if there is one, are added to sums that stay counted in 32 bits
 abbrev pub can_add : Sums → ℕ → Option DurationUnit → Bool
 can_add sums number None = false
 can_add sums number (Some unit) = are_counted (with_amount unit number [] sums)

@@ -26,13 +26,22 @@ use unsigned::UnsignedDuration;
 /// How many days the longest duration has.
 const DAYS_MAX: u32 = 999_999_999;
 
-/// A length of time: days of 86,400 seconds, seconds of a day, and microseconds of a second, with a
-/// sign. Zero may have either sign.
+/// A length of time with a sign: days of 86,400 seconds, seconds of a day, and microseconds of a
+/// second. Zero has a sign too: `PT0S` and `-PT0S` are different durations.
 ///
-/// The ranges of the fields are part of the type; [`Duration::new`] brings other numbers into them.
+/// It is read by [`Duration::parse_str`] and made from numbers of any size by [`Duration::new`]. It is
+/// printed in the format of ISO 8601, as `-P1Y2DT3H4M5.06S`: Display writes this text, whatever width
+/// and fill are asked for.
+///
+/// The ranges of the fields are part of the type: the check proves them at each literal, and for a
+/// constant where it is used. Both are written as in Rust:
+/// `const DAY: Duration = Duration { positive: true, day: 1, second: 0, microsecond: 0 };`.
+///
+/// `<` and [`Duration::cmp`] order durations. There is no `Hash`; as a key the fields serve, and so
+/// does the printed text, since no two durations have the same.
 #[derive(Clone, Copy, Debug, PartialEq, Eq)]
 pub struct Duration {
-    /// Whether it is positive: false for `-PT1S` and for `-PT0S`.
+    /// Whether the sign is positive: false for `-PT1S` and for `-PT0S`, true for `PT0S`.
     pub positive: bool,
     /// The days, 0 to 999,999,999.
     pub day: u32,
@@ -50,15 +59,14 @@ impl Duration {
     ghost use Rattle.speedate_base.specs.declared.config.MicrosecondsPrecisionOverflowBehavior.TheVariants as behavior;
     ghost use Rattle.speedate.specs.Duration.{parts, unsigned_parts};
 
-    /// The duration of so many days, seconds and microseconds, of any size, brought into their
-    /// ranges: 2 days, 101 seconds and 123 microseconds for 1 day, 86,500 seconds and 1,000,123
-    /// microseconds. Its length is theirs.
+    /// The duration of days, seconds and microseconds of any size, with the same length: 2 days, 101
+    /// seconds and 123 microseconds for 1 day, 86,500 seconds and 1,000,123 microseconds.
     ///
-    /// Whole seconds of the microseconds are carried into the seconds, and whole days of those into
-    /// the days. The faults, in the order in which they are looked for:
+    /// Whole seconds of the microseconds are carried into the seconds, then whole days of the seconds
+    /// into the days. The faults, in the order in which they are looked for:
     ///
-    /// - `DurationValueTooLarge` where a sum is more than 4,294,967,295;
-    /// - `DurationDaysTooLarge` where the days are then more than 999,999,999.
+    /// - `DurationValueTooLarge` if the seconds, or then the days, exceed 4,294,967,295;
+    /// - `DurationDaysTooLarge` if the days exceed 999,999,999.
     #[inline]
     pub fn new(positive: bool, day: u32, second: u32, microsecond: u32) -> Result<Self, ParseError>
         ensures answer { result_map parts result
@@ -83,34 +91,49 @@ impl Duration {
         })
     }
 
-    /// Reads a duration from a text: the duration that the text is, as one of a day, an hour and 42
-    /// seconds for `"1 day, 1:00:42"`, or the text's one fault.
+    /// Reads a duration from a text: a day, an hour and 42 seconds from `"1 day, 1:00:42"`.
     ///
-    /// One `+` or `-` may come first. What follows is an ISO 8601 duration where it begins with `P`,
-    /// `P1Y2DT3H4M5.5S`: components in any order on their side of the `T`, the last one with a
-    /// fraction of any number of digits, which is taken to its nearest microsecond; a year has 365
-    /// days and a month 30. The other forms are this library's own: hours, minutes and seconds as a
-    /// clock shows them, `24:01:03.5`, or days with or without such a clock after them,
-    /// `2 days, 10:20`. It has days where a `d` or `D` stands anywhere in it, or where it has fewer
-    /// than five bytes. The faults, in the order in which they are looked for:
+    /// One `+` or `-` may come first. If nothing follows, the fault is `TooShort`. What follows has one
+    /// of three forms, chosen in this order, and is brought into the ranges of the fields last, with
+    /// the faults of [`Duration::new`]. In each list the faults stand in the order in which they are
+    /// looked for.
     ///
-    /// - `TooShort` where nothing follows the sign;
-    /// - after a `P`, at the first item that has one: `DurationTRepeated` for a second `T`;
-    ///   `DurationInvalidNumber` where no digit comes first; `DurationValueTooLarge` where the number
-    ///   is over 4,294,967,295; `DurationInvalidFraction` after a component with a fraction;
-    ///   `DurationInvalidDateUnit` or `DurationInvalidTimeUnit` for what is no designator of its side;
-    ///   `DurationValueTooLarge` where the days or the seconds so far are over 4,294,967,295; and
-    ///   `TooShort` where all items are good and none is a component;
-    /// - of days: `DurationInvalidNumber` where no digit comes first, `DurationValueTooLarge` where
-    ///   their number is over 4,294,967,295, `DurationInvalidDays` where no `d`, `day` or `days`
-    ///   follows it, all small or all in capitals but for the `d`; then those of a clock after
-    ///   them, and `DurationHourValueTooLarge` where that has 24 hours or more;
-    /// - of a clock: `TooShort` where it has fewer than five bytes; `InvalidCharHour` where it has no
-    ///   `:`, or something else than digits before it, and `DurationHourValueTooLarge` where
-    ///   that has over ten bytes or is over 2,400,000,000; `SecondFractionTooLong` where more than
-    ///   12 bytes follow the `:`, and `TooShort` where fewer than two do; those of a time of day
-    ///   from its minute on; and `ExtraCharacters` where something follows;
-    /// - `DurationValueTooLarge` and `DurationDaysTooLarge` as [`Duration::new`] has them, last.
+    /// **ISO 8601**, if it begins with `P`, as `P1Y2DT3H4M5.5S`: components in any order on their side
+    /// of the `T`. A year has 365 days and a month 30. The last component may have a fraction of any
+    /// length, which is taken to its nearest microsecond. The first item, from the left, that has a
+    /// fault gives it:
+    ///
+    /// - `DurationTRepeated` for a second `T`;
+    /// - `DurationInvalidNumber` if a component does not begin with a digit;
+    /// - `DurationValueTooLarge` if its number exceeds 4,294,967,295;
+    /// - `DurationInvalidFraction` if a component before it has a fraction;
+    /// - `DurationInvalidDateUnit` before the `T`, or `DurationInvalidTimeUnit` after it, if the number
+    ///   is not followed by a designator of that side;
+    /// - `DurationValueTooLarge` if the days or the seconds up to it exceed 4,294,967,295;
+    /// - `TooShort`, at the end, if there is no component.
+    ///
+    /// **Days**, if it has a `d` or `D` anywhere, or fewer than five bytes, as `2 days, 10:20`; a clock
+    /// may follow, after a comma, a space, both or neither. The form is this library's own:
+    ///
+    /// - `DurationInvalidNumber` if it does not begin with a digit;
+    /// - `DurationValueTooLarge` if the number exceeds 4,294,967,295;
+    /// - `DurationInvalidDays` if no `d` or `D` follows, after at most one space, or if an `a` or `A`
+    ///   follows that and does not begin `ay` or `AY`;
+    /// - `TooShort` if the clock after it has fewer than five bytes, then the faults of a clock;
+    /// - `DurationHourValueTooLarge` if that clock has 24 hours or more.
+    ///
+    /// **A clock** otherwise, as `24:01:03.5`, which says how long a clock has run since 0. The form is
+    /// this library's own:
+    ///
+    /// - `InvalidCharHour` if there is no `:`;
+    /// - `DurationHourValueTooLarge` if more than ten bytes come before it;
+    /// - `InvalidCharHour` if these are not digits; without any, the hours are 0;
+    /// - `DurationHourValueTooLarge` if they exceed 2,400,000,000;
+    /// - `SecondFractionTooLong` if more than 12 bytes follow the `:`, and `TooShort` if fewer than two
+    ///   do;
+    /// - `InvalidCharMinute`, `OutOfRangeMinute`, `InvalidCharSecond`, `OutOfRangeSecond` and
+    ///   `SecondFractionMissing`, as for a time;
+    /// - `ExtraCharacters` if something follows the clock.
     #[inline(always)]
     pub fn parse_str(text: &str) -> Result<Self, ParseError>
         ensures answer { result_map parts result ≡ duration_answer order.Lax behavior.Error text.now }
@@ -119,8 +142,8 @@ impl Duration {
         Self::parse_bytes(text.as_bytes())
     }
 
-    /// Reads a duration from the bytes of a text, as [`Duration::parse_str`] does: a negative
-    /// second from `b"-00:00:01"`. The bytes need not be text.
+    /// Reads a duration from bytes: a negative second from `b"-00:00:01"`. The bytes need not be text.
+    /// The forms and the faults are those of [`Duration::parse_str`].
     #[inline(always)]
     pub fn parse_bytes(bytes: &[u8]) -> Result<Self, ParseError>
         ensures answer { result_map parts result ≡ duration_answer order.Lax behavior.Error bytes.now }
@@ -133,20 +156,22 @@ impl Duration {
         )
     }
 
-    /// Reads a duration from the bytes of a text, as [`Duration::parse_str`] does, but for the
-    /// digits of a clock's second past the sixth and for the order of components. With the behavior
-    /// `Truncate` those digits are dropped, so that `b"00:00:01.1234567"` is a second and 123,456
-    /// microseconds; to an ISO 8601 duration it does not matter. With the order `Strict` there is
-    /// one fault more, `DurationUnitOrder` after a `P`: a component whose unit does not come later
-    /// than that of the component before it on its side of the `T`, in the order `Y`, `M`, `W`, `D`
-    /// and after the `T` `H`, `M`, `S`, as in `b"P1D1Y"`. It is looked for after the fault of a
-    /// designator that is no unit and before sums that are too large. What `Strict` accepts has the
-    /// value that `Lax` gives it, and days and clocks are read alike in both. The offset of the
-    /// configuration does not matter.
+    /// Reads a duration from bytes, by a configuration: a second and 123,456 microseconds from
+    /// `b"00:00:01.1234567"` with the behavior `Truncate`. The bytes need not be text. The offset and
+    /// the form of times do not matter.
     ///
-    /// With the order `Lax` two neighbouring components of an ISO 8601 duration on one side of its
-    /// `T`, with no decimal mark in them or before them, can be exchanged: `b"P1DT2H3M"` and
-    /// `b"P1DT3M2H"` have one answer.
+    /// By default the forms and the faults are those of [`Duration::parse_str`]. The behavior
+    /// `Truncate` drops the digits of a clock's second past the sixth. To an ISO 8601 duration it does
+    /// not matter: every digit of its fraction counts.
+    ///
+    /// With the order `Strict` each component of an ISO 8601 duration comes at most once, in the order
+    /// `Y`, `M`, `W`, `D`, and after the `T` `H`, `M`, `S`. Otherwise, as in `b"P1D1Y"`, the fault is
+    /// `DurationUnitOrder`. It is looked for after the fault of a byte that is no designator of its
+    /// side, and before that of sums that are too large. What `Strict` accepts has the same value with
+    /// `Lax`; days and clocks are read alike with both.
+    ///
+    /// With the order `Lax` two neighbouring components on one side of the `T`, with no decimal mark in
+    /// them or before them, can change places: `b"P1DT2H3M"` and `b"P1DT3M2H"` have the same answer.
     #[inline(always)]
     pub fn parse_bytes_with_config(bytes: &[u8], config: &TimeConfig) -> Result<Self, ParseError>
         ensures answer { result_map parts result ≡ duration_answer config.now.iso_order config.now.microseconds_precision_overflow_behavior bytes.now }
@@ -194,7 +219,7 @@ impl Duration {
         Self::new(positive, size.day, size.second, size.microsecond)
     }
 
-    /// The whole seconds with the sign: -86,401 for a negative day and second.
+    /// The length in whole seconds, with the sign, cut toward zero: -86,401 for `-P1DT1.5S`.
     #[inline]
     pub fn signed_total_seconds(&self) -> i64
         ensures second { result ≡ signed_seconds (parts self.now) }
@@ -202,7 +227,7 @@ impl Duration {
         with_sign(!self.positive, self.seconds())
     }
 
-    /// The milliseconds with the sign, cut toward zero: -1,001 for -1.0019 seconds.
+    /// The length in whole milliseconds, with the sign, cut toward zero: -1,001 for `-PT1.0019S`.
     #[inline]
     pub fn signed_total_ms(&self) -> i64
         ensures millisecond { result ≡ signed_milliseconds (parts self.now) }
@@ -211,8 +236,8 @@ impl Duration {
         with_sign(!self.positive, milliseconds)
     }
 
-    /// The microseconds of a second with the sign: -1,000 for a negative second and
-    /// 1,000 microseconds.
+    /// The microseconds of the second, with the sign: -1,000 for `-PT1.001S`. They are what
+    /// [`Duration::signed_total_seconds`] leaves.
     #[inline]
     pub fn signed_microseconds(&self) -> i32
         ensures microsecond { result ≡ signed_microsecond (parts self.now) }
@@ -225,7 +250,7 @@ impl Duration {
         }
     }
 
-    /// The whole seconds, whatever the sign.
+    /// The length in whole seconds, without the sign.
     #[inline]
     fn seconds(&self) -> u64
         ensures seconds { result ≡ length_seconds (parts self.now) }
@@ -243,8 +268,7 @@ impl FromStr for Duration {
 
     ghost from_str_gives = { λ text result. result_map parts result ≡ duration_answer order.Lax behavior.Error text };
 
-    /// Reads a duration from a text, as [`Duration::parse_str`] does: `"PT90M".parse()` gives an hour
-    /// and a half.
+    /// The answer of [`Duration::parse_str`]: `"PT90M".parse()` gives an hour and a half.
     #[inline]
     fn from_str(text: &str) -> Result<Self, ParseError>
         ensures answer { result_map parts result ≡ duration_answer order.Lax behavior.Error text.now }

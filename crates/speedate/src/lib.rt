@@ -1,5 +1,53 @@
-//! Exact dates, times of day, date-times, durations and numbers: read from bytes, all but the numbers printed in
-//! one canonical form.
+//! Dates, times of day, date-times, durations and numbers, read from bytes; all but the numbers are
+//! printed, each value as exactly one text. A port of the Rust crate `speedate` 0.18.0.
+//!
+//! ```
+//! let date = Date::parse_str("2020-02-29")?;          // year 2020, month 2, day 29
+//! let text = date.to_text();                          // text.as_str() is "2020-02-29"
+//! let refused = Date::parse_str("2021-02-29");        // Err(ParseError::OutOfRangeDay)
+//! let value = DateTime::parse_str("1654646404")?;     // 2022-06-08T00:00:04
+//! let length = Duration::parse_str("PT90M")?;         // an hour and a half, printed as PT1H30M
+//! ```
+//!
+//! Nothing is allocated, and no clock is read: [`DateTime::now`] and [`Date::today`] take the clock as
+//! an argument. Years are 0000 to 9999. There are no floats: a decimal timestamp, and a fraction of an
+//! ISO 8601 duration, is taken to its nearest microsecond by all its digits.
+//!
+//! - [`Date`]: a day of the calendar, with day numbers, days added and counted, and an order.
+//! - [`Time`]: a time of day, with an offset from UTC or without one.
+//! - [`DateTime`]: a date and a time, with timestamps, moves to other offsets, and the order by
+//!   instant.
+//! - [`Duration`]: days, seconds and microseconds with a sign, the duration between two values, and the
+//!   value so long after another.
+//! - [`Decimal`], [`IntFloat`], [`int_parse_bytes`] and [`float_parse_bytes`]: numbers as texts.
+//! - [`DateConfig`], [`TimeConfig`], [`DateTimeConfig`] and their builders: how texts are read.
+//! - [`ParseError`], [`ConfigError`]: the faults. A text that is refused has exactly one, and each has
+//!   a name, such as `out_of_range_day`.
+//!
+//! # Readers and configurations
+//!
+//! `parse_str` and `parse_bytes` have the default configuration; `text.parse()` is `parse_str`.
+//! These take a configuration:
+//!
+//! - a [`DateConfig`]: `parse_str_with_config`, `parse_bytes_with_config` and `from_timestamp` of
+//!   [`Date`];
+//! - a [`TimeConfig`]: `parse_bytes_with_config` of [`Time`] and [`Duration`], `parse_front` of
+//!   [`Time`] and [`DateTime`], `from_timestamp_with_config` of [`Time`], and
+//!   `parse_bytes_rfc3339_with_config` of [`DateTime`];
+//! - a [`DateTimeConfig`]: `parse_str_with_config`, `parse_bytes_with_config`,
+//!   `from_timestamp_with_config` and `from_decimal_with_config` of [`DateTime`].
+//!
+//! A number in place of a date or a date-time is a Unix timestamp: seconds, milliseconds or
+//! microseconds since 1970-01-01T00:00:00 in UTC, and by default seconds up to 20,000,000,000,
+//! otherwise milliseconds. The readers with `rfc3339` in their names, and `parse_front`, read no
+//! timestamps.
+//!
+//! # Documents
+//!
+//! `docs/GRAMMAR.md` has the texts and the faults, as tables; `docs/CALLING.md` each call with its
+//! contract, and callers; `docs/DIFFERENCES.md` what differs from the Rust crate. Some of its calls
+//! have another name here: `to_string` is `to_text`, `from_float_with_config` is
+//! [`DateTime::from_decimal_with_config`], and `<` of times and date-times is `cmp_instant`.
 #![tactic(auto)]
 
 mod duration;

@@ -41,7 +41,7 @@ pub and_then-chain : {A B C : Type 0} (first : A → Result B ParseError) (secon
 and_then-chain first second (Ok value) = refl
 and_then-chain first second (Err fault) = refl
 
--- two fronts that are read are one
+-- two fronts that are read are equal
 taken : {A : Type 0} (first second : A) (one two : ℕ) → ◌≡◌ {A = Result (A × ℕ) ParseError} (Ok (first, one)) (Ok (second, two))
     → ◌≡◌ {A = A × ℕ} (first, one) (second, two)
 taken first second one two same = cc

@@ -60,7 +60,7 @@ fours-taken up unit value rest last is =
     ap (λ (n : ℕ). quotient up (first + n) 10000) is ∙ quotient-carried up first second 10000 10000 (lit< tt) (lit< tt)
     ∙ ap (λ (n : ℕ). quotient up n 100000000) sum
 
--- a block in front of digits
+-- a block before digits
 pub block-taken : (up : Bool) (unit : ℕ) (front rest : List ℕ) (value later twice : ℕ) → length front ≡ 8 → value ≡ digits_value front
     → later ≡ quotient up (2 * (digits_value rest * unit)) (10 ^ length rest) → twice ≡ quotient up (2 * (value * unit) + later) 100000000
     → twice ≡ quotient up (2 * (digits_value (front ++ rest) * unit)) (10 ^ (length rest + 8))

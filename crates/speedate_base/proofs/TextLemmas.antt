@@ -8,7 +8,7 @@ use Rattle.speedate_base.specs.Requirement.{result_map}
 pub text-alone : (before after text : List ℕ) → before ≡ [] → after ≡ before ++ text → after ≡ text
 text-alone before after text none appended = appended ∙ ap (λ (front : List ℕ). front ++ text) none
 
--- where two values are read back from their texts, and the texts are one, the values are one
+-- if two values are read back from their texts, and the texts are equal, the values are equal
 pub text-distinct : {A E : Type 0} (print : A → List ℕ) (read : List ℕ → Result A E) (first second : A)
     → read (print first) ≡ Ok first → read (print second) ≡ Ok second → print first ≡ print second → first ≡ second
 text-distinct print read first second one two same = let joined = sym one ∙ ap read same ∙ two in cc

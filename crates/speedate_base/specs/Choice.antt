@@ -22,7 +22,7 @@ infix 20 ◌chooses◌
 abbrev pub ◌chooses◌ : {A : Type 0} → List ℕ → A → Choice A
 name chooses value = record { name = name; value = value }
 
--- the value of the row whose name a text is, but for the case of ASCII letters, and a fault where there is none
+-- the value of the row whose name a text is, in ASCII letters of any case, or the fault if there is no such row
 abbrev pub choice_answer : {A : Type 0} → List (Choice A) → ConfigError → List ℕ → Result A ConfigError
 choice_answer [] unknown text = Err unknown
 choice_answer (row ∷ rows) unknown text =

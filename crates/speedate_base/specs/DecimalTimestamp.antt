@@ -32,7 +32,7 @@ decimal_microsecond row decimal = nearest (decimal_size row decimal) (decimal_sc
 abbrev pub decimal_instant : UnitRow → DecimalParts → Instant
 decimal_instant row decimal = instant_at 1000000 (decimal_microsecond row decimal)
 
--- what a decimal in a text has to meet where its digits are counted
+-- what a decimal in a text has to meet if its digits are counted
 abbrev pub digits_table : MicrosecondsPrecisionOverflowBehavior → UnitRow → DecimalParts → List Requirement
 digits_table behavior row decimal =
     ((refuses_digits behavior implies nat_le (length decimal.fraction) row.digits) else_fault row.too_long) ∷ []

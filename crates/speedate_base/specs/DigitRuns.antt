@@ -1,10 +1,10 @@
--- Runs of digits: how long they are, and what they spell. Bytes are all digits where `list_all is_ascii_digit` says so.
+-- Runs of digits: how long they are, and what they spell. `list_all is_ascii_digit` says that all bytes are digits.
 use Rattle.std.specs.Prelude.{ℕ, zero, suc, ◌+◌, ◌*◌, ◌^◌, List, [], ◌∷◌, length, take, drop}
 use Rattle.std.specs.Char.{is_ascii_digit}
 use Rattle.std.specs.List.{prefix_len}
 use Rattle.speedate_base.specs.Digits.{one_digit_value}
 
--- how many digits stand from a place on, up to the first byte that is none
+-- how many digits stand from a place on, up to the first byte that is no digit
 abbrev pub run_length : List ℕ → ℕ → ℕ
 run_length text place = prefix_len is_ascii_digit (drop place text)
 

@@ -16,7 +16,7 @@ IsOffset offset = unsigned_abs offset < seconds_per_day
 abbrev pub is_offset : ℤ → Bool
 is_offset offset = nat_lt (unsigned_abs offset) seconds_per_day
 
--- what an offset that is asked for has to meet; where none is asked for there is nothing to meet
+-- what an offset that is asked for has to meet; if none is asked for there is nothing to meet
 abbrev pub offset_table : Option ℤ → List Requirement
 offset_table offset = (option_map_or is_offset offset true else_fault fault.OutOfRangeTz) ∷ []
 

@@ -3,7 +3,7 @@ use Rattle.std.specs.Prelude.{ℕ, zero, suc, ◌+◌, ◌-◌, ◌*◌, Bool, L
 use Rattle.std.specs.Char.{is_ascii_digit}
 use Rattle.speedate_base.specs.Ascii.{digit_zero}
 
--- the eight bytes from a place on: 0 where the text has none
+-- the eight bytes from a place on: 0 for those after the end of the text
 abbrev pub eight_at : List ℕ → ℕ → List ℕ
 eight_at text place =
     slice_index text place ∷ slice_index text (place + 1) ∷ slice_index text (place + 2) ∷ slice_index text (place + 3)
@@ -19,8 +19,8 @@ fit_length [] bytes = 0
 fit_length (form ∷ forms) [] = 0
 fit_length (form ∷ forms) (byte ∷ bytes) = if fits_byte form byte then 1 + fit_length forms bytes else 0
 
--- what the first bytes stand for, so many of them, where they fit the pattern: a digit for its value, any other byte for 0;
--- each byte past them stands for 0
+-- what so many first bytes stand for, which fit the pattern: a digit for its value, any other byte for 0;
+-- each byte after them stands for 0
 abbrev pub fit_digits : ℕ → List ℕ → List ℕ → List ℕ
 fit_digits count [] bytes = []
 fit_digits count (form ∷ forms) [] = []

@@ -14,11 +14,11 @@ abbrev pub ◌else_fault◌ : Bool → ParseError → Requirement
 test else_fault fault = record { holds = test; fault = fault }
 
 infix 15 ◌implies◌
--- a test that is asked only where something is there
+-- a test that is asked only if another one holds
 abbrev pub ◌implies◌ : Bool → Bool → Bool
 there implies asked = if there then asked else true
 
--- what comes next where every row holds, otherwise the fault of the first row that does not
+-- what comes next if every row holds, otherwise the fault of the first row that does not
 abbrev pub meets : {A : Type 0} → List Requirement → Result A ParseError → Result A ParseError
 meets [] next = next
 meets (row ∷ rows) next = if row.holds then meets rows next else Err row.fault
@@ -36,7 +36,7 @@ result_map view answer = result_map_both view (λ fault. fault) answer
 abbrev pub with_size : {A B : Type 0} → (A → B) → A × ℕ → B × ℕ
 with_size view front = (view front.0, front.1)
 
--- the value at the front of a text, with how many bytes it takes, where the text ends with it; otherwise its fault
+-- the value at the front of a text, with how many bytes it takes, if the text ends with it; otherwise its fault
 abbrev pub alone : {A : Type 0} → (A → ParseError) → List ℕ → A × ℕ → Result A ParseError
 alone fault text front = meets ((length text == front.1 else_fault fault front.0) ∷ []) (Ok front.0)
 

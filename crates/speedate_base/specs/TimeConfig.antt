@@ -5,8 +5,8 @@ use Rattle.speedate_base.specs.declared.config.MicrosecondsPrecisionOverflowBeha
 use Rattle.speedate_base.specs.declared.config.Rfc3339Form.TheVariants as rfc3339
 use Rattle.speedate_base.specs.declared.config.TimeConfig.{TimeConfig}
 
--- further digits are refused, timestamps get no offset, the components of a duration may come in any order, and texts are
--- relaxed
+-- digits past the microsecond are refused, the value of a timestamp gets no offset, the components of a duration may come in
+-- any order, and the form is the relaxed one
 abbrev pub IsDefault : TimeConfig → Type 0
 IsDefault config =
     (config.microseconds_precision_overflow_behavior ≡ behavior.Error)

@@ -29,11 +29,11 @@ millisecond_row = record { per_second = 1000; digits = 3; too_long = fault.Milli
 abbrev pub microsecond_row : UnitRow
 microsecond_row = record { per_second = 1000000; digits = 0; too_long = fault.MicrosecondFractionTooLong; whole = refl }
 
--- the largest size of a timestamp that is seconds where its unit is inferred
+-- the largest timestamp, without its sign, that is in seconds if its unit is inferred
 abbrev pub inferred_seconds_max : ℕ
 inferred_seconds_max = 20000000000
 
--- the row of a unit, where it is said whether the timestamp's size is at most that
+-- the row of a unit, given whether the timestamp without its sign is at most that
 abbrev pub unit_row : TimestampUnit → Bool → UnitRow
 unit_row unit.Second few = second_row
 unit_row unit.Millisecond few = millisecond_row
@@ -51,7 +51,7 @@ instant_at count timestamp = record {
   microsecond = unsigned_abs (int_rem_euclid timestamp (pos count)) * (1000000 / count);
 }
 
--- a timestamp has a unit: one is inferred only where the timestamp without its sign is below 2^63, which `i64::MIN` is not
+-- a timestamp has a unit: one is inferred only if the timestamp without its sign is below 2^63, which `i64::MIN` is not
 abbrev pub has_unit : TimestampUnit → ℤ → Bool
 has_unit unit.Infer timestamp = nat_lt (unsigned_abs timestamp) (2 ^ 63)
 has_unit given timestamp = true

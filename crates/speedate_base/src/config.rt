@@ -16,7 +16,10 @@ use crate::util::SECONDS_PER_DAY;
 pub use date_time::{DateTimeConfig, DateTimeConfigBuilder};
 use std::marker::Model;
 
-/// The unit of a timestamp.
+/// The unit of a timestamp: what a number in place of a date or a date-time counts. The default infers
+/// it.
+///
+/// `"ms".parse()` gives `TimestampUnit::Millisecond`, as [`TimestampUnit::name`] writes it.
 #[derive(Clone, Copy, Debug, PartialEq, Eq, Default)]
 pub enum TimestampUnit {
     /// Seconds since 1970-01-01T00:00:00.
@@ -25,46 +28,57 @@ pub enum TimestampUnit {
     Millisecond,
     /// Microseconds since 1970-01-01T00:00:00.
     Microsecond,
-    /// Seconds where the size of the timestamp is at most 20,000,000,000, otherwise milliseconds.
+    /// Seconds if the timestamp without its sign is at most 20,000,000,000, otherwise milliseconds.
+    /// Microseconds are never inferred.
     #[default]
     Infer,
 }
 
-/// What is done with digits past the microsecond: of a second past the sixth, of a millisecond past
-/// the third, of a microsecond each after the point.
+/// What is done with digits past the microsecond: in a number of seconds past the sixth digit after the
+/// point, of milliseconds past the third, of microseconds with each digit. The default refuses them.
+///
+/// `"truncate".parse()` gives `MicrosecondsPrecisionOverflowBehavior::Truncate`. In an ISO 8601
+/// duration every digit counts, with either behavior.
 #[derive(Clone, Copy, Debug, PartialEq, Eq, Default)]
 pub enum MicrosecondsPrecisionOverflowBehavior {
-    /// They are dropped, and a timestamp is rounded to the nearest microsecond.
+    /// They are dropped in the text of a time, of a date-time or of a clock. A decimal timestamp is
+    /// rounded to the nearest microsecond by all its digits.
     Truncate,
-    /// The text is refused.
+    /// The text is refused, also if the digits are zeros.
     #[default]
     Error,
 }
 
-/// Whether the components of an ISO 8601 duration have to come in order.
+/// Whether the components of an ISO 8601 duration have to come in order. The default takes any order.
+///
+/// `"strict".parse()` gives `IsoOrder::Strict`.
 #[derive(Clone, Copy, Debug, PartialEq, Eq, Default)]
 pub enum IsoOrder {
-    /// They may come in any order on their side of the `T`, and more than once.
+    /// They may come in any order on their side of the `T`, and more than once, as in `P1D1Y`.
     #[default]
     Lax,
-    /// Each comes at most once, years before months, weeks and days, and after the `T` hours before
-    /// minutes and seconds.
+    /// Each comes at most once: years, months, weeks, days, and after the `T` hours, minutes, seconds.
     Strict,
 }
 
-/// Which texts are times and date-times: those of RFC 3339 and forms beside them, or those alone.
+/// Which texts are times and date-times: those of RFC 3339 alone, or relaxed ones as well. The default
+/// is the relaxed form.
+///
+/// `"strict".parse()` gives `Rfc3339Form::Strict`. Dates have one form, and timestamps are read alike
+/// in both.
 #[derive(Clone, Copy, Debug, PartialEq, Eq, Default)]
 pub enum Rfc3339Form {
-    /// The second, the offset and the `:` in it may be left out, the decimal mark may be a comma, the
-    /// sign of an offset U+2212, and a space or `_` may part date and time.
+    /// Relaxed texts as well: the second, the offset and the `:` of the offset may be left out; the
+    /// decimal mark may be a comma; the sign of an offset may be U+2212; a space or `_` may stand
+    /// between date and time.
     #[default]
     Relaxed,
-    /// The texts of RFC 3339, but for those with a second 60.
+    /// The texts of RFC 3339 alone, except those with a second 60, which both forms refuse.
     Strict,
 }
 
 impl Rfc3339Form {
-    /// Whether it is `Strict`.
+    /// Whether it is `Strict`: false for `Rfc3339Form::default()`.
     #[inline]
     pub fn is_strict(self) -> bool
         ensures strict { result ≡ is_strict self }
@@ -76,8 +90,8 @@ impl Rfc3339Form {
     }
 }
 
-/// Whether a text may have `count` digits where `most` of them reach the microsecond: 7 where `most`
-/// is 6 with `Truncate`, and not with `Error`.
+/// Whether a text may have `count` digits after its decimal mark, if the first `most` of them reach the
+/// microsecond: 7 with a `most` of 6 is true for `Truncate` and false for `Error`.
 #[inline]
 pub fn takes_digits(
     behavior: MicrosecondsPrecisionOverflowBehavior,
@@ -92,7 +106,8 @@ pub fn takes_digits(
     }
 }
 
-/// Whether an offset in seconds is less than 24 hours: false for 86,400 and for `i32::MIN`.
+/// Whether an offset in seconds is less than 24 hours, east or west of UTC: true for -86,399, false for
+/// 86,400 and for `i32::MIN`.
 #[inline]
 pub fn is_offset(offset: i32) -> bool
     ensures value { result ≡ is_offset offset }
@@ -101,7 +116,7 @@ pub fn is_offset(offset: i32) -> bool
     offset.unsigned_abs() < SECONDS_PER_DAY
 }
 
-/// The unit of the timestamps that are read as dates. The default infers it;
+/// How dates are read: the unit of timestamps. The default infers it;
 /// `DateConfig::builder().timestamp_unit(TimestampUnit::Second).build()` takes seconds.
 #[derive(Clone, Copy, Debug, PartialEq, Eq)]
 pub struct DateConfig {
@@ -133,7 +148,7 @@ impl Default for DateConfig {
     }
 }
 
-/// Builds a [`DateConfig`] from the value that is set, or the default.
+/// Builds a [`DateConfig`] from the unit that is set, or the default one.
 #[derive(Clone, Copy, Debug)]
 pub struct DateConfigBuilder {
     config: DateConfig,
@@ -154,7 +169,7 @@ impl DateConfigBuilder {
     ghost use Rattle.std.specs.Prelude.{◌≡◌};
     ghost use Rattle.speedate_base.specs.DateConfig.{IsDefault};
 
-    /// A builder of the default configuration, as `DateConfig::builder` gives it too.
+    /// A builder of the default configuration; `DateConfig::builder()` is the same.
     pub fn new() -> Self
         ensures default { IsDefault result }
     {
@@ -163,7 +178,8 @@ impl DateConfigBuilder {
         }
     }
 
-    /// Sets the unit of timestamps, as `timestamp_unit(TimestampUnit::Second)`.
+    /// Sets the unit of timestamps: with `timestamp_unit(TimestampUnit::Millisecond)`, `86400000` is
+    /// 1970-01-02.
     pub fn timestamp_unit(self, unit: TimestampUnit) -> Self
         ensures unit { result.timestamp_unit ≡ unit }
     {
@@ -174,8 +190,8 @@ impl DateConfigBuilder {
         }
     }
 
-    /// The configuration of the value that was set last, or of the default: the unit is inferred for
-    /// `DateConfig::builder().build()`.
+    /// The configuration with the unit that was set last, or the default one:
+    /// `DateConfig::builder().build()` infers the unit.
     pub fn build(self) -> DateConfig
         ensures built { result ≡ self }
     {
@@ -195,15 +211,19 @@ impl Default for DateConfigBuilder {
     }
 }
 
-/// What is done with digits of a second past the sixth, which offset the time of a timestamp gets,
-/// whether the components of a duration have to come in order, and which texts are times and date-times.
-/// The default refuses such digits, attaches no offset, takes any order and the relaxed form;
-/// `TimeConfig::builder().unix_timestamp_offset(Some(3600)).build()` attaches one hour.
+/// How times, date-times and durations are read: what is done with digits past the microsecond, which
+/// offset the value of a timestamp gets, whether the components of a duration have to come in order,
+/// and which texts are times and date-times.
+///
+/// The default refuses such digits, attaches no offset, and takes any order and the relaxed form;
+/// `TimeConfig::builder().unix_timestamp_offset(Some(3600)).build()` attaches one hour. That the offset
+/// is less than 24 hours is part of the type.
 #[derive(Clone, Copy, Debug, PartialEq, Eq)]
 pub struct TimeConfig {
-    /// What is done with digits of a second past the sixth.
+    /// What is done with digits past the microsecond.
     pub microseconds_precision_overflow_behavior: MicrosecondsPrecisionOverflowBehavior,
-    /// The offset, in seconds, that a timestamp's value gets: none, or one of less than 24 hours.
+    /// The offset that the value of a timestamp gets, in seconds: none, or one of less than 24 hours.
+    /// It shifts nothing, and does not matter to other texts.
     pub unix_timestamp_offset: Option<i32>,
     /// Whether the components of an ISO 8601 duration have to come in order.
     pub iso_order: IsoOrder,
@@ -228,8 +248,8 @@ impl Default for TimeConfig {
 
     ghost is_default = { IsDefault };
 
-    /// Further digits are refused, timestamps get no offset, components may come in any order, and
-    /// texts are relaxed.
+    /// Digits past the microsecond are refused, the value of a timestamp gets no offset, components may
+    /// come in any order, and the form is the relaxed one.
     fn default() -> Self {
         TimeConfig {
             microseconds_precision_overflow_behavior: MicrosecondsPrecisionOverflowBehavior::default(),
@@ -261,7 +281,7 @@ impl TimeConfigBuilder {
     ghost use Rattle.std.specs.Prelude.{◌≡◌};
     ghost use Rattle.speedate_base.specs.TimeConfig.{IsDefault};
 
-    /// A builder of the default configuration, as `TimeConfig::builder` gives it too.
+    /// A builder of the default configuration; `TimeConfig::builder()` is the same.
     pub fn new() -> Self
         ensures default { IsDefault result }
     {
@@ -270,7 +290,8 @@ impl TimeConfigBuilder {
         }
     }
 
-    /// Sets what is done with digits of a second past the sixth: they are dropped with `Truncate`.
+    /// Sets what is done with digits past the microsecond: with `Truncate`, `12:13:12.1234567` is
+    /// 12:13:12.123456.
     pub fn microseconds_precision_overflow_behavior(
         self,
         behavior: MicrosecondsPrecisionOverflowBehavior,
@@ -285,8 +306,8 @@ impl TimeConfigBuilder {
         TimeConfigBuilder { config }
     }
 
-    /// Sets the offset, in seconds, that a timestamp's value gets: none, or one of less than 24
-    /// hours, as `Some(-3600)`.
+    /// Sets the offset, in seconds, that the value of a timestamp gets: none, or one of less than 24
+    /// hours, which is a condition on the caller. With `Some(-3600)`, `0` is 1970-01-01T00:00:00-01:00.
     pub fn unix_timestamp_offset(self, offset: Option<i32>) -> Self
         requires { ForSome offset IsOffset }
         ensures offset { result.unix_timestamp_offset ≡ offset }
@@ -300,9 +321,8 @@ impl TimeConfigBuilder {
         TimeConfigBuilder { config }
     }
 
-    /// Sets the offset, in seconds, that a timestamp's value gets, as
-    /// [`TimeConfigBuilder::unix_timestamp_offset`] does, or refuses it: `OutOfRangeTz` where it is of
-    /// 24 hours or more, as `Some(86_400)`.
+    /// Sets the offset, in seconds, that the value of a timestamp gets: none, or one of any size, which
+    /// is tested. Fails with `OutOfRangeTz` if it is 24 hours or more, as `Some(86_400)` is.
     pub fn try_unix_timestamp_offset(self, offset: Option<i32>) -> Result<Self, ParseError>
         ensures offset { result_map (λ builder. builder.unix_timestamp_offset) result ≡ meets (offset_table offset) (Ok offset) }
         ensures behavior { IfOk result (λ builder. builder.microseconds_precision_overflow_behavior
@@ -316,8 +336,8 @@ impl TimeConfigBuilder {
         }
     }
 
-    /// Sets whether the components of an ISO 8601 duration have to come in order: `P1D1Y` is refused
-    /// with `Strict`.
+    /// Sets whether the components of an ISO 8601 duration have to come in order: with `Strict`,
+    /// `P1D1Y` fails with `DurationUnitOrder`.
     pub fn iso_order(self, order: IsoOrder) -> Self
         ensures order { result.iso_order ≡ order }
         ensures behavior { result.microseconds_precision_overflow_behavior
@@ -330,7 +350,7 @@ impl TimeConfigBuilder {
         TimeConfigBuilder { config }
     }
 
-    /// Sets which texts are times and date-times: `12:13` is refused with `Strict`.
+    /// Sets which texts are times and date-times: with `Strict`, `12:13` fails with `TooShort`.
     pub fn rfc3339_form(self, form: Rfc3339Form) -> Self
         ensures form { result.rfc3339_form ≡ form }
         ensures behavior { result.microseconds_precision_overflow_behavior
@@ -343,8 +363,8 @@ impl TimeConfigBuilder {
         TimeConfigBuilder { config }
     }
 
-    /// The configuration of the values that were set last, and of defaults for the others: no offset
-    /// for `TimeConfig::builder().build()`.
+    /// The configuration of the values that were set last, and of defaults for the others:
+    /// `TimeConfig::builder().build()` attaches no offset.
     pub fn build(self) -> TimeConfig
         ensures built { result ≡ self }
     {

@@ -7,20 +7,24 @@ mod config_error;
 pub use config_error::ConfigError;
 use std::fmt;
 
-/// Why a text or a number was refused. Every refusal has exactly one of these.
+/// Why a text or a number was refused. Every refusal has exactly one of these, and `docs/GRAMMAR.md`
+/// has the texts with each.
 ///
-/// It is printed by its snake-case name, as `too_short` for `TooShort`.
+/// It is printed by its snake-case name, as `too_short` for `TooShort`: Display writes the name alone,
+/// whatever width and fill are asked for. There is no `Hash`; the name serves as a key, since no two
+/// faults have the same.
 #[derive(Clone, Copy, Debug, PartialEq, Eq)]
 pub enum ParseError {
     /// The text ends before what it must hold.
     TooShort,
     /// Bytes are left over after a whole value.
     ExtraCharacters,
-    /// Between date and time stands none of `T`, `t`, `_` and space.
+    /// No separator stands between date and time: `T` or `t`, and in the relaxed form a space or `_`.
     InvalidCharDateTimeSep,
     /// A `-` is missing between year, month and day.
     InvalidCharDateSep,
-    /// A timestamp that was to be a date is no midnight.
+    /// A timestamp that has to be a date is not a midnight, or a duration that has to be whole days is
+    /// not.
     DateNotExact,
     /// The year is not four digits.
     InvalidCharYear,
@@ -36,9 +40,9 @@ pub enum ParseError {
     InvalidCharMinute,
     /// The second is not two digits.
     InvalidCharSecond,
-    /// Kept for the sake of its name: no call answers it.
+    /// Kept for its name: no call answers it.
     InvalidCharSecondFraction,
-    /// What follows a time is no beginning of an offset.
+    /// What follows a time does not begin an offset.
     InvalidCharTzSign,
     /// The hour of an offset is not two digits.
     InvalidCharTzHour,
@@ -46,11 +50,12 @@ pub enum ParseError {
     InvalidCharTzMinute,
     /// The minute of an offset is over 59.
     OutOfRangeTzMinute,
-    /// An offset is of 24 hours or more.
+    /// An offset is 24 hours or more.
     OutOfRangeTz,
-    /// A value without offset cannot be moved to another one.
+    /// An offset is missing: of a value that is to be moved to another one, or of a text in the strict
+    /// form.
     TzRequired,
-    /// The clock tells no moment: it stands before 1970.
+    /// The clock has no moment to tell: it stands before 1970.
     SystemTimeError,
     /// The month is not 1 to 12.
     OutOfRangeMonth,
@@ -78,7 +83,7 @@ pub enum ParseError {
     DurationInvalidTimeUnit,
     /// A component before `T` has no designator of years, months, weeks or days.
     DurationInvalidDateUnit,
-    /// The days of a duration are not followed by a form of `day`.
+    /// The days of a duration are not followed by `d`, `day` or `days`.
     DurationInvalidDays,
     /// A number or a sum of a duration is over 4,294,967,295.
     DurationValueTooLarge,
@@ -86,9 +91,10 @@ pub enum ParseError {
     DurationHourValueTooLarge,
     /// A duration has more than 999,999,999 days.
     DurationDaysTooLarge,
-    /// A timestamp, or a date at another offset, lies before the year 0000.
+    /// A date lies before the year 0000: of a timestamp, at another offset, or so long before another.
     DateTooSmall,
-    /// A timestamp, a moment, or a date at another offset, lies after the year 9999.
+    /// A date lies after the year 9999: of a timestamp or a moment, at another offset, so long after
+    /// another, or by its number.
     DateTooLarge,
     /// A time of day, or a sum on the way to it, is too large.
     TimeTooLarge,
@@ -105,8 +111,8 @@ impl ParseError {
     ghost use Rattle.speedate_base.specs.FaultDocumentation.{fault_documentation};
     ghost use Rattle.speedate_base.specs.declared.faults.ParseError.{ParseError};
 
-    /// The snake-case name, of at most 29 bytes, as `too_short` for `ParseError::TooShort`. No other
-    /// fault has it.
+    /// The snake-case name, of at most 29 bytes: `too_short` for `ParseError::TooShort`. No other fault
+    /// has it.
     #[inline]
     pub fn name(&self) -> &'static str
         ensures name { result.now ≡ fault_name self.now }
@@ -159,8 +165,8 @@ impl ParseError {
         }
     }
 
-    /// The documentation text, which every fault has: `input is too short` for
-    /// `ParseError::TooShort`.
+    /// The documentation text, which every fault has: `input is too short` for `ParseError::TooShort`.
+    /// It needs no trait in scope.
     #[inline]
     pub fn get_documentation(&self) -> Option<&'static str>
         ensures text { option_map (λ text. text.now) result ≡ Some (fault_documentation self.now) }

@@ -1,5 +1,9 @@
-//! What the readers and printers of the library stand on: the faults, configurations,
-//! numbers, and the instants of timestamps.
+//! What the readers and printers of the library stand on: the faults, the configurations, whole
+//! numbers and decimals, digits and bytes at places of a text, the instants of timestamps, and the
+//! rounding of fractions.
+//!
+//! A crate that reads dates or times needs `speedate` alone, which gives the faults, the
+//! configurations and the numbers out again. This crate is for readers and printers of further forms.
 #![tactic(auto)]
 
 pub mod config;

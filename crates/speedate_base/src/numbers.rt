@@ -15,10 +15,10 @@ pub use int_float::{Decimal, IntFloat};
 pub use lanes::{LANES, eight_bytes, fitting, pairs};
 pub use places::{byte_at, two_digits};
 
-/// The whole number that a text is, or `None`: -12 for `"-012"`.
+/// The whole number that a text is: -12 for `"-012"`.
 ///
 /// A whole number is one optional `+` or `-` and one or more digits, leading zeros included, whose
-/// value fits an `i64`.
+/// value fits an `i64`. `None` for any other text.
 #[inline]
 pub fn int_parse_str(text: &str) -> Option<i64>
     ensures answer { result ≡ whole_number text.now }
@@ -26,7 +26,8 @@ pub fn int_parse_str(text: &str) -> Option<i64>
     int_parse_bytes(text.as_bytes())
 }
 
-/// The whole number that the bytes are, or `None`, as [`int_parse_str`] has it: -12 for `b"-012"`.
+/// The whole number that the bytes are: -12 for `b"-012"`. The bytes need not be text; the rest is as
+/// for [`int_parse_str`].
 #[inline]
 pub fn int_parse_bytes(bytes: &[u8]) -> Option<i64>
     ensures answer { result ≡ whole_number bytes.now }
@@ -42,11 +43,13 @@ pub fn int_parse_bytes(bytes: &[u8]) -> Option<i64>
     }
 }
 
-/// The number that a text is: a whole number as for [`int_parse_str`], a decimal, or none.
+/// The number that a text is: `IntFloat::Int(12)` for `"12"`, the decimal of the digits `1` and `50`
+/// for `"-1.50"`, `IntFloat::Err` for `"1.5e3"`.
 ///
-/// A decimal is one optional `+` or `-`, digits, one `.` and digits, with a digit on one side at
-/// least: the decimal of `"-1.50"` has the digits `1` and `50`. Its slices are the text's own. There
-/// is no exponent. A whole number that does not fit an `i64` is `Err`, as is every other text.
+/// A whole number is one that [`int_parse_str`] reads. A decimal is one optional `+` or `-`, digits,
+/// one `.` and digits, with a digit on one side at least. There is no exponent and no float: a
+/// [`Decimal`] borrows its digits from the text, so it is exact at any length. Any other text, and a
+/// whole number that does not fit an `i64`, is `Err`.
 #[inline(always)]
 pub fn float_parse_str(text: &str) -> IntFloat<'_>
     ensures answer { number_of result ≡ number_answer text.now }
@@ -55,7 +58,8 @@ pub fn float_parse_str(text: &str) -> IntFloat<'_>
     float_parse_bytes(text.as_bytes())
 }
 
-/// The number that the bytes are, as [`float_parse_str`] has it: `IntFloat::Int(12)` for `b"12"`.
+/// The number that the bytes are: `IntFloat::Int(12)` for `b"12"`. The bytes need not be text; the rest
+/// is as for [`float_parse_str`].
 #[inline(always)]
 pub fn float_parse_bytes(bytes: &[u8]) -> IntFloat<'_>
     ensures answer { number_of result ≡ number_answer bytes.now }
@@ -100,8 +104,8 @@ fn decimal(bytes: &[u8], negative: bool, start: usize, point: usize) -> IntFloat
     })
 }
 
-/// Whether a text begins with `-`, and how many bytes its sign has: 1 for `b"+12"`, whose sign is
-/// a `+`, and 0 where it has none.
+/// Whether a text begins with `-`, and how many bytes its sign has: false and 1 for `b"+12"`, true and
+/// 1 for `b"-12"`, false and 0 for `b"12"`, which has none.
 #[inline(always)]
 pub fn sign(bytes: &[u8]) -> (bool, usize)
     ensures negative { result.0 ≡ has_minus bytes.now }
@@ -115,7 +119,7 @@ pub fn sign(bytes: &[u8]) -> (bool, usize)
     }
 }
 
-/// A size with its sign: -12 for 12.
+/// A size with its sign: -12 for true and 12. The size is at most `i64::MAX`.
 #[inline]
 pub fn with_sign(negative: bool, size: u64) -> i64
     requires { size < 2 ^ 63 }
@@ -125,7 +129,7 @@ pub fn with_sign(negative: bool, size: u64) -> i64
     if negative { -number } else { number }
 }
 
-/// A size with its sign, where it fits.
+/// A size with its sign, if it fits an `i64`.
 #[inline]
 fn signed(negative: bool, size: u64) -> Option<i64>
     ensures value { result ≡ (if fits_i64 negative size then Some (with_sign negative size) else None) }

@@ -20,14 +20,15 @@ pub use unix_time::{FIRST_SECOND, LAST_SECOND, UnixTime};
 /// The seconds of a day.
 pub const SECONDS_PER_DAY: u32 = 86_400;
 
-/// The largest size of a timestamp that is seconds where its unit is inferred.
+/// The largest size of a timestamp that is in seconds if its unit is inferred.
 const INFERRED_SECONDS_MAX: u64 = 20_000_000_000;
 
 /// The instant of a timestamp, by its unit: second 1 and 500,000 microseconds for 1,500
 /// milliseconds.
 ///
-/// An inferred unit is seconds where the size of the timestamp is at most 20,000,000,000, otherwise
-/// milliseconds. `DateTooSmall` where the unit of `i64::MIN` is to be inferred.
+/// An inferred unit is seconds if the timestamp without its sign is at most 20,000,000,000, otherwise
+/// milliseconds. Fails with `DateTooSmall` if the unit of `i64::MIN` is to be inferred. The instant may
+/// lie outside the years 0000 to 9999.
 #[inline]
 pub fn timestamp_to_seconds_micros(
     timestamp: i64,

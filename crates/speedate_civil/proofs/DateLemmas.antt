@@ -66,7 +66,7 @@ pub date_text-reads : (date : Ymd) → IsDate date → date_answer (date_text da
 date_text-reads date valid =
     ap (result_and_then (alone (λ date. fault.ExtraCharacters) (date_text date))) (date_text-front date [] valid)
 
--- two dates with one text are one date
+-- two dates with the same text are equal
 pub date_text-distinct : (first second : Ymd) → IsDate first → IsDate second → date_text first ≡ date_text second → first ≡ second
 date_text-distinct first second one two =
     text-distinct date_text date_answer first second (date_text-reads first one) (date_text-reads second two)

@@ -83,7 +83,7 @@ order-ranked first second Greater more = nat_cmp_is (day_number first) (day_numb
 pub date_order-day_number : (first second : Ymd) → IsDay first → IsDay second → date_order first second ≡ nat_cmp (day_number first) (day_number second)
 date_order-day_number first second one two = order-ranked first second (date_order first second) (date_order-ranked first second one two)
 
--- dates with one day number are one date
+-- dates with the same day number are equal
 same-ranked : (first second : Ymd) (order : Ordering) → Ranked first second order → day_number first ≡ day_number second → first ≡ second
 same-ranked first second Less less same = absurd (omega arith)
 same-ranked first second Equal equal same = equal

@@ -54,7 +54,7 @@ date_time_text-reads form behavior value valid given whole =
     let fault = λ (read : DateAndTime). end_fault read.time.offset in
     ap (result_and_then (alone fault text)) front ∙ alone-whole fault text value (length text) refl
 
--- two such date-times with one text are one date-time
+-- two such date-times with the same text are equal
 pub date_time_text-distinct : (first second : DateAndTime) → IsDateAndTime first → IsDateAndTime second
     → IsWholeMinutes first.time.offset → IsWholeMinutes second.time.offset
     → date_time_text first ≡ date_time_text second → first ≡ second

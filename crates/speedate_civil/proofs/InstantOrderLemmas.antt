@@ -1,5 +1,5 @@
 -- Laws of the order by instants: it is total, among values with offsets and among those without; without offsets it is the
--- order of the texts; and where the offsets are one it is that of what clocks show.
+-- order of the texts; and if the offsets are equal it is that of what clocks show.
 use Rattle.std.specs.Prelude.{◌≡◌, ℕ, ◌+◌, ◌*◌, ◌/◌, ◌%◌, ◌<◌, ◌<ℤ◌, Bool, true, false, ◌&&◌, ◌∷◌, ◌==◌, ℤ, pos, ◌+ℤ◌, ◌-ℤ◌, ◌*ℤ◌, Option, None, refl}
 use Rattle.std.specs.Cmp.{IsTotalOrder, int_ranks, int_cmp_is, upto, nat_cmp_total, int_cmp_total, on_total, then_total}
 use Rattle.std.specs.Cmp.Lexicographic.{slice_cmp}

@@ -112,7 +112,7 @@ time_text-reads form behavior time given valid whole =
     let front = sym (ap (time_front form behavior) (append-nil text)) ∙ time_text-front form behavior time [] given valid whole (nothing-after time) in
     ap (result_and_then (alone fault text)) front ∙ alone-whole fault text time (length text) refl
 
--- two such times with one text are one time
+-- two such times with the same text are equal
 pub time_text-distinct : (first second : TimeOfDay) → IsTime first → IsTime second → IsWholeMinutes first.offset → IsWholeMinutes second.offset
     → time_text first ≡ time_text second → first ≡ second
 time_text-distinct first second one two whole_one whole_two =

@@ -27,7 +27,7 @@ pub record Clock : Type 0 where
 abbrev pub has_second : List ℕ → Bool
 has_second rest = slice_index rest 2 == colon
 
--- that second: the number that two digits spell, or none where they are missing
+-- that second: the number that two digits spell, or none if they are missing
 abbrev pub second_there : List ℕ → Option (Option ℕ)
 second_there rest =
     if has_second rest then Some (if two_digits_at rest 3 then Some (two_digit_value rest 3) else None) else None
@@ -89,7 +89,7 @@ minute_table form behavior rest =
     ∷ (((has_fraction form rest && refuses_digits behavior) implies nat_le (run_length rest 6) 6) else_fault fault.SecondFractionTooLong)
     ∷ []
 
--- the clock whose minute begins a text, where that is known to be two digits, or the text's fault
+-- the clock whose minute begins a text, given that it is two digits, or the text's fault
 abbrev pub clock_answer : Rfc3339Form → MicrosecondsPrecisionOverflowBehavior → List ℕ → Result Clock ParseError
 clock_answer form behavior rest = meets (minute_table form behavior rest) (Ok (minute_clock form rest))
 

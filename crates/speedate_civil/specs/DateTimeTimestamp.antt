@@ -22,8 +22,8 @@ later_instant microseconds instant =
     let sum = instant.microsecond + microseconds in
     record { second = instant.second +ℤ pos (sum / 1000000); microsecond = sum % 1000000 }
 
--- what an instant and microseconds beside it have to meet to be added: their microseconds are counted in 32 bits, and seconds
--- in 64 bits with a sign
+-- what an instant and additional microseconds have to meet to be added: their microseconds fit 32 bits, and the seconds
+-- 64 bits with a sign
 abbrev pub sum_table : ℕ → Instant → List Requirement
 sum_table microseconds instant =
     (nat_lt (instant.microsecond + microseconds) (2 ^ 32) else_fault fault.TimeTooLarge)
@@ -52,13 +52,13 @@ pub record IsShownAt (offset : Option ℤ) (instant : Instant) (value : DateAndT
 abbrev pub instant_date_time : Option ℤ → Instant → Result DateAndTime ParseError
 instant_date_time offset instant = result_map (date_time_at offset) (range_answer instant)
 
--- the date-time of a timestamp and microseconds beside it, or the fault: the unit's comes first, then those of the sums, then
+-- the date-time of a timestamp and additional microseconds, or the fault: the unit's comes first, then those of the sums, then
 -- those of the years
 abbrev pub date_time_timestamp_answer : TimestampUnit → Option ℤ → ℕ → ℤ → Result DateAndTime ParseError
 date_time_timestamp_answer unit offset microseconds timestamp =
     result_and_then (instant_date_time offset) (result_and_then (later_answer microseconds) (instant_answer unit timestamp))
 
--- the microseconds since 1970-01-01T00:00:00 that a timestamp and those beside it mean
+-- the microseconds since 1970-01-01T00:00:00 that a timestamp and the additional ones mean
 abbrev pub meant_microsecond : TimestampUnit → ℕ → ℤ → ℤ
 meant_microsecond unit microseconds timestamp = pos (1000000 / per_second unit timestamp) *ℤ timestamp +ℤ pos microseconds
 
@@ -71,7 +71,7 @@ abbrev pub date_time_decimal_text : TimestampUnit → MicrosecondsPrecisionOverf
 date_time_decimal_text unit behavior offset decimal =
     meets (digits_table behavior (decimal_row unit decimal) decimal) (date_time_decimal_answer unit offset decimal)
 
--- the answer to a number in a text, where it is one
+-- the answer to a number in a text, if there is one
 abbrev pub date_time_number_answer : TimestampUnit → MicrosecondsPrecisionOverflowBehavior → Option ℤ → Number → Option (Result DateAndTime ParseError)
 date_time_number_answer unit behavior offset (Whole timestamp) = Some (date_time_timestamp_answer unit offset 0 timestamp)
 date_time_number_answer unit behavior offset (Fractional decimal) = Some (date_time_decimal_text unit behavior offset decimal)

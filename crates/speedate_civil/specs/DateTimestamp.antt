@@ -26,7 +26,7 @@ second_at second = unsigned_abs (int_rem_euclid second (pos seconds_per_day))
 abbrev pub is_midnight : Instant → Bool
 is_midnight instant = (second_at instant.second == 0) && (instant.microsecond == 0)
 
--- what it has to meet to be a date, where that is asked for
+-- what it has to meet to be an exact date, if that is asked for
 abbrev pub exact_table : Bool → Instant → List Requirement
 exact_table exact instant = ((exact implies is_midnight instant) else_fault fault.DateNotExact) ∷ []
 

@@ -54,7 +54,7 @@ date_counted (negsuc before) = None
 abbrev pub date_added : ℤ → Ymd → Option Ymd
 date_added days date = date_counted (pos (day_number date) +ℤ days)
 
--- the days from one date to another, negative where the other one is earlier
+-- the days from one date to another, negative if the other one is earlier
 abbrev pub days_between : Ymd → Ymd → ℤ
 days_between earlier later = pos (day_number later) -ℤ pos (day_number earlier)
 

@@ -1,5 +1,5 @@
--- The order of times, and of date-times, by the instant at which they lie: in UTC where both have an offset, and where one
--- has none as clocks show them. A time is taken to be one of 1970-01-01.
+-- The order of times, and of date-times, by instant: in UTC if both have an offset, and otherwise as clocks show them. A time
+-- is taken to be one of 1970-01-01.
 use Rattle.std.specs.Prelude.{◌≡◌, ℤ, pos, Option, Bool, ◌&&◌, IsTrue, if◌then◌else◌}
 use Rattle.std.specs.Option.{is_some}
 use Rattle.std.specs.Ordering.{is_le, int_cmp, nat_cmp, on, then_cmp}
@@ -12,7 +12,7 @@ use Rattle.speedate_civil.specs.TimeOfDay.{TimeOfDay, second_of_day, utc_second_
 abbrev pub instant_order : Instant → Instant → Ordering
 instant_order = then_cmp (on (λ instant. instant.second) int_cmp) (on (λ instant. instant.microsecond) nat_cmp)
 
--- the order of values by their instants, which are those in UTC where both have an offset
+-- the order of values by their instants, which are those in UTC if both have an offset
 abbrev pub by_instant : {K : Type 0} → (K → Option ℤ) → (Bool → K → Instant) → K → K → Ordering
 by_instant offset instant first second = on (instant (is_some (offset first) && is_some (offset second))) instant_order first second
 

@@ -1,4 +1,4 @@
--- What a clock tells: a moment since 1970-01-01T00:00:00 in UTC (Unix time), or none where it stands before that.
+-- What a clock tells: a moment since 1970-01-01T00:00:00 in UTC (Unix time), or none if it stands before that.
 use Rattle.std.specs.Prelude.{List, ◌∷◌, Option, Some, None, ℤ, pos, ◌+ℤ◌, int_le, Result, Err}
 use Rattle.speedate_base.specs.declared.faults.ParseError.{ParseError}
 use Rattle.speedate_base.specs.declared.faults.ParseError.TheVariants as fault

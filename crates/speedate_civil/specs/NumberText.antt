@@ -3,7 +3,7 @@ use Rattle.std.specs.Prelude.{Bool, true, false, Option, Some, None, Result, Ok,
 use Rattle.speedate_base.specs.declared.faults.ParseError.{ParseError}
 use Rattle.speedate_base.specs.declared.faults.ParseError.TheVariants as fault
 
--- the answer of a table, and where it is a fault of a text that is a number, the answer to that number
+-- the answer of a table; but if that is a fault and the text is a number, the answer to that number
 abbrev pub or_number : {A : Type 0} → Option (Result A ParseError) → Result A ParseError → Result A ParseError
 or_number number (Ok value) = Ok value
 or_number (Some answer) (Err fault) = answer

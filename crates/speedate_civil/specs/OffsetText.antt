@@ -1,6 +1,6 @@
 -- The offset after a time (RFC 3339 5.6, time-offset; the ranges are those of its 5.7). `rest` is what follows the time,
 -- and `numbers` what follows the sign.
--- Departs from it: `-00:00` is the offset 0, where RFC 3339 4.3 has it for an unknown one. The relaxed form departs too: the
+-- Departs from it: `-00:00` is the offset 0, which for RFC 3339 4.3 is an unknown one. The relaxed form departs too: the
 -- offset may be left out, and so may its `:`; the sign may be U+2212, as in ISO 8601.
 use Rattle.std.specs.Prelude.{ℕ, ◌+◌, ◌*◌, ◌/◌, ◌%◌, Bool, not, ◌&&◌, ◌||◌, List, [], ◌∷◌, ◌++◌, length, drop, nat_le, nat_lt, ◌==◌, slice_index, if◌then◌else◌, Option, Some, None, ℤ, pos, unsigned_abs, Result, Ok}
 use Rattle.std.specs.Int.{is_negative}
@@ -94,7 +94,7 @@ offset_front form rest =
 abbrev pub begins_offset : List ℕ → Bool
 begins_offset rest = nat_lt 0 (offset_sign_length rfc3339.Relaxed rest) || is_utc rest
 
--- the fault of a text that goes on after this offset, or where one was due
+-- the fault of a text that goes on after a time with this offset, or after one without
 abbrev pub end_fault : Option ℤ → ParseError
 end_fault offset = if is_some offset then fault.ExtraCharacters else fault.InvalidCharTzSign
 

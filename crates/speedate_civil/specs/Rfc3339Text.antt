@@ -1,5 +1,5 @@
 -- The texts of RFC 3339 by the rules of its 5.6, as texts that are put together; the ranges are those of its 5.7.
--- Departs from it: there is no second 60; where digits past the sixth are refused, a fraction has at most six.
+-- Departs from it: there is no second 60; if digits past the sixth are refused, a fraction has at most six.
 use Rattle.std.specs.Prelude.{◌≡◌, ◌⊎◌, ℕ, ◌≤◌, true, List, [], ◌∷◌, ◌++◌, length}
 use Rattle.std.specs.Char.{is_ascii_digit}
 use Rattle.std.specs.Int.{IsInRange}

@@ -20,10 +20,18 @@ use std::simd::prelude::*;
 /// How many bytes the text of a date has.
 const TEXT_LENGTH: usize = 10;
 
-/// A day of the Gregorian calendar, which is carried back to the year 0.
+/// A day of the Gregorian calendar, which is carried back to the year 0: 0000-01-01 to 9999-12-31.
 ///
-/// It is read by [`Date::parse_str_rfc3339`] and printed as `YYYY-MM-DD`, as `2020-02-29`. The
-/// ranges of the fields are part of the type.
+/// It is read by [`Date::parse_str`], or without timestamps by [`Date::parse_str_rfc3339`], and made
+/// from numbers by [`Date::new`]. It is printed as `YYYY-MM-DD`, as `2020-02-29`: Display writes this
+/// text, whatever width and fill are asked for.
+///
+/// That it is a day of the calendar is part of the type: the check proves it at each literal, and for a
+/// constant where it is used. Both are written as in Rust:
+/// `const NEW_YEAR: Date = Date { year: 2020, month: 1, day: 1 };`.
+///
+/// `<` and [`Date::cmp`] order dates. There is no `Hash`; [`Date::day_number`] serves as a key, since
+/// no two dates have the same.
 #[derive(Clone, Copy, Debug, PartialEq, Eq)]
 pub struct Date {
     /// The year, 0 to 9999.
@@ -37,7 +45,8 @@ pub struct Date {
     pub ghost day_in_range: { IsInRange 1 (month_length year month) day },
 }
 
-/// Whether a year has a 29 February: true for 2020 and 2000, false for 2021 and 1900.
+/// Whether a year has a 29 February: true for 2020 and 2000, false for 2021 and 1900. The rule is that
+/// of RFC 3339, appendix C, for any year.
 #[inline]
 pub fn is_leap_year(year: u16) -> bool
     ensures leap { result ≡ is_leap_year year }
@@ -49,8 +58,8 @@ pub fn is_leap_year(year: u16) -> bool
     }
 }
 
-/// The number of days of a month, 1 to 12, of a year: 29 for 2020 and 2, 30 for 2020 and 4. It is 31 for
-/// a number that is no month.
+/// The number of days of a month, 1 to 12, of a year: 29 for 2020 and 2, 30 for 2020 and 4 (RFC 3339
+/// 5.7). It is 31 for a number that is no month.
 #[inline]
 pub fn month_length(year: u16, month: u8) -> u8
     ensures length { result ≡ month_length year month }
@@ -83,19 +92,17 @@ impl Date {
     ghost use Rattle.speedate_civil.specs.DateText.{date_front, date_answer, date_text};
     ghost use Rattle.speedate_civil.specs.DateTimestamp.{date_or_timestamp};
 
-    /// Reads a date from a text: the date that the text is, as 29 February 2020 for
-    /// `"2020-02-29"`, or the text's one fault.
+    /// Reads a date from a text, and no timestamp: 29 February 2020 from `"2020-02-29"`.
     ///
     /// The form is RFC 3339's full-date, `YYYY-MM-DD`. The faults, in the order in which they are
     /// looked for:
     ///
-    /// - `TooShort` where the text has fewer than ten bytes;
+    /// - `TooShort` if the text has fewer than ten bytes;
     /// - `InvalidCharYear`, `InvalidCharDateSep`, `InvalidCharMonth`, `InvalidCharDateSep` and
-    ///   `InvalidCharDay` for the first part, from the left, that is not made of digits or is not
-    ///   a `-`;
-    /// - `OutOfRangeMonth` where the month is not 1 to 12;
-    /// - `OutOfRangeDay` where the month has no such day;
-    /// - `ExtraCharacters` where it has more than ten bytes.
+    ///   `InvalidCharDay`, from the left, for the first part that is not digits, or not a `-`;
+    /// - `OutOfRangeMonth` if the month is not 1 to 12;
+    /// - `OutOfRangeDay` if the month has no such day;
+    /// - `ExtraCharacters` if the text has more than ten bytes.
     #[inline]
     pub fn parse_str_rfc3339(text: &str) -> Result<Self, ParseError>
         ensures answer { result_map parts result ≡ date_answer text.now }
@@ -103,8 +110,8 @@ impl Date {
         Self::parse_bytes_rfc3339(text.as_bytes())
     }
 
-    /// Reads a date from the bytes of a text, as [`Date::parse_str_rfc3339`] does: 29 February 2020
-    /// from `b"2020-02-29"`. The bytes need not be text.
+    /// Reads a date from bytes, and no timestamp: 29 February 2020 from `b"2020-02-29"`. The bytes need
+    /// not be text. The form and the faults are those of [`Date::parse_str_rfc3339`].
     #[inline]
     pub fn parse_bytes_rfc3339(bytes: &[u8]) -> Result<Self, ParseError>
         ensures answer { result_map parts result ≡ date_answer bytes.now }
@@ -117,9 +124,9 @@ impl Date {
         Ok(date)
     }
 
-    /// Reads the date at the front of a text, whatever follows it, and how many bytes it takes, which
-    /// are ten: 22 November 2026 from `b"2026-11-22 opening balance"`. The faults are those of
-    /// [`Date::parse_str_rfc3339`] but for the last, `ExtraCharacters`, in that order.
+    /// Reads the date at the front of a text, whatever follows it, and answers how many bytes it takes,
+    /// which is always ten: 22 November 2026 and 10 from `b"2026-11-22 opening balance"`. It reads no
+    /// timestamps. The faults are those of [`Date::parse_str_rfc3339`] except `ExtraCharacters`.
     #[inline]
     pub fn parse_front(bytes: &[u8]) -> Result<(Self, usize), ParseError>
         ensures answer { result_map (with_size parts) result ≡ date_front bytes.now }
@@ -155,8 +162,9 @@ impl Date {
         Ok((Date { year, month, day }, TEXT_LENGTH))
     }
 
-    /// The canonical text, `YYYY-MM-DD`: `2020-02-29` for 29 February 2020. It reads back as the
-    /// date, which no other date's text does, and at the front of a text too, whatever follows it.
+    /// The canonical text, `YYYY-MM-DD`: `2020-02-29` for 29 February 2020. It is not allocated;
+    /// `.as_str()` is the text. It reads back as the date under every configuration, and at the front
+    /// of a text too, whatever follows it. No other date has the same text.
     #[inline]
     pub fn to_text(&self) -> ArrayString<TEXT_LENGTH>
         ensures text { result.bytes ≡ date_text (parts self.now) }
@@ -175,8 +183,8 @@ impl Date {
         text
     }
 
-    /// Appends the canonical text, as [`Date::to_text`] gives it, for which there must be room:
-    /// `ok 2020-02-29` where it is appended to `ok `.
+    /// Appends the text of [`Date::to_text`]: `ok ` becomes `ok 2020-02-29`. There must be room for its
+    /// ten bytes, which is a condition on the caller.
     #[inline(always)]
     pub fn push_onto<const LENGTH: usize>(&self, text: &mut ArrayString<LENGTH>)
         requires room { array_string_len text.old + TEXT_LENGTH ≤ LENGTH }

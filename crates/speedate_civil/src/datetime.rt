@@ -31,8 +31,13 @@ const TIME_PLACE: usize = 11;
 
 /// A date and a time of day, with an offset from UTC or without one.
 ///
-/// It is read by [`DateTime::parse_str`] and printed as `YYYY-MM-DDTHH:MM:SS`, with the fraction and
-/// the offset of its time: `2020-02-29T12:13:14.500000+01:30`.
+/// It is read by [`DateTime::parse_str`], or without timestamps by [`DateTime::parse_str_rfc3339`], and
+/// made from a [`Date`] and a [`Time`] by their fields: `DateTime { date, time }`. It is printed as
+/// `YYYY-MM-DDTHH:MM:SS`, with the fraction and the offset of its time:
+/// `2020-02-29T12:13:14.500000+01:30`. Display writes this text, whatever width and fill are asked for.
+///
+/// `==` compares the fields. There is no `<`: [`DateTime::cmp_instant`] orders date-times. There is no
+/// `Hash` either; as a key the fields serve, and the printed text does if offsets are whole minutes.
 #[derive(Clone, Copy, Debug, PartialEq, Eq)]
 pub struct DateTime {
     /// The date, as a clock at the offset shows it.
@@ -44,14 +49,14 @@ pub struct DateTime {
 impl DateTime {
     ghost use Rattle.speedate_civil.specs.DateTime.{parts};
 
-    /// Reads a date-time from a text: the one that the text is, as 12:13:14 on 29 February 2020 in
-    /// UTC for `"2020-02-29T12:13:14Z"`, or the text's one fault.
+    /// Reads a date-time from a text, and no timestamp: 12:13:14 on 29 February 2020 in UTC from
+    /// `"2020-02-29T12:13:14Z"`.
     ///
-    /// The form is RFC 3339's date-time: a date, a separator, and a time. The separator is `T`, `t`,
-    /// a space or `_`. The faults, in the order in which they are looked for:
+    /// The form is RFC 3339's date-time, relaxed: a date, a separator, which is `T`, `t`, a space or
+    /// `_`, and a time. The faults, in the order in which they are looked for:
     ///
-    /// - those of [`Date::parse_str_rfc3339`] but for the last, `ExtraCharacters`;
-    /// - `InvalidCharDateTimeSep` where no separator follows the date;
+    /// - those of [`Date::parse_str_rfc3339`] except `ExtraCharacters`;
+    /// - `InvalidCharDateTimeSep` if no separator follows the date;
     /// - those of [`Time::parse_str`] for what follows the separator.
     #[inline(always)]
     pub fn parse_str_rfc3339(text: &str) -> Result<Self, ParseError>
@@ -60,8 +65,9 @@ impl DateTime {
         Self::parse_bytes_rfc3339(text.as_bytes())
     }
 
-    /// Reads a date-time from the bytes of a text, as [`DateTime::parse_str_rfc3339`] does: 12:13 on
-    /// 1 January 2020 from `b"2020-01-01_12:13"`. The bytes need not be text.
+    /// Reads a date-time from bytes, and no timestamp: 12:13 on 1 January 2020 from
+    /// `b"2020-01-01_12:13"`. The bytes need not be text. The form and the faults are those of
+    /// [`DateTime::parse_str_rfc3339`].
     #[inline(always)]
     pub fn parse_bytes_rfc3339(bytes: &[u8]) -> Result<Self, ParseError>
         ensures answer { result_map parts result ≡ date_time_answer rfc3339.Relaxed behavior.Error bytes.now }
@@ -70,14 +76,16 @@ impl DateTime {
         Self::parse_bytes_rfc3339_with_config(bytes, &TimeConfig::default())
     }
 
-    /// Reads a date-time from the bytes of a text, as [`DateTime::parse_str_rfc3339`] does, but for
-    /// the digits of a second past the sixth: with the behavior `Truncate` they are dropped, so that
-    /// `b"2020-01-01T12:13:12.1234567"` is 12:13:12.123456 on that day. The offset of the
-    /// configuration does not matter.
+    /// Reads a date-time from bytes, and no timestamp, by a configuration: 12:13:12.123456 on 1 January
+    /// 2020 from `b"2020-01-01T12:13:12.1234567"` with the behavior `Truncate`, which drops the digits
+    /// of a second past the sixth. The bytes need not be text. The offset of the configuration does not
+    /// matter.
     ///
-    /// In the form `Strict` the separator is `T` or `t`, and the time is one of
-    /// [`Time::parse_bytes_with_config`] in that form: the texts are those of RFC 3339 alone. What it
-    /// takes, the form `Relaxed` takes too, with the same value.
+    /// By default the form and the faults are those of [`DateTime::parse_str_rfc3339`]. In the form
+    /// `Strict` the texts are those of RFC 3339 alone, except those with a second 60: a separator other
+    /// than `T` or `t` is `InvalidCharDateTimeSep`, and the time has the faults of
+    /// [`Time::parse_bytes_with_config`]. What `Strict` accepts, `Relaxed` accepts too, with the same
+    /// value.
     #[inline(always)]
     pub fn parse_bytes_rfc3339_with_config(
         bytes: &[u8],
@@ -98,13 +106,12 @@ impl DateTime {
         Ok(value)
     }
 
-    /// Reads the date-time at the front of a text, whatever follows it, and how many bytes it takes:
-    /// 12:13:14.5 on 22 November 2026, an hour east of UTC, and 27 bytes, from
-    /// `b"2026-11-22T12:13:14.5+01:00 GET /"`.
+    /// Reads the date-time at the front of a text, whatever follows it, and answers how many bytes it
+    /// takes: 12:13:14.5 on 22 November 2026, an hour east of UTC, and 27, from
+    /// `b"2026-11-22T12:13:14.5+01:00 GET /"`. It reads no timestamps.
     ///
-    /// The time goes as far as [`Time::parse_front`] reads on. The faults are those of the date and of
-    /// the separator, as [`DateTime::parse_bytes_rfc3339_with_config`] has them, and then those of
-    /// [`Time::parse_front`].
+    /// It ends where [`Time::parse_front`] ends. The faults are those of [`Date::parse_front`], then
+    /// `InvalidCharDateTimeSep`, then those of [`Time::parse_front`].
     #[inline(always)]
     pub fn parse_front(bytes: &[u8], config: &TimeConfig) -> Result<(Self, usize), ParseError>
         ensures answer { result_map (with_size parts) result

@@ -21,11 +21,18 @@ use speedate_base::faults::ParseError;
 use speedate_base::util::SECONDS_PER_DAY;
 use std::str::FromStr;
 
-/// A time of day, with an offset from UTC or without one.
+/// A time of day, to the microsecond, with an offset from UTC or without one.
 ///
-/// It is read by [`Time::parse_str`] and printed as `HH:MM:SS`, with `.` and six digits where the
-/// microsecond is not 0, and with the offset where there is one: `12:13:14.500000+01:30`. The
-/// ranges of the fields are part of the type.
+/// It is read by [`Time::parse_str`] and made from numbers by [`Time::new`]. It is printed as
+/// `HH:MM:SS`, with `.` and six digits if the microsecond is not 0, and with the offset if there is
+/// one: `12:13:14.500000+01:30`. Display writes this text, whatever width and fill are asked for.
+///
+/// The ranges of the fields are part of the type: the check proves them at each literal, and for a
+/// constant where it is used. Both are written as in Rust:
+/// `const NOON: Time = Time { hour: 12, minute: 0, second: 0, microsecond: 0, tz_offset: None };`.
+///
+/// `==` compares the fields. There is no `<`: [`Time::cmp_instant`] orders times. There is no `Hash`
+/// either; as a key the fields serve, and the printed text does if offsets are whole minutes.
 #[derive(Clone, Copy, Debug, PartialEq, Eq)]
 pub struct Time {
     /// The hour, 0 to 23.
@@ -36,7 +43,7 @@ pub struct Time {
     pub second: u8,
     /// The microsecond, 0 to 999,999.
     pub microsecond: u32,
-    /// The offset from UTC in seconds, less than 24 hours, if there is one.
+    /// The offset from UTC in seconds, less than 24 hours, if there is one; it is positive east of UTC.
     pub tz_offset: Option<i32>,
     pub ghost hour_in_range: { hour ≤ 23 },
     pub ghost minute_in_range: { minute ≤ 59 },
@@ -57,30 +64,29 @@ impl Time {
     ghost use Rattle.speedate_civil.specs.TimeOfDay.{TimeOfDay, second_of_day, millisecond_of_day, microsecond_of_day, time_at, timestamp_answer};
     ghost use Rattle.speedate_civil.specs.TimeText.{time_front, time_answer};
 
-    /// Reads a time from a text: the time that the text is, as 12:13:14 and a half, an hour east
-    /// of UTC, for `"12:13:14.5+01:00"`, or the text's one fault.
+    /// Reads a time from a text: 12:13:14 and a half, an hour east of UTC, from `"12:13:14.5+01:00"`.
     ///
-    /// The form is that of RFC 3339, `HH:MM:SS` with an optional fraction and an offset, relaxed:
-    /// the second, the offset and the `:` in it may be left out, the point may be a comma, and a
-    /// negative offset may have the sign U+2212. It is narrower in two ways: a fraction has at most
-    /// six digits, and there is no second 60. The faults, in the order in which they are looked
+    /// The form is RFC 3339's full-time, `HH:MM:SS` with an optional fraction and an offset, relaxed:
+    /// the second, the offset and the `:` of the offset may be left out, the decimal mark may be a
+    /// comma, and the sign of the offset may be U+2212. It is narrower in two ways: a fraction has at
+    /// most six digits, and there is no second 60. The faults, in the order in which they are looked
     /// for:
     ///
-    /// - `TooShort` where the text has fewer than five bytes;
-    /// - `InvalidCharHour`, `InvalidCharTimeSep` and `InvalidCharMinute` for the first part, from
-    ///   the left, that is not two digits or is not a `:`;
-    /// - `OutOfRangeHour` where the hour is over 23, and `OutOfRangeMinute` where the minute is
-    ///   over 59;
-    /// - `InvalidCharSecond` where a `:` follows the minute and two digits do not follow it, and
-    ///   `OutOfRangeSecond` where they are over 59;
-    /// - `SecondFractionMissing` where a decimal mark has no digit, and `SecondFractionTooLong` where
-    ///   more than six do;
-    /// - `InvalidCharTzSign` where what follows the clock begins no offset;
-    /// - `InvalidCharTzHour` and `InvalidCharTzMinute` where the sign of an offset is not followed
-    ///   by two digits, an optional `:` and two digits;
-    /// - `OutOfRangeTzMinute` where the minutes of the offset are over 59, and `OutOfRangeTz` where
-    ///   it is of 24 hours or more;
-    /// - `ExtraCharacters` where something follows the offset.
+    /// - `TooShort` if the text has fewer than five bytes;
+    /// - `InvalidCharHour`, `InvalidCharTimeSep` and `InvalidCharMinute`, from the left, for the first
+    ///   part that is not two digits, or not a `:`;
+    /// - `OutOfRangeHour` if the hour is over 23;
+    /// - `OutOfRangeMinute` if the minute is over 59;
+    /// - `InvalidCharSecond` if a `:` follows the minute, and two digits do not follow it;
+    /// - `OutOfRangeSecond` if the second is over 59;
+    /// - `SecondFractionMissing` if no digit follows a decimal mark;
+    /// - `SecondFractionTooLong` if more than six digits follow it;
+    /// - `InvalidCharTzSign` if what follows the clock does not begin an offset;
+    /// - `InvalidCharTzHour` if two digits do not follow the sign of an offset;
+    /// - `InvalidCharTzMinute` if an optional `:` and two digits do not follow these;
+    /// - `OutOfRangeTzMinute` if the minutes of the offset are over 59;
+    /// - `OutOfRangeTz` if the offset is 24 hours or more;
+    /// - `ExtraCharacters` if something follows the offset.
     #[inline(always)]
     pub fn parse_str(text: &str) -> Result<Self, ParseError>
         ensures answer { result_map parts result ≡ time_answer rfc3339.Relaxed behavior.Error text.now }
@@ -88,8 +94,8 @@ impl Time {
         Self::parse_bytes(text.as_bytes())
     }
 
-    /// Reads a time from the bytes of a text, as [`Time::parse_str`] does: 12:13:00 from
-    /// `b"12:13"`. The bytes need not be text.
+    /// Reads a time from bytes: 12:13:00 from `b"12:13"`. The bytes need not be text. The form and the
+    /// faults are those of [`Time::parse_str`].
     #[inline(always)]
     pub fn parse_bytes(bytes: &[u8]) -> Result<Self, ParseError>
         ensures answer { result_map parts result ≡ time_answer rfc3339.Relaxed behavior.Error bytes.now }
@@ -101,15 +107,21 @@ impl Time {
         )
     }
 
-    /// Reads a time from the bytes of a text, as [`Time::parse_str`] does, but for the digits of a
-    /// second past the sixth: with the behavior `Truncate` they are dropped, so that
-    /// `b"12:13:12.1234567"` is 12:13:12.123456. The offset of the configuration does not matter.
+    /// Reads a time from bytes, by a configuration: 12:13:12.123456 from `b"12:13:12.1234567"` with the
+    /// behavior `Truncate`, which drops the digits of a second past the sixth. The bytes need not be
+    /// text. The offset of the configuration does not matter.
     ///
-    /// In the form `Strict` the texts are those of RFC 3339 alone, but for a second 60, which both
-    /// forms refuse: `TooShort` where there are fewer than nine bytes; `InvalidCharTimeSep` where no
-    /// `:` follows the minute; `InvalidCharTzSign` where a comma follows the second, or U+2212 the
-    /// clock; `TzRequired` where nothing follows the clock; `InvalidCharTzMinute` where no `:` follows
-    /// the hour of the offset. What it takes, the form `Relaxed` takes too, with the same value.
+    /// By default the form and the faults are those of [`Time::parse_str`]. In the form `Strict` the
+    /// texts are those of RFC 3339 alone, except those with a second 60, which both forms refuse.
+    /// Further texts then have a fault:
+    ///
+    /// - `TooShort` if there are fewer than nine bytes;
+    /// - `InvalidCharTimeSep` if no `:` follows the minute;
+    /// - `TzRequired` if nothing follows the clock;
+    /// - `InvalidCharTzSign` if a comma follows the second, or U+2212 the clock;
+    /// - `InvalidCharTzMinute` if no `:` follows the hour of the offset.
+    ///
+    /// What `Strict` accepts, `Relaxed` accepts too, with the same value.
     #[inline(always)]
     pub fn parse_bytes_with_config(bytes: &[u8], config: &TimeConfig) -> Result<Self, ParseError>
         ensures answer { result_map parts result
@@ -126,15 +138,15 @@ impl Time {
         )
     }
 
-    /// Reads the time at the front of a text, whatever follows it, and how many bytes it takes:
-    /// 12:13:14.5 an hour east of UTC, and 16 bytes, from `b"12:13:14.5+01:00 GET /"`.
+    /// Reads the time at the front of a text, whatever follows it, and answers how many bytes it takes:
+    /// 12:13:14.5 an hour east of UTC, and 16, from `b"12:13:14.5+01:00 GET /"`.
     ///
-    /// The time goes as far as [`Time::parse_bytes_with_config`] reads on: where a `:` follows the
-    /// minute, two digits have to follow it, where a decimal mark follows the second, a digit, and
-    /// where a sign follows the clock, an offset. `Z` or `z` is an offset too. In the form `Relaxed`
-    /// any other byte after the clock, or none, ends a time without an offset. The faults are those of
-    /// [`Time::parse_bytes_with_config`] but for `ExtraCharacters`, and in the form `Relaxed` but for
-    /// `InvalidCharTzSign`, in that order.
+    /// A time that goes on has to go on without a fault: after a `:` that follows the minute with two
+    /// digits, after a decimal mark that follows the second with a digit, after a sign that follows the
+    /// clock with an offset; `Z` or `z` is an offset too. In the form `Relaxed` any other byte after
+    /// the clock, or none, ends a time without an offset. The faults are those of
+    /// [`Time::parse_bytes_with_config`], in its order, except `ExtraCharacters`, and in the form
+    /// `Relaxed` except `InvalidCharTzSign`.
     #[inline(always)]
     pub fn parse_front(bytes: &[u8], config: &TimeConfig) -> Result<(Self, usize), ParseError>
         ensures answer { result_map (with_size parts) result
@@ -190,7 +202,8 @@ impl Time {
     }
 
     /// The time so many seconds and microseconds after midnight, without an offset: 10:00:06.5 for
-    /// 36,005 seconds and 1,500,000 microseconds. `TimeTooLarge` where that is not the same day.
+    /// 36,005 seconds and 1,500,000 microseconds. Fails with `TimeTooLarge` if they are 86,400 seconds
+    /// or more together.
     #[inline]
     pub fn from_timestamp(
         timestamp_second: u32,
@@ -207,9 +220,9 @@ impl Time {
         )
     }
 
-    /// The time so many seconds and microseconds after midnight, as [`Time::from_timestamp`] gives
-    /// it, with the configured offset: 00:00:01Z for one second and the offset 0. The offset is
-    /// attached and shifts nothing.
+    /// The time so many seconds and microseconds after midnight, with the configured offset, which is
+    /// attached and shifts nothing: 00:00:01Z for one second and the offset 0. Fails with
+    /// `TimeTooLarge` if the seconds and microseconds are 86,400 seconds or more together.
     #[inline]
     pub fn from_timestamp_with_config(
         timestamp_second: u32,
@@ -278,7 +291,7 @@ impl FromStr for Time {
 
     ghost from_str_gives = { λ text result. result_map parts result ≡ time_answer rfc3339.Relaxed behavior.Error text };
 
-    /// Reads a time from a text, as [`Time::parse_str`] does: `"12:13Z".parse()` gives 12:13:00 in UTC.
+    /// The answer of [`Time::parse_str`]: `"12:13Z".parse()` gives 12:13:00 in UTC.
     #[inline]
     fn from_str(text: &str) -> Result<Self, ParseError> {
         Self::parse_str(text)

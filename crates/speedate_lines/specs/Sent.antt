@@ -5,7 +5,7 @@ use Rattle.speedate_lines.specs.Lines.{complete_lines, lines}
 use Rattle.speedate_lines.specs.Answer.{answers}
 use Rattle.speedate_lines.specs.Block.{longest_read}
 
--- some bytes have been written but for the last of them, which are left
+-- some bytes have been written, except the last ones, which are left
 pub record AppendsBut (left : List ℕ) (old new : Option (List ℕ)) (bytes : List ℕ) : Type 0 where
   pub written : List ℕ
   pub sent : Appends old new written
@@ -29,7 +29,7 @@ pub record AnswersCompleteLines (unread_old unread_new old new : Option (List �
   pub consumed : Consumes unread_old unread_new text
   pub sent : Appends old new (answers (complete_lines text))
 
--- the answers to the complete lines of a text, or where no input is left to all its lines
+-- the answers to the complete lines of a text, or to all its lines if no input is left
 abbrev pub AreDue : Option (List ℕ) → List ℕ → List ℕ → Type 0
 AreDue unread text due = (due ≡ answers (complete_lines text)) ⊎ (IsAtEnd unread × (due ≡ answers (lines text)))
 

@@ -16,7 +16,7 @@ ghost use Rattle.speedate_lines.specs.Answer.{line_answer, reply, err_answer, da
 use arrayvec::ArrayString;
 use speedate::{Date, DateTime, Duration, IsoOrder, ParseError, Rfc3339Form, Time, TimeConfig};
 
-/// A longer line is answered without being looked at.
+/// How many bytes a line may have. A longer one is refused, whatever it holds.
 pub const LINE_MAX: usize = 4096;
 
 /// No printed value and no reason for a refusal has more bytes.
@@ -34,8 +34,8 @@ const ACCEPTED: &str = "ok ";
 /// Answers that wait to be written.
 pub type Pending = ArrayString<PENDING_MAX>;
 
-/// Appends the answer to a line, which is given without the line feed that ends it, and a
-/// line feed.
+/// Appends the answer to a line, which is given without its line feed, and a line feed: for
+/// `date 2020-02-29`, `ok 2020-02-29`.
 #[inline(always)]
 pub fn answer_line(line: &[u8], pending: &mut Pending)
     requires { array_string_len pending.old + ANSWER_MAX ≤ PENDING_MAX }
@@ -75,7 +75,7 @@ fn text_after<'a, const LENGTH: usize>(line: &'a [u8], front: &[u8; LENGTH]) -> 
     }
 }
 
-/// Appends the answer to the text of a date.
+/// Appends the answer to the text of a date or of a timestamp.
 #[inline]
 fn answer_date(text: &[u8], pending: &mut Pending)
     requires { array_string_len pending.old + ANSWER_MAX ≤ PENDING_MAX }
@@ -167,7 +167,7 @@ fn answer_duration(text: &[u8], order: IsoOrder, pending: &mut Pending)
     }
 }
 
-/// The default configuration, but for the order of components.
+/// The default configuration, except for the order of components.
 #[inline]
 fn order_config(order: IsoOrder) -> TimeConfig
     ensures order { result.iso_order ≡ order }
@@ -176,7 +176,7 @@ fn order_config(order: IsoOrder) -> TimeConfig
     TimeConfig::builder().iso_order(order).build()
 }
 
-/// The default configuration, but for the form of times and date-times.
+/// The default configuration, except for the form of times and date-times.
 #[inline]
 fn form_config(form: Rfc3339Form) -> TimeConfig
     ensures form { result.rfc3339_form ≡ form }

@@ -7,7 +7,7 @@ use crate::run::RunError;
 use crate::watched::Failed;
 use std::alloc::AllocError;
 
-/// Whether two reasons for which a run ended are one: false for `Read` and `Write`.
+/// Whether two reasons for which a run ended are equal: false for `Read` and `Write`.
 pub fn same_run_error(first: &RunError, second: &RunError) -> bool
     ensures same { IsTrue result ↔ (first.now ≡ second.now) }
 {
@@ -21,7 +21,7 @@ pub fn clone_run_error(reason: &RunError) -> Result<RunError, AllocError>
     reason.clone()
 }
 
-/// Whether two [`Failed`] are one: always.
+/// Whether two [`Failed`] are equal: always.
 pub fn same_failed(first: &Failed, second: &Failed) -> bool
     ensures same { IsTrue result }
 {

@@ -9,7 +9,8 @@ use std::simd::prelude::*;
 /// How many bytes are looked at together.
 const LANES: usize = 16;
 
-/// The place of the first line feed at `from` or after it.
+/// The place of the first line feed at `from` or after it: 3 for `b"abc\ndef"` and 0. `None` if there
+/// is none.
 #[inline]
 pub fn line_end(text: &[u8], from: usize) -> Option<usize>
     requires { from ≤ length text.now }

@@ -5,8 +5,8 @@ ghost use Rattle.speedate_lines.specs.Outcome.{outcome_of};
 
 use crate::run::RunError;
 
-/// The exit status and the text for standard error that tell how a run ended: 0 and an empty text
-/// where it ended well, 1 and `input failed`, or 2 and `output failed`.
+/// The exit status and the text for standard error that tell how a run ended: 0 and an empty text if it
+/// answered every line, 1 and `input failed`, or 2 and `output failed`.
 pub fn outcome(ended: Result<(), RunError>) -> (u8, &'static str)
     ensures tells { (result.0, result.1.now) ≡ outcome_of ended }
 {

@@ -15,7 +15,7 @@ use crate::line_end::line_end;
 use crate::watched::{Failed, Watched};
 use std::io::{Read, Write};
 
-/// Of a line that is too long to be answered, so many bytes are kept: they tell that it is.
+/// How many bytes are kept of a line that is too long: enough to tell that it is.
 const KEPT_MAX: usize = LINE_MAX + 1;
 
 /// How many bytes there is room for at each read, at least.
@@ -35,17 +35,20 @@ pub enum RunError {
 
 /// Answers each line of the input, up to its end.
 ///
-/// A line is ended by a line feed or by the end of the input, and its answer by a line feed.
-/// `date TEXT`, `time TEXT`, `datetime TEXT`, `duration TEXT`, `duration-strict TEXT`, whose
-/// components have to come in order, and `time-strict TEXT` and `datetime-strict TEXT`, which take
-/// the texts of RFC 3339 alone and no timestamp, are answered by `ok` and the canonical text of the
-/// value, or by `err` and the name of the fault; a line of more than 4,096 bytes by
-/// `err line_too_long`, any other by `err unknown_kind`. Every complete line that was read is
-/// answered before the next read. For the input `date 2020-02-29` the output is `ok 2020-02-29` and
-/// a line feed.
+/// A line is ended by a line feed or by the end of the input, and its answer by a line feed. For the
+/// input `date 2020-02-29` the output is `ok 2020-02-29` and a line feed.
 ///
-/// `RunError::Read` comes where a read fails, `RunError::Write` where a write or the one flush at
-/// the end does. Neither end may have failed before.
+/// - `date TEXT`, `time TEXT`, `datetime TEXT` and `duration TEXT` are answered by `ok` and the
+///   canonical text of the value, or by `err` and the name of the fault.
+/// - `duration-strict TEXT` is answered in the same way; the components have to come in order.
+/// - `time-strict TEXT` and `datetime-strict TEXT` too; the texts are those of RFC 3339 alone, and no
+///   timestamp.
+/// - A line of more than 4,096 bytes is answered by `err line_too_long`.
+/// - Any other line is answered by `err unknown_kind`.
+///
+/// Every complete line that was read is answered before the next read. Fails with `RunError::Read` if a
+/// read fails, with `RunError::Write` if a write fails, or the one flush at the end. Neither the input
+/// nor the output may have failed before.
 pub fn run<R: Read, W: Write>(
     input: &mut Watched<R>,
     output: &mut Watched<W>,
@@ -166,7 +169,7 @@ fn answer_lines<W: Write>(
     Ok(start)
 }
 
-/// Writes the answers that wait, where there is no room for a further one.
+/// Writes the answers that wait, if there is no room for a further one.
 fn make_room<W: Write>(pending: &mut Pending, output: &mut Watched<W>) -> Result<(), Failed>
     ensures failed { output.new.failed ≡ (output.old.failed || is_err result) }
     ensures room { OnOk result (array_string_len pending.new + ANSWER_MAX ≤ PENDING_MAX) }

@@ -66,8 +66,8 @@ impl<T> Watched<T> {
 impl<R: Read> Watched<R> {
     /// Reads into `buffer`, and answers how many bytes were read: 0 at the end of the input.
     ///
-    /// It answers `Failed` where the reader answers an error, and after `u64::MAX` reads, where
-    /// the reader is not called.
+    /// Fails with `Failed` if the reader answers an error, and after `u64::MAX` reads, when the reader
+    /// is not called.
     pub fn read(&mut self, buffer: &mut [u8]) -> Result<usize, Failed>
         ensures bound { ReadsAtMost result buffer.new }
         ensures bytes { ReadConsumes (R.remaining self.old.inner) (R.remaining self.new.inner)
@@ -97,8 +97,8 @@ impl<R: Read> Watched<R> {
 impl<W: Write> Watched<W> {
     /// Writes some of `bytes`, and answers how many.
     ///
-    /// It answers `Failed` where the writer answers an error, or takes nothing of bytes that are
-    /// not empty.
+    /// Fails with `Failed` if the writer answers an error, or takes nothing of bytes that are not
+    /// empty.
     pub fn write(&mut self, bytes: &[u8]) -> Result<usize, Failed>
         ensures bound { WritesAtMost result bytes.now }
         ensures bytes { WriteAppends (W.contents self.old.inner) (W.contents self.new.inner)
@@ -122,7 +122,7 @@ impl<W: Write> Watched<W> {
         }
     }
 
-    /// Flushes the writer, and answers `Failed` where it answers an error.
+    /// Flushes the writer. Fails with `Failed` if it answers an error.
     pub fn flush(&mut self) -> Result<(), Failed>
         ensures bytes { Keeps (W.contents self.old.inner) (W.contents self.new.inner) }
         ensures failed { self.new.failed ≡ (self.old.failed || is_err result) }

@@ -8,7 +8,7 @@ use Rattle.std.proofs.lemmas.Int.{ints}
 use Rattle.speedate.specs.Numbers.{with_sign}
 use Rattle.speedate_uses.specs.Schedule.{next_count, IsNextRun}
 
--- a number of times is later than what has gone by, and no smaller one is
+-- a number of times is longer than what has gone by, and no smaller one is
 past : (gone every : ℕ) → 0 < every → gone < (gone / every + 1) * every
 past gone every some = omega (arith, lt-div-mul-add {a = gone} some)
 

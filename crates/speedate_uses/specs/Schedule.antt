@@ -22,7 +22,7 @@ next_run_answer last every now =
     else Ok None
 
 -- an instant is the first run later than now: it comes one or more times `every` after the last run, it is later than now, and
--- so is no run before it
+-- each run later than now comes then or after it
 pub record IsNextRun (last every now run : ℤ) : Type 0 where
   pub due : (count : ℕ) × (1 ≤ count) × (run ≡ last +ℤ pos count *ℤ every)
   pub later : now <ℤ run

@@ -10,7 +10,8 @@ ghost use Rattle.speedate.specs.Requirement.{result_map};
 use speedate::{DateTime, Moment, ParseError};
 use std::time::{Clock, SystemTime};
 
-/// The date-time that the machine's clock tells, as a clock at an offset, in seconds, shows it.
+/// The date-time that the machine's clock tells, as a clock at an offset, in seconds, shows it. The faults
+/// are those of [`DateTime::now`], `SystemTimeError` too where the clock cannot be read.
 pub fn local_time(clock: &impl Clock, tz_offset: i32) -> Result<DateTime, ParseError>
     ensures told { (told : Option Moment) × (result_map parts result ≡ now_answer tz_offset told) }
 {
@@ -23,7 +24,7 @@ fn told(clock: &impl Clock) -> Option<Moment> {
     Some(moment(time))
 }
 
-/// A reading of the clock without what is less than a microsecond.
+/// A reading of the clock as a moment, cut to whole microseconds.
 pub fn moment(time: SystemTime) -> Moment
     ensures second { result.second ≡ system_time_nanos time / 1000000000 }
     ensures microsecond { result.microsecond ≡ system_time_nanos time % 1000000000 / 1000 }

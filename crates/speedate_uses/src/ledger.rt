@@ -1,8 +1,8 @@
 //! A ledger: lines that begin with dates, in order and sorted.
 
-ghost use Rattle.std.specs.Prelude.{◌≡◌, OnErr, OnOk, map};
+ghost use Rattle.std.specs.Prelude.{◌≡◌, OnErr, OnOk};
 ghost use Rattle.std.specs.List.{IsAllAdjacentAnswer};
-ghost use Rattle.std.specs.List.Sorted.{IsPermutation, IsSortedByKey};
+ghost use Rattle.std.specs.List.Sorted.{IsPermutation, IsSortedByKey, IsStableByKey};
 ghost use Rattle.speedate.specs.Date.{parts};
 ghost use Rattle.speedate.specs.DateOrder.{date_order};
 ghost use Rattle.speedate_uses.specs.Ledger.{is_in_order};
@@ -29,17 +29,20 @@ pub fn are_in_order(lines: &[&[u8]]) -> bool
     lines.is_sorted_by(|line, next| is_in_order(line, next))
 }
 
-/// An entry of a ledger: its date, and its amount in cents.
+/// An entry of a ledger: 42.50 paid on 30 November 2026 has the date 2026-11-30 and -4,250 cents.
 #[derive(Clone, Copy, Debug, PartialEq, Eq)]
 pub struct Entry {
+    /// The day of the entry.
     pub date: Date,
+    /// The amount, negative where it was paid.
     pub cents: i64,
 }
 
-/// Sorts the entries of a ledger by date. Those of one day stay in their order.
+/// Sorts the entries of a ledger by date, the earliest first. Those of one day stay in their order.
 pub fn sort_by_date<A: Allocator>(alloc: A, entries: &mut [Entry]) -> Result<(), AllocError>
     ensures same { IsPermutation entries.old entries.new }
     ensures sorted { OnOk result (IsSortedByKey (λ entry. parts entry.date) date_order entries.new) }
+    ensures stable { IsStableByKey (λ entry. parts entry.date) date_order entries.old entries.new }
     ensures err { OnErr result (entries.new ≡ entries.old) }
 {
     entries.sort_by_key(alloc, |entry| entry.date)

@@ -1,6 +1,6 @@
 //! A validator of JSON Schema's format `date-time`: the fault of a field, by its name and in words.
 
-ghost use Rattle.std.specs.Prelude.{◌≡◌, MatchResult, List, ℕ, Result, Ok, Err};
+ghost use Rattle.std.specs.Prelude.{◌≡◌, Err, MatchResult, Ok};
 ghost use Rattle.speedate.specs.declared.ParseError.{ParseError};
 ghost use Rattle.speedate.specs.DateTime.{parts};
 ghost use Rattle.speedate.specs.DateTimeText.{date_time_answer};
@@ -12,12 +12,14 @@ use speedate::{
     DateTime, MicrosecondsPrecisionOverflowBehavior, ParseError, Rfc3339Form, TimeConfig,
 };
 
-/// What is wrong with a field: its name, and the fault's name and text, as `birth`, `too_short` and
-/// `input is too short`.
+/// What is wrong with a field.
 #[derive(Clone, Copy, Debug)]
 pub struct FieldFault<'a> {
+    /// The name of the field, as `due`.
     pub field: &'a str,
+    /// The name of the fault, as `too_short`.
     pub fault: &'static str,
+    /// What it says, as `input is too short`.
     pub text: &'static str,
 }
 

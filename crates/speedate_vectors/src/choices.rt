@@ -61,7 +61,7 @@ const FORMS: &str = "\
 'strict '     unknown_rfc3339_form_string
 '\u{17f}trict'  unknown_rfc3339_form_string";
 
-/// Each text is to name the value that is written so, or to have the fault of that name.
+/// Each text is to name the value that is written so, or to fail with the fault of that name.
 fn expect_each<T: FromStr<Err = ConfigError> + Debug + Copy, R: Abort>(rt: &R, table: &str) {
     for row in table.lines() {
         let (_, text, want) = quoted(rt, row);

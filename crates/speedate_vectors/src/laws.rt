@@ -19,21 +19,21 @@ use speedate_base::numbers::DigitRun;
 use speedate_base::util::UnixTime;
 use speedate_civil::time::PureTime;
 
-/// Whether two faults are one: false for `TooShort` and `ExtraCharacters`.
+/// Whether two faults are equal: false for `TooShort` and `ExtraCharacters`.
 pub fn same_fault(first: &ParseError, second: &ParseError) -> bool
     ensures same { IsTrue result ↔ (first.now ≡ second.now) }
 {
     first == second
 }
 
-/// Whether two faults of a choice are one: false for that of a unit and that of a behavior.
+/// Whether two faults of a choice are equal: false for that of a unit and that of a behavior.
 pub fn same_config_error(first: &ConfigError, second: &ConfigError) -> bool
     ensures same { IsTrue result ↔ (first.now ≡ second.now) }
 {
     first == second
 }
 
-/// Whether two behaviors are one: false for `Truncate` and `Error`.
+/// Whether two behaviors are equal: false for `Truncate` and `Error`.
 pub fn same_behavior(
     first: &MicrosecondsPrecisionOverflowBehavior,
     second: &MicrosecondsPrecisionOverflowBehavior,
@@ -43,42 +43,42 @@ pub fn same_behavior(
     first == second
 }
 
-/// Whether two orders of components are one: false for `Lax` and `Strict`.
+/// Whether two orders of components are equal: false for `Lax` and `Strict`.
 pub fn same_iso_order(first: &IsoOrder, second: &IsoOrder) -> bool
     ensures same { IsTrue result ↔ (first.now ≡ second.now) }
 {
     first == second
 }
 
-/// Whether two forms are one: false for `Relaxed` and `Strict`.
+/// Whether two forms are equal: false for `Relaxed` and `Strict`.
 pub fn same_rfc3339_form(first: &Rfc3339Form, second: &Rfc3339Form) -> bool
     ensures same { IsTrue result ↔ (first.now ≡ second.now) }
 {
     first == second
 }
 
-/// Whether two units are one: false for `Second` and `Infer`.
+/// Whether two units are equal: false for `Second` and `Infer`.
 pub fn same_timestamp_unit(first: &TimestampUnit, second: &TimestampUnit) -> bool
     ensures same { IsTrue result ↔ (first.now ≡ second.now) }
 {
     first == second
 }
 
-/// Whether two configurations of dates are one: false where their units differ.
+/// Whether two configurations of dates are equal: false if their units differ.
 pub fn same_date_config(first: &DateConfig, second: &DateConfig) -> bool
     ensures same { IsTrue result ↔ (first.now ≡ second.now) }
 {
     first == second
 }
 
-/// Whether two configurations are one: false where one has no offset and the other the offset 0.
+/// Whether two configurations are equal: false if one has no offset and the other the offset 0.
 pub fn same_time_config(first: &TimeConfig, second: &TimeConfig) -> bool
     ensures same { IsTrue result ↔ (first.now ≡ second.now) }
 {
     first == second
 }
 
-/// Whether two configurations of date-times are one: false where their units differ.
+/// Whether two configurations of date-times are equal: false if their units differ.
 pub fn same_date_time_config(first: &DateTimeConfig, second: &DateTimeConfig) -> bool
     ensures same { IsTrue result
         ↔ ((first.now.timestamp_unit ≡ second.now.timestamp_unit)
@@ -90,56 +90,56 @@ pub fn same_date_time_config(first: &DateTimeConfig, second: &DateTimeConfig) ->
     first == second
 }
 
-/// Whether two instants are one: false where their microseconds differ.
+/// Whether two instants are equal: false if their microseconds differ.
 pub fn same_unix_time(first: &UnixTime, second: &UnixTime) -> bool
     ensures same { IsTrue result ↔ (instant_parts first.now ≡ instant_parts second.now) }
 {
     first == second
 }
 
-/// Whether two runs of digits are one: false where they spell one number in other lengths.
+/// Whether two runs of digits are equal: false if they spell the same number with different lengths.
 pub fn same_digit_run(first: &DigitRun, second: &DigitRun) -> bool
     ensures same { IsTrue result ↔ (first.now ≡ second.now) }
 {
     first == second
 }
 
-/// Whether two dates are one: false where their days differ.
+/// Whether two dates are equal: false if their days differ.
 pub fn same_date(first: &Date, second: &Date) -> bool
     ensures same { IsTrue result ↔ (date_parts first.now ≡ date_parts second.now) }
 {
     first == second
 }
 
-/// Whether two times are one: false where one has no offset and the other the offset 0.
+/// Whether two times are equal: false if one has no offset and the other the offset 0.
 pub fn same_time(first: &Time, second: &Time) -> bool
     ensures same { IsTrue result ↔ (time_parts first.now ≡ time_parts second.now) }
 {
     first == second
 }
 
-/// Whether two times without offsets are one, and take as many bytes of their texts.
+/// Whether two times without offsets are equal, and take as many bytes of their texts.
 pub fn same_pure_time(first: &PureTime, second: &PureTime) -> bool
     ensures same { IsTrue result ↔ (clock_parts first.now ≡ clock_parts second.now) }
 {
     first == second
 }
 
-/// Whether two date-times are one: false where they are shown at other offsets.
+/// Whether two date-times are equal: false if their offsets differ.
 pub fn same_date_time(first: &DateTime, second: &DateTime) -> bool
     ensures same { IsTrue result ↔ (date_time_parts first.now ≡ date_time_parts second.now) }
 {
     first == second
 }
 
-/// Whether two moments are one: false where their microseconds differ.
+/// Whether two moments are equal: false if their microseconds differ.
 pub fn same_moment(first: &Moment, second: &Moment) -> bool
     ensures same { IsTrue result ↔ (first.now ≡ second.now) }
 {
     first == second
 }
 
-/// Whether two durations are one: false for `PT0S` and `-PT0S`.
+/// Whether two durations are equal: false for `PT0S` and `-PT0S`.
 pub fn same_duration(first: &Duration, second: &Duration) -> bool
     ensures same { IsTrue result ↔ (duration_parts first.now ≡ duration_parts second.now) }
 {

@@ -1,6 +1,6 @@
 //! Days added and counted, durations between two values, and values so long after another.
 
-use crate::rows::{expect, value, words};
+use crate::rows::{expect, same, value, words};
 use speedate::{Date, DateTime, Duration};
 
 /// A date, days, and the date so many days later.

@@ -1,4 +1,4 @@
-//! The form of a duration that a clock shows.
+//! The form of a duration as a clock shows it.
 
 ghost use Rattle.std.specs.Prelude.{◌≡◌, ◌+◌, ◌-◌, ◌^◌, ◌<◌, ◌≤◌, length, min, position, ◌==◌, false, Ok, Err, IfOk, IsTrue};
 ghost use Rattle.speedate_base.specs.Ascii.{colon};
@@ -19,7 +19,7 @@ const HOURS_LENGTH_MAX: usize = 10;
 /// How many hours a clock shows at most.
 const HOURS_MAX: u64 = 2_400_000_000;
 
-/// How many bytes follow the hours at most where digits are refused, as in `01:03.123456`.
+/// How many bytes follow the hours at most if digits are refused, as in `01:03.123456`.
 const REST_LENGTH_MAX: usize = 12;
 
 impl UnsignedDuration {
@@ -114,7 +114,7 @@ fn has_hours(bytes: &[u8], end: usize) -> bool
     byte_at(bytes, end) == b':' && end <= HOURS_LENGTH_MAX
 }
 
-/// The fault of a clock that does not begin with hours and `:`.
+/// The fault of a clock that does not begin with hours and a `:`.
 fn hours_fault(bytes: &[u8]) -> ParseError
     requires long { 5 ≤ length bytes.now }
     requires other { has_hours bytes.now ≡ false }

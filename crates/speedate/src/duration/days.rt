@@ -110,7 +110,7 @@ fn without_space(text: &[u8]) -> &[u8]
 }
 
 /// A text without the rest of a word that it begins with, `ays`, `ay`, `AYS` or `AY`, if there is one:
-/// the longest of them. `None` where a word goes on otherwise.
+/// the longest of them. `None` if a word goes on in another way.
 #[inline(always)]
 fn without_ending(text: &[u8]) -> Option<&[u8]>
     ensures rest { option_map (λ rest. rest.now) result
@@ -124,7 +124,7 @@ fn without_ending(text: &[u8]) -> Option<&[u8]>
     }
 }
 
-/// A text without what parts days from a clock, a comma, a space, or both, if it begins so.
+/// A text without the comma, the space, or both, between days and a clock, if it begins so.
 #[inline(always)]
 fn without_gap(text: &[u8]) -> &[u8]
     ensures rest { result.now ≡ after_one_of gaps text.now }

@@ -63,7 +63,7 @@ impl DurationUnit {
     }
 
     /// The whole seconds of a fraction of this unit, and the microseconds that are nearest to what is
-    /// left: a million of them where that is all but a second. The fraction is given by its digits, and
+    /// left: a million of them if that rounds up to a second. The fraction is given by its digits, and
     /// by the microseconds of a second that the first six of them are.
     #[inline(always)]
     fn fraction(&self, digits: &[u8], microseconds: u32) -> (u32, u32)
@@ -204,8 +204,8 @@ impl Sums {
     }
 
     /// The sums with the plain component at a place, and where it ends: a number of few digits, and
-    /// the designator of its unit. `None` where none stands there, where the unit is out of order, or
-    /// where the sums grow too large.
+    /// the designator of its unit. `None` if there is none, if the unit is out of order, or if the sums
+    /// grow too large.
     #[inline(always)]
     fn with_next(self, body: &[u8], place: usize) -> Option<(Self, usize)>
         requires none { self.fraction ≡ false }
@@ -253,7 +253,7 @@ impl Sums {
         }
     }
 
-    /// The sums with so many of a unit, or `None` where they are not counted in 32 bits.
+    /// The sums with so many of a unit, or `None` if they do not fit 32 bits.
     #[inline(always)]
     fn with_whole(self, number: u32, unit: &DurationUnit) -> Option<Self>
         requires none { self.fraction ≡ false }
@@ -289,7 +289,7 @@ impl Sums {
         sums.length()
     }
 
-    /// The length that all items add up to, where a component is among them.
+    /// The length that all items add up to, if a component is among them.
     #[inline(always)]
     fn length(self) -> Result<UnsignedDuration, ParseError>
         ensures answer { result_map unsigned_parts result ≡ (if self.some then Ok (sums_length (sums_parts self)) else Err fault.TooShort) }
@@ -405,7 +405,7 @@ impl Sums {
 
 /// How many bytes the fraction has that stands at the front of a text, its decimal mark and digits,
 /// and the microseconds of a second that its first six digits are: 4 and 120,000 for `b".120S"`, and
-/// 0 and 0 where there is none.
+/// 0 and 0 if there is none.
 #[inline(always)]
 fn fraction_at_front(text: &[u8]) -> (usize, u32)
     ensures len { result.0 ≡ fraction_length text.now }
@@ -429,7 +429,7 @@ fn begins_fraction(text: &[u8]) -> bool
     matches!(text, [b'.' | b',', ..])
 }
 
-/// The fault of a designator that is none of its side.
+/// The fault of a byte that is no designator of its side.
 fn unit_fault(is_time: bool) -> ParseError
     ensures { result ≡ unit_fault is_time }
 {

@@ -62,7 +62,7 @@ fn push_up_to_two_digits<const LENGTH: usize>(number: u8, text: &mut ArrayString
     }
 }
 
-/// Appends a number and its unit, and nothing for 0: `7D` for 7.
+/// Appends a number and its unit, or nothing for 0: `7D` for 7.
 #[inline(always)]
 fn push_counted<const LENGTH: usize>(number: u32, unit: char, text: &mut ArrayString<LENGTH>)
     requires few { number < 100000000 }
@@ -77,8 +77,8 @@ fn push_counted<const LENGTH: usize>(number: u32, unit: char, text: &mut ArraySt
     }
 }
 
-/// Appends a point and the digits of a microsecond but for the zeros at their end, and nothing for
-/// 0: `.5` for 500,000.
+/// Appends a point and the digits of a microsecond without the zeros at their end, or nothing for 0:
+/// `.5` for 500,000.
 #[inline(always)]
 fn push_fraction<const LENGTH: usize>(microsecond: u32, text: &mut ArrayString<LENGTH>)
     requires small { microsecond ≤ 999999 }
@@ -91,7 +91,7 @@ fn push_fraction<const LENGTH: usize>(microsecond: u32, text: &mut ArrayString<L
     }
 }
 
-/// Appends the digits of a microsecond but for the zeros at their end: `120` for 120,000.
+/// Appends the digits of a microsecond without the zeros at their end: `12` for 120,000.
 #[inline(always)]
 fn push_places<const LENGTH: usize>(microsecond: u32, text: &mut ArrayString<LENGTH>)
     requires some { microsecond ≢ 0 }
@@ -114,8 +114,8 @@ fn push_places<const LENGTH: usize>(microsecond: u32, text: &mut ArrayString<LEN
     }
 }
 
-/// Appends the last two digits of a fraction, or the first of them where the other is 0: `07` for 7
-/// and `7` for 70.
+/// Appends the last two digits of a fraction, or the first of them if the other is 0: `07` for 7 and
+/// `7` for 70.
 #[inline(always)]
 fn push_last_places<const LENGTH: usize>(number: u8, text: &mut ArrayString<LENGTH>)
     requires some { number ≢ 0 }
@@ -145,7 +145,7 @@ fn push_seconds<const LENGTH: usize>(second: u32, microsecond: u32, text: &mut A
     }
 }
 
-/// How the text of a duration begins: `-P` where it is negative.
+/// How the text of a duration begins: with `-P` if it is negative, otherwise with `P`.
 #[inline(always)]
 fn start_text(positive: bool) -> &'static str
     ensures { result.now ≡ start_text positive }
@@ -160,10 +160,12 @@ impl Duration {
     ghost use Rattle.speedate.specs.Duration.{parts};
     ghost use Rattle.speedate.specs.DurationAnswer.{duration_answer};
 
-    /// The canonical text: a sign where the duration is negative, `P`, and the years of 365 days,
-    /// the days, and after a `T` the hours, minutes and seconds that are not 0, as
-    /// `-P1Y2DT3H4M5.06S`. The fraction of a second has no zeros at its end. Zero is
-    /// `PT0S` or `-PT0S`. Every configuration reads it back as the duration.
+    /// The canonical text: `-` if the duration is negative, `P`, the years of 365 days and the days,
+    /// and after a `T` the hours, minutes and seconds, each if it is not 0: `-P1Y2DT3H4M5.06S`. The
+    /// fraction of a second has no zeros at its end. Zero is `PT0S` or `-PT0S`. The text is not
+    /// allocated; `.as_str()` is the text.
+    ///
+    /// Every configuration reads it back as the duration. No other duration has the same text.
     #[inline]
     pub fn to_text(&self) -> ArrayString<TEXT_MAX>
         ensures text { result.bytes ≡ duration_text (parts self.now) }
@@ -180,8 +182,8 @@ impl Duration {
         text
     }
 
-    /// Appends the canonical text, as [`Duration::to_text`] gives it, for which there must be room for
-    /// 31 bytes: `ok P1DT2H` where it is appended to `ok `.
+    /// Appends the text of [`Duration::to_text`]: `ok ` becomes `ok P1DT2H`. There must be room for 31
+    /// bytes, the longest text, which is a condition on the caller.
     #[inline(always)]
     pub fn push_onto<const LENGTH: usize>(&self, text: &mut ArrayString<LENGTH>)
         requires room { array_string_len text.old + TEXT_MAX ≤ LENGTH }

@@ -1,5 +1,5 @@
-//! The texts by which a unit of timestamps, a behavior, an order of components and a form of texts are
-//! chosen, and their names.
+//! The names of the units of timestamps, the behaviors, the orders of components and the forms of
+//! texts, and how a text chooses one of them.
 
 ghost use Rattle.std.specs.Prelude.{◌≡◌, Contains, Ok};
 ghost use Rattle.std.specs.Str.{str_eq_ignore_ascii_case};
@@ -30,8 +30,9 @@ impl FromStr for TimestampUnit {
 
     ghost from_str_gives = { λ text result. result ≡ unit_answer text };
 
-    /// The unit that a text names, in letters of any case: `TimestampUnit::Millisecond` for `"ms"`,
-    /// and the others for `"s"`, `"us"` and `"infer"`. `UnknownTimestampUnitString` for another text.
+    /// The unit that a text names, in ASCII letters of any case: `TimestampUnit::Millisecond` for
+    /// `"ms"`, and the others for `"s"`, `"us"` and `"infer"`. Fails with `UnknownTimestampUnitString`
+    /// for any other text.
     #[inline]
     fn from_str(text: &str) -> Result<Self, ConfigError> {
         if names(text, "s") {
@@ -68,8 +69,9 @@ impl FromStr for MicrosecondsPrecisionOverflowBehavior {
 
     ghost from_str_gives = { λ text result. result ≡ behavior_answer text };
 
-    /// The behavior that a text names, in letters of any case: `Truncate` for `"truncate"`, and
-    /// `Error` for `"error"`. `UnknownMicrosecondsPrecisionOverflowBehaviorString` for another text.
+    /// The behavior that a text names, in ASCII letters of any case: `Truncate` for `"truncate"`, and
+    /// `Error` for `"error"`. Fails with `UnknownMicrosecondsPrecisionOverflowBehaviorString` for any
+    /// other text.
     #[inline]
     fn from_str(text: &str) -> Result<Self, ConfigError> {
         if names(text, "truncate") {
@@ -101,8 +103,8 @@ impl FromStr for IsoOrder {
 
     ghost from_str_gives = { λ text result. result ≡ order_answer text };
 
-    /// The order that a text names, in letters of any case: `Lax` for `"lax"`, and `Strict` for
-    /// `"strict"`. `UnknownIsoOrderString` for another text.
+    /// The order that a text names, in ASCII letters of any case: `Lax` for `"lax"`, and `Strict` for
+    /// `"strict"`. Fails with `UnknownIsoOrderString` for any other text.
     #[inline]
     fn from_str(text: &str) -> Result<Self, ConfigError> {
         if names(text, "lax") {
@@ -134,8 +136,8 @@ impl FromStr for Rfc3339Form {
 
     ghost from_str_gives = { λ text result. result ≡ form_answer text };
 
-    /// The form that a text names, in letters of any case: `Relaxed` for `"relaxed"`, and `Strict`
-    /// for `"strict"`. `UnknownRfc3339FormString` for another text.
+    /// The form that a text names, in ASCII letters of any case: `Relaxed` for `"relaxed"`, and
+    /// `Strict` for `"strict"`. Fails with `UnknownRfc3339FormString` for any other text.
     #[inline]
     fn from_str(text: &str) -> Result<Self, ConfigError> {
         if names(text, "relaxed") {
@@ -148,7 +150,7 @@ impl FromStr for Rfc3339Form {
     }
 }
 
-/// Whether a text is a name, but for the case of its letters.
+/// Whether a text is a name, in ASCII letters of any case.
 #[inline]
 fn names(text: &str, name: &str) -> bool
     ensures { result ≡ str_eq_ignore_ascii_case name.now text.now }

@@ -3,15 +3,15 @@
 use super::{TimeConfig, TimestampUnit};
 use std::marker::Model;
 
-/// The unit of the timestamps that are read as date-times, how the time in a text is read, and which
-/// offset the date-time of a timestamp gets. The default infers the unit, refuses further digits of a
-/// second and attaches no offset;
-/// `DateTimeConfig::builder().timestamp_unit(TimestampUnit::Second).build()` takes seconds.
+/// How date-times are read: the unit of timestamps, and a [`TimeConfig`] for the texts and for the
+/// offset that the value of a timestamp gets. The default infers the unit, and has the default
+/// `TimeConfig`; `DateTimeConfig::builder().timestamp_unit(TimestampUnit::Second).build()` takes
+/// seconds.
 #[derive(Clone, Copy, Debug, PartialEq, Eq)]
 pub struct DateTimeConfig {
     /// The unit of timestamps.
     pub timestamp_unit: TimestampUnit,
-    /// How times are read, and which offset the date-time of a timestamp gets.
+    /// How the texts of date-times are read, and which offset the value of a timestamp gets.
     pub time_config: TimeConfig,
 }
 
@@ -31,7 +31,7 @@ impl Default for DateTimeConfig {
 
     ghost is_default = { IsDefault };
 
-    /// The unit of timestamps is inferred, further digits are refused, and timestamps get no offset.
+    /// The unit of timestamps is inferred, and the `TimeConfig` is the default one.
     fn default() -> Self {
         DateTimeConfig {
             timestamp_unit: TimestampUnit::default(),
@@ -61,7 +61,7 @@ impl DateTimeConfigBuilder {
     ghost use Rattle.std.specs.Prelude.{◌≡◌};
     ghost use Rattle.speedate_base.specs.DateTimeConfig.{IsDefault};
 
-    /// A builder of the default configuration, as `DateTimeConfig::builder` gives it too.
+    /// A builder of the default configuration; `DateTimeConfig::builder()` is the same.
     pub fn new() -> Self
         ensures default { IsDefault result }
     {
@@ -70,7 +70,8 @@ impl DateTimeConfigBuilder {
         }
     }
 
-    /// Sets the unit of timestamps, as `timestamp_unit(TimestampUnit::Millisecond)`.
+    /// Sets the unit of timestamps: with `timestamp_unit(TimestampUnit::Millisecond)`, `1` is
+    /// 1970-01-01T00:00:00.001000.
     pub fn timestamp_unit(self, unit: TimestampUnit) -> Self
         ensures unit { result.timestamp_unit ≡ unit }
         ensures time { result.time_config ≡ self.time_config }
@@ -83,8 +84,8 @@ impl DateTimeConfigBuilder {
         }
     }
 
-    /// Sets how times are read, and which offset the date-time of a timestamp gets: none by
-    /// `time_config(TimeConfig::default())`.
+    /// Sets how the texts of date-times are read, and which offset the value of a timestamp gets: none
+    /// with `time_config(TimeConfig::default())`.
     pub fn time_config(self, config: TimeConfig) -> Self
         ensures time { result.time_config ≡ config }
         ensures unit { result.timestamp_unit ≡ self.timestamp_unit }
@@ -97,8 +98,8 @@ impl DateTimeConfigBuilder {
         }
     }
 
-    /// The configuration of the values that were set last, and of defaults for the others: the unit is
-    /// inferred for `DateTimeConfig::builder().build()`.
+    /// The configuration of the values that were set last, and of defaults for the others:
+    /// `DateTimeConfig::builder().build()` infers the unit.
     pub fn build(self) -> DateTimeConfig
         ensures built { result ≡ self }
     {

@@ -9,7 +9,7 @@ use std::fmt;
 /// Why the text of a choice was refused. Every refusal has exactly one of these.
 ///
 /// It is printed by its snake-case name, as `unknown_timestamp_unit_string` for
-/// `UnknownTimestampUnitString`.
+/// `UnknownTimestampUnitString`: Display writes the name alone, whatever width and fill are asked for.
 #[derive(Clone, Copy, Debug, PartialEq, Eq)]
 pub enum ConfigError {
     /// The text names no behavior for digits past the microsecond.
@@ -23,7 +23,7 @@ pub enum ConfigError {
 }
 
 impl ConfigError {
-    /// The snake-case name, as `unknown_timestamp_unit_string` for
+    /// The snake-case name: `unknown_timestamp_unit_string` for
     /// `ConfigError::UnknownTimestampUnitString`. No other fault has it.
     #[inline]
     pub fn name(&self) -> &'static str
@@ -40,7 +40,7 @@ impl ConfigError {
         }
     }
 
-    /// The documentation text: `None`, for these faults have none.
+    /// The documentation text: always `None`, since these faults have none.
     #[inline]
     pub fn get_documentation(&self) -> Option<&'static str>
         ensures none { result ≡ None }

@@ -9,19 +9,19 @@ use super::lanes::{LANES, digits_in_front, eight_digits};
 use super::places::byte_at;
 use std::simd::prelude::*;
 
-/// A run of digits: how many they are, and what they spell.
+/// A run of digits: how many they are, and the number that they spell. [`digit_run`] reads it.
 #[derive(Clone, Copy, Debug, PartialEq, Eq)]
 pub struct DigitRun {
     /// How many digits.
     pub length: usize,
-    /// The number that they spell, or `u64::MAX` where it is larger.
+    /// The number that they spell, or `u64::MAX` if it is larger.
     pub value: u64,
 }
 
 /// How many digits are read one by one on the way to their end.
 const FEW: usize = 6;
 
-/// The run of digits at the front of bytes: 3 digits that spell 120 for `b"120.5"`.
+/// The run of digits at the front of bytes: 3 digits that spell 120 for `b"120.5"`, none for `b".5"`.
 #[inline(always)]
 pub fn digit_run(bytes: &[u8]) -> DigitRun
     ensures length { result.length ≡ run_length bytes.now 0 }
@@ -36,8 +36,8 @@ pub fn digit_run(bytes: &[u8]) -> DigitRun
     }
 }
 
-/// What the digits from `place` on spell, and where they end, or `None` where they are more than six:
-/// 120 and place 4 for `b"x120."` at place 1, and 0 and place 4 at place 4.
+/// What the digits from `place` on spell, and where they end: 120 and place 4 for `b"x120."` at place
+/// 1, 0 and place 4 at place 4. `None` if there are more than six. The place is at most the length.
 #[inline(always)]
 pub fn few_digits(bytes: &[u8], place: usize) -> Option<(u32, usize)>
     requires { place ≤ length bytes.now }
@@ -70,7 +70,8 @@ fn long_run(bytes: &[u8]) -> DigitRun
     }
 }
 
-/// The place at which the run of digits ends that begins at `place`: 4 for `b"x120."` at place 1.
+/// Where the digits from `place` on end: at place 4 for `b"x120."` and place 1. The place is at most
+/// the length.
 #[inline(always)]
 pub fn run_end(bytes: &[u8], place: usize) -> usize
     requires { place ≤ length bytes.now }
@@ -95,7 +96,7 @@ pub fn run_end(bytes: &[u8], place: usize) -> usize
     end
 }
 
-/// The number that digits spell, or `u64::MAX` where it is larger: 120 for `b"120"`.
+/// The number that digits spell, or `u64::MAX` if it is larger: 120 for `b"120"`.
 #[inline]
 pub(crate) fn digits_number(digits: &[u8]) -> u64
     requires { IsTrue (list_all is_ascii_digit digits.now) }
@@ -104,8 +105,9 @@ pub(crate) fn digits_number(digits: &[u8]) -> u64
     spelled_number(digits).unwrap()
 }
 
-/// The number that bytes spell where they are digits, or `u64::MAX` where it is larger; as an error
-/// the place of the first byte that is no digit. It is 120 for `b"120"`, 0 for no bytes, and place 2 for `b"12.0"`.
+/// The number that bytes spell if they are digits, or `u64::MAX` if it is larger; otherwise, as an
+/// error, the place of the first byte that is no digit. It is 120 for `b"120"`, 0 for no bytes, and
+/// place 2 for `b"12.0"`.
 #[inline]
 pub(crate) fn spelled_number(digits: &[u8]) -> Result<u64, usize>
     ensures answer { result ≡ (if run_length digits.now 0 == length digits.now
@@ -128,8 +130,8 @@ pub(crate) fn spelled_number(digits: &[u8]) -> Result<u64, usize>
     Ok(value)
 }
 
-/// The number that fewer than eight bytes spell where they are digits; as an error the place of the
-/// first byte that is no digit.
+/// The number that fewer than eight bytes spell if they are digits; otherwise, as an error, the place
+/// of the first byte that is no digit.
 #[inline]
 pub(crate) fn one_by_one(digits: &[u8]) -> Result<u64, usize>
     requires { length digits.now < LANES }

@@ -4,8 +4,12 @@ ghost use Rattle.std.specs.Prelude.{◌≡◌, ◌+◌, ◌<◌, length, IsTrue}
 ghost use Rattle.std.specs.Char.{is_ascii_digit};
 ghost use Rattle.std.specs.List.{list_all};
 
-/// A decimal: the digits before and after its point, as they stand in the text that it was read
-/// from. The decimal of `"-1.50"` has the sign, and the digits `1` and `50`.
+/// A decimal of any length: its sign, and the digits before and after its point, borrowed from a text.
+/// The decimal of `"-1.50"` is negative, and has the digits `1` and `50`.
+///
+/// That the bytes are digits, at least one in all, is part of the type. It stands in place of the `f64`
+/// of the Rust crate: `DateTime::from_decimal_with_config` takes it where that has
+/// `from_float_with_config`.
 #[derive(Clone, Copy, Debug)]
 pub struct Decimal<'a> {
     /// Whether the text begins with `-`.
@@ -24,8 +28,8 @@ impl<'a> Decimal<'a> {
     ghost use Rattle.speedate_base.specs.IntFloat.{parts};
     ghost use Rattle.speedate_base.specs.Numbers.{decimal_of_digits};
 
-    /// The decimal of a sign and the digits before and after its point: that of `"-1.50"` for `true`,
-    /// `b"1"` and `b"50"`. `None` where a byte is no digit, or where there is no digit at all.
+    /// The decimal of a sign and the digits before and after its point: that of `"-1.50"` for true,
+    /// `b"1"` and `b"50"`. `None` if a byte is no digit, or if there is no digit at all.
     #[inline]
     pub fn new(negative: bool, whole: &'a [u8], fraction: &'a [u8]) -> Option<Self>
         ensures answer { option_map parts result
@@ -53,21 +57,21 @@ fn are_digits(bytes: &[u8]) -> bool
     bytes.iter().all(|byte| byte.is_ascii_digit())
 }
 
-/// A number as it stands in a text: see [`float_parse_str`](super::float_parse_str).
+/// What [`float_parse_str`](super::float_parse_str) reads: `Int(12)` from `"12"`.
 #[derive(Clone, Copy, Debug)]
 pub enum IntFloat<'a> {
     /// A whole number.
     Int(i64),
     /// A decimal.
     Float(Decimal<'a>),
-    /// No number, or a whole number that does not fit.
+    /// No number, or a whole number that does not fit an `i64`.
     Err,
 }
 
 impl IntFloat<'_> {
     ghost use Rattle.speedate_base.specs.IntFloat.{is_no_number};
 
-    /// Whether the text was no number that is read: true for the answer to `"1.5e3"`.
+    /// Whether it is `Err`: true for the answer to `"1.5e3"`.
     #[inline]
     pub fn is_err(&self) -> bool
         ensures tells { result ≡ is_no_number self.now }

@@ -12,8 +12,8 @@ use std::simd::prelude::*;
 /// How many bytes are looked at together.
 pub const LANES: usize = 8;
 
-/// The eight bytes from `place` on, and 0 where the text has none: `b"7.5\0\0\0\0\0"` for
-/// `b"12:13:07.5"` at place 7.
+/// The eight bytes from `place` on, with 0 for those after the end: `b"7.5\0\0\0\0\0"` for
+/// `b"12:13:07.5"` at place 7. The place is at most the length.
 #[inline(always)]
 pub fn eight_bytes(bytes: &[u8], place: usize) -> u8x8
     requires { place ≤ length bytes.now }
@@ -68,9 +68,8 @@ fn four_bytes(bytes: &[u8]) -> u64
     u64::from(u32::from_le_bytes([bytes[0], bytes[1], bytes[2], bytes[3]]))
 }
 
-/// How many of eight bytes, from the first on, are as a pattern has them. In a pattern `0` stands
-/// for a digit, and any other byte for itself: the first four of `b"2020/02/"` are as in
-/// `b"0000-00-"`.
+/// How many of eight bytes, from the first on, fit a pattern, in which `0` stands for a digit and any
+/// other byte for itself: 4 for `b"2020/02/"` and the pattern `b"0000-00-"`.
 #[inline(always)]
 pub fn fitting(lanes: u8x8, pattern: u8x8) -> usize
     ensures count { result ≡ fit_length pattern lanes }
@@ -81,9 +80,9 @@ pub fn fitting(lanes: u8x8, pattern: u8x8) -> usize
     (others.to_bitmask().trailing_zeros() as usize).min(LANES)
 }
 
-/// The numbers that each two neighbours spell among the first `count` of eight bytes, which have to
-/// be as the pattern has them: 20, 2, 20, 0, 0, 2, 20 and 0 for all of `b"2020-02-"`. A byte that is
-/// no digit counts as 0, and so does each one past the first `count`.
+/// The numbers that each two neighbours spell among the first `count` of eight bytes, which have to fit
+/// the pattern: 20, 2, 20, 0, 0, 2, 20 and 0 for all of `b"2020-02-"`. A byte that is no digit counts
+/// as 0, and so does each byte after the first `count`.
 #[inline(always)]
 pub fn pairs(lanes: u8x8, pattern: u8x8, count: usize) -> [u8; 8]
     requires some { 1 ≤ count }

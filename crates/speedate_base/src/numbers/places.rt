@@ -4,8 +4,8 @@ ghost use Rattle.std.specs.Prelude.{◌≡◌, ◌+◌, ◌≤◌, Some, None, l
 ghost use Rattle.std.specs.Char.{is_ascii_digit};
 ghost use Rattle.speedate_base.specs.Digits.{one_digit_value, two_digits_at, two_digit_value};
 
-/// The number that the two digits from `place` on spell, or `None` where a byte of them is no
-/// digit: 7 for `b"07"` at place 0.
+/// The number that the two digits from `place` on spell: 7 for `b"07"` at place 0. `None` if one of the
+/// two bytes is no digit. The text has both, which is a condition on the caller.
 #[inline]
 pub fn two_digits(bytes: &[u8], place: usize) -> Option<u8>
     requires { place + 2 ≤ length bytes.now }
@@ -17,7 +17,7 @@ pub fn two_digits(bytes: &[u8], place: usize) -> Option<u8>
     Some(10 * tens + ones)
 }
 
-/// What a digit stands for, or `None` where the byte is no digit.
+/// What a digit stands for, or `None` if the byte is no digit.
 #[inline]
 fn digit(byte: u8) -> Option<u8>
     ensures value { result ≡ (if is_ascii_digit byte then Some (one_digit_value byte) else None) }
@@ -29,7 +29,7 @@ fn digit(byte: u8) -> Option<u8>
     }
 }
 
-/// The byte at a place, or 0 where there is none: `b':'` for `b"12:13"` at place 2.
+/// The byte at a place, or 0 after the end: `b':'` for `b"12:13"` at place 2, 0 at place 5.
 #[inline]
 pub fn byte_at(bytes: &[u8], place: usize) -> u8
     ensures byte { result ≡ slice_index bytes.now place }

@@ -21,15 +21,14 @@ use crate::faults::ParseError;
 use crate::numbers::digits::digits_number;
 use crate::numbers::{Decimal, with_sign};
 
-/// So many microseconds before 1970 lie before the year 0000, and so many after it are past the year
-/// 9999.
+/// So many microseconds before 1970 lie before the year 0000, and so many after it after the year 9999.
 const FAR_MICROSECONDS: u64 = 1 << 60;
 
-/// The unit of a decimal timestamp: where it is to be inferred, seconds for `"20000000000.0"` and
+/// The unit of a decimal timestamp: if it is to be inferred, seconds for `"20000000000.0"` and
 /// milliseconds for `"20000000000.1"`.
 ///
-/// An inferred unit is seconds where the size of the whole decimal is at most 20,000,000,000,
-/// otherwise milliseconds.
+/// An inferred unit is seconds if the decimal without its sign, with all its digits, is at most
+/// 20,000,000,000, otherwise milliseconds.
 #[inline]
 pub fn decimal_unit(decimal: Decimal<'_>, unit: TimestampUnit) -> UnixUnit
     ensures row { IsOfRow (decimal_row unit (decimal_parts decimal.entry)) result }
@@ -48,7 +47,7 @@ pub fn decimal_unit(decimal: Decimal<'_>, unit: TimestampUnit) -> UnixUnit
     }
 }
 
-/// Whether a decimal timestamp is seconds where its unit is inferred.
+/// Whether a decimal timestamp is in seconds if its unit is inferred.
 #[inline]
 fn is_inferred_seconds(decimal: Decimal<'_>) -> bool
     ensures { result ≡ nat_le (decimal_digits (decimal_parts decimal.entry))
@@ -82,11 +81,10 @@ fn are_zeros(digits: &[u8]) -> bool
 }
 
 /// The instant of a decimal timestamp, to the nearest microsecond: second -1 and 999,999
-/// microseconds for `"-0.0000006"` in seconds. Where two microseconds are equally near it is the later
-/// one.
+/// microseconds for `"-0.0000006"` in seconds. A tie goes to the later microsecond.
 ///
-/// `DateTooSmall` where that microsecond lies before the year 0000, `DateTooLarge` where it lies
-/// after the year 9999.
+/// Fails with `DateTooSmall` if that microsecond lies before the year 0000, with `DateTooLarge` if it
+/// lies after the year 9999.
 #[inline]
 pub fn decimal_to_seconds_micros(
     decimal: Decimal<'_>,
@@ -119,7 +117,7 @@ fn fraction_microseconds(digits: &[u8], unit: UnixUnit, negative: bool) -> u64
     nearest_microseconds(digits, unit.microseconds(), negative)
 }
 
-/// The fault of a timestamp that is far from 1970, before it where it is negative.
+/// The fault of a timestamp that is far from 1970: before it if it is negative.
 #[inline]
 fn far_fault(negative: bool) -> ParseError
     ensures { result ≡ (if negative then fault.DateTooSmall else fault.DateTooLarge) }

@@ -16,9 +16,9 @@ pub const LARGEST_UNIT: u64 = 31_536_000_000_000;
 
 const _: () = prove!(LARGEST_UNIT == 365 * 86_400 * 1_000_000);
 
-/// The microseconds of a fraction of a unit, to the nearest: 500,000 for the digits `5` of a second.
-/// The unit is given by its microseconds. Where two numbers are equally near it is the later one: the
-/// smaller where the fraction is that of a negative number.
+/// The nearest microseconds of a fraction of a unit: 500,000 for the digit `5` of a second. The unit is
+/// given by its microseconds. A tie goes to the later microsecond: to the smaller number if the
+/// fraction is that of a negative number.
 #[inline]
 pub fn nearest_microseconds(digits: &[u8], unit: u64, negative: bool) -> u64
     requires digits { IsTrue (list_all is_ascii_digit digits.now) }

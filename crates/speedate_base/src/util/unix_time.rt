@@ -40,8 +40,8 @@ impl UnixTime {
         }
     }
 
-    /// The instant where it lies in the years 0000 to 9999: `DateTooSmall` before them,
-    /// `DateTooLarge` after them, as for second 253,402,300,800.
+    /// The same instant, if it lies in the years 0000 to 9999: second 0 for second 0. Fails with
+    /// `DateTooSmall` before them and with `DateTooLarge` after them, as for second 253,402,300,800.
     #[inline]
     pub fn in_years(self) -> Result<Self, ParseError>
         ensures answer { result_map parts result ≡ range_answer (parts self) }

@@ -65,12 +65,11 @@ fn day_of_year(year: u16, day: u16) -> Date
 }
 
 impl Date {
-    /// The number of days from 0000-01-01 to the date: 737,790 for 2020-01-01. The numbers are 0 to
-    /// 3,652,424, which is that of 9999-12-31, and [`Date::from_day_number`] leads back.
+    /// The number of days from 0000-01-01 to the date: 737,790 for 2020-01-01, and 3,652,424 for
+    /// 9999-12-31, the largest. [`Date::from_day_number`] leads back.
     ///
-    /// The number is the sum of the lengths of the years before the date's year, of the lengths of
-    /// the months before its month in that year, and of its day less one. The calendar is that of
-    /// RFC 3339, carried back to the year 0.
+    /// It is the sum of the lengths of the years before the date's year, of the lengths of the months
+    /// before its month in that year, and of its day less one.
     #[inline]
     pub fn day_number(&self) -> u32
         ensures number { result ≡ day_number (parts self.now) }
@@ -82,9 +81,8 @@ impl Date {
         before_year + u32::from(self.ordinal_day()) - 1
     }
 
-    /// The date of a day number: 29 February of the year 0 for 59. It is the date to which so many
-    /// days lead from 0000-01-01, one after another. `None` where the number is over 3,652,424, the
-    /// number of 9999-12-31.
+    /// The date of a day number: 0000-02-29 for 59. It is the date so many days after 0000-01-01.
+    /// `None` if the number is over 3,652,424, that of 9999-12-31.
     #[inline]
     pub fn from_day_number(number: u32) -> Option<Self>
         ensures date { option_map parts result ≡ date_numbered number }
@@ -113,9 +111,6 @@ impl Date {
     }
 
     /// The day after the date: 2000-01-01 for 1999-12-31. `None` for 9999-12-31.
-    ///
-    /// It is the next day of the month if there is one, otherwise the first day of the next month if
-    /// there is one, otherwise 1 January of the next year.
     #[inline]
     pub fn next_day(&self) -> Option<Self>
         ensures date { option_map parts result ≡ next_date (parts self.now) }
@@ -144,8 +139,7 @@ impl Date {
         }
     }
 
-    /// The day of the year, 1 to 366: 366 for 2020-12-31. It is the day of an ordinal date of
-    /// ISO 8601.
+    /// The day of the year, 1 to 366: 366 for 2020-12-31 (ISO 8601, ordinal date).
     #[inline]
     pub fn ordinal_day(&self) -> u16
         ensures day { result ≡ ordinal_day (parts self.now) }
@@ -153,9 +147,9 @@ impl Date {
         days_before_month(self.year, self.month) + u16::from(self.day)
     }
 
-    /// The second at which the date begins, counted from 1970-01-01T00:00:00: 86,400 for
-    /// 1970-01-02. It is a Unix timestamp, which has 86,400 seconds for each day, and is negative
-    /// before 1970.
+    /// The Unix timestamp of the date's midnight in UTC, in seconds since 1970-01-01T00:00:00: 86,400
+    /// for 1970-01-02. Each day has 86,400 seconds; the timestamp is negative before 1970.
+    /// [`Date::from_timestamp`], in seconds, leads back.
     #[inline]
     pub fn timestamp(&self) -> i64
         ensures second { result ≡ midnight_second (parts self.now) }
@@ -164,8 +158,8 @@ impl Date {
         (i64::from(self.day_number()) - UNIX_EPOCH) * i64::from(SECONDS_PER_DAY)
     }
 
-    /// The millisecond at which the date begins, counted from 1970-01-01T00:00:00: 86,400,000 for
-    /// 1970-01-02. It is a thousand times [`Date::timestamp`].
+    /// The Unix timestamp of the date's midnight in UTC, in milliseconds: 86,400,000 for 1970-01-02. It
+    /// is a thousand times [`Date::timestamp`].
     #[inline]
     pub fn timestamp_ms(&self) -> i64
         ensures millisecond { result ≡ midnight_millisecond (parts self.now) }

@@ -10,10 +10,9 @@ ghost use Rattle.speedate_civil.specs.DayNumber.{date_added, days_between};
 use super::Date;
 
 impl Date {
-    /// The date so many days later, or earlier for a negative number: 2020-03-01 for 2020-02-28 and 2.
-    /// `None` where that is before 0000-01-01 or after 9999-12-31.
-    ///
-    /// [`Date::days_since`] counts the days again.
+    /// The date so many days later, or earlier if the number is negative: 2020-03-01 for 2020-02-28 and
+    /// 2. `None` if that is before 0000-01-01 or after 9999-12-31. [`Date::days_since`] leads back to
+    /// the number.
     #[inline]
     pub fn checked_add_days(&self, days: i32) -> Option<Self>
         ensures date { option_map parts result ≡ date_added days (parts self.now) }
@@ -24,11 +23,9 @@ impl Date {
         Self::from_day_number(number)
     }
 
-    /// The days from an earlier date to this one: 2 for 2020-03-01 and the earlier 2020-02-28. They are
-    /// negative where `earlier` is the later one.
-    ///
-    /// Added to `earlier` by [`Date::checked_add_days`] they lead to this date. They are negative, 0
-    /// or positive as this date is before `earlier`, equal to it or after it.
+    /// The days from another date to this one: 2 for 2020-03-01 since 2020-02-28. The number is
+    /// negative if this date is before the other, and 0 if the two are equal.
+    /// [`Date::checked_add_days`] of the other date leads back to this one.
     #[inline]
     pub fn days_since(&self, earlier: &Date) -> i32
         ensures days { result ≡ days_between (parts earlier.now) (parts self.now) }

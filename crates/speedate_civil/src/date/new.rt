@@ -13,9 +13,9 @@ impl Date {
     ///
     /// The faults, in the order in which they are looked for:
     ///
-    /// - `DateTooLarge` where the year is over 9999;
-    /// - `OutOfRangeMonth` where the month is not 1 to 12;
-    /// - `OutOfRangeDay` where the month has no such day.
+    /// - `DateTooLarge` if the year is over 9999;
+    /// - `OutOfRangeMonth` if the month is not 1 to 12;
+    /// - `OutOfRangeDay` if the month has no such day.
     #[inline]
     pub fn new(year: u16, month: u8, day: u8) -> Result<Self, ParseError>
         ensures answer { result_map parts result ≡ new_date_answer year month day }

@@ -25,9 +25,8 @@ impl Ord for Date {
 
     ghost matches_eq = { Prim.search (comparing, rules) };
 
-    /// Which of two dates is the earlier one: by year, then by month, then by day, so 2020-02-29
-    /// is before 2020-03-01. Their texts compare in the same way as bytes, and their day numbers as
-    /// numbers.
+    /// Compares two dates, by year, then by month, then by day: 2020-02-29 is less than 2020-03-01.
+    /// Their texts, as bytes, and their day numbers compare in the same way.
     #[inline]
     fn cmp(&self, other: &Date) -> Ordering
         ensures order { result ≡ date_order (parts self.now) (parts other.now) }
@@ -46,8 +45,7 @@ impl PartialOrd for Date {
 
     ghost laws = { po (on_total parts date_order-total) (Prim.search (comparing, rules)) };
 
-    /// What [`Date::cmp`] answers, since any two dates have an order: `Some(Ordering::Less)` for
-    /// 2020-02-29 and 2020-03-01.
+    /// The answer of [`Date::cmp`], in `Some`: `Some(Ordering::Less)` for 2020-02-29 and 2020-03-01.
     #[inline]
     fn partial_cmp(&self, other: &Date) -> Option<Ordering>
         ensures order { result ≡ Some (date_order (parts self.now) (parts other.now)) }

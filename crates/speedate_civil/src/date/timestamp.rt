@@ -19,13 +19,13 @@ use speedate_base::util::{FIRST_SECOND, SECONDS_PER_DAY, UnixTime, timestamp_to_
 use std::str::FromStr;
 
 impl Date {
-    /// Reads a date from a text, or from a timestamp that stands there instead: 2020-02-29 for
-    /// `"2020-02-29"`, 2022-06-07 for `"1654560000"`.
+    /// Reads a date from a text, which may be a timestamp: 2020-02-29 from `"2020-02-29"`, and
+    /// 2022-06-07 from `"1654560000"`.
     ///
-    /// A text that is no date is looked at as a whole number: the timestamp, in seconds or in
-    /// milliseconds by its size, of the midnight at which a date begins. The faults are those of
-    /// [`Date::parse_str_rfc3339`] where the text is no whole number either, and of
-    /// [`Date::from_timestamp`] where it is one.
+    /// A text that is no date but a whole number is the timestamp of a midnight, in seconds if the
+    /// number without its sign is at most 20,000,000,000, otherwise in milliseconds. It then has the
+    /// faults of [`Date::from_timestamp`] for an exact date. Any other text has those of
+    /// [`Date::parse_str_rfc3339`].
     #[inline]
     pub fn parse_str(text: &str) -> Result<Self, ParseError>
         ensures answer { result_map parts result ≡ date_or_timestamp unit.Infer text.now }
@@ -33,8 +33,8 @@ impl Date {
         Self::parse_bytes(text.as_bytes())
     }
 
-    /// Reads a date from the bytes of a text, as [`Date::parse_str`] does: 1970-01-02 from
-    /// `b"86400"`. The bytes need not be text.
+    /// Reads a date from bytes, which may be a timestamp: 1970-01-02 from `b"86400"`. The bytes need
+    /// not be text. The forms and the faults are those of [`Date::parse_str`].
     #[inline]
     pub fn parse_bytes(bytes: &[u8]) -> Result<Self, ParseError>
         ensures answer { result_map parts result ≡ date_or_timestamp unit.Infer bytes.now }
@@ -42,8 +42,8 @@ impl Date {
         Self::parse_bytes_with_config(bytes, &DateConfig::default())
     }
 
-    /// Reads a date from a text, as [`Date::parse_str`] does, with timestamps in the unit of the
-    /// configuration: 2022-01-01 for `"1640995200"` in seconds.
+    /// Reads a date from a text, which may be a timestamp in the unit of the configuration: 2022-01-01
+    /// from `"1640995200"` in seconds. The faults are those of [`Date::parse_str`].
     #[inline]
     pub fn parse_str_with_config(text: &str, config: &DateConfig) -> Result<Self, ParseError>
         ensures answer { result_map parts result ≡ date_or_timestamp config.now.timestamp_unit text.now }
@@ -51,8 +51,9 @@ impl Date {
         Self::parse_bytes_with_config(text.as_bytes(), config)
     }
 
-    /// Reads a date from the bytes of a text, as [`Date::parse_str_with_config`] does: 1970-01-02 from
-    /// `b"86400000"` in milliseconds.
+    /// Reads a date from bytes, which may be a timestamp in the unit of the configuration: 1970-01-02
+    /// from `b"86400000"` in milliseconds. The bytes need not be text. The faults are those of
+    /// [`Date::parse_str`].
     #[inline]
     pub fn parse_bytes_with_config(bytes: &[u8], config: &DateConfig) -> Result<Self, ParseError>
         ensures answer { result_map parts result ≡ date_or_timestamp config.now.timestamp_unit bytes.now }
@@ -63,7 +64,7 @@ impl Date {
         }
     }
 
-    /// Reads the timestamp that the bytes are where they are no date, by this fault.
+    /// Reads the timestamp that the bytes are, which are no date, by this fault.
     #[inline]
     fn parse_timestamp(
         bytes: &[u8],
@@ -82,17 +83,16 @@ impl Date {
         }
     }
 
-    /// The date of a timestamp, in the unit of the configuration: 1969-12-31 for -1, where it need
-    /// not be exact.
+    /// The date of a Unix timestamp, in the unit of the configuration: 1969-12-31 for -1, if the date
+    /// need not be exact.
     ///
-    /// A timestamp counts from 1970-01-01T00:00:00, with 86,400 seconds in each day (Unix time), and
-    /// the date is that of the day in which it lies. The faults, in the order in which they are
-    /// looked for:
+    /// A timestamp counts from 1970-01-01T00:00:00, with 86,400 seconds in each day. The date is that
+    /// of the day in which it lies. The faults, in the order in which they are looked for:
     ///
-    /// - `DateTooSmall` where the unit of `i64::MIN` is to be inferred, or the timestamp lies before
+    /// - `DateTooSmall` if the unit of `i64::MIN` is to be inferred, or if the timestamp lies before
     ///   the year 0000;
-    /// - `DateTooLarge` where it lies after the year 9999;
-    /// - `DateNotExact` where an exact date is required, and the timestamp is no midnight.
+    /// - `DateTooLarge` if it lies after the year 9999;
+    /// - `DateNotExact` if an exact date is required, and the timestamp is not a midnight.
     #[inline]
     pub fn from_timestamp(
         timestamp: i64,
@@ -107,7 +107,7 @@ impl Date {
         Self::from_instant(within, require_exact)
     }
 
-    /// The date on whose day an instant lies.
+    /// The date of the day in which an instant lies.
     #[inline]
     fn from_instant(time: UnixTime, require_exact: bool) -> Result<Self, ParseError>
         requires within { IsInYears (instant_parts time) }
@@ -120,7 +120,8 @@ impl Date {
         Ok(date)
     }
 
-    /// The date on whose day a second of the years 0000 to 9999 lies, and the second of that day.
+    /// The date of the day in which a second of the years 0000 to 9999 lies, and the second of that
+    /// day.
     #[inline]
     pub(crate) fn at_second(second: i64) -> (Self, u32)
         requires after { IsTrue (int_le first_second second) }
@@ -138,8 +139,7 @@ impl FromStr for Date {
 
     ghost from_str_gives = { λ text result. result_map parts result ≡ date_or_timestamp unit.Infer text };
 
-    /// Reads a date from a text, as [`Date::parse_str`] does: `"2020-02-29".parse()` gives 29 February
-    /// 2020.
+    /// The answer of [`Date::parse_str`]: `"2020-02-29".parse()` gives 29 February 2020.
     #[inline]
     fn from_str(text: &str) -> Result<Self, ParseError> {
         Self::parse_str(text)

@@ -19,17 +19,17 @@ use speedate_base::numbers::Decimal;
 use speedate_base::util::{UnixUnit, decimal_to_seconds_micros, decimal_unit};
 
 impl DateTime {
-    /// The date-time of a decimal timestamp, in the unit of the configuration and to the nearest
-    /// microsecond, with the configured offset: 1969-12-31T23:59:59.874500 for the decimal of
-    /// `"-125.5"` in milliseconds. The offset is attached and shifts nothing.
+    /// The date-time of a decimal Unix timestamp, in the unit of the configuration, to the nearest
+    /// microsecond: 1969-12-31T23:59:59.874500 for the decimal of `"-125.5"` in milliseconds. The
+    /// configured offset is attached, and shifts nothing. It stands in place of
+    /// `from_float_with_config` of the Rust crate.
     ///
-    /// A timestamp counts from 1970-01-01T00:00:00, with 86,400 seconds in each day (Unix time). All
-    /// digits count, however many there are. Where two are equally near it is the later one.
-    /// An inferred unit is seconds where the size of the decimal is at most 20,000,000,000, otherwise
-    /// milliseconds.
+    /// All digits count, however many there are, with either behavior. A tie goes to the later
+    /// microsecond. An inferred unit is seconds if the decimal without its sign is at most
+    /// 20,000,000,000, otherwise milliseconds.
     ///
-    /// `DateTooSmall` where that microsecond lies before the year 0000, `DateTooLarge` where it lies
-    /// after the year 9999.
+    /// Fails with `DateTooSmall` if that microsecond lies before the year 0000, with `DateTooLarge` if
+    /// it lies after the year 9999.
     #[inline]
     pub fn from_decimal_with_config(
         decimal: Decimal<'_>,
@@ -46,8 +46,8 @@ impl DateTime {
         Self::at_decimal(decimal, unit, config.time_config.unix_timestamp_offset)
     }
 
-    /// The date-time of a decimal timestamp in a text, whose digits are counted where the
-    /// configuration refuses those past the microsecond.
+    /// The date-time of a decimal timestamp in a text, whose digits are counted if the configuration
+    /// refuses those past the microsecond.
     #[inline]
     pub(super) fn parse_decimal(
         decimal: Decimal<'_>,

@@ -13,8 +13,8 @@ use speedate_base::faults::ParseError;
 use speedate_base::util::UnixTime;
 
 /// The date-time whose clock shows an instant, with the offset attached: 1970-01-01T00:00:01+01:00 for
-/// second 1 and the offset 3,600. `DateTooSmall` before the year 0000, `DateTooLarge` after the year
-/// 9999.
+/// second 1 and the offset 3,600. Fails with `DateTooSmall` before the year 0000, with `DateTooLarge`
+/// after the year 9999. The offset is less than 24 hours, which is a condition on the caller.
 #[inline]
 pub fn of_instant(time: UnixTime, offset: Option<i32>) -> Result<DateTime, ParseError>
     requires { ForSome offset IsOffset }

@@ -11,6 +11,8 @@ use speedate_base::faults::ParseError;
 use speedate_base::util::{LAST_SECOND, UnixTime};
 
 /// A moment that a clock tells: the time since 1970-01-01T00:00:00 in UTC (Unix time).
+/// [`DateTime::now_at`] makes a date-time of it. That the microseconds are less than a second is part
+/// of the type.
 #[derive(Clone, Copy, Debug, PartialEq, Eq)]
 pub struct Moment {
     /// The seconds since 1970-01-01T00:00:00, rounded down.
@@ -24,8 +26,9 @@ impl Moment {
     ghost use Rattle.speedate_civil.specs.FromNumbers.{new_moment_answer};
     ghost use Rattle.speedate_civil.specs.Moment.{moment_instant};
 
-    /// The moment of seconds since 1970-01-01T00:00:00 and the microseconds that are left: half a second
-    /// after midnight for 0 and 500,000. `TimeTooLarge` where the microseconds are over 999,999.
+    /// The moment of seconds since 1970-01-01T00:00:00 in UTC, and the microseconds that are left: half
+    /// a second after that midnight for 0 and 500,000. Fails with `TimeTooLarge` if the microseconds
+    /// are over 999,999.
     #[inline]
     pub fn new(second: u64, microsecond: u32) -> Result<Self, ParseError>
         ensures answer { result_map moment_instant result ≡ new_moment_answer second microsecond }
@@ -50,9 +53,9 @@ impl DateTime {
     ///
     /// The faults, in the order in which they are looked for:
     ///
-    /// - `DateTooLarge` where the moment lies after the year 9999 in UTC;
-    /// - `OutOfRangeTz` where the offset is of 24 hours or more;
-    /// - `DateTooLarge` where that clock shows a date after the year 9999.
+    /// - `DateTooLarge` if the moment lies after the year 9999 in UTC;
+    /// - `OutOfRangeTz` if the offset is 24 hours or more;
+    /// - `DateTooLarge` if that clock shows a date after the year 9999.
     #[inline]
     pub fn now_at(moment: Moment, tz_offset: i32) -> Result<Self, ParseError>
         ensures answer { result_map parts result ≡ moment_answer tz_offset moment }
@@ -70,11 +73,12 @@ impl DateTime {
         Self::of_instant(time, Some(tz_offset))
     }
 
-    /// The date-time of what a clock tells, as [`DateTime::now_at`] gives it:
-    /// 1970-01-01T00:00:00Z for a clock that tells second 0, and 0. The clock is called once.
+    /// The date-time that a clock tells, at an offset in seconds: 1970-01-01T00:00:00Z for a clock that
+    /// tells second 0, and 0. The library reads no clock itself: the first argument is called once, and
+    /// answers a [`Moment`], or `None` if it stands before 1970.
     ///
-    /// `SystemTimeError` where the clock has no moment to tell, since it stands before 1970; otherwise
-    /// the faults of [`DateTime::now_at`].
+    /// Fails with `SystemTimeError` if the clock has no moment to tell, and otherwise with the faults
+    /// of [`DateTime::now_at`].
     #[inline]
     pub fn now<F: FnOnce() -> Option<Moment>>(clock: F, tz_offset: i32) -> Result<Self, ParseError>
         requires { F.pre clock }
@@ -90,9 +94,8 @@ impl Date {
     ghost use Rattle.speedate_civil.specs.Date.{parts};
     ghost use Rattle.speedate_civil.specs.Moment.{today_answer};
 
-    /// The date of what a clock tells, as a clock at an offset, in seconds, shows it: that of
-    /// [`DateTime::now`], whose faults it has. It is 2022-06-08 for a clock that tells second
-    /// 1,654,646,399, and 3,600.
+    /// The date that a clock tells, at an offset in seconds: 2022-06-08 for a clock that tells second
+    /// 1,654,646,399, and 3,600. The clock and the faults are those of [`DateTime::now`].
     #[inline]
     pub fn today<F: FnOnce() -> Option<Moment>>(
         clock: F,

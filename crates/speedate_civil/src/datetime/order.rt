@@ -14,14 +14,14 @@ impl DateTime {
     ghost use Rattle.speedate_civil.specs.DateTimeText.{date_time_text};
     ghost use Rattle.speedate_civil.specs.InstantOrder.{date_time_instant, date_time_instant_order, BothOrNeither, IsNotAfter};
 
-    /// Which of two date-times is the earlier one: in UTC where both have an offset, so
-    /// 2022-01-02T01:00:00+03:00 is before 2022-01-01T23:00:00Z, and where one has none as clocks
-    /// show them, so 2022-01-01T23:00:00 is before 2022-01-02T01:00:00+03:00.
+    /// Compares two date-times by instant: in UTC if both have an offset, and otherwise as clocks show
+    /// them. So 2022-01-02T01:00:00+03:00 is less than 2022-01-01T23:00:00Z, and 2022-01-01T23:00:00 is
+    /// less than 2022-01-02T01:00:00+03:00.
     ///
-    /// Date-times without offsets compare as their texts do as bytes. Of three date-times that all
-    /// have an offset, or of which none has one, the first is not after the third where it is not
-    /// after the second, and that not after the third; where only some have one that need not hold.
-    /// Date-times that are shown at other offsets can be equal here, while `==` tells them apart.
+    /// Date-times without offsets compare as their texts do, as bytes. The order is transitive among
+    /// date-times that all have an offset, and among date-times that all have none, but not across a
+    /// mixture. Date-times with different offsets can be equal here, while `==` tells them apart: so
+    /// this is a call, and no order trait.
     #[inline]
     pub fn cmp_instant(&self, other: &DateTime) -> Ordering
         ensures order { result ≡ date_time_instant_order (parts self.now) (parts other.now) }

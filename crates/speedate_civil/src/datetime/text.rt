@@ -22,13 +22,14 @@ impl DateTime {
     ghost use Rattle.speedate_civil.specs.DateTimeTimestamp.{date_time_or_timestamp};
     ghost use Rattle.speedate_civil.specs.TimeText.{is_after_time, is_of_form};
 
-    /// The canonical text, `YYYY-MM-DDTHH:MM:SS`, with a point and six digits where the microsecond
-    /// is not 0, and the offset where there is one: `2020-02-29T12:13:14.500000+01:30`.
+    /// The canonical text, `YYYY-MM-DDTHH:MM:SS`, then `.` and six digits if the microsecond is not 0,
+    /// then the offset if there is one: `2020-02-29T12:13:14.500000+01:30`. It is not allocated;
+    /// `.as_str()` is the text.
     ///
-    /// Where the offset is absent or whole minutes, the text reads back as the date-time under every
-    /// configuration whose form may have it: in the strict form a time has an offset. At the front of
-    /// a text it reads back, with its own length, if and only if what follows is no part of it, as
-    /// [`Time::to_text`] says. The seconds of an offset that is not whole minutes are not printed.
+    /// If the offset is absent or whole minutes, the text reads back as the date-time, except that the
+    /// form `Strict` requires an offset. At the front of a text it reads back if and only if what
+    /// follows is no part of it; [`Time::to_text`] says what may follow. Seconds of an offset are not
+    /// printed.
     #[inline]
     pub fn to_text(&self) -> ArrayString<TEXT_MAX>
         ensures text { result.bytes ≡ date_time_text (parts self.now) }
@@ -62,8 +63,8 @@ impl DateTime {
         text
     }
 
-    /// Appends the canonical text, as [`DateTime::to_text`] gives it, for which there must be room for
-    /// 32 bytes: `ok 2020-02-29T12:13:14` where it is appended to `ok `.
+    /// Appends the text of [`DateTime::to_text`]: `ok ` becomes `ok 2020-02-29T12:13:14`. There must be
+    /// room for 32 bytes, the longest text, which is a condition on the caller.
     #[inline(always)]
     pub fn push_onto<const LENGTH: usize>(&self, text: &mut ArrayString<LENGTH>)
         requires room { array_string_len text.old + TEXT_MAX ≤ LENGTH }

@@ -25,18 +25,18 @@ use speedate_base::util::{UnixTime, timestamp_to_seconds_micros};
 use std::str::FromStr;
 
 impl DateTime {
-    /// Reads a date-time from a text, or from a timestamp that stands there instead: 12:13:14 on
-    /// 29 February 2020 for `"2020-02-29T12:13:14"`, midnight on 7 June 2022 for `"1654560000"`.
+    /// Reads a date-time from a text, which may be a timestamp: 12:13:14 on 29 February 2020 from
+    /// `"2020-02-29T12:13:14"`, and midnight on 7 June 2022 from `"1654560000"`.
     ///
-    /// A text that is no date-time is looked at as a number: a timestamp, in seconds or in
-    /// milliseconds by its size, whole or with a point, as `"1654560000.5"`. The faults are those of
-    /// [`DateTime::parse_str_rfc3339`] where the text is no number either, and of
-    /// [`DateTime::from_timestamp`] where it is a whole one. Where it is a decimal they are, in this
-    /// order:
+    /// A text that is no date-time but a number, whole or decimal as `"1654560000.5"`, is a Unix
+    /// timestamp: in seconds if the number without its sign is at most 20,000,000,000, otherwise in
+    /// milliseconds. The faults are:
     ///
-    /// - `SecondFractionTooLong` for more than six digits after the point of a timestamp in seconds,
-    ///   `MillisecondFractionTooLong` for more than three in milliseconds;
-    /// - those of [`DateTime::from_decimal_with_config`].
+    /// - of a whole number: those of [`DateTime::from_timestamp`];
+    /// - of a decimal: `SecondFractionTooLong` if more than six digits follow the point of seconds, or
+    ///   `MillisecondFractionTooLong` if more than three follow that of milliseconds; then those of
+    ///   [`DateTime::from_decimal_with_config`];
+    /// - of any other text: those of [`DateTime::parse_str_rfc3339`].
     #[inline(always)]
     pub fn parse_str(text: &str) -> Result<Self, ParseError>
         ensures answer { result_map parts result ≡ date_time_or_timestamp unit.Infer rfc3339.Relaxed behavior.Error None text.now }
@@ -44,8 +44,8 @@ impl DateTime {
         Self::parse_bytes(text.as_bytes())
     }
 
-    /// Reads a date-time from the bytes of a text, as [`DateTime::parse_str`] does: a second after
-    /// 1970-01-01T00:00:00 from `b"1"`. The bytes need not be text.
+    /// Reads a date-time from bytes, which may be a timestamp: 1970-01-01T00:00:01 from `b"1"`. The
+    /// bytes need not be text. The forms and the faults are those of [`DateTime::parse_str`].
     #[inline(always)]
     pub fn parse_bytes(bytes: &[u8]) -> Result<Self, ParseError>
         ensures answer { result_map parts result ≡ date_time_or_timestamp unit.Infer rfc3339.Relaxed behavior.Error None bytes.now }
@@ -53,12 +53,17 @@ impl DateTime {
         Self::parse_bytes_with_config(bytes, &DateTimeConfig::default())
     }
 
-    /// Reads a date-time from a text, as [`DateTime::parse_str`] does, with digits past the
-    /// microsecond, the unit of timestamps and their offset as the configuration has them:
-    /// 1970-01-01T00:00:01+01:00 for `"1"` and the offset 3,600. Digits of a timestamp that are not
-    /// refused are not dropped either: it is rounded to the nearest microsecond. Where they are
-    /// refused, a timestamp in microseconds with a digit after its point is
-    /// `MicrosecondFractionTooLong`. The offset is not for texts of a date-time.
+    /// Reads a date-time from a text, which may be a timestamp, by a configuration:
+    /// 1970-01-01T00:00:01+01:00 from `"1"` with the offset 3,600.
+    ///
+    /// The configuration has the unit of timestamps, their offset, which is attached and shifts
+    /// nothing, the form of the texts, and the behavior for digits past the microsecond. `Truncate`
+    /// drops those of a text, but rounds a timestamp to the nearest microsecond. The offset and the
+    /// unit do not matter to texts of a date-time, nor does the form to timestamps.
+    ///
+    /// The faults of a number are those of [`DateTime::parse_str`], but only the behavior `Error`
+    /// counts digits, and in microseconds a digit after the point is `MicrosecondFractionTooLong`. The
+    /// faults of any other text are those of [`DateTime::parse_bytes_rfc3339_with_config`].
     #[inline(always)]
     pub fn parse_str_with_config(text: &str, config: &DateTimeConfig) -> Result<Self, ParseError>
         ensures answer { result_map parts result
@@ -69,8 +74,9 @@ impl DateTime {
         Self::parse_bytes_with_config(text.as_bytes(), config)
     }
 
-    /// Reads a date-time from the bytes of a text, as [`DateTime::parse_str_with_config`] does:
-    /// 1970-01-01T00:00:00.001000 from `b"1"` in milliseconds.
+    /// Reads a date-time from bytes, which may be a timestamp, by a configuration:
+    /// 1970-01-01T00:00:00.001000 from `b"1"` in milliseconds. The bytes need not be text. The rest is
+    /// as for [`DateTime::parse_str_with_config`].
     #[inline(always)]
     pub fn parse_bytes_with_config(
         bytes: &[u8],
@@ -87,7 +93,7 @@ impl DateTime {
         }
     }
 
-    /// Reads the timestamp that the bytes are where they are no date-time, by this fault.
+    /// Reads the timestamp that the bytes are, which are no date-time, by this fault.
     #[inline]
     fn parse_timestamp(
         bytes: &[u8],
@@ -111,10 +117,9 @@ impl DateTime {
         }
     }
 
-    /// The date-time of a timestamp, whose unit is inferred, and so many microseconds later, without
-    /// an offset: 1970-01-01T00:00:00.667444 for -1 and 1,667,444 microseconds.
-    ///
-    /// The faults are those of [`DateTime::from_timestamp_with_config`].
+    /// The date-time of a Unix timestamp, whose unit is inferred, and additional microseconds, without
+    /// an offset: 1970-01-01T00:00:00.667444 for -1 and 1,667,444 microseconds. The faults are those of
+    /// [`DateTime::from_timestamp_with_config`].
     #[inline]
     pub fn from_timestamp(timestamp: i64, timestamp_microsecond: u32) -> Result<Self, ParseError>
         ensures answer { result_map parts result
@@ -129,18 +134,18 @@ impl DateTime {
         )
     }
 
-    /// The date-time of a timestamp, in the unit of the configuration, and so many microseconds
-    /// later, with the configured offset: 1970-01-01T00:00:01.000002+01:00 for one second, two
-    /// microseconds and the offset 3,600. The offset is attached and shifts nothing.
+    /// The date-time of a Unix timestamp, in the unit of the configuration, and additional
+    /// microseconds, with the configured offset: 1970-01-01T00:00:01.000002+01:00 for one second, two
+    /// microseconds and the offset 3,600. The offset is attached, and shifts nothing.
     ///
-    /// A timestamp counts from 1970-01-01T00:00:00, with 86,400 seconds in each day (Unix time). The
-    /// faults, in the order in which they are looked for:
+    /// A timestamp counts from 1970-01-01T00:00:00, with 86,400 seconds in each day. The faults, in the
+    /// order in which they are looked for:
     ///
-    /// - `DateTooSmall` where the unit of `i64::MIN` is to be inferred;
-    /// - `TimeTooLarge` where the microseconds of the timestamp and those beside it are more than
-    ///   `u32::MAX`, or the seconds that they make more than `i64::MAX`;
-    /// - `DateTooSmall` where the sum lies before the year 0000, and `DateTooLarge` where it lies
-    ///   after the year 9999.
+    /// - `DateTooSmall` if the unit of `i64::MIN` is to be inferred;
+    /// - `TimeTooLarge` if the microseconds of the timestamp and the additional ones exceed `u32::MAX`
+    ///   together, or if the seconds and those carried exceed `i64::MAX`;
+    /// - `DateTooSmall` if the sum lies before the year 0000;
+    /// - `DateTooLarge` if it lies after the year 9999.
     #[inline]
     pub fn from_timestamp_with_config(
         timestamp: i64,
@@ -158,8 +163,8 @@ impl DateTime {
         Self::of_instant(later, config.time_config.unix_timestamp_offset)
     }
 
-    /// The date-time at an instant, with the offset attached: `DateTooSmall` before the year 0000,
-    /// `DateTooLarge` after the year 9999.
+    /// The date-time at an instant, with the offset attached. Fails with `DateTooSmall` before the year
+    /// 0000, with `DateTooLarge` after the year 9999.
     #[inline]
     pub(super) fn of_instant(time: UnixTime, offset: Option<i32>) -> Result<Self, ParseError>
         requires { ForSome offset IsOffset }
@@ -184,9 +189,9 @@ impl DateTime {
     }
 
     /// The second since 1970-01-01T00:00:00 that a clock at the offset shows: 86,400 for
-    /// 1970-01-02T00:00:00+01:00. It is a Unix timestamp where the offset is absent or 0; in seconds and
-    /// with its microsecond it leads back, by [`DateTime::from_timestamp_with_config`], to a date-time
-    /// without an offset.
+    /// 1970-01-02T00:00:00+01:00. It is a Unix timestamp if the offset is absent or 0; for others
+    /// [`DateTime::timestamp_tz`] is. [`DateTime::from_timestamp_with_config`], in seconds and with the
+    /// microsecond, leads back to a date-time without an offset.
     #[inline]
     pub fn timestamp(&self) -> i64
         ensures second { result ≡ local_second (parts self.now) }
@@ -205,8 +210,8 @@ impl DateTime {
         1000 * self.timestamp() + i64::from(self.time.microsecond / 1000)
     }
 
-    /// The second since 1970-01-01T00:00:00 in UTC: 82,800 for 1970-01-02T00:00:00+01:00. It is a
-    /// Unix timestamp; without an offset the date-time is taken to be in UTC.
+    /// The Unix timestamp, in seconds since 1970-01-01T00:00:00 in UTC: 82,800 for
+    /// 1970-01-02T00:00:00+01:00. A date-time without an offset is taken to be in UTC.
     #[inline]
     pub fn timestamp_tz(&self) -> i64
         ensures second { result ≡ utc_second (parts self.now) }
@@ -214,8 +219,8 @@ impl DateTime {
         self.timestamp() - i64::from(self.time.tz_offset.unwrap_or(0))
     }
 
-    /// The millisecond since 1970-01-01T00:00:00 in UTC, rounded down: 82,800,123 for
-    /// 1970-01-02T00:00:00.123+01:00.
+    /// The Unix timestamp, in milliseconds, rounded down: 82,800,123 for 1970-01-02T00:00:00.123+01:00.
+    /// A date-time without an offset is taken to be in UTC.
     #[inline]
     pub fn timestamp_tz_ms(&self) -> i64
         ensures millisecond { result ≡ utc_millisecond (parts self.now) }
@@ -230,16 +235,15 @@ impl FromStr for DateTime {
     ghost from_str_gives = { λ text result. result_map parts result
         ≡ date_time_or_timestamp unit.Infer rfc3339.Relaxed behavior.Error None text };
 
-    /// Reads a date-time from a text, as [`DateTime::parse_str`] does: `"1654560000".parse()` gives
-    /// midnight on 7 June 2022.
+    /// The answer of [`DateTime::parse_str`]: `"1654560000".parse()` gives midnight on 7 June 2022.
     #[inline]
     fn from_str(text: &str) -> Result<Self, ParseError> {
         Self::parse_str(text)
     }
 }
 
-/// The instant so many microseconds later. `TimeTooLarge` where the microseconds are more than
-/// `u32::MAX`, or the seconds that they make more than `i64::MAX`.
+/// The instant so many microseconds later. Fails with `TimeTooLarge` if the microseconds exceed
+/// `u32::MAX` together, or if the seconds and those carried exceed `i64::MAX`.
 #[inline]
 fn later_instant(time: UnixTime, microseconds: u32) -> Result<UnixTime, ParseError>
     ensures later { result_map instant_parts result

@@ -13,10 +13,9 @@ impl DateTime {
     ghost use Rattle.speedate_civil.specs.DateTime.{parts};
     ghost use Rattle.speedate_civil.specs.OffsetMove.{date_time_with_offset, date_time_in_timezone};
 
-    /// This date and time of day with another offset, in seconds, or with none:
-    /// 2020-01-01T12:00:00-01:00 for 2020-01-01T12:00:00Z and `Some(-3600)`. What the clock shows stays.
-    ///
-    /// `OutOfRangeTz` where the offset is of 24 hours or more.
+    /// The same date and clock with another offset, in seconds, or with none: 2020-01-01T12:00:00-01:00
+    /// for 2020-01-01T12:00:00Z and `Some(-3600)`. Fails with `OutOfRangeTz` if the offset is 24 hours
+    /// or more.
     #[inline]
     pub fn with_timezone_offset(&self, tz_offset: Option<i32>) -> Result<Self, ParseError>
         ensures answer { result_map parts result ≡ date_time_with_offset tz_offset (parts self.now) }
@@ -33,10 +32,10 @@ impl DateTime {
     ///
     /// The faults, in the order in which they are looked for:
     ///
-    /// - `OutOfRangeTz` where the offset is of 24 hours or more;
-    /// - `TzRequired` where the date-time has no offset;
-    /// - `DateTooSmall` where that clock shows a date before the year 0000, and `DateTooLarge` where it
-    ///   shows one after the year 9999.
+    /// - `OutOfRangeTz` if the offset is 24 hours or more;
+    /// - `TzRequired` if the date-time has no offset;
+    /// - `DateTooSmall` if that clock shows a date before the year 0000;
+    /// - `DateTooLarge` if it shows one after the year 9999.
     #[inline]
     pub fn in_timezone(&self, tz_offset: i32) -> Result<Self, ParseError>
         ensures answer { result_map parts result ≡ date_time_in_timezone tz_offset (parts self.now) }

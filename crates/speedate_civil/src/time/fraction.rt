@@ -32,7 +32,7 @@ impl Fraction {
     }
 
     /// The fraction whose digits begin at `place`: three digits that mean 120,000 microseconds for
-    /// `b".120Z"` at place 1. Digits past the sixth are counted only.
+    /// `b".120Z"` at place 1. Digits past the sixth are counted, and mean nothing.
     #[inline(always)]
     pub fn read(bytes: &[u8], place: usize) -> Self
         requires { place ≤ length bytes.now }

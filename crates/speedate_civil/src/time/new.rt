@@ -14,10 +14,11 @@ impl Time {
     ///
     /// The faults, in the order in which they are looked for:
     ///
-    /// - `OutOfRangeHour` where the hour is over 23, `OutOfRangeMinute` where the minute is over 59,
-    ///   and `OutOfRangeSecond` where the second is over 59;
-    /// - `TimeTooLarge` where the microsecond is over 999,999;
-    /// - `OutOfRangeTz` where the offset is of 24 hours or more.
+    /// - `OutOfRangeHour` if the hour is over 23;
+    /// - `OutOfRangeMinute` if the minute is over 59;
+    /// - `OutOfRangeSecond` if the second is over 59;
+    /// - `TimeTooLarge` if the microsecond is over 999,999;
+    /// - `OutOfRangeTz` if the offset is 24 hours or more.
     #[inline]
     pub fn new(
         hour: u8,

@@ -183,8 +183,8 @@ fn with_sign(west: bool, size: u32) -> i32
 }
 
 /// The seconds by which a clock moves from the offset at which it shows a time to another one: 3,600
-/// from `Some(0)` to 3,600. `OutOfRangeTz` where the other one is of 24 hours or more, `TzRequired`
-/// where there is no offset.
+/// from `Some(0)` to 3,600. Fails with `OutOfRangeTz` if the other one is 24 hours or more, then with
+/// `TzRequired` if there is no first one.
 #[inline]
 pub(crate) fn clock_shift(old: Option<i32>, offset: i32) -> Result<i32, ParseError>
     requires { ForSome old IsOffset }

@@ -14,15 +14,14 @@ impl Time {
     ghost use Rattle.speedate_civil.specs.Time.{parts};
     ghost use Rattle.speedate_civil.specs.TimeText.{time_text};
 
-    /// Which of two times is the earlier one: in UTC where both have an offset, so 12:00:00+01:00
-    /// is before 11:30:00Z, and where one has none as clocks show them, so 11:30:00 is before
-    /// 12:00:00+01:00.
+    /// Compares two times by instant: in UTC if both have an offset, and otherwise as clocks show them.
+    /// So 12:00:00+01:00 is less than 11:30:00Z, and 11:30:00 is less than 12:00:00+01:00. Each time is
+    /// taken to be one of the same day at its offset.
     ///
-    /// Each time is taken to be one of the same day at its offset. Times without offsets compare as
-    /// their texts do as bytes. Of three times that all have an offset, or of which none has one,
-    /// the first is not after the third where it is not after the second, and that not after the
-    /// third; where only some have one that need not hold. Times that are shown at other offsets
-    /// can be equal here, while `==` tells them apart.
+    /// Times without offsets compare as their texts do, as bytes. The order is transitive among times
+    /// that all have an offset, and among times that all have none, but not across a mixture. Times
+    /// with different offsets can be equal here, while `==` tells them apart: so this is a call, and no
+    /// order trait.
     #[inline]
     pub fn cmp_instant(&self, other: &Time) -> Ordering
         ensures order { result ≡ time_instant_order (parts self.now) (parts other.now) }

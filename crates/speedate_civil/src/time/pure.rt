@@ -12,7 +12,8 @@ use speedate_base::faults::ParseError;
 use speedate_base::numbers::{LANES, byte_at, eight_bytes, fitting, pairs};
 use std::simd::prelude::*;
 
-/// A time of day that was read at the front of a text, without what follows it there.
+/// A clock within a longer text: its time of day, without an offset, and how many bytes it takes.
+/// [`PureTime::parse`] reads it.
 #[derive(Clone, Copy, Debug, PartialEq, Eq)]
 pub struct PureTime {
     /// The hour, 0 to 23.
@@ -40,12 +41,12 @@ impl PureTime {
     ghost use Rattle.speedate_civil.specs.Time.{parts as time_parts};
     ghost use Rattle.speedate_civil.specs.TimeText.{time_of};
 
-    /// Reads the time that begins at `place`, whatever follows it: 12:13:14 and a half, in ten
-    /// bytes, from `b"P12:13:14.5Z"` at place 1. The faults are those of
-    /// [`Time::parse_str`](crate::time::Time::parse_str) up to `SecondFractionTooLong`, in that
-    /// order, or in the form `Strict` those of
-    /// [`Time::parse_bytes_with_config`](crate::time::Time::parse_bytes_with_config); more than six
-    /// digits are refused only by the behavior `Error`.
+    /// Reads the clock that begins at `place`, whatever follows it: 12:13:14 and a half, in ten bytes,
+    /// from `b"P12:13:14.5Z"` at place 1.
+    ///
+    /// The faults are those of
+    /// [`Time::parse_bytes_with_config`](crate::time::Time::parse_bytes_with_config) up to
+    /// `SecondFractionTooLong`, which only the behavior `Error` gives.
     #[inline(always)]
     pub fn parse(
         bytes: &[u8],
@@ -85,9 +86,10 @@ impl PureTime {
         })
     }
 
-    /// Reads a time of hour 0 from its minute on, which begins at `place`, whatever follows it: 13
-    /// minutes and 14 seconds, in five bytes, from `b"12:13:14"` at place 3. The faults are
-    /// `InvalidCharMinute`, also where fewer than two bytes are there, and then those of
+    /// Reads a clock from its minute on, which begins at `place`, whatever follows it; its hour is 0.
+    /// It is 13 minutes and 14 seconds, in five bytes, from `b"12:13:14"` at place 3.
+    ///
+    /// The faults are `InvalidCharMinute`, if two digits do not begin there, and then those of
     /// [`PureTime::parse`] from `OutOfRangeMinute` on.
     #[inline(always)]
     pub fn parse_from_minute(
@@ -131,8 +133,8 @@ impl PureTime {
     }
 
     /// Tests the range of the minute that stands at `place`, and of the second, and reads the fraction
-    /// that follows. The second is there where a `:` follows the minute, and a number where two digits
-    /// follow that.
+    /// that follows. The second is there if a `:` follows the minute, and a number if two digits follow
+    /// that.
     #[inline(always)]
     fn after_minute(
         minute: u8,

@@ -21,15 +21,15 @@ impl Time {
     ghost use Rattle.speedate_civil.specs.Time.{parts};
     ghost use Rattle.speedate_civil.specs.TimeText.{time_answer, time_front, clock_text, time_text, is_after_time, is_of_form};
 
-    /// The canonical text, `HH:MM:SS`, a point and six digits where the microsecond is not 0, and
-    /// the offset where there is one: `Z`, or a sign, hours and minutes, as `12:13:14.500000+01:30`.
+    /// The canonical text, `HH:MM:SS`, then `.` and six digits if the microsecond is not 0, then the
+    /// offset if there is one, `Z`, or a sign, hours and minutes: `12:13:14.500000+01:30`. It is not
+    /// allocated; `.as_str()` is the text.
     ///
-    /// Where the offset is absent or whole minutes, the text reads back as the time under every
-    /// configuration whose form may have it: in the strict form a time has an offset. At the front of
-    /// a text it reads back, with its own length, if and only if what follows is no part of it: after
-    /// an offset anything may follow; without one neither `Z`, `z` nor a sign, nor a decimal mark after
-    /// the second, nor a digit after the fraction. The seconds of an offset that is not whole minutes
-    /// are not printed.
+    /// If the offset is absent or whole minutes, the text reads back as the time, except that the form
+    /// `Strict` requires an offset. At the front of a text it reads back if and only if what follows is
+    /// no part of it: after an offset anything may follow; without one neither `Z`, `z` nor a sign, nor
+    /// a decimal mark after the second, nor a digit after the fraction. Seconds of an offset are not
+    /// printed.
     #[inline]
     pub fn to_text(&self) -> ArrayString<TEXT_MAX>
         ensures text { result.bytes ≡ time_text (parts self.now) }
@@ -53,8 +53,8 @@ impl Time {
         text
     }
 
-    /// Appends the canonical text, as [`Time::to_text`] gives it, for which there must be room for 21
-    /// bytes: `at 12:13:14Z` where it is appended to `at `.
+    /// Appends the text of [`Time::to_text`]: `at ` becomes `at 12:13:14Z`. There must be room for 21
+    /// bytes, the longest text, which is a condition on the caller.
     #[inline(always)]
     pub fn push_onto<const LENGTH: usize>(&self, text: &mut ArrayString<LENGTH>)
         requires room { array_string_len text.old + TEXT_MAX ≤ LENGTH }

@@ -15,10 +15,8 @@ impl Time {
     ghost use Rattle.speedate_civil.specs.Time.{parts};
     ghost use Rattle.speedate_civil.specs.TimeOfDay.{utc_second_of_day};
 
-    /// This time of day with another offset, in seconds, or with none: 12:00:00-01:00 for
-    /// 12:00:00Z and `Some(-3600)`. What the clock shows stays.
-    ///
-    /// `OutOfRangeTz` where the offset is of 24 hours or more.
+    /// The same clock with another offset, in seconds, or with none: 12:00:00-01:00 for 12:00:00Z and
+    /// `Some(-3600)`. Fails with `OutOfRangeTz` if the offset is 24 hours or more.
     #[inline]
     pub fn with_timezone_offset(&self, tz_offset: Option<i32>) -> Result<Self, ParseError>
         ensures answer { result_map parts result ≡ time_with_offset tz_offset (parts self.now) }
@@ -38,11 +36,11 @@ impl Time {
     /// The time at the same instant, as a clock at another offset, in seconds, shows it:
     /// 16:00:00.567000+01:00 for 15:00:00.567000Z and 3,600.
     ///
-    /// A time has no date that could change. The faults, in the order in which they are looked for:
+    /// The faults, in the order in which they are looked for:
     ///
-    /// - `OutOfRangeTz` where the offset is of 24 hours or more;
-    /// - `TzRequired` where the time has no offset;
-    /// - `TimeTooLarge` where that clock shows another day, also where it is the one before.
+    /// - `OutOfRangeTz` if the offset is 24 hours or more;
+    /// - `TzRequired` if the time has no offset;
+    /// - `TimeTooLarge` if that clock shows the day before or the day after.
     #[inline]
     pub fn in_timezone(&self, tz_offset: i32) -> Result<Self, ParseError>
         ensures answer { result_map parts result ≡ time_in_timezone tz_offset (parts self.now) }
