@@ -36,6 +36,6 @@ build() {
     fi
     # It was written for the crates of the last run, which may have come from elsewhere.
     rm -f "$folder/Cargo.lock"
-    (cd "$folder" && cargo build -q --release "$@") ||
+    (cd "$folder" && cargo build -q --release --target-dir target "$@") ||
         fail 'cargo failed; where it cannot reach the crate, SPEEDATE_SOURCES may name a folder that has it'
 }
