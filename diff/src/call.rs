@@ -67,6 +67,11 @@ pub enum Call {
     DaysSince(Date, Date),
     Between(DateTime, DateTime),
     After(Duration, DateTime),
+    Before(Duration, DateTime),
+    BetweenDates(Date, Date),
+    AfterDate(Duration, Date),
+    BeforeDate(Duration, Date),
+    Negated(Duration),
 }
 
 impl Call {
@@ -126,13 +131,18 @@ impl Call {
 
     /// Calls that stand in the Rust crate for several.
     fn composed(draw: &mut Draw) -> Self {
-        match draw.below(6) {
+        match draw.below(11) {
             0 => Call::NewDuration(duration_numbers(draw)),
             1 => Call::FromDayNumber(draw.near(0..=3_652_424).max(0) as u32),
             2 => Call::AddDays(date(draw), draw.inside(-4_000_000..=4_000_000) as i32),
             3 => Call::DaysSince(date(draw), date(draw)),
             4 => Call::Between(date_time(draw), date_time(draw)),
-            _ => Call::After(duration(draw), date_time(draw)),
+            5 => Call::After(duration(draw), date_time(draw)),
+            6 => Call::Before(duration(draw), date_time(draw)),
+            7 => Call::BetweenDates(date(draw), date(draw)),
+            8 => Call::AfterDate(whole_days(draw), date(draw)),
+            9 => Call::BeforeDate(whole_days(draw), date(draw)),
+            _ => Call::Negated(duration(draw)),
         }
     }
 
@@ -222,6 +232,12 @@ fn duration(draw: &mut Draw) -> Duration {
         second: draw.inside(0..=86_399) as u32,
         microsecond: draw.inside(0..=999_999) as u32,
     }
+}
+
+/// A duration, mostly of whole days.
+fn whole_days(draw: &mut Draw) -> Duration {
+    let duration = duration(draw);
+    if draw.once_in(4) { duration } else { Duration { second: 0, microsecond: 0, ..duration } }
 }
 
 /// Numbers of any size, for a duration.

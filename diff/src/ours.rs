@@ -49,6 +49,19 @@ fn called(call: &Call) -> Result<Value, Code> {
         Call::After(duration, start) => {
             written(|out| ffi::speedate_duration_after(*duration, *start, out)).map(Value::DateTime)
         }
+        Call::Before(duration, start) => {
+            written(|out| ffi::speedate_duration_before(*duration, *start, out)).map(Value::DateTime)
+        }
+        Call::BetweenDates(earlier, later) => {
+            written(|out| ffi::speedate_duration_between_dates(*earlier, *later, out)).map(Value::Duration)
+        }
+        Call::AfterDate(duration, start) => {
+            written(|out| ffi::speedate_duration_after_date(*duration, *start, out)).map(Value::Date)
+        }
+        Call::BeforeDate(duration, start) => {
+            written(|out| ffi::speedate_duration_before_date(*duration, *start, out)).map(Value::Date)
+        }
+        Call::Negated(it) => written(|out| ffi::speedate_duration_negate(*it, out)).map(Value::Duration),
     }
 }
 

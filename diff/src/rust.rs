@@ -68,6 +68,11 @@ fn called(call: &Call) -> Answer {
         }
         Call::Between(earlier, later) => between(&DateTime::from(*earlier), &DateTime::from(*later)),
         Call::After(duration, start) => after(&Duration::from(*duration), &DateTime::from(*start)),
+        Call::Before(duration, start) => after(&negated(*duration), &DateTime::from(*start)),
+        Call::BetweenDates(earlier, later) => between(&midnight(*earlier), &midnight(*later)),
+        Call::AfterDate(duration, start) => after_date(&Duration::from(*duration), &Date::from(*start)),
+        Call::BeforeDate(duration, start) => after_date(&negated(*duration), &Date::from(*start)),
+        Call::Negated(duration) => Ok(Value::from(&negated(*duration))),
     }
 }
 
@@ -174,6 +179,23 @@ fn after(duration: &Duration, start: &DateTime) -> Answer {
     date_time_at(i128::from(second) * 1_000_000 + microsecond, start.time.tz_offset)
 }
 
+fn after_date(duration: &Duration, start: &Date) -> Answer {
+    if duration.second != 0 || duration.microsecond != 0 {
+        return Err(ParseError::DateNotExact.to_string());
+    }
+    let config = DateConfig { timestamp_unit: TimestampUnit::Second };
+    shown(Date::from_timestamp(start.timestamp() + duration.signed_total_seconds(), true, &config))
+}
+
+fn negated(it: ffi::Duration) -> Duration {
+    let duration = Duration::from(it);
+    Duration { positive: !duration.positive, ..duration }
+}
+
+fn midnight(date: ffi::Date) -> DateTime {
+    ffi::DateTime { date, time: ffi::Time::default() }.into()
+}
+
 /// The date-time so many microseconds after 1970-01-01T00:00:00, with an offset that shifts nothing.
 pub fn date_time_at(microseconds: i128, offset: Option<i32>) -> Answer {
     let second = microseconds.div_euclid(1_000_000).clamp(i64::MIN.into(), i64::MAX.into()) as i64;
@@ -193,11 +215,11 @@ where
     }
 }
 
-pub fn date_config(config: &Config) -> DateConfig {
+fn date_config(config: &Config) -> DateConfig {
     DateConfig { timestamp_unit: unit(config.timestamp_unit) }
 }
 
-pub fn time_config(config: &Config) -> TimeConfig {
+fn time_config(config: &Config) -> TimeConfig {
     TimeConfig {
         microseconds_precision_overflow_behavior: match config.overflow_behavior {
             ffi::OVERFLOW_TRUNCATE => MicrosecondsPrecisionOverflowBehavior::Truncate,
@@ -207,7 +229,7 @@ pub fn time_config(config: &Config) -> TimeConfig {
     }
 }
 
-pub fn date_time_config(config: &Config) -> DateTimeConfig {
+fn date_time_config(config: &Config) -> DateTimeConfig {
     DateTimeConfig { timestamp_unit: unit(config.timestamp_unit), time_config: time_config(config) }
 }
 

@@ -87,7 +87,7 @@ impl Draw {
         }
     }
 
-    pub fn date(&mut self) -> String {
+    fn date(&mut self) -> String {
         let year = match self.below(4) {
             0 => self.pick(&[0, 1, 4, 100, 400, 1900, 2000, 2024, 9999]),
             _ => self.below(10_000),
@@ -129,11 +129,11 @@ impl Draw {
         }
     }
 
-    pub fn time(&mut self) -> String {
+    fn time(&mut self) -> String {
         self.clock() + &self.offset()
     }
 
-    pub fn date_time(&mut self) -> String {
+    fn date_time(&mut self) -> String {
         let separator = self.pick(&["T", "T", "T", "t", " ", "_"]);
         self.date() + separator + &self.time()
     }
