@@ -11,6 +11,8 @@ pub enum Value {
     Duration(Duration),
     Numbers(Vec<i64>),
     Text(Vec<u8>),
+    /// A value at the front of a text, and how many bytes it takes.
+    Front(Box<Value>, usize),
 }
 
 /// A value, or the name of a fault.

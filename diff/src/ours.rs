@@ -10,10 +10,7 @@ use crate::text::Kind;
 /// The answer to a call.
 pub fn answer(call: &Call) -> Answer {
     match call {
-        Call::ReadFront { kind, text, config } => match read_front(*kind, text, *config) {
-            Ok((value, _)) => Ok(value),
-            Err(_) => Err(NO_FRONT.to_owned()),
-        },
+        Call::ReadFront { .. } => called(call).map_err(|_| NO_FRONT.to_owned()),
         _ => called(call).map_err(|code| name(code).to_owned()),
     }
 }
@@ -21,7 +18,7 @@ pub fn answer(call: &Call) -> Answer {
 fn called(call: &Call) -> Result<Value, Code> {
     match call {
         Call::Read { kind, text, config } => read(*kind, text, *config),
-        Call::ReadFront { kind, text, config } => read_front(*kind, text, *config).map(|(value, _)| value),
+        Call::ReadFront { kind, text, config } => read_front(*kind, text, *config),
         Call::Print(value) => print(value).map(|text| Value::Text(text.as_bytes().to_vec())),
         Call::Compare(first, second) => compare(first, second).map(number),
         Call::Totals(value) => totals(value).map(Value::Numbers),
@@ -93,7 +90,7 @@ fn read(kind: Kind, text: &[u8], config: Config) -> Result<Value, Code> {
 }
 
 /// The value at the front of a text, and how many bytes it takes.
-pub fn read_front(kind: Kind, text: &[u8], config: Config) -> Result<(Value, usize), Code> {
+pub fn read_front(kind: Kind, text: &[u8], config: Config) -> Result<Value, Code> {
     let mut taken = 0;
     let value = match kind {
         Kind::DateRfc3339 => written(|out| ffi::speedate_date_parse_front(text, out, &mut taken)).map(Value::Date),
@@ -103,7 +100,7 @@ pub fn read_front(kind: Kind, text: &[u8], config: Config) -> Result<(Value, usi
         }
         _ => unreachable!("{kind:?} is not read at the front of a text"),
     }?;
-    Ok((value, taken))
+    Ok(Value::Front(Box::new(value), taken))
 }
 
 fn print(value: &Value) -> Result<Text, Code> {

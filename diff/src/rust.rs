@@ -88,14 +88,12 @@ pub fn read(kind: Kind, text: &[u8], config: &Config) -> Answer {
     }
 }
 
-/// The whole text as far as this library says that the value at its front goes. A text in which there is none
-/// must not be such a value itself.
+/// The longest front of the text that is a value. Where this library finds none, there may be a shorter one, since a
+/// value that goes on has to go on without a fault; but the whole text must not be a value.
 fn read_front(kind: Kind, text: &[u8], config: &Config) -> Answer {
-    let front = match ours::read_front(kind, text, *config) {
-        Ok((_, taken)) => &text[..taken],
-        Err(_) => text,
-    };
-    read(kind, front, config).map_err(|_| NO_FRONT.to_owned())
+    let shortest = if ours::read_front(kind, text, *config).is_ok() { 0 } else { text.len() };
+    let front = |size| Some(Value::Front(Box::new(read(kind, &text[..size], config).ok()?), size));
+    (shortest..=text.len()).rev().find_map(front).ok_or_else(|| NO_FRONT.to_owned())
 }
 
 fn print(value: &Value) -> String {
