@@ -10,7 +10,8 @@
  *   to *length. A buffer of the size named beside the type always has room.
  * - Values and configurations go in by value. So `out` may be the variable that was just passed:
  *   speedate_date_add_days(date, 1, &date).
- * - Every other address has to be that of a variable of its type: not NULL, and no part of another argument.
+ * - Every other address has to be that of a variable of its type: not NULL, and not part of a text, of a buffer or
+ *   of another such variable of the same call.
  * - No memory is taken and nothing is kept between calls. Every call may run on every thread at any time.
  *
  * The texts and their faults are the subject of docs/GRAMMAR.md, and docs/C.md shows how to build and call this.
@@ -249,12 +250,13 @@ int speedate_date_check(SpeedateDate date);
 /* Prints a date: "2020-02-29". It reads back as the date. */
 int speedate_date_to_text(SpeedateDate date, char *buffer, size_t size, size_t *length);
 
-/* Writes -1 where the first date is the earlier one, 0 where they are equal, otherwise 1. */
+/* Writes -1 where the first date is the earlier one, 0 where they are equal, otherwise 1. It is the order of their
+ * texts, too. */
 int speedate_date_compare(SpeedateDate first, SpeedateDate second, int32_t *out);
 
 /* The date of a timestamp in the unit of the configuration: 1970-01-02 for 86,400 seconds. Where require_exact is 1
- * the timestamp has to be a midnight (SPEEDATE_DATE_NOT_EXACT); where it is 0 the date is that of its day.
- * SPEEDATE_DATE_TOO_SMALL before the year 0000, SPEEDATE_DATE_TOO_LARGE after the year 9999. */
+ * the timestamp has to be a midnight (SPEEDATE_DATE_NOT_EXACT); where it is 0 the date is that of the day in which it
+ * lies. SPEEDATE_DATE_TOO_SMALL before the year 0000, SPEEDATE_DATE_TOO_LARGE after the year 9999. */
 int speedate_date_from_timestamp(int64_t timestamp, uint8_t require_exact, SpeedateConfig config, SpeedateDate *out);
 
 /* The second, and the millisecond, at which a date begins, counted from 1970-01-01T00:00:00. */

@@ -56,7 +56,7 @@ fits sums component =
     nat_le (digits_value component.number) 4294967295
     && (nat_le (with_item (Component component) sums).day 4294967295 && nat_le (with_item (Component component) sums).second 4294967295)
 
--- two rows with the same fault are a single row
+-- two rows with the same fault can be joined
 two-rows : {A : Type 0} (number sums : Bool) (fault : ParseError) (next : Result A ParseError)
     → (if number then (if sums then next else Err fault) else Err fault) ≡ (if number && sums then next else Err fault)
 two-rows true sums fault next = refl

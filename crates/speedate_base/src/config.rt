@@ -34,8 +34,8 @@ pub enum TimestampUnit {
     Infer,
 }
 
-/// What is done with digits past the microsecond: in a number of seconds past the sixth digit after the
-/// point, of milliseconds past the third, of microseconds with each digit. The default refuses them.
+/// What is done with digits past the microsecond: those after the sixth digit of a fraction of a
+/// second, after the third of a millisecond, and any of a microsecond. The default refuses them.
 ///
 /// `"truncate".parse()` gives `MicrosecondsPrecisionOverflowBehavior::Truncate`. In an ISO 8601
 /// duration every digit counts, with either behavior.

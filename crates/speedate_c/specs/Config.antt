@@ -35,13 +35,13 @@ abbrev pub flags : List Bool
 flags = false ∷ true ∷ []
 
 -- an offset by its flag and its seconds: none where the flag is 0, whatever the seconds
-abbrev pub flagged : ℕ → ℤ → Option ℤ
-flagged flag seconds = if flag == 0 then None else Some seconds
+abbrev pub offset_by_flag : ℕ → ℤ → Option ℤ
+offset_by_flag flag seconds = if flag == 0 then None else Some seconds
 
 -- and what both have to meet
 abbrev pub offset_answer : ℕ → ℤ → Result (Option ℤ) ParseError
 offset_answer flag seconds =
-    meets ((nat_le flag 1 else_fault fault.OutOfRangeTz) ∷ offset_table (flagged flag seconds)) (Ok (flagged flag seconds))
+    meets ((nat_le flag 1 else_fault fault.OutOfRangeTz) ∷ offset_table (offset_by_flag flag seconds)) (Ok (offset_by_flag flag seconds))
 
 -- the values of a configuration
 pub record Choices : Type 0 where

@@ -31,7 +31,7 @@ pub struct SpeedateConfig {
 impl SpeedateConfig {
     /// The configuration, where each number has a value.
     #[inline]
-    pub(crate) fn checked(&self) -> Option<DateTimeConfig>
+    pub(crate) fn to_config(&self) -> Option<DateTimeConfig>
         ensures choices { option_map choices result ≡ choices_of self.now }
     {
         Some(DateTimeConfig {

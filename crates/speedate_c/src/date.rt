@@ -11,7 +11,7 @@ ghost use Rattle.speedate.specs.Requirement.{result_map};
 ghost use Rattle.speedate_c.specs.Code.{answer_code, buffer_too_small, config_out_of_range, order_number, success, value_out_of_range};
 ghost use Rattle.speedate_c.specs.Config.{choices_of, flags};
 ghost use Rattle.speedate_c.specs.Date.{date_of, shown_date};
-ghost use Rattle.speedate_c.specs.Left.{given, known, left, left_date, left_front, left_text, left_value};
+ghost use Rattle.speedate_c.specs.After.{after_answer, after_front, after_optional_date, after_text, after_value, with_option, with_value};
 
 use crate::code::{
     CONFIG_OUT_OF_RANGE, NO_SUCH_DATE, SUCCESS, VALUE_OUT_OF_RANGE, fault_code, order_number,
@@ -35,7 +35,7 @@ pub struct SpeedateDate {
 impl SpeedateDate {
     /// The date of the numbers, or the fault of the first that is out of range.
     #[inline]
-    pub(crate) fn checked(&self) -> Result<Date, ParseError>
+    pub(crate) fn to_value(&self) -> Result<Date, ParseError>
         ensures answer { result_map parts result ≡ date_of self.now }
     {
         Date::new(self.year, self.month, self.day)
@@ -43,7 +43,7 @@ impl SpeedateDate {
 
     /// The numbers of a date.
     #[inline]
-    pub(crate) fn shown(date: &Date) -> Self
+    pub(crate) fn from_value(date: &Date) -> Self
         ensures numbers { result ≡ shown_date (parts date.now) }
     {
         SpeedateDate {
@@ -57,11 +57,11 @@ impl SpeedateDate {
 /// Writes the date of an answer, and gives the code.
 #[inline]
 pub(crate) fn write_date(answer: Result<Date, ParseError>, out: &mut SpeedateDate) -> i32
-    ensures left { (result, out.new) ≡ left shown_date out.old (result_map parts answer) }
+    ensures after { (result, out.new) ≡ after_answer shown_date out.old (result_map parts answer) }
 {
     match answer {
         Ok(date) => {
-            *out = SpeedateDate::shown(&date);
+            *out = SpeedateDate::from_value(&date);
             SUCCESS
         }
         Err(fault) => fault_code(fault),
@@ -71,11 +71,11 @@ pub(crate) fn write_date(answer: Result<Date, ParseError>, out: &mut SpeedateDat
 /// Writes a date, if there is one, and gives the code.
 #[inline]
 fn write_some(date: Option<Date>, out: &mut SpeedateDate) -> i32
-    ensures left { (result, out.new) ≡ left_date shown_date out.old (option_map parts date) }
+    ensures after { (result, out.new) ≡ after_optional_date shown_date out.old (option_map parts date) }
 {
     match date {
         Some(date) => {
-            *out = SpeedateDate::shown(&date);
+            *out = SpeedateDate::from_value(&date);
             SUCCESS
         }
         None => NO_SUCH_DATE,
@@ -85,7 +85,7 @@ fn write_some(date: Option<Date>, out: &mut SpeedateDate) -> i32
 /// Prints a date into a buffer, and gives the code.
 #[inline]
 fn print_date(date: &Date, buffer: &mut [u8], text_length: &mut usize) -> i32
-    ensures left { (result, buffer.new, text_length.new) ≡ left_text (date_text (parts date.now)) buffer.old text_length.old }
+    ensures after { (result, buffer.new, text_length.new) ≡ after_text (date_text (parts date.now)) buffer.old text_length.old }
     ensures room { 11 ≤ length buffer.old → result ≡ success }
 {
     write_text(date.to_text().as_str(), buffer, text_length)
@@ -101,10 +101,10 @@ pub extern "C" fn speedate_date_parse(
     config: SpeedateConfig,
     out: &mut SpeedateDate,
 ) -> i32
-    ensures answer { (result, out.new) ≡ known (choices_of config) (config_out_of_range, out.old)
-        (λ config. left shown_date out.old (date_or_timestamp config.unit text.now)) }
+    ensures answer { (result, out.new) ≡ with_option (choices_of config) (config_out_of_range, out.old)
+        (λ config. after_answer shown_date out.old (date_or_timestamp config.unit text.now)) }
 {
-    let Some(config) = config.checked() else {
+    let Some(config) = config.to_config() else {
         return CONFIG_OUT_OF_RANGE;
     };
     let config = DateConfig {
@@ -117,7 +117,7 @@ pub extern "C" fn speedate_date_parse(
 /// `2020-02-29`.
 #[unsafe(no_mangle)]
 pub extern "C" fn speedate_date_parse_rfc3339(text: &[u8], out: &mut SpeedateDate) -> i32
-    ensures answer { (result, out.new) ≡ left shown_date out.old (date_answer text.now) }
+    ensures answer { (result, out.new) ≡ after_answer shown_date out.old (date_answer text.now) }
 {
     write_date(Date::parse_bytes_rfc3339(text), out)
 }
@@ -130,11 +130,11 @@ pub extern "C" fn speedate_date_parse_front(
     out: &mut SpeedateDate,
     size: &mut usize,
 ) -> i32
-    ensures answer { (result, out.new, size.new) ≡ left_front shown_date out.old size.old (date_front text.now) }
+    ensures answer { (result, out.new, size.new) ≡ after_front shown_date out.old size.old (date_front text.now) }
 {
     match Date::parse_front(text) {
         Ok((date, count)) => {
-            *out = SpeedateDate::shown(&date);
+            *out = SpeedateDate::from_value(&date);
             *size = count;
             SUCCESS
         }
@@ -148,7 +148,7 @@ pub extern "C" fn speedate_date_parse_front(
 pub extern "C" fn speedate_date_check(date: SpeedateDate) -> i32
     ensures answer { result ≡ answer_code (date_of date) }
 {
-    match date.checked() {
+    match date.to_value() {
         Ok(_) => SUCCESS,
         Err(fault) => fault_code(fault),
     }
@@ -162,11 +162,11 @@ pub extern "C" fn speedate_date_to_text(
     buffer: &mut [u8],
     text_length: &mut usize,
 ) -> i32
-    ensures answer { (result, buffer.new, text_length.new) ≡ given (date_of date) (value_out_of_range, buffer.old, text_length.old)
-        (λ date. left_text (date_text date) buffer.old text_length.old) }
+    ensures answer { (result, buffer.new, text_length.new) ≡ with_value (date_of date) (value_out_of_range, buffer.old, text_length.old)
+        (λ date. after_text (date_text date) buffer.old text_length.old) }
     ensures room { 11 ≤ length buffer.old → result ≢ buffer_too_small }
 {
-    let Ok(date) = date.checked() else {
+    let Ok(date) = date.to_value() else {
         return VALUE_OUT_OF_RANGE;
     };
     print_date(&date, buffer, text_length)
@@ -180,14 +180,14 @@ pub extern "C" fn speedate_date_compare(
     second: SpeedateDate,
     out: &mut i32,
 ) -> i32
-    ensures answer { (result, out.new) ≡ given (date_of first) (value_out_of_range, out.old)
-        (λ first. given (date_of second) (value_out_of_range, out.old)
-        (λ second. left_value (order_number (date_order first second)))) }
+    ensures answer { (result, out.new) ≡ with_value (date_of first) (value_out_of_range, out.old)
+        (λ first. with_value (date_of second) (value_out_of_range, out.old)
+        (λ second. after_value (order_number (date_order first second)))) }
 {
-    let Ok(first) = first.checked() else {
+    let Ok(first) = first.to_value() else {
         return VALUE_OUT_OF_RANGE;
     };
-    let Ok(second) = second.checked() else {
+    let Ok(second) = second.to_value() else {
         return VALUE_OUT_OF_RANGE;
     };
     *out = order_number(first.cmp(&second));
@@ -206,11 +206,11 @@ pub extern "C" fn speedate_date_from_timestamp(
     config: SpeedateConfig,
     out: &mut SpeedateDate,
 ) -> i32
-    ensures answer { (result, out.new) ≡ known (choices_of config) (config_out_of_range, out.old)
-        (λ config. known (slice_get flags require_exact) (value_out_of_range, out.old)
-        (λ exact. left shown_date out.old (date_timestamp_answer config.unit exact timestamp))) }
+    ensures answer { (result, out.new) ≡ with_option (choices_of config) (config_out_of_range, out.old)
+        (λ config. with_option (slice_get flags require_exact) (value_out_of_range, out.old)
+        (λ exact. after_answer shown_date out.old (date_timestamp_answer config.unit exact timestamp))) }
 {
-    let Some(config) = config.checked() else {
+    let Some(config) = config.to_config() else {
         return CONFIG_OUT_OF_RANGE;
     };
     let Some(exact) = flag(require_exact) else {
@@ -225,9 +225,9 @@ pub extern "C" fn speedate_date_from_timestamp(
 /// The second at which a date begins, as [`Date::timestamp`] gives it: 86,400 for 1970-01-02.
 #[unsafe(no_mangle)]
 pub extern "C" fn speedate_date_timestamp(date: SpeedateDate, out: &mut i64) -> i32
-    ensures answer { (result, out.new) ≡ given (date_of date) (value_out_of_range, out.old) (λ date. left_value (midnight_second date)) }
+    ensures answer { (result, out.new) ≡ with_value (date_of date) (value_out_of_range, out.old) (λ date. after_value (midnight_second date)) }
 {
-    let Ok(date) = date.checked() else {
+    let Ok(date) = date.to_value() else {
         return VALUE_OUT_OF_RANGE;
     };
     *out = date.timestamp();
@@ -237,9 +237,9 @@ pub extern "C" fn speedate_date_timestamp(date: SpeedateDate, out: &mut i64) -> 
 /// The millisecond at which a date begins, as [`Date::timestamp_ms`] gives it: 86,400,000 for 1970-01-02.
 #[unsafe(no_mangle)]
 pub extern "C" fn speedate_date_timestamp_ms(date: SpeedateDate, out: &mut i64) -> i32
-    ensures answer { (result, out.new) ≡ given (date_of date) (value_out_of_range, out.old) (λ date. left_value (midnight_millisecond date)) }
+    ensures answer { (result, out.new) ≡ with_value (date_of date) (value_out_of_range, out.old) (λ date. after_value (midnight_millisecond date)) }
 {
-    let Ok(date) = date.checked() else {
+    let Ok(date) = date.to_value() else {
         return VALUE_OUT_OF_RANGE;
     };
     *out = date.timestamp_ms();
@@ -249,9 +249,9 @@ pub extern "C" fn speedate_date_timestamp_ms(date: SpeedateDate, out: &mut i64) 
 /// The number of days from 0000-01-01 to a date, as [`Date::day_number`] gives it: 737,790 for 2020-01-01.
 #[unsafe(no_mangle)]
 pub extern "C" fn speedate_date_day_number(date: SpeedateDate, out: &mut u32) -> i32
-    ensures answer { (result, out.new) ≡ given (date_of date) (value_out_of_range, out.old) (λ date. left_value (day_number date)) }
+    ensures answer { (result, out.new) ≡ with_value (date_of date) (value_out_of_range, out.old) (λ date. after_value (day_number date)) }
 {
-    let Ok(date) = date.checked() else {
+    let Ok(date) = date.to_value() else {
         return VALUE_OUT_OF_RANGE;
     };
     *out = date.day_number();
@@ -262,7 +262,7 @@ pub extern "C" fn speedate_date_day_number(date: SpeedateDate, out: &mut u32) ->
 /// the number is over 3,652,424.
 #[unsafe(no_mangle)]
 pub extern "C" fn speedate_date_from_day_number(number: u32, out: &mut SpeedateDate) -> i32
-    ensures answer { (result, out.new) ≡ left_date shown_date out.old (date_numbered number) }
+    ensures answer { (result, out.new) ≡ after_optional_date shown_date out.old (date_numbered number) }
 {
     write_some(Date::from_day_number(number), out)
 }
@@ -270,9 +270,9 @@ pub extern "C" fn speedate_date_from_day_number(number: u32, out: &mut SpeedateD
 /// The day of the year, as [`Date::ordinal_day`] gives it: 366 for 2020-12-31.
 #[unsafe(no_mangle)]
 pub extern "C" fn speedate_date_ordinal_day(date: SpeedateDate, out: &mut u16) -> i32
-    ensures answer { (result, out.new) ≡ given (date_of date) (value_out_of_range, out.old) (λ date. left_value (ordinal_day date)) }
+    ensures answer { (result, out.new) ≡ with_value (date_of date) (value_out_of_range, out.old) (λ date. after_value (ordinal_day date)) }
 {
-    let Ok(date) = date.checked() else {
+    let Ok(date) = date.to_value() else {
         return VALUE_OUT_OF_RANGE;
     };
     *out = date.ordinal_day();
@@ -287,10 +287,10 @@ pub extern "C" fn speedate_date_add_days(
     days: i32,
     out: &mut SpeedateDate,
 ) -> i32
-    ensures answer { (result, out.new) ≡ given (date_of date) (value_out_of_range, out.old)
-        (λ date. left_date shown_date out.old (date_added days date)) }
+    ensures answer { (result, out.new) ≡ with_value (date_of date) (value_out_of_range, out.old)
+        (λ date. after_optional_date shown_date out.old (date_added days date)) }
 {
-    let Ok(date) = date.checked() else {
+    let Ok(date) = date.to_value() else {
         return VALUE_OUT_OF_RANGE;
     };
     write_some(date.checked_add_days(days), out)
@@ -304,14 +304,14 @@ pub extern "C" fn speedate_date_days_since(
     earlier: SpeedateDate,
     out: &mut i32,
 ) -> i32
-    ensures answer { (result, out.new) ≡ given (date_of date) (value_out_of_range, out.old)
-        (λ date. given (date_of earlier) (value_out_of_range, out.old)
-        (λ earlier. left_value (days_between earlier date))) }
+    ensures answer { (result, out.new) ≡ with_value (date_of date) (value_out_of_range, out.old)
+        (λ date. with_value (date_of earlier) (value_out_of_range, out.old)
+        (λ earlier. after_value (days_between earlier date))) }
 {
-    let Ok(date) = date.checked() else {
+    let Ok(date) = date.to_value() else {
         return VALUE_OUT_OF_RANGE;
     };
-    let Ok(earlier) = earlier.checked() else {
+    let Ok(earlier) = earlier.to_value() else {
         return VALUE_OUT_OF_RANGE;
     };
     *out = date.days_since(&earlier);

@@ -11,7 +11,7 @@ ghost use Rattle.speedate.specs.Requirement.{result_map};
 ghost use Rattle.speedate_c.specs.Code.{answer_code, buffer_too_small, config_out_of_range, order_number, value_out_of_range};
 ghost use Rattle.speedate_c.specs.Config.{choices_of};
 ghost use Rattle.speedate_c.specs.DateTime.{date_time_of, shown_date_time};
-ghost use Rattle.speedate_c.specs.Left.{given, known, left, left_front, left_text, left_value};
+ghost use Rattle.speedate_c.specs.After.{after_answer, after_front, after_text, after_value, with_option, with_value};
 
 use crate::code::{CONFIG_OUT_OF_RANGE, SUCCESS, VALUE_OUT_OF_RANGE, fault_code, order_number};
 use crate::config::SpeedateConfig;
@@ -33,22 +33,22 @@ pub struct SpeedateDateTime {
 impl SpeedateDateTime {
     /// The date-time of the numbers, or the fault of one that is out of range: the date is looked at first.
     #[inline]
-    pub(crate) fn checked(&self) -> Result<DateTime, ParseError>
+    pub(crate) fn to_value(&self) -> Result<DateTime, ParseError>
         ensures answer { result_map parts result ≡ date_time_of self.now }
     {
-        let date = self.date.checked()?;
-        let time = self.time.checked()?;
+        let date = self.date.to_value()?;
+        let time = self.time.to_value()?;
         Ok(DateTime { date, time })
     }
 
     /// The numbers of a date-time.
     #[inline]
-    fn shown(value: &DateTime) -> Self
+    fn from_value(value: &DateTime) -> Self
         ensures numbers { result ≡ shown_date_time (parts value.now) }
     {
         SpeedateDateTime {
-            date: SpeedateDate::shown(&value.date),
-            time: SpeedateTime::shown(&value.time),
+            date: SpeedateDate::from_value(&value.date),
+            time: SpeedateTime::from_value(&value.time),
         }
     }
 }
@@ -59,11 +59,11 @@ pub(crate) fn write_date_time(
     answer: Result<DateTime, ParseError>,
     out: &mut SpeedateDateTime,
 ) -> i32
-    ensures left { (result, out.new) ≡ left shown_date_time out.old (result_map parts answer) }
+    ensures after { (result, out.new) ≡ after_answer shown_date_time out.old (result_map parts answer) }
 {
     match answer {
         Ok(value) => {
-            *out = SpeedateDateTime::shown(&value);
+            *out = SpeedateDateTime::from_value(&value);
             SUCCESS
         }
         Err(fault) => fault_code(fault),
@@ -80,11 +80,11 @@ pub extern "C" fn speedate_datetime_parse(
     config: SpeedateConfig,
     out: &mut SpeedateDateTime,
 ) -> i32
-    ensures answer { (result, out.new) ≡ known (choices_of config) (config_out_of_range, out.old)
-        (λ config. left shown_date_time out.old
+    ensures answer { (result, out.new) ≡ with_option (choices_of config) (config_out_of_range, out.old)
+        (λ config. after_answer shown_date_time out.old
         (date_time_or_timestamp config.unit config.form config.behavior config.offset text.now)) }
 {
-    let Some(config) = config.checked() else {
+    let Some(config) = config.to_config() else {
         return CONFIG_OUT_OF_RANGE;
     };
     write_date_time(DateTime::parse_bytes_with_config(text, &config), out)
@@ -98,10 +98,10 @@ pub extern "C" fn speedate_datetime_parse_rfc3339(
     config: SpeedateConfig,
     out: &mut SpeedateDateTime,
 ) -> i32
-    ensures answer { (result, out.new) ≡ known (choices_of config) (config_out_of_range, out.old)
-        (λ config. left shown_date_time out.old (date_time_answer config.form config.behavior text.now)) }
+    ensures answer { (result, out.new) ≡ with_option (choices_of config) (config_out_of_range, out.old)
+        (λ config. after_answer shown_date_time out.old (date_time_answer config.form config.behavior text.now)) }
 {
-    let Some(config) = config.checked() else {
+    let Some(config) = config.to_config() else {
         return CONFIG_OUT_OF_RANGE;
     };
     let answer = DateTime::parse_bytes_rfc3339_with_config(text, &config.time_config);
@@ -118,15 +118,15 @@ pub extern "C" fn speedate_datetime_parse_front(
     out: &mut SpeedateDateTime,
     size: &mut usize,
 ) -> i32
-    ensures answer { (result, out.new, size.new) ≡ known (choices_of config) (config_out_of_range, out.old, size.old)
-        (λ config. left_front shown_date_time out.old size.old (date_time_front config.form config.behavior text.now)) }
+    ensures answer { (result, out.new, size.new) ≡ with_option (choices_of config) (config_out_of_range, out.old, size.old)
+        (λ config. after_front shown_date_time out.old size.old (date_time_front config.form config.behavior text.now)) }
 {
-    let Some(config) = config.checked() else {
+    let Some(config) = config.to_config() else {
         return CONFIG_OUT_OF_RANGE;
     };
     match DateTime::parse_front(text, &config.time_config) {
         Ok((value, count)) => {
-            *out = SpeedateDateTime::shown(&value);
+            *out = SpeedateDateTime::from_value(&value);
             *size = count;
             SUCCESS
         }
@@ -140,7 +140,7 @@ pub extern "C" fn speedate_datetime_parse_front(
 pub extern "C" fn speedate_datetime_check(value: SpeedateDateTime) -> i32
     ensures answer { result ≡ answer_code (date_time_of value) }
 {
-    match value.checked() {
+    match value.to_value() {
         Ok(_) => SUCCESS,
         Err(fault) => fault_code(fault),
     }
@@ -154,11 +154,11 @@ pub extern "C" fn speedate_datetime_to_text(
     buffer: &mut [u8],
     text_length: &mut usize,
 ) -> i32
-    ensures answer { (result, buffer.new, text_length.new) ≡ given (date_time_of value) (value_out_of_range, buffer.old, text_length.old)
-        (λ value. left_text (date_time_text value) buffer.old text_length.old) }
+    ensures answer { (result, buffer.new, text_length.new) ≡ with_value (date_time_of value) (value_out_of_range, buffer.old, text_length.old)
+        (λ value. after_text (date_time_text value) buffer.old text_length.old) }
     ensures room { 33 ≤ length buffer.old → result ≢ buffer_too_small }
 {
-    let Ok(value) = value.checked() else {
+    let Ok(value) = value.to_value() else {
         return VALUE_OUT_OF_RANGE;
     };
     write_text(value.to_text().as_str(), buffer, text_length)
@@ -172,14 +172,14 @@ pub extern "C" fn speedate_datetime_compare(
     second: SpeedateDateTime,
     out: &mut i32,
 ) -> i32
-    ensures answer { (result, out.new) ≡ given (date_time_of first) (value_out_of_range, out.old)
-        (λ first. given (date_time_of second) (value_out_of_range, out.old)
-        (λ second. left_value (order_number (date_time_instant_order first second)))) }
+    ensures answer { (result, out.new) ≡ with_value (date_time_of first) (value_out_of_range, out.old)
+        (λ first. with_value (date_time_of second) (value_out_of_range, out.old)
+        (λ second. after_value (order_number (date_time_instant_order first second)))) }
 {
-    let Ok(first) = first.checked() else {
+    let Ok(first) = first.to_value() else {
         return VALUE_OUT_OF_RANGE;
     };
-    let Ok(second) = second.checked() else {
+    let Ok(second) = second.to_value() else {
         return VALUE_OUT_OF_RANGE;
     };
     *out = order_number(first.cmp_instant(&second));
@@ -198,11 +198,11 @@ pub extern "C" fn speedate_datetime_from_timestamp(
     config: SpeedateConfig,
     out: &mut SpeedateDateTime,
 ) -> i32
-    ensures answer { (result, out.new) ≡ known (choices_of config) (config_out_of_range, out.old)
-        (λ config. left shown_date_time out.old
+    ensures answer { (result, out.new) ≡ with_option (choices_of config) (config_out_of_range, out.old)
+        (λ config. after_answer shown_date_time out.old
         (date_time_timestamp_answer config.unit config.offset microsecond timestamp)) }
 {
-    let Some(config) = config.checked() else {
+    let Some(config) = config.to_config() else {
         return CONFIG_OUT_OF_RANGE;
     };
     let answer = DateTime::from_timestamp_with_config(timestamp, microsecond, &config);
@@ -213,9 +213,9 @@ pub extern "C" fn speedate_datetime_from_timestamp(
 /// 86,400 for 1970-01-02T00:00:00+01:00.
 #[unsafe(no_mangle)]
 pub extern "C" fn speedate_datetime_timestamp(value: SpeedateDateTime, out: &mut i64) -> i32
-    ensures answer { (result, out.new) ≡ given (date_time_of value) (value_out_of_range, out.old) (λ value. left_value (local_second value)) }
+    ensures answer { (result, out.new) ≡ with_value (date_time_of value) (value_out_of_range, out.old) (λ value. after_value (local_second value)) }
 {
-    let Ok(value) = value.checked() else {
+    let Ok(value) = value.to_value() else {
         return VALUE_OUT_OF_RANGE;
     };
     *out = value.timestamp();
@@ -226,9 +226,9 @@ pub extern "C" fn speedate_datetime_timestamp(value: SpeedateDateTime, out: &mut
 /// gives it: 86,400,123 for 1970-01-02T00:00:00.123+01:00.
 #[unsafe(no_mangle)]
 pub extern "C" fn speedate_datetime_timestamp_ms(value: SpeedateDateTime, out: &mut i64) -> i32
-    ensures answer { (result, out.new) ≡ given (date_time_of value) (value_out_of_range, out.old) (λ value. left_value (local_millisecond value)) }
+    ensures answer { (result, out.new) ≡ with_value (date_time_of value) (value_out_of_range, out.old) (λ value. after_value (local_millisecond value)) }
 {
-    let Ok(value) = value.checked() else {
+    let Ok(value) = value.to_value() else {
         return VALUE_OUT_OF_RANGE;
     };
     *out = value.timestamp_ms();
@@ -239,9 +239,9 @@ pub extern "C" fn speedate_datetime_timestamp_ms(value: SpeedateDateTime, out: &
 /// 1970-01-02T00:00:00+01:00.
 #[unsafe(no_mangle)]
 pub extern "C" fn speedate_datetime_timestamp_tz(value: SpeedateDateTime, out: &mut i64) -> i32
-    ensures answer { (result, out.new) ≡ given (date_time_of value) (value_out_of_range, out.old) (λ value. left_value (utc_second value)) }
+    ensures answer { (result, out.new) ≡ with_value (date_time_of value) (value_out_of_range, out.old) (λ value. after_value (utc_second value)) }
 {
-    let Ok(value) = value.checked() else {
+    let Ok(value) = value.to_value() else {
         return VALUE_OUT_OF_RANGE;
     };
     *out = value.timestamp_tz();
@@ -252,9 +252,9 @@ pub extern "C" fn speedate_datetime_timestamp_tz(value: SpeedateDateTime, out: &
 /// 1970-01-02T00:00:00.123+01:00.
 #[unsafe(no_mangle)]
 pub extern "C" fn speedate_datetime_timestamp_tz_ms(value: SpeedateDateTime, out: &mut i64) -> i32
-    ensures answer { (result, out.new) ≡ given (date_time_of value) (value_out_of_range, out.old) (λ value. left_value (utc_millisecond value)) }
+    ensures answer { (result, out.new) ≡ with_value (date_time_of value) (value_out_of_range, out.old) (λ value. after_value (utc_millisecond value)) }
 {
-    let Ok(value) = value.checked() else {
+    let Ok(value) = value.to_value() else {
         return VALUE_OUT_OF_RANGE;
     };
     *out = value.timestamp_tz_ms();
@@ -272,10 +272,10 @@ pub extern "C" fn speedate_datetime_in_timezone(
     offset: i32,
     out: &mut SpeedateDateTime,
 ) -> i32
-    ensures answer { (result, out.new) ≡ given (date_time_of value) (value_out_of_range, out.old)
-        (λ value. left shown_date_time out.old (date_time_in_timezone offset value)) }
+    ensures answer { (result, out.new) ≡ with_value (date_time_of value) (value_out_of_range, out.old)
+        (λ value. after_answer shown_date_time out.old (date_time_in_timezone offset value)) }
 {
-    let Ok(value) = value.checked() else {
+    let Ok(value) = value.to_value() else {
         return VALUE_OUT_OF_RANGE;
     };
     write_date_time(value.in_timezone(offset), out)

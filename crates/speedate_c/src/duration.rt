@@ -1,16 +1,16 @@
 //! Durations as C sees them.
 
-ghost use Rattle.std.specs.Prelude.{◌≡◌, ◌≢◌, ◌≤◌, if◌then◌else◌, length, nat_le};
+ghost use Rattle.std.specs.Prelude.{◌≡◌, ◌≢◌, ◌≤◌, ◌↔◌, IsOk, if◌then◌else◌, length, nat_le};
 ghost use Rattle.speedate.specs.Duration.{parts};
 ghost use Rattle.speedate.specs.DurationAnswer.{duration_answer};
-ghost use Rattle.speedate.specs.DurationNumbers.{normal_form, signed_microsecond, signed_milliseconds, signed_seconds};
+ghost use Rattle.speedate.specs.DurationNumbers.{IsDuration, normal_form, signed_microsecond, signed_milliseconds, signed_seconds};
 ghost use Rattle.speedate.specs.DurationOrder.{duration_order};
 ghost use Rattle.speedate.specs.DurationText.{duration_text};
 ghost use Rattle.speedate.specs.Requirement.{result_map};
 ghost use Rattle.speedate_c.specs.Code.{answer_code, buffer_too_small, config_out_of_range, order_number, value_out_of_range};
 ghost use Rattle.speedate_c.specs.Config.{choices_of};
 ghost use Rattle.speedate_c.specs.Duration.{duration_of, numbers_of, shown_duration};
-ghost use Rattle.speedate_c.specs.Left.{given, known, left, left_text, left_value};
+ghost use Rattle.speedate_c.specs.After.{after_answer, after_text, after_value, with_option, with_value};
 
 use crate::code::{CONFIG_OUT_OF_RANGE, SUCCESS, VALUE_OUT_OF_RANGE, fault_code, order_number};
 use crate::config::SpeedateConfig;
@@ -34,8 +34,9 @@ pub struct SpeedateDuration {
 impl SpeedateDuration {
     /// The duration of the numbers, or the fault of the first that is out of range.
     #[inline]
-    pub(crate) fn checked(&self) -> Result<Duration, ParseError>
+    pub(crate) fn to_value(&self) -> Result<Duration, ParseError>
         ensures answer { result_map parts result ≡ duration_of self.now }
+        ensures ranges { IsOk result ↔ ((self.now.negative ≤ 1) × IsDuration (numbers_of self.now)) }
     {
         if self.negative > 1 {
             return Err(ParseError::DurationValueTooLarge);
@@ -59,7 +60,7 @@ impl SpeedateDuration {
 
     /// The numbers of a duration.
     #[inline]
-    pub(crate) fn shown(duration: &Duration) -> Self
+    pub(crate) fn from_value(duration: &Duration) -> Self
         ensures numbers { result ≡ shown_duration (parts duration.now) }
     {
         SpeedateDuration {
@@ -74,11 +75,11 @@ impl SpeedateDuration {
 /// Writes the duration of an answer, and gives the code.
 #[inline]
 fn write_duration(answer: Result<Duration, ParseError>, out: &mut SpeedateDuration) -> i32
-    ensures left { (result, out.new) ≡ left shown_duration out.old (result_map parts answer) }
+    ensures after { (result, out.new) ≡ after_answer shown_duration out.old (result_map parts answer) }
 {
     match answer {
         Ok(duration) => {
-            *out = SpeedateDuration::shown(&duration);
+            *out = SpeedateDuration::from_value(&duration);
             SUCCESS
         }
         Err(fault) => fault_code(fault),
@@ -95,10 +96,10 @@ pub extern "C" fn speedate_duration_parse(
     config: SpeedateConfig,
     out: &mut SpeedateDuration,
 ) -> i32
-    ensures answer { (result, out.new) ≡ known (choices_of config) (config_out_of_range, out.old)
-        (λ config. left shown_duration out.old (duration_answer config.order config.behavior text.now)) }
+    ensures answer { (result, out.new) ≡ with_option (choices_of config) (config_out_of_range, out.old)
+        (λ config. after_answer shown_duration out.old (duration_answer config.order config.behavior text.now)) }
 {
-    let Some(config) = config.checked() else {
+    let Some(config) = config.to_config() else {
         return CONFIG_OUT_OF_RANGE;
     };
     let answer = Duration::parse_bytes_with_config(text, &config.time_config);
@@ -116,7 +117,7 @@ pub extern "C" fn speedate_duration_normalize(
     out: &mut SpeedateDuration,
 ) -> i32
     ensures answer { (result, out.new) ≡ (if nat_le numbers.negative 1
-        then left shown_duration out.old (normal_form (numbers_of numbers)) else (value_out_of_range, out.old)) }
+        then after_answer shown_duration out.old (normal_form (numbers_of numbers)) else (value_out_of_range, out.old)) }
 {
     if numbers.negative > 1 {
         return VALUE_OUT_OF_RANGE;
@@ -132,7 +133,7 @@ pub extern "C" fn speedate_duration_normalize(
 pub extern "C" fn speedate_duration_check(duration: SpeedateDuration) -> i32
     ensures answer { result ≡ answer_code (duration_of duration) }
 {
-    match duration.checked() {
+    match duration.to_value() {
         Ok(_) => SUCCESS,
         Err(fault) => fault_code(fault),
     }
@@ -146,11 +147,11 @@ pub extern "C" fn speedate_duration_to_text(
     buffer: &mut [u8],
     text_length: &mut usize,
 ) -> i32
-    ensures answer { (result, buffer.new, text_length.new) ≡ given (duration_of duration) (value_out_of_range, buffer.old, text_length.old)
-        (λ duration. left_text (duration_text duration) buffer.old text_length.old) }
+    ensures answer { (result, buffer.new, text_length.new) ≡ with_value (duration_of duration) (value_out_of_range, buffer.old, text_length.old)
+        (λ duration. after_text (duration_text duration) buffer.old text_length.old) }
     ensures room { 32 ≤ length buffer.old → result ≢ buffer_too_small }
 {
-    let Ok(duration) = duration.checked() else {
+    let Ok(duration) = duration.to_value() else {
         return VALUE_OUT_OF_RANGE;
     };
     write_text(duration.to_text().as_str(), buffer, text_length)
@@ -164,14 +165,14 @@ pub extern "C" fn speedate_duration_compare(
     second: SpeedateDuration,
     out: &mut i32,
 ) -> i32
-    ensures answer { (result, out.new) ≡ given (duration_of first) (value_out_of_range, out.old)
-        (λ first. given (duration_of second) (value_out_of_range, out.old)
-        (λ second. left_value (order_number (duration_order first second)))) }
+    ensures answer { (result, out.new) ≡ with_value (duration_of first) (value_out_of_range, out.old)
+        (λ first. with_value (duration_of second) (value_out_of_range, out.old)
+        (λ second. after_value (order_number (duration_order first second)))) }
 {
-    let Ok(first) = first.checked() else {
+    let Ok(first) = first.to_value() else {
         return VALUE_OUT_OF_RANGE;
     };
-    let Ok(second) = second.checked() else {
+    let Ok(second) = second.to_value() else {
         return VALUE_OUT_OF_RANGE;
     };
     *out = order_number(first.cmp(&second));
@@ -185,10 +186,10 @@ pub extern "C" fn speedate_duration_signed_total_seconds(
     duration: SpeedateDuration,
     out: &mut i64,
 ) -> i32
-    ensures answer { (result, out.new) ≡ given (duration_of duration) (value_out_of_range, out.old)
-        (λ duration. left_value (signed_seconds duration)) }
+    ensures answer { (result, out.new) ≡ with_value (duration_of duration) (value_out_of_range, out.old)
+        (λ duration. after_value (signed_seconds duration)) }
 {
-    let Ok(duration) = duration.checked() else {
+    let Ok(duration) = duration.to_value() else {
         return VALUE_OUT_OF_RANGE;
     };
     *out = duration.signed_total_seconds();
@@ -202,10 +203,10 @@ pub extern "C" fn speedate_duration_signed_total_ms(
     duration: SpeedateDuration,
     out: &mut i64,
 ) -> i32
-    ensures answer { (result, out.new) ≡ given (duration_of duration) (value_out_of_range, out.old)
-        (λ duration. left_value (signed_milliseconds duration)) }
+    ensures answer { (result, out.new) ≡ with_value (duration_of duration) (value_out_of_range, out.old)
+        (λ duration. after_value (signed_milliseconds duration)) }
 {
-    let Ok(duration) = duration.checked() else {
+    let Ok(duration) = duration.to_value() else {
         return VALUE_OUT_OF_RANGE;
     };
     *out = duration.signed_total_ms();
@@ -219,10 +220,10 @@ pub extern "C" fn speedate_duration_signed_microseconds(
     duration: SpeedateDuration,
     out: &mut i32,
 ) -> i32
-    ensures answer { (result, out.new) ≡ given (duration_of duration) (value_out_of_range, out.old)
-        (λ duration. left_value (signed_microsecond duration)) }
+    ensures answer { (result, out.new) ≡ with_value (duration_of duration) (value_out_of_range, out.old)
+        (λ duration. after_value (signed_microsecond duration)) }
 {
-    let Ok(duration) = duration.checked() else {
+    let Ok(duration) = duration.to_value() else {
         return VALUE_OUT_OF_RANGE;
     };
     *out = duration.signed_microseconds();

@@ -6,7 +6,7 @@ ghost use Rattle.speedate_c.specs.Code.{value_out_of_range};
 ghost use Rattle.speedate_c.specs.Date.{date_of, shown_date};
 ghost use Rattle.speedate_c.specs.DateTime.{date_time_of, shown_date_time};
 ghost use Rattle.speedate_c.specs.Duration.{duration_of, shown_duration};
-ghost use Rattle.speedate_c.specs.Left.{given, left, left_value};
+ghost use Rattle.speedate_c.specs.After.{after_answer, after_value, with_value};
 
 use crate::code::{SUCCESS, VALUE_OUT_OF_RANGE};
 use crate::date::{SpeedateDate, write_date};
@@ -22,17 +22,17 @@ pub extern "C" fn speedate_duration_between(
     later: SpeedateDateTime,
     out: &mut SpeedateDuration,
 ) -> i32
-    ensures answer { (result, out.new) ≡ given (date_time_of earlier) (value_out_of_range, out.old)
-        (λ earlier. given (date_time_of later) (value_out_of_range, out.old)
-        (λ later. left_value (shown_duration (duration_between earlier later)))) }
+    ensures answer { (result, out.new) ≡ with_value (date_time_of earlier) (value_out_of_range, out.old)
+        (λ earlier. with_value (date_time_of later) (value_out_of_range, out.old)
+        (λ later. after_value (shown_duration (duration_between earlier later)))) }
 {
-    let Ok(earlier) = earlier.checked() else {
+    let Ok(earlier) = earlier.to_value() else {
         return VALUE_OUT_OF_RANGE;
     };
-    let Ok(later) = later.checked() else {
+    let Ok(later) = later.to_value() else {
         return VALUE_OUT_OF_RANGE;
     };
-    *out = SpeedateDuration::shown(&Duration::between(&earlier, &later));
+    *out = SpeedateDuration::from_value(&Duration::between(&earlier, &later));
     SUCCESS
 }
 
@@ -45,14 +45,14 @@ pub extern "C" fn speedate_duration_after(
     start: SpeedateDateTime,
     out: &mut SpeedateDateTime,
 ) -> i32
-    ensures answer { (result, out.new) ≡ given (duration_of duration) (value_out_of_range, out.old)
-        (λ duration. given (date_time_of start) (value_out_of_range, out.old)
-        (λ start. left shown_date_time out.old (date_time_after (signed_length duration) start))) }
+    ensures answer { (result, out.new) ≡ with_value (duration_of duration) (value_out_of_range, out.old)
+        (λ duration. with_value (date_time_of start) (value_out_of_range, out.old)
+        (λ start. after_answer shown_date_time out.old (date_time_after (signed_length duration) start))) }
 {
-    let Ok(duration) = duration.checked() else {
+    let Ok(duration) = duration.to_value() else {
         return VALUE_OUT_OF_RANGE;
     };
-    let Ok(start) = start.checked() else {
+    let Ok(start) = start.to_value() else {
         return VALUE_OUT_OF_RANGE;
     };
     write_date_time(duration.after(&start), out)
@@ -67,14 +67,14 @@ pub extern "C" fn speedate_duration_before(
     start: SpeedateDateTime,
     out: &mut SpeedateDateTime,
 ) -> i32
-    ensures answer { (result, out.new) ≡ given (duration_of duration) (value_out_of_range, out.old)
-        (λ duration. given (date_time_of start) (value_out_of_range, out.old)
-        (λ start. left shown_date_time out.old (date_time_after (neg_ℤ (signed_length duration)) start))) }
+    ensures answer { (result, out.new) ≡ with_value (duration_of duration) (value_out_of_range, out.old)
+        (λ duration. with_value (date_time_of start) (value_out_of_range, out.old)
+        (λ start. after_answer shown_date_time out.old (date_time_after (neg_ℤ (signed_length duration)) start))) }
 {
-    let Ok(duration) = duration.checked() else {
+    let Ok(duration) = duration.to_value() else {
         return VALUE_OUT_OF_RANGE;
     };
-    let Ok(start) = start.checked() else {
+    let Ok(start) = start.to_value() else {
         return VALUE_OUT_OF_RANGE;
     };
     write_date_time(duration.before(&start), out)
@@ -88,17 +88,17 @@ pub extern "C" fn speedate_duration_between_dates(
     later: SpeedateDate,
     out: &mut SpeedateDuration,
 ) -> i32
-    ensures answer { (result, out.new) ≡ given (date_of earlier) (value_out_of_range, out.old)
-        (λ earlier. given (date_of later) (value_out_of_range, out.old)
-        (λ later. left_value (shown_duration (duration_between_dates earlier later)))) }
+    ensures answer { (result, out.new) ≡ with_value (date_of earlier) (value_out_of_range, out.old)
+        (λ earlier. with_value (date_of later) (value_out_of_range, out.old)
+        (λ later. after_value (shown_duration (duration_between_dates earlier later)))) }
 {
-    let Ok(earlier) = earlier.checked() else {
+    let Ok(earlier) = earlier.to_value() else {
         return VALUE_OUT_OF_RANGE;
     };
-    let Ok(later) = later.checked() else {
+    let Ok(later) = later.to_value() else {
         return VALUE_OUT_OF_RANGE;
     };
-    *out = SpeedateDuration::shown(&Duration::between_dates(&earlier, &later));
+    *out = SpeedateDuration::from_value(&Duration::between_dates(&earlier, &later));
     SUCCESS
 }
 
@@ -111,14 +111,14 @@ pub extern "C" fn speedate_duration_after_date(
     start: SpeedateDate,
     out: &mut SpeedateDate,
 ) -> i32
-    ensures answer { (result, out.new) ≡ given (duration_of duration) (value_out_of_range, out.old)
-        (λ duration. given (date_of start) (value_out_of_range, out.old)
-        (λ start. left shown_date out.old (date_after_days duration start))) }
+    ensures answer { (result, out.new) ≡ with_value (duration_of duration) (value_out_of_range, out.old)
+        (λ duration. with_value (date_of start) (value_out_of_range, out.old)
+        (λ start. after_answer shown_date out.old (date_after_days duration start))) }
 {
-    let Ok(duration) = duration.checked() else {
+    let Ok(duration) = duration.to_value() else {
         return VALUE_OUT_OF_RANGE;
     };
-    let Ok(start) = start.checked() else {
+    let Ok(start) = start.to_value() else {
         return VALUE_OUT_OF_RANGE;
     };
     write_date(duration.after_date(&start), out)
@@ -133,14 +133,14 @@ pub extern "C" fn speedate_duration_before_date(
     start: SpeedateDate,
     out: &mut SpeedateDate,
 ) -> i32
-    ensures answer { (result, out.new) ≡ given (duration_of duration) (value_out_of_range, out.old)
-        (λ duration. given (date_of start) (value_out_of_range, out.old)
-        (λ start. left shown_date out.old (date_after_days (negated duration) start))) }
+    ensures answer { (result, out.new) ≡ with_value (duration_of duration) (value_out_of_range, out.old)
+        (λ duration. with_value (date_of start) (value_out_of_range, out.old)
+        (λ start. after_answer shown_date out.old (date_after_days (negated duration) start))) }
 {
-    let Ok(duration) = duration.checked() else {
+    let Ok(duration) = duration.to_value() else {
         return VALUE_OUT_OF_RANGE;
     };
-    let Ok(start) = start.checked() else {
+    let Ok(start) = start.to_value() else {
         return VALUE_OUT_OF_RANGE;
     };
     write_date(duration.before_date(&start), out)
@@ -152,12 +152,12 @@ pub extern "C" fn speedate_duration_negate(
     duration: SpeedateDuration,
     out: &mut SpeedateDuration,
 ) -> i32
-    ensures answer { (result, out.new) ≡ given (duration_of duration) (value_out_of_range, out.old)
-        (λ duration. left_value (shown_duration (negated duration))) }
+    ensures answer { (result, out.new) ≡ with_value (duration_of duration) (value_out_of_range, out.old)
+        (λ duration. after_value (shown_duration (negated duration))) }
 {
-    let Ok(duration) = duration.checked() else {
+    let Ok(duration) = duration.to_value() else {
         return VALUE_OUT_OF_RANGE;
     };
-    *out = SpeedateDuration::shown(&duration.negated());
+    *out = SpeedateDuration::from_value(&duration.negated());
     SUCCESS
 }

@@ -2,14 +2,14 @@
 
 ghost use Rattle.std.specs.Prelude.{◌≡◌, ◌+◌, ◌<◌, ◌∷◌, ◌++◌, drop, length};
 ghost use Rattle.speedate_c.specs.Code.{code_documentation, code_name, success, value_out_of_range};
-ghost use Rattle.speedate_c.specs.Left.{known, left_text};
+ghost use Rattle.speedate_c.specs.After.{after_text, with_option};
 
 use crate::code::{BUFFER_TOO_SMALL, SUCCESS, VALUE_OUT_OF_RANGE, code_documentation, code_name};
 
 /// Writes a text and a zero byte after it into a buffer, and its length beside it, and gives the code.
 #[inline]
 pub(crate) fn write_text(text: &str, buffer: &mut [u8], text_length: &mut usize) -> i32
-    ensures left { (result, buffer.new, text_length.new) ≡ left_text text.now buffer.old text_length.old }
+    ensures after { (result, buffer.new, text_length.new) ≡ after_text text.now buffer.old text_length.old }
     ensures room { length text.now < length buffer.old → result ≡ success }
 {
     let size = text.len();
@@ -38,8 +38,8 @@ fn fill(text: &str, buffer: &mut [u8])
 /// no room for the name and a zero byte.
 #[unsafe(no_mangle)]
 pub extern "C" fn speedate_code_name(code: i32, buffer: &mut [u8], text_length: &mut usize) -> i32
-    ensures answer { (result, buffer.new, text_length.new) ≡ known (code_name code) (value_out_of_range, buffer.old, text_length.old)
-        (λ name. left_text name buffer.old text_length.old) }
+    ensures answer { (result, buffer.new, text_length.new) ≡ with_option (code_name code) (value_out_of_range, buffer.old, text_length.old)
+        (λ name. after_text name buffer.old text_length.old) }
 {
     let Some(name) = code_name(code) else {
         return VALUE_OUT_OF_RANGE;
@@ -56,8 +56,8 @@ pub extern "C" fn speedate_code_documentation(
     buffer: &mut [u8],
     text_length: &mut usize,
 ) -> i32
-    ensures answer { (result, buffer.new, text_length.new) ≡ known (code_documentation code) (value_out_of_range, buffer.old, text_length.old)
-        (λ text. left_text text buffer.old text_length.old) }
+    ensures answer { (result, buffer.new, text_length.new) ≡ with_option (code_documentation code) (value_out_of_range, buffer.old, text_length.old)
+        (λ text. after_text text buffer.old text_length.old) }
 {
     let Some(text) = code_documentation(code) else {
         return VALUE_OUT_OF_RANGE;

@@ -9,7 +9,7 @@ ghost use Rattle.speedate.specs.TimeOfDay.{millisecond_of_day, second_of_day, ti
 ghost use Rattle.speedate.specs.TimeText.{time_answer, time_front, time_text};
 ghost use Rattle.speedate_c.specs.Code.{answer_code, buffer_too_small, config_out_of_range, order_number, value_out_of_range};
 ghost use Rattle.speedate_c.specs.Config.{choices_of};
-ghost use Rattle.speedate_c.specs.Left.{given, known, left, left_front, left_text, left_value};
+ghost use Rattle.speedate_c.specs.After.{after_answer, after_front, after_text, after_value, with_option, with_value};
 ghost use Rattle.speedate_c.specs.Time.{shown_time, time_of};
 
 use crate::code::{CONFIG_OUT_OF_RANGE, SUCCESS, VALUE_OUT_OF_RANGE, fault_code, order_number};
@@ -38,7 +38,7 @@ pub struct SpeedateTime {
 impl SpeedateTime {
     /// The time of the numbers, or the fault of one that is out of range.
     #[inline]
-    pub(crate) fn checked(&self) -> Result<Time, ParseError>
+    pub(crate) fn to_value(&self) -> Result<Time, ParseError>
         ensures answer { result_map parts result ≡ time_of self.now }
     {
         let offset = offset(self.has_offset, self.offset)?;
@@ -53,7 +53,7 @@ impl SpeedateTime {
 
     /// The numbers of a time.
     #[inline]
-    pub(crate) fn shown(time: &Time) -> Self
+    pub(crate) fn from_value(time: &Time) -> Self
         ensures numbers { result ≡ shown_time (parts time.now) }
     {
         let (has_offset, offset) = match time.tz_offset {
@@ -74,11 +74,11 @@ impl SpeedateTime {
 /// Writes the time of an answer, and gives the code.
 #[inline]
 fn write_time(answer: Result<Time, ParseError>, out: &mut SpeedateTime) -> i32
-    ensures left { (result, out.new) ≡ left shown_time out.old (result_map parts answer) }
+    ensures after { (result, out.new) ≡ after_answer shown_time out.old (result_map parts answer) }
 {
     match answer {
         Ok(time) => {
-            *out = SpeedateTime::shown(&time);
+            *out = SpeedateTime::from_value(&time);
             SUCCESS
         }
         Err(fault) => fault_code(fault),
@@ -95,10 +95,10 @@ pub extern "C" fn speedate_time_parse(
     config: SpeedateConfig,
     out: &mut SpeedateTime,
 ) -> i32
-    ensures answer { (result, out.new) ≡ known (choices_of config) (config_out_of_range, out.old)
-        (λ config. left shown_time out.old (time_answer config.form config.behavior text.now)) }
+    ensures answer { (result, out.new) ≡ with_option (choices_of config) (config_out_of_range, out.old)
+        (λ config. after_answer shown_time out.old (time_answer config.form config.behavior text.now)) }
 {
-    let Some(config) = config.checked() else {
+    let Some(config) = config.to_config() else {
         return CONFIG_OUT_OF_RANGE;
     };
     write_time(
@@ -116,15 +116,15 @@ pub extern "C" fn speedate_time_parse_front(
     out: &mut SpeedateTime,
     size: &mut usize,
 ) -> i32
-    ensures answer { (result, out.new, size.new) ≡ known (choices_of config) (config_out_of_range, out.old, size.old)
-        (λ config. left_front shown_time out.old size.old (time_front config.form config.behavior text.now)) }
+    ensures answer { (result, out.new, size.new) ≡ with_option (choices_of config) (config_out_of_range, out.old, size.old)
+        (λ config. after_front shown_time out.old size.old (time_front config.form config.behavior text.now)) }
 {
-    let Some(config) = config.checked() else {
+    let Some(config) = config.to_config() else {
         return CONFIG_OUT_OF_RANGE;
     };
     match Time::parse_front(text, &config.time_config) {
         Ok((time, count)) => {
-            *out = SpeedateTime::shown(&time);
+            *out = SpeedateTime::from_value(&time);
             *size = count;
             SUCCESS
         }
@@ -138,7 +138,7 @@ pub extern "C" fn speedate_time_parse_front(
 pub extern "C" fn speedate_time_check(time: SpeedateTime) -> i32
     ensures answer { result ≡ answer_code (time_of time) }
 {
-    match time.checked() {
+    match time.to_value() {
         Ok(_) => SUCCESS,
         Err(fault) => fault_code(fault),
     }
@@ -152,11 +152,11 @@ pub extern "C" fn speedate_time_to_text(
     buffer: &mut [u8],
     text_length: &mut usize,
 ) -> i32
-    ensures answer { (result, buffer.new, text_length.new) ≡ given (time_of time) (value_out_of_range, buffer.old, text_length.old)
-        (λ time. left_text (time_text time) buffer.old text_length.old) }
+    ensures answer { (result, buffer.new, text_length.new) ≡ with_value (time_of time) (value_out_of_range, buffer.old, text_length.old)
+        (λ time. after_text (time_text time) buffer.old text_length.old) }
     ensures room { 22 ≤ length buffer.old → result ≢ buffer_too_small }
 {
-    let Ok(time) = time.checked() else {
+    let Ok(time) = time.to_value() else {
         return VALUE_OUT_OF_RANGE;
     };
     write_text(time.to_text().as_str(), buffer, text_length)
@@ -170,14 +170,14 @@ pub extern "C" fn speedate_time_compare(
     second: SpeedateTime,
     out: &mut i32,
 ) -> i32
-    ensures answer { (result, out.new) ≡ given (time_of first) (value_out_of_range, out.old)
-        (λ first. given (time_of second) (value_out_of_range, out.old)
-        (λ second. left_value (order_number (time_instant_order first second)))) }
+    ensures answer { (result, out.new) ≡ with_value (time_of first) (value_out_of_range, out.old)
+        (λ first. with_value (time_of second) (value_out_of_range, out.old)
+        (λ second. after_value (order_number (time_instant_order first second)))) }
 {
-    let Ok(first) = first.checked() else {
+    let Ok(first) = first.to_value() else {
         return VALUE_OUT_OF_RANGE;
     };
-    let Ok(second) = second.checked() else {
+    let Ok(second) = second.to_value() else {
         return VALUE_OUT_OF_RANGE;
     };
     *out = order_number(first.cmp_instant(&second));
@@ -195,10 +195,10 @@ pub extern "C" fn speedate_time_from_timestamp(
     config: SpeedateConfig,
     out: &mut SpeedateTime,
 ) -> i32
-    ensures answer { (result, out.new) ≡ known (choices_of config) (config_out_of_range, out.old)
-        (λ config. left shown_time out.old (timestamp_answer second microsecond config.offset)) }
+    ensures answer { (result, out.new) ≡ with_option (choices_of config) (config_out_of_range, out.old)
+        (λ config. after_answer shown_time out.old (timestamp_answer second microsecond config.offset)) }
 {
-    let Some(config) = config.checked() else {
+    let Some(config) = config.to_config() else {
         return CONFIG_OUT_OF_RANGE;
     };
     let time = Time::from_timestamp_with_config(second, microsecond, &config.time_config);
@@ -208,9 +208,9 @@ pub extern "C" fn speedate_time_from_timestamp(
 /// The seconds since midnight, as [`Time::total_seconds`] gives them: 43,994 for 12:13:14.5.
 #[unsafe(no_mangle)]
 pub extern "C" fn speedate_time_total_seconds(time: SpeedateTime, out: &mut u32) -> i32
-    ensures answer { (result, out.new) ≡ given (time_of time) (value_out_of_range, out.old) (λ time. left_value (second_of_day time)) }
+    ensures answer { (result, out.new) ≡ with_value (time_of time) (value_out_of_range, out.old) (λ time. after_value (second_of_day time)) }
 {
-    let Ok(time) = time.checked() else {
+    let Ok(time) = time.to_value() else {
         return VALUE_OUT_OF_RANGE;
     };
     *out = time.total_seconds();
@@ -220,9 +220,9 @@ pub extern "C" fn speedate_time_total_seconds(time: SpeedateTime, out: &mut u32)
 /// The milliseconds since midnight, rounded down, as [`Time::total_ms`] gives them: 43,994,500 for 12:13:14.5.
 #[unsafe(no_mangle)]
 pub extern "C" fn speedate_time_total_ms(time: SpeedateTime, out: &mut u32) -> i32
-    ensures answer { (result, out.new) ≡ given (time_of time) (value_out_of_range, out.old) (λ time. left_value (millisecond_of_day time)) }
+    ensures answer { (result, out.new) ≡ with_value (time_of time) (value_out_of_range, out.old) (λ time. after_value (millisecond_of_day time)) }
 {
-    let Ok(time) = time.checked() else {
+    let Ok(time) = time.to_value() else {
         return VALUE_OUT_OF_RANGE;
     };
     *out = time.total_ms();
@@ -240,10 +240,10 @@ pub extern "C" fn speedate_time_in_timezone(
     offset: i32,
     out: &mut SpeedateTime,
 ) -> i32
-    ensures answer { (result, out.new) ≡ given (time_of time) (value_out_of_range, out.old)
-        (λ time. left shown_time out.old (time_in_timezone offset time)) }
+    ensures answer { (result, out.new) ≡ with_value (time_of time) (value_out_of_range, out.old)
+        (λ time. after_answer shown_time out.old (time_in_timezone offset time)) }
 {
-    let Ok(time) = time.checked() else {
+    let Ok(time) = time.to_value() else {
         return VALUE_OUT_OF_RANGE;
     };
     write_time(time.in_timezone(offset), out)

@@ -13,7 +13,7 @@ next_count every (pos gone) = gone / every + 1
 next_count every (negsuc below) = 1
 
 -- the next run, as a clock at the offset of the last one shows it, or the fault of one outside the years 0000 to 9999; none
--- where the time between two runs is not positive
+-- where the time between two runs is zero or negative
 abbrev pub next_run_answer : DateAndTime → DurationNumbers → DateAndTime → Result (Option DateAndTime) ParseError
 next_run_answer last every now =
     let length = length_microseconds every in

@@ -4,6 +4,7 @@
 
 pub mod calendar;
 pub mod clock;
+pub mod deadline;
 pub mod ledger;
 pub mod log;
 pub mod options;

@@ -13,7 +13,7 @@ use speedate::{DateTime, Duration, ParseError};
 
 /// The next run of a job that last ran at `last` and runs every so often: the first that is later than
 /// `now`, as a clock at the offset of `last` shows it. Runs that were missed are left out, and where the
-/// clock was set back to before `last`, no run comes twice. There is none where `every` is not positive.
+/// clock was set back to before `last`, no run comes twice. There is none if `every` is zero or negative.
 ///
 /// `DateTooLarge` where the run is after the year 9999.
 pub fn next_run(

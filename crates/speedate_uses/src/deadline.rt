@@ -1,0 +1,36 @@
+//! A deadline: how many days are left.
+
+ghost use Rattle.std.specs.Prelude.{◌≡◌};
+ghost use Rattle.speedate.specs.Date.{parts};
+ghost use Rattle.speedate.specs.DateText.{date_answer};
+ghost use Rattle.speedate.specs.DayNumber.{days_between};
+ghost use Rattle.speedate.specs.Requirement.{result_map};
+
+use speedate::{Date, ParseError};
+
+/// The days from `start` to the date that `text` is: 2 from 2020-02-28 to `"2020-03-01"`.
+pub fn days_until(start: &Date, text: &str) -> Result<i32, ParseError>
+    ensures days { result ≡ result_map (days_between (parts start.now)) (date_answer text.now) }
+{
+    let date = Date::parse_str_rfc3339(text)?;
+    Ok(date.days_since(start))
+}
+
+#[cfg(test)]
+mod tests {
+    use super::days_until;
+    use speedate::{Date, ParseError};
+    use std::test::Fail;
+
+    #[test]
+    fn days_left(rt: HostRuntime) -> Result<(), Fail> {
+        let start: Date = "2020-02-28".parse()?;
+        assert_eq!(rt; days_until(&start, "2020-03-01"), Ok(2));
+        assert_eq!(rt; days_until(&start, "2020-02-27"), Ok(-1));
+        assert_eq!(rt;
+            days_until(&start, "2020-02-30"),
+            Err(ParseError::OutOfRangeDay)
+        );
+        Ok(())
+    }
+}
