@@ -1,0 +1,19 @@
+//! Times the calls of this library beside those of the Rust crate `speedate`, and beside other crates where they read
+//! the same texts: nanoseconds a call, over values and texts drawn at random, all in turns, the lowest of many rounds.
+
+mod moved;
+mod peers;
+mod print;
+mod read;
+mod row;
+mod texts;
+
+use row::Table;
+
+fn main() {
+    let prefix = std::env::args().nth(1).unwrap_or_default();
+    let mut table = Table::new(prefix);
+    read::rows(&mut table);
+    print::rows(&mut table);
+    moved::rows(&mut table);
+}

@@ -1,0 +1,81 @@
+//! Rows of calls without a text. Where the Rust crate has no such call, it is put together from those that it has.
+
+use speedate::{DateConfig, DateTime, DateTimeConfig, TimeConfig, TimestampUnit};
+use speedate_diff::ffi::{self, Config};
+
+use crate::peers::PeerMoments;
+use crate::row::{Table, side, written};
+use crate::texts::{date_time, microseconds, texts};
+
+/// Two date-times in UTC, as each library has them.
+pub struct Moments {
+    rust: [DateTime; 2],
+    ours: [ffi::DateTime; 2],
+    #[cfg_attr(not(any(feature = "chrono", feature = "time")), allow(dead_code))]
+    pub others: PeerMoments,
+}
+
+impl Moments {
+    fn of(texts: [&str; 2]) -> Self {
+        let ours =
+            |text: &str| ffi::written(|out| ffi::speedate_datetime_parse(text.as_bytes(), Config::default(), out));
+        Moments {
+            rust: texts.map(|text| DateTime::parse_str(text).expect("a date-time")),
+            ours: texts.map(|text| ours(text).expect("a date-time")),
+            others: PeerMoments::of(texts),
+        }
+    }
+}
+
+pub fn rows(table: &mut Table) {
+    let texts = texts(|draw| date_time(draw, microseconds) + "Z");
+    let next = texts.iter().cycle().skip(1);
+    let moments: Vec<Moments> = texts.iter().zip(next).map(|(first, second)| Moments::of([first, second])).collect();
+    date_rows(table, &moments);
+    date_time_rows(table, &moments);
+}
+
+fn date_rows(table: &mut Table, moments: &[Moments]) {
+    let rust = side("Rust crate", |it: &Moments| {
+        let [first, second] = it.rust.map(|value| value.date);
+        (second.timestamp() - first.timestamp()) / 86_400
+    });
+    let ours = side("this library", |it: &Moments| {
+        let [first, second] = it.ours.map(|value| value.date);
+        written(|out| ffi::speedate_date_days_since(second, first, out))
+    });
+    table.row("days since a date", moments, rust, ours, PeerMoments::days_since());
+
+    let config = DateConfig { timestamp_unit: TimestampUnit::Second };
+    let rust = side("Rust crate", move |it: &Moments| {
+        speedate::Date::from_timestamp(it.rust[0].date.timestamp() + 100 * 86_400, true, &config)
+    });
+    let ours =
+        side("this library", |it: &Moments| written(|out| ffi::speedate_date_add_days(it.ours[0].date, 100, out)));
+    table.row("days added to a date", moments, rust, ours, PeerMoments::add_days());
+}
+
+fn date_time_rows(table: &mut Table, moments: &[Moments]) {
+    let rust = side("Rust crate", |it: &Moments| {
+        let [first, second] = it.rust.map(|value| (value.timestamp_tz(), value.time.microsecond as i32));
+        (second.0 - first.0, second.1 - first.1)
+    });
+    let ours =
+        side("this library", |it: &Moments| written(|out| ffi::speedate_duration_between(it.ours[0], it.ours[1], out)));
+    table.row("between date-times", moments, rust, ours, PeerMoments::between());
+
+    let time_config = TimeConfig { unix_timestamp_offset: Some(0), ..TimeConfig::default() };
+    let config = DateTimeConfig { timestamp_unit: TimestampUnit::Second, time_config };
+    let rust = side("Rust crate", move |it: &Moments| {
+        let value = &it.rust[0];
+        DateTime::from_timestamp_with_config(value.timestamp() + 100_000, value.time.microsecond + 500_000, &config)
+    });
+    let length = ffi::Duration { negative: 0, day: 1, second: 13_600, microsecond: 500_000 };
+    let ours =
+        side("this library", move |it: &Moments| written(|out| ffi::speedate_duration_after(length, it.ours[0], out)));
+    table.row("after a date-time", moments, rust, ours, PeerMoments::after());
+
+    let rust = side("Rust crate", |it: &Moments| it.rust[0].timestamp_tz());
+    let ours = side("this library", |it: &Moments| written(|out| ffi::speedate_datetime_timestamp_tz(it.ours[0], out)));
+    table.row("timestamp of a date-time", moments, rust, ours, PeerMoments::timestamp());
+}

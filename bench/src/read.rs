@@ -1,0 +1,150 @@
+//! Rows of readers.
+
+use std::hint::black_box;
+
+use speedate::{Date, DateTime, Duration, Time};
+use speedate_diff::draw::Draw;
+use speedate_diff::ffi::{self, Code, Config, FORM_STRICT};
+
+use crate::peers;
+use crate::row::{Side, Table, side, written};
+use crate::texts::*;
+
+const DEFAULT: Config = Config {
+    timestamp_offset: 0,
+    has_timestamp_offset: 0,
+    timestamp_unit: 0,
+    overflow_behavior: 0,
+    iso_order: 0,
+    rfc3339_form: 0,
+};
+const STRICT: Config = Config { rfc3339_form: FORM_STRICT, ..DEFAULT };
+
+pub fn rows(table: &mut Table) {
+    date_rows(table);
+    time_rows(table);
+    date_time_rows(table);
+    timestamp_rows(table);
+    duration_rows(table);
+    front_rows(table);
+}
+
+fn rust<T: 'static>(read: impl Fn(&[u8]) -> T + 'static) -> Side<String> {
+    side("Rust crate", move |text: &String| read(text.as_bytes()))
+}
+
+fn ours<T: 'static>(read: impl Fn(&[u8]) -> T + 'static) -> Side<String> {
+    side("this library", move |text: &String| read(text.as_bytes()))
+}
+
+fn date_rows(table: &mut Table) {
+    let mut row = |name: &str, text: fn(&mut Draw) -> String| {
+        let ours = ours(|text| written(|out| ffi::speedate_date_parse_rfc3339(text, out)));
+        table.row(name, &texts(text), rust(Date::parse_bytes_rfc3339), ours, peers::date());
+    };
+    row("date", date);
+    row("date, refused", refused_date);
+}
+
+fn time_rows(table: &mut Table) {
+    let mut row = |name: &str, text: fn(&mut Draw) -> String, others: Vec<Side<String>>| {
+        let ours = ours(|text| written(|out| ffi::speedate_time_parse(text, DEFAULT, out)));
+        table.row(name, &texts(text), rust(Time::parse_bytes), ours, others);
+    };
+    row("time", clock, peers::time());
+    row("time, Z", |draw| clock(draw) + "Z", vec![]);
+    row("time, fraction", |draw| clock(draw) + &microseconds(draw), peers::time_with_fraction());
+    row("time, milliseconds", |draw| clock(draw) + &milliseconds(draw), peers::time_with_fraction());
+    row("time, minutes", |draw| clock(draw)[..5].to_owned(), vec![]);
+    row("time, comma", |draw| clock(draw) + &microseconds(draw).replace('.', ","), vec![]);
+    row("time, 1 to 5 digits", one_to_five_digits, peers::time_with_fraction());
+    row("time, fraction, offset", |draw| clock(draw) + &microseconds(draw) + &offset(draw), vec![]);
+    row("time, refused", refused_clock, peers::time());
+    let strict = ours(|text| written(|out| ffi::speedate_time_parse(text, STRICT, out)));
+    table.row("time, Z, strict", &texts(|draw| clock(draw) + "Z"), rust(Time::parse_bytes), strict, vec![]);
+}
+
+fn date_time_rows(table: &mut Table) {
+    let mut row = |name: &str, text: fn(&mut Draw) -> String, others: Vec<Side<String>>| {
+        let ours = ours(|text| written(|out| ffi::speedate_datetime_parse(text, DEFAULT, out)));
+        table.row(name, &texts(text), rust(DateTime::parse_bytes), ours, others);
+    };
+    row("date-time, Z", z, peers::date_time_in_utc());
+    row("date-time, milliseconds, Z", |draw| date_time(draw, milliseconds) + "Z", peers::date_time_in_utc());
+    row("date-time, offset", |draw| date_time(draw, offset), peers::date_time());
+    row("date-time, space, no offset", |draw| date(draw) + " " + &clock(draw), vec![]);
+    row("date-time, fraction, offset", fraction_and_offset, peers::date_time());
+    row("date-time, refused", refused_date_time, peers::date_time_in_utc());
+    let mut row = |name: &str, text: fn(&mut Draw) -> String| {
+        let strict = ours(|text| written(|out| ffi::speedate_datetime_parse_rfc3339(text, STRICT, out)));
+        table.row(name, &texts(text), rust(DateTime::parse_bytes_rfc3339), strict, vec![]);
+    };
+    row("date-time, Z, strict", z);
+    row("date-time, fraction, offset, strict", fraction_and_offset);
+}
+
+fn timestamp_rows(table: &mut Table) {
+    let mut row = |name: &str, text: fn(&mut Draw) -> String| {
+        let ours = ours(|text| written(|out| ffi::speedate_datetime_parse(text, DEFAULT, out)));
+        table.row(name, &texts(text), rust(DateTime::parse_bytes), ours, vec![]);
+    };
+    row("timestamp, seconds", |draw| draw.within(1_000_000_000..=3_000_000_000).to_string());
+    row("timestamp, milliseconds", |draw| draw.within(1_654_646_404_123..=1_656_646_404_123).to_string());
+    row("timestamp, decimal", |draw| {
+        let count = 1 + draw.below(6);
+        format!("{}.{}", draw.within(0..=2_000_000_000), draw.digits(count))
+    });
+}
+
+fn duration_rows(table: &mut Table) {
+    let mut row = |name: &str, text: fn(&mut Draw) -> String, others: Vec<Side<String>>| {
+        let ours = ours(|text| written(|out| ffi::speedate_duration_parse(text, DEFAULT, out)));
+        table.row(name, &texts(text), rust(Duration::parse_bytes), ours, others);
+    };
+    row("duration, clock", clock, vec![]);
+    row("duration, clock, fraction", |draw| clock(draw) + &microseconds(draw), vec![]);
+    row("duration, whole days", |draw| format!("{}d", draw.within(1..=99_999)), vec![]);
+    row("duration, days", days, vec![]);
+    row("duration, ISO 8601", iso_duration, peers::duration());
+    row("duration, ISO 8601, fraction", iso_fraction, vec![]);
+}
+
+/// A line, and the value at its front, which the Rust crate has to be given alone.
+type Line = (String, String);
+
+fn lines(value: fn(&mut Draw) -> String) -> Vec<Line> {
+    texts(value).into_iter().map(|value| (value.clone() + " GET /index.html 200", value)).collect()
+}
+
+/// The code of a reader of the front, whose value and size stay where it wrote them.
+fn front<T: Default>(call: impl FnOnce(&mut T, &mut usize) -> Code) -> Code {
+    let mut taken = 0;
+    let code = written(|out| call(out, &mut taken));
+    black_box(&taken);
+    code
+}
+
+fn front_rows(table: &mut Table) {
+    let rust = side("Rust crate", |(_, value): &Line| Date::parse_bytes_rfc3339(value.as_bytes()));
+    let ours = side("this library", |(line, _): &Line| {
+        front(|out, taken| ffi::speedate_date_parse_front(line.as_bytes(), out, taken))
+    });
+    let whole =
+        side("alone", |(_, value): &Line| written(|out| ffi::speedate_date_parse_rfc3339(value.as_bytes(), out)));
+    table.row("date at the front", &lines(date), rust, ours, vec![whole]);
+    let rust = side("Rust crate", |(_, value): &Line| Time::parse_bytes(value.as_bytes()));
+    let ours = side("this library", |(line, _): &Line| {
+        front(|out, taken| ffi::speedate_time_parse_front(line.as_bytes(), DEFAULT, out, taken))
+    });
+    let whole =
+        side("alone", |(_, value): &Line| written(|out| ffi::speedate_time_parse(value.as_bytes(), DEFAULT, out)));
+    table.row("time at the front", &lines(|draw| clock(draw) + "Z"), rust, ours, vec![whole]);
+    let rust = side("Rust crate", |(_, value): &Line| DateTime::parse_bytes_rfc3339(value.as_bytes()));
+    let ours = side("this library", |(line, _): &Line| {
+        front(|out, taken| ffi::speedate_datetime_parse_front(line.as_bytes(), DEFAULT, out, taken))
+    });
+    let whole = side("alone", |(_, value): &Line| {
+        written(|out| ffi::speedate_datetime_parse_rfc3339(value.as_bytes(), DEFAULT, out))
+    });
+    table.row("date-time at the front", &lines(z), rust, ours, vec![whole]);
+}

@@ -1,0 +1,41 @@
+# For bin/compare and bin/bench, which set `name` and `root`: builds a Cargo project with the Rust crate speedate and
+# out/libspeedate.a. Status 3: something that it needs is missing.
+# shellcheck shell=sh disable=SC2154
+
+fail() {
+    echo "$name: $1" >&2
+    exit 3
+}
+
+# Builds out/libspeedate.a where it is missing, or older than a source.
+build_library() {
+    library=$root/out/libspeedate.a
+    newer=$(find "$root/crates/speedate_base/src" "$root/crates/speedate_civil/src" "$root/crates/speedate/src" \
+        "$root/crates/speedate_c/src" -newer "$library" 2>/dev/null)
+    if [ ! -f "$library" ] || [ -n "$newer" ]; then
+        "$root/bin/build_c" >&2 || fail 'out/libspeedate.a could not be built'
+    fi
+}
+
+# Where Debian's packages librust-*-dev put crates.
+debian=${DEBIAN_CRATES:-/usr/share/cargo/registry}
+
+# build FOLDER FLAG..: builds the project of a folder; the flags go to cargo.
+build() {
+    folder=$root/$1
+    shift
+    command -v cargo >/dev/null || fail 'cargo is not on the PATH'
+    command -v cc >/dev/null || fail 'there is no C compiler (cc), by which cargo links'
+    build_library
+    if [ -n "${SPEEDATE_SOURCES-}" ]; then
+        sources=$(readlink -f "$SPEEDATE_SOURCES")
+        [ -f "$sources/Cargo.toml" ] || fail "SPEEDATE_SOURCES: $SPEEDATE_SOURCES has no Cargo.toml"
+        set -- --offline --config "patch.crates-io.speedate.path=\"$sources\"" "$@"
+        [ ! -d "$debian" ] ||
+            set -- --config 'source.crates-io.replace-with="debian"' --config "source.debian.directory=\"$debian\"" "$@"
+    fi
+    # It was written for the crates of the last run, which may have come from elsewhere.
+    rm -f "$folder/Cargo.lock"
+    (cd "$folder" && cargo build -q --release --target-dir target "$@") ||
+        fail 'cargo failed; where it cannot reach the crate, SPEEDATE_SOURCES may name a folder that has it'
+}

@@ -1,0 +1,259 @@
+//! The known differences: each row of `docs/DIFFERENCES.md` that calls can meet, and when it explains a difference.
+
+use crate::answer::{Answer, PANIC, Value, is_fault};
+use crate::call::Call;
+use crate::exact::{Decimal, IsoFraction, split_digits, split_sign};
+use crate::ffi::{
+    Config, FORM_STRICT, ORDER_STRICT, OVERFLOW_TRUNCATE, Time, UNIT_INFER, UNIT_MILLISECOND, UNIT_SECOND,
+};
+use crate::rust;
+use crate::text::{Kind, LARGEST_SECOND};
+
+/// A power of ten of so many digits is beyond the floats, and the Rust crate loses the fraction.
+const DIGITS_OF_A_FLOAT: usize = 308;
+
+/// A known difference: its row, and whether it explains that the Rust crate answers one thing, this library another.
+pub struct Known {
+    /// The first cell of the row.
+    pub row: &'static str,
+    explains: fn(&Call, &Answer, &Answer) -> bool,
+}
+
+pub const KNOWN: [Known; 11] = [
+    Known { row: "fractions of ISO 8601 durations", explains: is_iso_fraction },
+    Known { row: "the order of components in an ISO 8601 duration", explains: is_iso_order },
+    Known { row: "a clock of a duration, with `Truncate`", explains: is_cut_clock },
+    Known { row: "exponents of decimals", explains: is_exponent },
+    Known { row: "decimal timestamps, `from_float_with_config`", explains: is_decimal_timestamp },
+    Known { row: "the inferred unit of a decimal timestamp", explains: is_inferred_unit },
+    Known { row: "`in_timezone` and `now` of `DateTime`", explains: is_late_date_time },
+    Known { row: "`in_timezone` of `Time`", explains: is_moved_time },
+    Known { row: "the offset `i32::MIN`", explains: is_smallest_offset },
+    Known { row: "`unix_timestamp_offset`", explains: is_timestamp_offset },
+    Known { row: "`TimeConfigBuilder::rfc3339_form`, `Rfc3339Form`", explains: is_strict_form },
+];
+
+/// The place in `KNOWN` of the row that explains the difference.
+pub fn place(call: &Call, rust: &Answer, ours: &Answer) -> Option<usize> {
+    KNOWN.iter().position(|known| (known.explains)(call, rust, ours))
+}
+
+impl Known {
+    /// Whether the table of differences has the row.
+    pub fn is_in(&self, differences: &str) -> bool {
+        let cell = format!("| {} |", self.row);
+        differences.lines().any(|line| line.starts_with(&cell))
+    }
+}
+
+/// Every digit counts here; there a float is off by no more than its rounding, or has lost the fraction.
+fn is_iso_fraction(call: &Call, rust: &Answer, ours: &Answer) -> bool {
+    let Call::Read { kind: Kind::Duration, text, config } = call else {
+        return false;
+    };
+    let Some(fraction) = IsoFraction::of(text) else {
+        return false;
+    };
+    let Some(exact) = fraction.exact(config) else {
+        return false;
+    };
+    let count = fraction.digits.len();
+    let rounding = 1 + ((i128::from(fraction.unit) * 1_000_000 * count as i128) >> 50);
+    let is_rounded = exact.gap(rust).is_some_and(|gap| gap <= rounding);
+    let is_lost = count > DIGITS_OF_A_FLOAT && *rust == fraction.without_digits(config);
+    *ours == exact.answer && (is_rounded || is_lost)
+}
+
+/// The strict order refuses components that are out of order or repeated. Up to there the text has no other fault,
+/// but that it may be too long a duration.
+fn is_iso_order(call: &Call, _rust: &Answer, ours: &Answer) -> bool {
+    let Call::Read { kind: Kind::Duration, text, config } = call else {
+        return false;
+    };
+    let Some(place) = place_out_of_order(text) else {
+        return false;
+    };
+    let lax = rust::read(Kind::Duration, &text[..=place], config);
+    config.iso_order == ORDER_STRICT
+        && is_fault(ours, "duration_unit_order")
+        && (lax.is_ok() || is_fault(&lax, "duration_value_too_large") || is_fault(&lax, "duration_days_too_large"))
+}
+
+/// Where on one side of the `T` a designator comes after itself or after one of a smaller unit.
+fn place_out_of_order(text: &[u8]) -> Option<usize> {
+    let (mut units, mut last) = (&b"YMWD"[..], None);
+    for (place, byte) in text.iter().enumerate() {
+        let unit = units.iter().position(|unit| unit == byte);
+        if *byte == b'T' {
+            (units, last) = (b"HMS", None);
+        } else if unit.is_some() {
+            if last >= unit {
+                return Some(place);
+            }
+            last = unit;
+        }
+    }
+    None
+}
+
+/// There what follows the sixth digit is cut, whatever it is; here it has to be digits.
+fn is_cut_clock(call: &Call, _rust: &Answer, ours: &Answer) -> bool {
+    let Call::Read { kind: Kind::Duration, text, config } = call else {
+        return false;
+    };
+    let Some(colon) = text.iter().position(|&byte| byte == b':') else {
+        return false;
+    };
+    let Some((kept, cut)) = text[colon + 1..].split_at_checked(12) else {
+        return false;
+    };
+    config.overflow_behavior == OVERFLOW_TRUNCATE
+        && is_fault(ours, "extra_characters")
+        && (fits(kept, b"00:00.000000") || fits(kept, b"00:00,000000"))
+        && !cut.iter().all(u8::is_ascii_digit)
+}
+
+/// A decimal with an exponent is no number here: the fault is that of a text that is no date-time.
+fn is_exponent(call: &Call, _rust: &Answer, ours: &Answer) -> bool {
+    let Call::Read { kind: Kind::DateTime, text, config } = call else {
+        return false;
+    };
+    let Some((_, [b'e' | b'E', exponent @ ..])) = Decimal::front(text) else {
+        return false;
+    };
+    let (_, digits) = split_sign(exponent);
+    !digits.is_empty()
+        && digits.iter().all(u8::is_ascii_digit)
+        && *ours == rust::read(Kind::DateTimeRfc3339, text, config)
+}
+
+/// Every digit counts here; there a float is off by no more than its rounding.
+fn is_decimal_timestamp(call: &Call, rust: &Answer, ours: &Answer) -> bool {
+    let Call::Read { kind: Kind::DateTime, text, config } = call else {
+        return false;
+    };
+    let Some(decimal) = Decimal::of(text) else {
+        return false;
+    };
+    let exact = decimal.exact(config);
+    let rounding = 1 + (exact.microseconds.abs() >> 52);
+    *ours == exact.answer && exact.gap(rust).is_some_and(|gap| gap <= rounding)
+}
+
+/// The decimal is over the largest second here; there the float is equal to it, and seconds.
+fn is_inferred_unit(call: &Call, rust: &Answer, ours: &Answer) -> bool {
+    let Call::Read { kind: Kind::DateTime, text, config } = call else {
+        return false;
+    };
+    let Some(decimal) = Decimal::of(text) else {
+        return false;
+    };
+    let float = str::from_utf8(text).ok().and_then(|text| text.parse::<f64>().ok());
+    config.timestamp_unit == UNIT_INFER
+        && decimal.unit(config) == UNIT_MILLISECOND
+        && float.is_some_and(|float| float.abs() == LARGEST_SECOND as f64)
+        && *ours == decimal.exact(config).answer
+        && *rust == rust::read(Kind::DateTime, text, &Config { timestamp_unit: UNIT_SECOND, ..*config })
+}
+
+/// The second at the new offset is taken for milliseconds there, and never here.
+fn is_late_date_time(call: &Call, rust: &Answer, ours: &Answer) -> bool {
+    let Call::InTimezone(Value::DateTime(value), offset) = call else {
+        return false;
+    };
+    let Some(old) = value.time.offset().filter(|_| is_offset(*offset)) else {
+        return false;
+    };
+    let (microsecond, offset) = (value.time.microsecond, *offset);
+    let timestamp = speedate::DateTime::from(*value).timestamp() + i64::from(offset - old);
+    let config = |timestamp_unit| Config {
+        has_timestamp_offset: 1,
+        timestamp_offset: offset,
+        timestamp_unit,
+        ..Config::default()
+    };
+    let answer = |unit| rust::answer(&Call::DateTimeFromTimestamp { timestamp, microsecond, config: config(unit) });
+    timestamp.abs() > LARGEST_SECOND && *rust == answer(UNIT_INFER) && *ours == answer(UNIT_SECOND)
+}
+
+/// The instant is kept here, or the call refused; there the difference of the offsets is stored.
+fn is_moved_time(call: &Call, rust: &Answer, ours: &Answer) -> bool {
+    let Call::InTimezone(Value::Time(time), offset) = call else {
+        return false;
+    };
+    let Some(old) = time.offset().filter(|_| is_offset(*offset)) else {
+        return false;
+    };
+    let is_stored = matches!(rust, Ok(Value::Time(it)) if it.offset() == Some(offset - old));
+    is_stored && *ours == moved_time(time, offset - old, *offset)
+}
+
+fn moved_time(time: &Time, seconds: i32, offset: i32) -> Answer {
+    let second = speedate::Time::from(*time).total_seconds() as i32 + seconds;
+    if !(0..86_400).contains(&second) {
+        return Err("time_too_large".to_owned());
+    }
+    let (hour, minute, second) = (second / 3_600, second / 60 % 60, second % 60);
+    let (hour, minute, second) = (hour as u8, minute as u8, second as u8);
+    Ok(Value::Time(Time { hour, minute, second, offset, ..*time }))
+}
+
+/// The offset overflows there.
+fn is_smallest_offset(call: &Call, rust: &Answer, ours: &Answer) -> bool {
+    matches!(call, Call::InTimezone(_, i32::MIN)) && is_fault(rust, PANIC) && is_fault(ours, "out_of_range_tz")
+}
+
+/// A configured offset of a day or more is refused here.
+fn is_timestamp_offset(call: &Call, _rust: &Answer, ours: &Answer) -> bool {
+    let offset = call.config().and_then(Config::offset);
+    offset.is_some_and(|offset| !is_offset(offset)) && is_fault(ours, "config_out_of_range")
+}
+
+/// The strict form refuses a text that is no timestamp and does not have the form of RFC 3339.
+fn is_strict_form(call: &Call, _rust: &Answer, ours: &Answer) -> bool {
+    match call {
+        Call::Read { kind, text, config } => {
+            config.rfc3339_form == FORM_STRICT && ours.is_err() && !has_strict_form(*kind, text)
+        }
+        _ => false,
+    }
+}
+
+fn has_strict_form(kind: Kind, text: &[u8]) -> bool {
+    match (kind, text.split_at_checked(11)) {
+        (Kind::Time, _) => has_strict_time(text),
+        (Kind::DateTime, _) if is_number(text) => true,
+        (_, Some((date, time))) => (fits(date, b"0000-00-00T") || fits(date, b"0000-00-00t")) && has_strict_time(time),
+        _ => false,
+    }
+}
+
+fn has_strict_time(text: &[u8]) -> bool {
+    let Some((clock, rest)) = text.split_at_checked(8) else {
+        return false;
+    };
+    let offset = match rest {
+        [b'.', digit, rest @ ..] if digit.is_ascii_digit() => split_digits(rest).1,
+        _ => rest,
+    };
+    let is_offset = matches!(offset, b"Z" | b"z") || fits(offset, b"+00:00") || fits(offset, b"-00:00");
+    fits(clock, b"00:00:00") && is_offset
+}
+
+fn is_number(text: &[u8]) -> bool {
+    let (digits, rest) = split_digits(split_sign(text).1);
+    !digits.is_empty() && rest.is_empty() || Decimal::of(text).is_some()
+}
+
+/// Whether a text has a digit where the pattern has `0`, and elsewhere the pattern's byte.
+fn fits(text: &[u8], pattern: &[u8]) -> bool {
+    let fits_byte = |(byte, wanted): (&u8, &u8)| {
+        if *wanted == b'0' { byte.is_ascii_digit() } else { byte == wanted }
+    };
+    text.len() == pattern.len() && text.iter().zip(pattern).all(fits_byte)
+}
+
+/// Whether an offset is of less than a day.
+fn is_offset(seconds: i32) -> bool {
+    seconds.unsigned_abs() < 86_400
+}
