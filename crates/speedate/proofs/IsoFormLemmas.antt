@@ -50,7 +50,7 @@ number-end number [] designator rest all is digit = run-end number designator re
 number-end number (mark ∷ digits) designator rest all is digit = run-end number mark (digits ++ designator ∷ rest) all (mark-no_digit mark is.0)
 
 -- digits begin with no `T`
-number-no_designator : (number rest : List ℕ) → nat_lt 0 (length number) ≡ true → list_all is_ascii_digit number ≡ true
+pub number-no_designator : (number rest : List ℕ) → nat_lt 0 (length number) ≡ true → list_all is_ascii_digit number ≡ true
     → (slice_index (number ++ rest) 0 == capital_t) ≡ false
 number-no_designator [] rest some all = absurd (cc)
 number-no_designator (digit ∷ number) rest some all = grind (arith, nat_tests, (and_parts (is_ascii_digit digit) _ all).0)

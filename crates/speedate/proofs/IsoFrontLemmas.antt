@@ -15,7 +15,7 @@ use Rattle.speedate_base.proofs.NumberLemmas.{run-digits}
 use Rattle.speedate_base.specs.Requirement.{meets, AllHold}
 use Rattle.speedate_base.proofs.RequirementLemmas.{meets-next}
 use Rattle.speedate.specs.DurationNumbers.{UnsignedDuration}
-use Rattle.speedate.proofs.IsoFormLemmas.{answer-with}
+use Rattle.speedate.proofs.IsoFormLemmas.{answer-with, number-no_designator}
 use Rattle.speedate.specs.IsoForm.{DurationUnit, ComponentText, Item, Component, TimeDesignator, Sums, IsItem, component_at, component_length, item_at, item_length, item_text, item_table, with_amount, with_component, with_item, are_counted, Ends, IsAnswerFrom, sums_length, units, unit_in, is_decimal_mark, fraction_length, IsFraction}
 
 -- after a decimal mark stand digits
@@ -75,6 +75,22 @@ after-item : (sums : Sums) (item : Item) (text rest : List ℕ) (answer : Result
 after-item sums item text rest answer same is hold later =
     subst (λ (text : List ℕ). IsAnswerFrom sums text answer) (sym same) (answer-with sums item rest answer is hold later)
 
+-- the answer to what follows an item at a place, by the place and by the item
+pub answer-at : (next after : Sums) (body : List ℕ) (place size count : ℕ) (answer : Result UnsignedDuration ParseError)
+    → next ≡ after → size ≡ count → IsAnswerFrom next (drop (place + size) body) answer → IsAnswerFrom after (drop count (drop place body)) answer
+answer-at next after body place size count answer same sized answered =
+    let rest = sym (drop-drop size place body) ∙ ap (λ (n : ℕ). drop n (drop place body)) sized in
+    subst (λ (next : Sums). IsAnswerFrom next (drop count (drop place body)) answer) same
+    (subst (λ (rest : List ℕ). IsAnswerFrom next rest answer) rest answered)
+
+-- a text that begins with a component: its answer is that after the component
+pub answer-after-component : (sums : Sums) (text : List ℕ) (answer : Result UnsignedDuration ParseError)
+    → AllHold (item_table sums (Component (component_at text)))
+    → IsAnswerFrom (with_item (Component (component_at text)) sums) (drop (component_length text) text) answer → IsAnswerFrom sums text answer
+answer-after-component sums text answer hold later =
+    let front = component-front sums text hold in
+    after-item sums (Component (component_at text)) text (drop (component_length text) text) answer front.1 front.0 hold later
+
 front-item : (sums : Sums) (text : List ℕ) (answer : Result UnsignedDuration ParseError) (is_time : Bool)
     → (slice_index text 0 == capital_t) ≡ is_time → 0 < length text
     → AllHold (item_table sums (if is_time then TimeDesignator else Component (component_at text)))
@@ -82,9 +98,7 @@ front-item : (sums : Sums) (text : List ℕ) (answer : Result UnsignedDuration P
     → IsAnswerFrom sums text answer
 front-item sums text answer true same some hold later =
     after-item sums TimeDesignator text (drop 1 text) answer (whole-designator text some (eqb-true (slice_index text 0) capital_t same)) tt hold later
-front-item sums text answer false same some hold later =
-    let front = component-front sums text hold in
-    after-item sums (Component (component_at text)) text (drop (component_length text) text) answer front.1 front.0 hold later
+front-item sums text answer false same some hold later = answer-after-component sums text answer hold later
 
 -- where the item at the front of a text meets the table, the answer is that of what follows it
 pub answer-after : (sums : Sums) (text : List ℕ) (answer : Result UnsignedDuration ParseError)
@@ -148,3 +162,18 @@ pub answer-refused : {A : Type 0} (sums : Sums) (text : List ℕ) (fault : Parse
 answer-refused sums text fault value some refused =
     let numbers : Result UnsignedDuration ParseError = Ok (sums_length sums) in
     ([], text, refl, tt, ends-refused sums text fault some (sym (meets-next (item_table sums (item_at text)) value (Err fault) numbers refused)))
+
+-- the same of a text that begins with digits, and so with a component
+number-first : (text : List ℕ) → 0 < run_length text 0 → (slice_index text 0 == capital_t) ≡ false
+number-first text some =
+    let count = run_length text 0 in
+    let long : length (take count text) ≡ count = length-take-le count text (prefix_len-le-length is_ascii_digit text) in
+    subst (λ (text : List ℕ). (slice_index text 0 == capital_t) ≡ false) (take-append-drop count text)
+    (number-no_designator (take count text) (drop count text) (grind (arith, nat_tests, some, long)) (run-digits text))
+
+pub answer-refused-component : {A : Type 0} (sums : Sums) (text : List ℕ) (fault : ParseError) (value : A) → 0 < run_length text 0
+    → Err fault ≡ meets (item_table sums (Component (component_at text))) (Ok value) → IsAnswerFrom sums text (Err fault)
+answer-refused-component sums text fault value some refused =
+    let item = ap (λ (is_time : Bool). if is_time then TimeDesignator else Component (component_at text)) (number-first text some) in
+    answer-refused sums text fault value (omega (arith, some, prefix_len-le-length is_ascii_digit text))
+    (refused ∙ ap (λ (item : Item). meets (item_table sums item) (Ok value)) (sym item))

@@ -1,19 +1,20 @@
 //! The form of a duration that ISO 8601 has.
 
-ghost use Rattle.std.specs.Prelude.{◌≡◌, ◌+◌, ◌*◌, ◌<◌, ◌≤◌, length, take, drop, slice_index, IsTrue, Bool, true, false, Ok, Err, IfOk, IfSome, [], if◌then◌else◌};
+ghost use Rattle.std.specs.Prelude.{◌≡◌, ◌+◌, ◌-◌, ◌*◌, ◌^◌, ◌<◌, ◌≤◌, ◌&&◌, nat_le, nat_lt, min, length, take, drop, slice_index, IsTrue, Bool, true, false, Ok, Err, IfOk, IfErr, IfSome, [], if◌then◌else◌};
 ghost use Rattle.std.specs.Char.{is_ascii_digit};
 ghost use Rattle.std.specs.List.{list_all};
 ghost use Rattle.speedate_base.specs.DigitRuns.{run_length, run_value, digits_value, fraction_value};
-ghost use Rattle.std.specs.Option.{option_map, is_some};
+ghost use Rattle.std.specs.Option.{ForSome, option_map, is_some};
 ghost use Rattle.speedate_base.specs.declared.faults.ParseError.TheVariants as fault;
 ghost use Rattle.speedate_base.specs.Ascii.{capital_t};
 ghost use Rattle.speedate_base.specs.Requirement.{meets, result_map};
+ghost use Rattle.speedate.specs.ShortNumber.{IsShortNumber};
 ghost use Rattle.speedate.specs.IsoForm.{Component, TimeDesignator, units, unit_in, is_decimal_mark, fraction_length, unit_seconds, next_units_after, fraction_seconds, fraction_microseconds, component_at, component_length, item_at, item_length, are_counted, with_amount, with_item, item_table, sums_length, unit_fault, no_sums, IsAnswerFrom};
 
 use super::unsigned::UnsignedDuration;
 use speedate_base::config::IsoOrder;
 use speedate_base::faults::ParseError;
-use speedate_base::numbers::{byte_at, digit_run, few_digits};
+use speedate_base::numbers::{DigitRun, byte_at, digit_run, few_digits};
 use speedate_base::util::{SECONDS_PER_DAY, twice_microseconds};
 use speedate_civil::time::Fraction;
 
@@ -137,22 +138,25 @@ impl Sums {
     /// Reads all items of a duration, and adds them up.
     ///
     /// Most texts are plain components, a `T`, and plain components again. These are read straight on;
-    /// what is left where they end is read item by item, with all that may be wrong in it.
+    /// what is left where they end is read item by item, with all that may be wrong in it, and a number
+    /// that stands there is not read again.
     #[inline(always)]
     pub(super) fn read(body: &[u8], order: IsoOrder) -> Result<UnsignedDuration, ParseError>
         ensures answer { result_map unsigned_parts result ≡ iso_form order body.now }
     {
-        let (sums, end) = Self::of_plain(body, order);
+        let (sums, end, number) = Self::of_plain(body, order);
+        let (sums, end) = sums.with_component(body, end, number)?;
         sums.with_rest(body, end)
     }
 
     /// The sums of the plain components at the front of a text, of those after a `T` that follows
-    /// them, and where these end.
+    /// them, where these end, and the number of few digits that stands there, if one does.
     #[inline(always)]
-    fn of_plain(body: &[u8], order: IsoOrder) -> (Self, usize)
+    fn of_plain(body: &[u8], order: IsoOrder) -> (Self, usize, Option<DigitRun>)
         ensures goes_on { GoesOn (no_sums order) body.now (sums_parts result.0) (drop result.1 body.now) }
         ensures all { is_plain (sums_parts result.0) body.now result.1 ≡ false }
         ensures designator { slice_index body.now result.1 ≡ capital_t → result.0.is_time ≡ true }
+        ensures number { ForSome result.2 (IsShortNumber body.now result.1) }
         ensures within { result.1 ≤ length body.now }
     {
         let none = Sums {
@@ -165,9 +169,9 @@ impl Sums {
             second: 0,
             microsecond: 0,
         };
-        let (days, end) = none.with_plain(body, 0);
+        let (days, end, number) = none.with_plain(body, 0);
         if byte_at(body, end) != b'T' {
-            return (days, end);
+            return (days, end, number);
         }
         days.begin_time().with_plain(body, end + 1)
     }
@@ -183,33 +187,39 @@ impl Sums {
         sums
     }
 
-    /// The sums with the plain components from a place on, as many as there are, and where they end.
+    /// The sums with the plain components from a place on, as many as there are, where they end, and
+    /// the number of few digits that stands there, if one does.
     #[inline(always)]
-    fn with_plain(self, body: &[u8], start: usize) -> (Self, usize)
+    fn with_plain(self, body: &[u8], start: usize) -> (Self, usize, Option<DigitRun>)
         requires none { self.fraction ≡ false }
         requires start { start ≤ length body.now }
         ensures goes_on { GoesOn (sums_parts self) (drop start body.now) (sums_parts result.0) (drop result.1 body.now) }
         ensures side { result.0.is_time ≡ self.is_time }
         ensures all { is_plain (sums_parts result.0) body.now result.1 ≡ false }
         ensures none { result.0.fraction ≡ false }
+        ensures number { ForSome result.2 (IsShortNumber body.now result.1) }
         ensures within { result.1 ≤ length body.now }
     {
         let mut sums = self;
         let mut place = start;
-        while let Some((next, end)) = sums.with_next(body, place) {
+        while let Some(number) = short_number(body, place) {
+            let Some((next, end)) = sums.with_next(body, place, number) else {
+                return (sums, place, Some(number));
+            };
             sums = next;
             place = end;
         }
-        (sums, place)
+        (sums, place, None)
     }
 
-    /// The sums with the plain component at a place, and where it ends: a number of few digits, and
-    /// the designator of its unit. `None` if there is none, if the unit is out of order, or if the sums
-    /// grow too large.
+    /// The sums with the plain component at a place, whose number this is, and where it ends. `None` if
+    /// no designator of a unit follows the number, if the unit is out of order, or if the sums grow too
+    /// large.
     #[inline(always)]
-    fn with_next(self, body: &[u8], place: usize) -> Option<(Self, usize)>
+    fn with_next(self, body: &[u8], place: usize, number: DigitRun) -> Option<(Self, usize)>
         requires none { self.fraction ≡ false }
         requires place { place ≤ length body.now }
+        requires number { IsShortNumber body.now place number }
         ensures plain { is_some result ≡ is_plain (sums_parts self) body.now place }
         ensures goes_on { IfSome result (λ next. GoesOn (sums_parts self) (drop place body.now) (sums_parts next.0) (drop next.1 body.now)) }
         ensures side { IfSome result (λ next. next.0.is_time ≡ self.is_time) }
@@ -217,15 +227,12 @@ impl Sums {
         ensures some { IfSome result (λ next. place < next.1) }
         ensures within { IfSome result (λ next. next.1 ≤ length body.now) }
     {
-        let (number, end) = few_digits(body, place)?;
-        if end == place {
-            return None;
-        }
+        let end = place + number.length;
         let unit = DurationUnit::of_designator(byte_at(body, end), self.is_time)?;
         if !self.takes(&unit) {
             return None;
         }
-        let sums = self.with_whole(number, &unit)?;
+        let sums = self.with_whole(number.value as u32, &unit)?;
         Some((sums, end + 1))
     }
 
@@ -275,6 +282,29 @@ impl Sums {
         })
     }
 
+    /// The sums with the component at a place, and where it ends, if there is a number that it begins
+    /// with; otherwise the sums as they are.
+    #[inline(always)]
+    fn with_component(
+        self,
+        body: &[u8],
+        place: usize,
+        number: Option<DigitRun>,
+    ) -> Result<(Self, usize), ParseError>
+        requires place { place ≤ length body.now }
+        requires number { ForSome number (IsShortNumber body.now place) }
+        ensures goes_on { IfOk result (λ next. GoesOn (sums_parts self) (drop place body.now) (sums_parts next.0) (drop next.1 body.now)) }
+        ensures refused { IfErr result (λ fault. IsAnswerFrom (sums_parts self) (drop place body.now) (Err fault)) }
+        ensures within { IfOk result (λ next. next.1 ≤ length body.now) }
+    {
+        let Some(number) = number else {
+            return Ok((self, place));
+        };
+        let mut sums = self;
+        let size = sums.take_component(&body[place..], number)?;
+        Ok((sums, place + size))
+    }
+
     /// Reads the items from a place on one by one, and adds them.
     #[inline(always)]
     fn with_rest(self, body: &[u8], start: usize) -> Result<UnsignedDuration, ParseError>
@@ -321,18 +351,20 @@ impl Sums {
             *self = self.begin_time();
             return Ok(1);
         }
-        self.take_component(text)
+        self.take_component(text, digit_run(text))
     }
 
-    /// Reads the component that begins a text, and adds it. Answers how many bytes it has.
+    /// Reads the component that begins a text, with this number, and adds it. Answers how many bytes it
+    /// has.
     #[inline(always)]
-    fn take_component(&mut self, text: &[u8]) -> Result<usize, ParseError>
+    fn take_component(&mut self, text: &[u8], number: DigitRun) -> Result<usize, ParseError>
+        requires length { number.length ≡ run_length text.now 0 }
+        requires value { number.value ≡ min (run_value text.now 0) (2 ^ 64 - 1) }
         ensures answer { result ≡ meets (item_table (sums_parts self.old) (Component (component_at text.now))) (Ok (component_length text.now)) }
         ensures sums { IfOk result (λ _. sums_parts self.new ≡ with_item (Component (component_at text.now)) (sums_parts self.old)) }
         ensures some { IfOk result (λ size. 0 < size) }
         ensures within { IfOk result (λ size. size ≤ length text.now) }
     {
-        let number = digit_run(text);
         if number.length == 0 {
             return Err(ParseError::DurationInvalidNumber);
         }
@@ -401,6 +433,23 @@ impl Sums {
         };
         Ok(())
     }
+}
+
+/// The number at a place that has one to six digits, if there is one.
+#[inline(always)]
+fn short_number(text: &[u8], place: usize) -> Option<DigitRun>
+    requires { place ≤ length text.now }
+    ensures number { IfSome result (IsShortNumber text.now place) }
+    ensures some { is_some result ≡ (nat_lt 0 (run_length text.now place) && nat_le (run_length text.now place) 6) }
+{
+    let (value, end) = few_digits(text, place)?;
+    if end == place {
+        return None;
+    }
+    Some(DigitRun {
+        length: end - place,
+        value: u64::from(value),
+    })
 }
 
 /// How many bytes the fraction has that stands at the front of a text, its decimal mark and digits,

@@ -6,5 +6,7 @@ use Rattle.speedate.proofs.duration.iso.Sums.take_component.Goals as goal
 
 pub add-requires-clause-digits : goal.add-requires-clause-digits
 add-requires-clause-digits c =
-    let rest = take (length c.args.text.now - c.digit_run-number.result.length) (drop c.digit_run-number.result.length c.args.text.now) in
+    let text = c.args.text.now in
+    let count = c.args.number.length in
+    let rest = take (length text - count) (drop count text) in
     ap (λ (n : ℕ). list_all is_ascii_digit (drop 1 (take n rest))) c.fraction_at_front-size.ensures.len ∙ fraction-digits rest

@@ -1,12 +1,11 @@
-use Rattle.std.proofs.Common.{◌≡◌, ◌∙◌, sym, ap, subst, arith, ℕ, ◌+◌, ◌<◌, List, Result, Ok, Err, length, drop}
-use Rattle.std.proofs.lemmas.List.{take_rest, length-drop, drop-drop}
+use Rattle.std.proofs.Common.{◌∙◌, sym, ap, arith, ℕ, ◌<◌, List, Result, Ok, Err, length, drop}
+use Rattle.std.proofs.lemmas.List.{take_rest, length-drop}
 use Rattle.std.proofs.lemmas.Result.{err_from_is_err_and}
 use Rattle.speedate_base.specs.declared.faults.ParseError.{ParseError}
 use Rattle.speedate_base.specs.Requirement.{meets}
 use Rattle.speedate_base.proofs.RequirementLemmas.{meets-value}
-use Rattle.speedate.proofs.IsoFrontLemmas.{answer-after, answer-refused}
-use Rattle.speedate.specs.DurationNumbers.{UnsignedDuration}
-use Rattle.speedate.specs.IsoForm.{Sums, item_at, item_length, item_table, with_item, IsAnswerFrom}
+use Rattle.speedate.proofs.IsoFrontLemmas.{answer-after, answer-at, answer-refused}
+use Rattle.speedate.specs.IsoForm.{Sums, item_at, item_length, item_table, with_item}
 use Rattle.speedate.specs.IsoSums.{sums_parts}
 use Rattle.speedate.proofs.duration.iso.Sums.with_rest.Goals as goal
 
@@ -27,17 +26,6 @@ returns-in_err-place c =
       answer = c.loop-place.invariant.goes_on (Err _) (answer-refused sums text _ (item_length text) some refused);
     })
 
--- what follows an item, from its place on
-later : (sums next : Sums) (body text : List ℕ) (place size : ℕ) (answer : Result UnsignedDuration ParseError)
-    → text ≡ drop place body → size ≡ item_length text → next ≡ with_item (item_at text) sums
-    → IsAnswerFrom next (drop (place + size) body) answer
-    → IsAnswerFrom (with_item (item_at (drop place body)) sums) (drop (item_length (drop place body)) (drop place body)) answer
-later sums next body text place size answer same sized added answered =
-    let item = added ∙ ap (λ (text : List ℕ). with_item (item_at text) sums) same in
-    let rest = sym (drop-drop size place body) ∙ ap (λ (n : ℕ). drop n (drop place body)) (sized ∙ ap item_length same) in
-    subst (λ (next : Sums). IsAnswerFrom next (drop (item_length (drop place body)) (drop place body)) answer) item
-    (subst (λ (rest : List ℕ). IsAnswerFrom next rest answer) rest answered)
-
 pub loop-place-preserved : goal.loop-place-preserved
 loop-place-preserved c =
     let body = c.args.body.now in
@@ -46,9 +34,9 @@ loop-place-preserved c =
     let text = drop place body in
     let some : 0 < length text = omega (arith, length-drop place body, c.loop-place-test.true) in
     let held = meets-value (item_table sums (item_at text)) (item_length text) _ (sym (c.in_ok-place.ensures.answer ∙ ap (front sums) (take_rest body place))) in
-    let sized = sym held.1 ∙ ap item_length (sym (take_rest body place)) in
+    let added = c.in_ok-place.ensures.sums ∙ ap (λ (text : List ℕ). with_item (item_at text) sums) (take_rest body place) in
     record {
       within = omega (arith, c.in_ok-place.ensures.within, length-drop place body, ap length (take_rest body place), c.loop-place.invariant.within);
       goes_on = λ answer answered. c.loop-place.invariant.goes_on answer
-          (answer-after sums text answer some held.0 (later sums _ body _ place _ answer (take_rest body place) sized c.in_ok-place.ensures.sums answered));
+          (answer-after sums text answer some held.0 (answer-at _ _ body place _ _ answer added (sym held.1) answered));
     }
