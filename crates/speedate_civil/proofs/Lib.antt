@@ -22,4 +22,5 @@ pub mod DateValueLemmas
 mod TimeValueLemmas
 pub mod DateTimeValueLemmas
 mod MonthLemmas
+mod WholeMinutesLemmas
 mod YearLemmas

@@ -47,6 +47,7 @@ pub struct DateTime {
 }
 
 impl DateTime {
+    ghost use Rattle.speedate_base.specs.Offset.{IsWholeMinutes};
     ghost use Rattle.speedate_civil.specs.DateTime.{parts};
 
     /// Reads a date-time from a text, and no timestamp: 12:13:14 on 29 February 2020 in UTC from
@@ -61,6 +62,7 @@ impl DateTime {
     #[inline(always)]
     pub fn parse_str_rfc3339(text: &str) -> Result<Self, ParseError>
         ensures answer { result_map parts result ≡ date_time_answer rfc3339.Relaxed behavior.Error text.now }
+        ensures minutes { IfOk result (λ value. IsWholeMinutes value.time.tz_offset) }
     {
         Self::parse_bytes_rfc3339(text.as_bytes())
     }
@@ -71,6 +73,7 @@ impl DateTime {
     #[inline(always)]
     pub fn parse_bytes_rfc3339(bytes: &[u8]) -> Result<Self, ParseError>
         ensures answer { result_map parts result ≡ date_time_answer rfc3339.Relaxed behavior.Error bytes.now }
+        ensures minutes { IfOk result (λ value. IsWholeMinutes value.time.tz_offset) }
         ensures no_number { OnOk result (number_answer bytes.now ≡ NoNumber) }
     {
         Self::parse_bytes_rfc3339_with_config(bytes, &TimeConfig::default())
@@ -97,6 +100,7 @@ impl DateTime {
             date_time_answer rfc3339.Relaxed config.now.microseconds_precision_overflow_behavior bytes.now ≡ Ok (parts value)) }
         ensures standard { IsTrue (is_strict config.now.rfc3339_form)
             → IsOk result ↔ IsDateTime config.now.microseconds_precision_overflow_behavior bytes.now }
+        ensures minutes { IfOk result (λ value. IsWholeMinutes value.time.tz_offset) }
         ensures no_number { OnOk result (number_answer bytes.now ≡ NoNumber) }
     {
         let (value, size) = Self::parse_front(bytes, config)?;
@@ -123,6 +127,7 @@ impl DateTime {
         ensures alone { IfOk result (λ front.
             date_time_answer config.now.rfc3339_form config.now.microseconds_precision_overflow_behavior (take front.1 bytes.now)
             ≡ Ok (parts front.0)) }
+        ensures minutes { IfOk result (λ front. IsWholeMinutes front.0.time.tz_offset) }
         ensures no_number { OnOk result (number_answer bytes.now ≡ NoNumber) }
     {
         let (date, _) = Date::parse_front(bytes)?;

@@ -57,7 +57,7 @@ impl Time {
     ghost use Rattle.speedate_base.specs.declared.config.MicrosecondsPrecisionOverflowBehavior.TheVariants as behavior;
     ghost use Rattle.speedate_base.specs.declared.config.Rfc3339Form.TheVariants as rfc3339;
     ghost use Rattle.speedate_base.specs.Form.{is_strict};
-    ghost use Rattle.speedate_base.specs.Offset.{seconds_per_day};
+    ghost use Rattle.speedate_base.specs.Offset.{IsWholeMinutes, seconds_per_day};
     ghost use Rattle.speedate_base.specs.Requirement.{result_map, with_size};
     ghost use Rattle.speedate_civil.specs.Rfc3339Text.{IsFullTime};
     ghost use Rattle.speedate_civil.specs.Time.{parts};
@@ -90,6 +90,7 @@ impl Time {
     #[inline(always)]
     pub fn parse_str(text: &str) -> Result<Self, ParseError>
         ensures answer { result_map parts result ≡ time_answer rfc3339.Relaxed behavior.Error text.now }
+        ensures minutes { IfOk result (λ time. IsWholeMinutes time.tz_offset) }
     {
         Self::parse_bytes(text.as_bytes())
     }
@@ -99,6 +100,7 @@ impl Time {
     #[inline(always)]
     pub fn parse_bytes(bytes: &[u8]) -> Result<Self, ParseError>
         ensures answer { result_map parts result ≡ time_answer rfc3339.Relaxed behavior.Error bytes.now }
+        ensures minutes { IfOk result (λ time. IsWholeMinutes time.tz_offset) }
     {
         Self::parse_whole(
             bytes,
@@ -130,6 +132,7 @@ impl Time {
             time_answer rfc3339.Relaxed config.now.microseconds_precision_overflow_behavior bytes.now ≡ Ok (parts time)) }
         ensures standard { IsTrue (is_strict config.now.rfc3339_form)
             → IsOk result ↔ IsFullTime config.now.microseconds_precision_overflow_behavior bytes.now }
+        ensures minutes { IfOk result (λ time. IsWholeMinutes time.tz_offset) }
     {
         Self::parse_whole(
             bytes,
@@ -158,6 +161,7 @@ impl Time {
         ensures alone { IfOk result (λ front.
             time_answer config.now.rfc3339_form config.now.microseconds_precision_overflow_behavior (take front.1 bytes.now)
             ≡ Ok (parts front.0)) }
+        ensures minutes { IfOk result (λ front. IsWholeMinutes front.0.tz_offset) }
     {
         Self::front_at(
             bytes,
@@ -175,6 +179,7 @@ impl Time {
         behavior: MicrosecondsPrecisionOverflowBehavior,
     ) -> Result<Self, ParseError>
         ensures answer { result_map parts result ≡ time_answer form behavior bytes.now }
+        ensures minutes { IfOk result (λ time. IsWholeMinutes time.tz_offset) }
     {
         let clock = PureTime::parse(bytes, 0, form, behavior)?;
         let (tz_offset, size) = read_offset(bytes, clock.size, form)?;
@@ -195,6 +200,7 @@ impl Time {
         requires { place ≤ length bytes.now }
         ensures answer { result_map (with_size parts) result ≡ time_front form behavior (drop place bytes.now) }
         ensures within { IfOk result (λ front. place + front.1 ≤ length bytes.now) }
+        ensures minutes { IfOk result (λ front. IsWholeMinutes front.0.tz_offset) }
     {
         let clock = PureTime::parse(bytes, place, form, behavior)?;
         let (tz_offset, size) = read_offset(bytes, place + clock.size, form)?;

@@ -3,6 +3,7 @@
 #![tactic(auto)]
 
 pub mod calendar;
+pub mod canonical;
 pub mod clock;
 pub mod deadline;
 pub mod ledger;

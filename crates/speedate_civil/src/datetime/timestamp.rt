@@ -5,7 +5,7 @@ ghost use Rattle.std.specs.Option.{ForSome};
 ghost use Rattle.speedate_base.specs.declared.config.MicrosecondsPrecisionOverflowBehavior.TheVariants as behavior;
 ghost use Rattle.speedate_base.specs.declared.config.Rfc3339Form.TheVariants as rfc3339;
 ghost use Rattle.speedate_base.specs.declared.config.TimestampUnit.TheVariants as unit;
-ghost use Rattle.speedate_base.specs.Offset.{IsOffset};
+ghost use Rattle.speedate_base.specs.Offset.{IsOffset, IsWholeMinutes};
 ghost use Rattle.speedate_base.specs.Requirement.{result_map};
 ghost use Rattle.speedate_base.specs.Timestamp.{IsInYears};
 ghost use Rattle.speedate_base.specs.UnixTime.{parts as instant_parts};
@@ -40,6 +40,7 @@ impl DateTime {
     #[inline(always)]
     pub fn parse_str(text: &str) -> Result<Self, ParseError>
         ensures answer { result_map parts result ≡ date_time_or_timestamp unit.Infer rfc3339.Relaxed behavior.Error None text.now }
+        ensures minutes { IfOk result (λ value. IsWholeMinutes value.time.tz_offset) }
     {
         Self::parse_bytes(text.as_bytes())
     }
@@ -49,6 +50,7 @@ impl DateTime {
     #[inline(always)]
     pub fn parse_bytes(bytes: &[u8]) -> Result<Self, ParseError>
         ensures answer { result_map parts result ≡ date_time_or_timestamp unit.Infer rfc3339.Relaxed behavior.Error None bytes.now }
+        ensures minutes { IfOk result (λ value. IsWholeMinutes value.time.tz_offset) }
     {
         Self::parse_bytes_with_config(bytes, &DateTimeConfig::default())
     }
@@ -70,6 +72,8 @@ impl DateTime {
             ≡ date_time_or_timestamp config.now.timestamp_unit config.now.time_config.rfc3339_form
             config.now.time_config.microseconds_precision_overflow_behavior
             config.now.time_config.unix_timestamp_offset text.now }
+        ensures minutes { IsWholeMinutes config.now.time_config.unix_timestamp_offset
+            → IfOk result (λ value. IsWholeMinutes value.time.tz_offset) }
     {
         Self::parse_bytes_with_config(text.as_bytes(), config)
     }
@@ -86,6 +90,8 @@ impl DateTime {
             ≡ date_time_or_timestamp config.now.timestamp_unit config.now.time_config.rfc3339_form
             config.now.time_config.microseconds_precision_overflow_behavior
             config.now.time_config.unix_timestamp_offset bytes.now }
+        ensures minutes { IsWholeMinutes config.now.time_config.unix_timestamp_offset
+            → IfOk result (λ value. IsWholeMinutes value.time.tz_offset) }
     {
         match Self::parse_bytes_rfc3339_with_config(bytes, &config.time_config) {
             Ok(value) => Ok(value),

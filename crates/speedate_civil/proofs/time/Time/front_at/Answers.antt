@@ -10,6 +10,8 @@ use Rattle.speedate_civil.specs.OffsetText.{offset_front}
 use Rattle.speedate_civil.specs.PureTime.{parts}
 use Rattle.speedate_civil.specs.TimeOfDay.{TimeOfDay}
 use Rattle.speedate_civil.specs.TimeText.{joined, with_offset}
+use Rattle.speedate_civil.specs.Time.{parts as time_parts}
+use Rattle.speedate_civil.proofs.WholeMinutesLemmas.{time_front-minutes}
 use Rattle.speedate_civil.proofs.time.Time.front_at.Goals as goal
 
 -- what follows a clock was looked at from its end on
@@ -32,3 +34,8 @@ returns-clause-answer c =
     let size = c.in_ok-clock.clock.size + c.in_ok-tz_offset.size in
     ap (λ (time : TimeOfDay). Ok (time, size)) c.at_offset.ensures.time
     ∙ known c.args.form c.args.bytes.now c.args.place _ _ _ read c.in_ok-tz_offset.ensures.answer
+
+pub returns-clause-minutes : goal.returns-clause-minutes
+returns-clause-minutes c =
+    let front : TimeOfDay × ℕ = (time_parts c.at_offset.result, c.in_ok-clock.clock.size + c.in_ok-tz_offset.size) in
+    time_front-minutes c.args.form c.args.behavior (drop c.args.place c.args.bytes.now) front (sym (returns-clause-answer c))

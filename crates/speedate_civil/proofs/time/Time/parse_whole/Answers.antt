@@ -11,6 +11,8 @@ use Rattle.speedate_civil.specs.OffsetText.{end_fault, offset_front}
 use Rattle.speedate_civil.specs.PureTime.{parts}
 use Rattle.speedate_civil.specs.TimeOfDay.{TimeOfDay}
 use Rattle.speedate_civil.specs.TimeText.{joined, time_front, with_offset}
+use Rattle.speedate_civil.specs.Time.{parts as time_parts}
+use Rattle.speedate_civil.proofs.WholeMinutesLemmas.{time_answer-minutes}
 use Rattle.speedate_civil.proofs.time.Time.parse_whole.Goals as goal
 
 -- a clock and what was read after it are the front of a text
@@ -26,4 +28,5 @@ returns c =
     let fault = λ (read : TimeOfDay). end_fault read.offset in
     let same : length bytes ≡ time.1 = grind (arith, nat_tests) in
     let read = front c.args.form c.args.behavior bytes clock _ c.in_ok-clock.ensures.answer c.in_ok-tz_offset.ensures.answer in
-    record { answer = ap Ok c.at_offset.ensures.time ∙ sym (alone-whole fault bytes time.0 time.1 same) ∙ ap (result_and_then (alone fault bytes)) read }
+    let answer = ap Ok c.at_offset.ensures.time ∙ sym (alone-whole fault bytes time.0 time.1 same) ∙ ap (result_and_then (alone fault bytes)) read in
+    record { answer = answer; minutes = time_answer-minutes c.args.form c.args.behavior bytes (time_parts c.at_offset.result) (sym answer) }
