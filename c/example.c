@@ -1,12 +1,13 @@
-/* Reads the lines of a log, each of which begins with a date-time, and prints them with that moment in UTC. What the
+/* Reads the lines of a log, each of which begins with a date-time, and prints them with that date-time in UTC. What the
  * log spans goes to the end. Lines without a date-time are told on standard error.
  *
  *     cc -I c c/example.c out/libspeedate.a -o example && ./example < LOG
  */
+#define _POSIX_C_SOURCE 200809L /* for getline */
 #include "speedate.h"
 
 #include <stdio.h>
-#include <string.h>
+#include <stdlib.h>
 
 static void tell(int number, int code) {
     char why[SPEEDATE_CODE_TEXT_SIZE];
@@ -17,13 +18,14 @@ static void tell(int number, int code) {
 
 int main(void) {
     SpeedateConfig config = SPEEDATE_CONFIG_DEFAULT;
-    SpeedateDateTime first, last;
-    char line[1024], text[SPEEDATE_DATETIME_TEXT_SIZE];
+    SpeedateDateTime first, last, moment;
+    SpeedateDuration span;
+    char *line = NULL, text[SPEEDATE_DATETIME_TEXT_SIZE], span_text[SPEEDATE_DURATION_TEXT_SIZE];
+    size_t room = 0, taken, length;
+    ssize_t size;
     int seen = 0;
-    for (int number = 1; fgets(line, sizeof line, stdin); number++) {
-        SpeedateDateTime moment;
-        size_t taken, length;
-        int code = speedate_datetime_parse_front(line, strlen(line), config, &moment, &taken);
+    for (int number = 1; (size = getline(&line, &room, stdin)) > 0; number++) {
+        int code = speedate_datetime_parse_front(line, (size_t)size, config, &moment, &taken);
         if (code == SPEEDATE_OK)
             code = speedate_datetime_in_timezone(moment, 0, &moment);
         if (code == SPEEDATE_OK)
@@ -32,17 +34,17 @@ int main(void) {
             tell(number, code);
             continue;
         }
-        printf("%s%s", text, line + taken);
+        fputs(text, stdout);
+        fwrite(line + taken, 1, (size_t)size - taken, stdout);
+        if (line[size - 1] != '\n')
+            putchar('\n');
         if (seen++ == 0)
             first = moment;
         last = moment;
     }
-    if (seen > 0) {
-        SpeedateDuration span;
-        size_t length;
-        if (speedate_duration_between(first, last, &span) == SPEEDATE_OK &&
-            speedate_duration_to_text(span, text, sizeof text, &length) == SPEEDATE_OK)
-            printf("%d lines in %s\n", seen, text);
-    }
+    free(line);
+    if (seen > 0 && speedate_duration_between(first, last, &span) == SPEEDATE_OK &&
+        speedate_duration_to_text(span, span_text, sizeof span_text, &length) == SPEEDATE_OK)
+        printf("%d lines in %s\n", seen, span_text);
     return 0;
 }

@@ -1,17 +1,20 @@
+/* SPDX-License-Identifier: MIT */
 /* speedate.h: exact dates, times of day, date-times and durations, read from texts and printed.
  *
  * What every call keeps to:
  *
- * - It answers 0 (SPEEDATE_OK) where it did what it is for, otherwise the SpeedateCode that says why it refuses.
+ * - It returns 0 (SPEEDATE_OK) where it did what it is for, otherwise the SpeedateCode that says why it refuses.
  *   Where it refuses it writes nothing.
+ * - Where more is wrong than one thing, SPEEDATE_CONFIG_OUT_OF_RANGE comes first, then SPEEDATE_VALUE_OUT_OF_RANGE.
  * - A text goes in as an address and a size in bytes. It needs no zero byte at its end, and it may hold any bytes.
  *   Where the size is 0 the address may be NULL.
  * - A text comes out in a buffer of the caller's, with a zero byte after it, and its length without that byte goes
- *   to *length. A buffer of the size named beside the type always has room.
+ *   to *length. A buffer of the size named beside the type always has room; no call tells how much a text needs.
+ *   The bytes after the zero byte stay as they are. Where the size is 0 the buffer may be NULL.
  * - Values and configurations go in by value. So `out` may be the variable that was just passed:
- *   speedate_date_add_days(date, 1, &date).
- * - Every other address has to be that of a variable of its type: not NULL, and not part of a text, of a buffer or
- *   of another such variable of the same call.
+ *   speedate_date_add_days(date, 1, &date). Compile with the header of the archive's version.
+ * - `out`, `taken` and `length` are addresses of variables of their types: not NULL, and not part of a text, of a
+ *   buffer or of another of these.
  * - No memory is taken and nothing is kept between calls. Every call may run on every thread at any time.
  *
  * The texts and their faults are the subject of docs/GRAMMAR.md, and docs/C.md shows how to build and call this.
@@ -28,18 +31,18 @@ extern "C" {
 
 /* ---- Codes ---- */
 
-/* What a call answers. A number never changes its meaning; later versions may add numbers. */
+/* What a call returns. A number never changes its meaning; later versions may add numbers. */
 enum SpeedateCode {
     /* What was asked for is written. */
     SPEEDATE_OK = 0,
 
-    /* 1 to 99: faults of a text or of a number. */
+    /* 1 to 99: faults of a text or of a number. "Strict" is SPEEDATE_FORM_STRICT. */
 
     /* The text ends before what it must hold. */
     SPEEDATE_TOO_SHORT = 1,
     /* Bytes are left over after a whole value. */
     SPEEDATE_EXTRA_CHARACTERS = 2,
-    /* Between date and time stands none of `T`, `t`, `_` and space. */
+    /* Between date and time stands none of `T`, `t`, `_` and space, or, strict, neither `T` nor `t`. */
     SPEEDATE_INVALID_CHAR_DATE_TIME_SEP = 3,
     /* A `-` is missing between year, month and day. */
     SPEEDATE_INVALID_CHAR_DATE_SEP = 4,
@@ -51,29 +54,29 @@ enum SpeedateCode {
     SPEEDATE_INVALID_CHAR_MONTH = 7,
     /* The day is not two digits. */
     SPEEDATE_INVALID_CHAR_DAY = 8,
-    /* The `:` between hour and minute is missing. */
+    /* A `:` is missing between hour and minute, or, strict, before the second. */
     SPEEDATE_INVALID_CHAR_TIME_SEP = 9,
-    /* The hour is not two digits. */
+    /* The hour is not two digits, or a clock of a duration has no `:`, or more than digits before it. */
     SPEEDATE_INVALID_CHAR_HOUR = 10,
     /* The minute is not two digits. */
     SPEEDATE_INVALID_CHAR_MINUTE = 11,
     /* The second is not two digits. */
     SPEEDATE_INVALID_CHAR_SECOND = 12,
-    /* No call here answers it. */
+    /* No call here returns it. */
     SPEEDATE_INVALID_CHAR_SECOND_FRACTION = 13,
     /* What follows a time is no beginning of an offset. */
     SPEEDATE_INVALID_CHAR_TZ_SIGN = 14,
     /* The hour of an offset is not two digits. */
     SPEEDATE_INVALID_CHAR_TZ_HOUR = 15,
-    /* The minute of an offset is not two digits. */
+    /* The minute of an offset is not two digits, or, strict, its `:` is missing. */
     SPEEDATE_INVALID_CHAR_TZ_MINUTE = 16,
     /* The minute of an offset is over 59. */
     SPEEDATE_OUT_OF_RANGE_TZ_MINUTE = 17,
     /* An offset is of 24 hours or more. */
     SPEEDATE_OUT_OF_RANGE_TZ = 18,
-    /* A value without offset cannot be moved to another one. */
+    /* A value without offset cannot be moved to another one; or a strict text has none after its fraction. */
     SPEEDATE_TZ_REQUIRED = 19,
-    /* No call here answers it: a clock stands before 1970. */
+    /* No call here returns it: a clock stands before 1970. */
     SPEEDATE_SYSTEM_TIME_ERROR = 20,
     /* The month is not 1 to 12. */
     SPEEDATE_OUT_OF_RANGE_MONTH = 21,
@@ -103,34 +106,41 @@ enum SpeedateCode {
     SPEEDATE_DURATION_INVALID_DATE_UNIT = 33,
     /* The days of a duration are not followed by a form of `day`. */
     SPEEDATE_DURATION_INVALID_DAYS = 34,
-    /* A number or a sum of a duration is over 4,294,967,295. */
+    /* A number or a sum of a duration is over 4,294,967,295; of _check: the flag, second or microsecond is out of
+     * range. */
     SPEEDATE_DURATION_VALUE_TOO_LARGE = 35,
-    /* The hours of a duration are too many. */
+    /* The hours of a duration are over 2,400,000,000, have over ten digits, or are over 23 after days. */
     SPEEDATE_DURATION_HOUR_VALUE_TOO_LARGE = 36,
     /* A duration has more than 999,999,999 days. */
     SPEEDATE_DURATION_DAYS_TOO_LARGE = 37,
-    /* A timestamp, or a date at another offset, lies before the year 0000. */
+    /* A timestamp, or a date that a duration or an offset moves, lies before the year 0000. */
     SPEEDATE_DATE_TOO_SMALL = 38,
-    /* A timestamp, a moment, or a date at another offset, lies after the year 9999. */
+    /* A timestamp, or a date that a duration or an offset moves, lies after the year 9999; of _check: the year is
+     * over 9999. */
     SPEEDATE_DATE_TOO_LARGE = 39,
-    /* A time of day, or a sum on the way to it, is too large. */
+    /* A time of day is another day's, or a sum on the way to it is too large; of _check: the microsecond is over
+     * 999,999. */
     SPEEDATE_TIME_TOO_LARGE = 40,
     /* A component of a duration is out of order, or repeated, and the configuration refuses that. */
     SPEEDATE_DURATION_UNIT_ORDER = 41,
     /* A timestamp in microseconds has a digit after its point, and the configuration refuses it. */
     SPEEDATE_MICROSECOND_FRACTION_TOO_LONG = 42,
 
-    /* From 101 on: what the caller has to mend. */
+    /* From 101 on: what the caller has to correct. */
 
     /* A value that was passed is out of range, as a month 13 or a flag 2; or a number is no code. */
     SPEEDATE_VALUE_OUT_OF_RANGE = 101,
-    /* A number of the configuration has no meaning. It is looked at before everything else. */
+    /* A number of the configuration has no meaning. */
     SPEEDATE_CONFIG_OUT_OF_RANGE = 102,
     /* The buffer has no room for the text and its zero byte. */
     SPEEDATE_BUFFER_TOO_SMALL = 103,
-    /* The date asked for is before 0000-01-01 or after 9999-12-31. */
+    /* There is no date of that day number, or so many days later. Other calls return SPEEDATE_DATE_TOO_SMALL or
+     * SPEEDATE_DATE_TOO_LARGE. */
     SPEEDATE_NO_SUCH_DATE = 104
 };
+
+/* Calls return int. Cast to this in a switch for -Wswitch. */
+typedef enum SpeedateCode SpeedateCode;
 
 /* Room for the name or the documentation text of a code, with its zero byte. */
 #define SPEEDATE_CODE_TEXT_SIZE 64
@@ -138,21 +148,26 @@ enum SpeedateCode {
 /* Prints the name of a code: "too_short" for 1. SPEEDATE_VALUE_OUT_OF_RANGE for 0 and for a number that is no code. */
 int speedate_code_name(int code, char *buffer, size_t size, size_t *length);
 
-/* Prints the documentation text of a code: "input is too short" for 1. It refuses what speedate_code_name refuses. */
+/* Prints the documentation text of a code: "input is too short" for 1. It refuses what speedate_code_name refuses. The
+ * words of 1 to 40 are the Rust crate's, and may name another cause than the one met: log the name too. */
 int speedate_code_documentation(int code, char *buffer, size_t size, size_t *length);
 
 /* ---- Configurations ---- */
 
-/* How texts and timestamps are read. In each field 0 is the default, so SpeedateConfig config = {0} is the default
- * configuration. A field that a call does not look at still has to have a meaning. */
+/* How texts and timestamps are read. In each field 0 is the default. A field that a call does not look at still has to
+ * have a meaning. */
 typedef struct SpeedateConfig {
-    /* The offset from UTC, in seconds, that the value of a timestamp gets: less than 24 hours either way. */
+    /* The offset from UTC, in seconds, that the value of a timestamp gets: less than 24 hours either way. For Unix time
+     * set has_timestamp_offset to 1 and this to 0: another offset is attached and shifts nothing, so the instant
+     * changes. A text that is no timestamp never gets it: assign to time.has_offset and time.offset. */
     int32_t timestamp_offset;
     /* 1 where the value of a timestamp gets that offset; 0 where it gets none. */
     uint8_t has_timestamp_offset;
-    /* The unit of timestamps: SPEEDATE_UNIT_INFER, _SECOND, _MILLISECOND or _MICROSECOND. */
+    /* The unit of timestamps, in texts too: SPEEDATE_UNIT_INFER, _SECOND, _MILLISECOND or _MICROSECOND. */
     uint8_t timestamp_unit;
-    /* What is done with digits past the microsecond: SPEEDATE_OVERFLOW_ERROR or _TRUNCATE. */
+    /* What is done with digits past the microsecond in times, date-times, clocks of durations (00:00:01.5) and decimal
+     * timestamps: SPEEDATE_OVERFLOW_ERROR or _TRUNCATE. An ISO 8601 duration is rounded to the nearest microsecond
+     * under both. */
     uint8_t overflow_behavior;
     /* The order of the components of an ISO 8601 duration: SPEEDATE_ORDER_LAX or _STRICT. */
     uint8_t iso_order;
@@ -163,7 +178,7 @@ typedef struct SpeedateConfig {
 /* The default: SpeedateConfig config = SPEEDATE_CONFIG_DEFAULT; */
 #define SPEEDATE_CONFIG_DEFAULT {0, 0, 0, 0, 0, 0}
 
-/* Seconds where the size of the timestamp is at most 20,000,000,000, otherwise milliseconds. */
+/* Seconds where the timestamp without its sign is at most 20,000,000,000, otherwise milliseconds. */
 #define SPEEDATE_UNIT_INFER 0
 #define SPEEDATE_UNIT_SECOND 1
 #define SPEEDATE_UNIT_MILLISECOND 2
@@ -181,7 +196,8 @@ typedef struct SpeedateConfig {
 
 /* The texts of RFC 3339, and others: the second, the offset and the colon in it may be left out, and more. */
 #define SPEEDATE_FORM_RELAXED 0
-/* The texts of RFC 3339, but for those with a second 60. */
+/* The texts of RFC 3339 without a second 60; SPEEDATE_OVERFLOW_ERROR refuses a seventh digit here too. Timestamps are
+ * read as in the relaxed form. */
 #define SPEEDATE_FORM_STRICT 1
 
 /* ---- Values ---- */
@@ -227,13 +243,13 @@ typedef struct SpeedateDuration {
 #define SPEEDATE_DATETIME_TEXT_SIZE 33
 #define SPEEDATE_DURATION_TEXT_SIZE 32
 
-/* Every call below that takes a value answers SPEEDATE_VALUE_OUT_OF_RANGE where it is out of range, before it looks
- * at anything but the configuration; the _check calls alone say what is out of range. */
+/* Every call below that takes a value returns SPEEDATE_VALUE_OUT_OF_RANGE where it is out of range, except
+ * speedate_duration_normalize; the _check calls alone say what is out of range. */
 
 /* ---- Dates ---- */
 
 /* Reads a date, "2020-02-29", or a timestamp that stands in its place, "1582934400", in the unit of the
- * configuration. A timestamp has to be a midnight. */
+ * configuration. Every whole number is a timestamp: 20200229 too. A timestamp has to be a midnight. */
 int speedate_date_parse(const char *text, size_t size, SpeedateConfig config, SpeedateDate *out);
 
 /* Reads a date, and no timestamp. */
@@ -256,7 +272,8 @@ int speedate_date_compare(SpeedateDate first, SpeedateDate second, int32_t *out)
 
 /* The date of a timestamp in the unit of the configuration: 1970-01-02 for 86,400 seconds. Where require_exact is 1
  * the timestamp has to be a midnight (SPEEDATE_DATE_NOT_EXACT); where it is 0 the date is that of the day in which it
- * lies. SPEEDATE_DATE_TOO_SMALL before the year 0000, SPEEDATE_DATE_TOO_LARGE after the year 9999. */
+ * lies; any other number is SPEEDATE_VALUE_OUT_OF_RANGE. SPEEDATE_DATE_TOO_SMALL before the year 0000,
+ * SPEEDATE_DATE_TOO_LARGE after the year 9999. */
 int speedate_date_from_timestamp(int64_t timestamp, uint8_t require_exact, SpeedateConfig config, SpeedateDate *out);
 
 /* The second, and the millisecond, at which a date begins, counted from 1970-01-01T00:00:00. */
@@ -276,7 +293,7 @@ int speedate_date_ordinal_day(SpeedateDate date, uint16_t *out);
 int speedate_date_add_days(SpeedateDate date, int32_t days, SpeedateDate *out);
 
 /* The days from `earlier` to `date`: 2 for 2020-03-01 and the earlier 2020-02-28. They are negative where `earlier`
- * is the later one. */
+ * is the later one. Note the order: speedate_duration_between_dates takes the earlier one first. */
 int speedate_date_days_since(SpeedateDate date, SpeedateDate earlier, int32_t *out);
 
 /* ---- Times ---- */
@@ -294,11 +311,12 @@ int speedate_time_parse_front(const char *text, size_t size, SpeedateConfig conf
 int speedate_time_check(SpeedateTime time);
 
 /* Prints a time: "12:13:14.500000+01:30", "12:13:14Z". It reads back as the time where the offset is absent or whole
- * minutes; the seconds of another offset are not printed. */
+ * minutes; the seconds of another offset are not printed. SPEEDATE_FORM_STRICT reads back only those with an offset. */
 int speedate_time_to_text(SpeedateTime time, char *buffer, size_t size, size_t *length);
 
 /* Writes -1 where the first time is the earlier one, 0 where they are the same instant, otherwise 1: in UTC where both
- * have an offset, otherwise as clocks show them. Times at other offsets can be the same instant. */
+ * have an offset, otherwise as clocks show them. Times at other offsets can be the same instant. Sort only values that
+ * all have an offset, or that all have none: in a mixture the order is not transitive. */
 int speedate_time_compare(SpeedateTime first, SpeedateTime second, int32_t *out);
 
 /* The time so many seconds and microseconds after midnight, with the offset of the configuration: 10:00:06.5 for
@@ -317,14 +335,17 @@ int speedate_time_in_timezone(SpeedateTime time, int32_t offset, SpeedateTime *o
 /* ---- Date-times ---- */
 
 /* Reads a date-time, "2020-02-29T12:13:14.5+01:00", or a timestamp that stands in its place, "1582978394.5", in the
- * unit and with the offset of the configuration. */
+ * unit and with the offset of the configuration. Every number is a timestamp: 20200229 too. */
 int speedate_datetime_parse(const char *text, size_t size, SpeedateConfig config, SpeedateDateTime *out);
 
-/* Reads a date-time, and no timestamp. */
+/* Reads the same texts as speedate_datetime_parse, without timestamps. For RFC 3339 alone call this with
+ * SPEEDATE_FORM_STRICT. */
 int speedate_datetime_parse_rfc3339(const char *text, size_t size, SpeedateConfig config, SpeedateDateTime *out);
 
 /* Reads the date-time at the front of a text, and writes how many bytes it takes to *taken: 2026-11-22T12:13:14Z, and
- * 20, from "2026-11-22T12:13:14Z GET /". */
+ * 20, from "2026-11-22T12:13:14Z GET /". It reads no timestamp (cut the word and call speedate_datetime_parse) and no
+ * bare date (call speedate_date_parse_front). An offset follows without a space. For nanoseconds set
+ * SPEEDATE_OVERFLOW_TRUNCATE. */
 int speedate_datetime_parse_front(const char *text, size_t size, SpeedateConfig config, SpeedateDateTime *out,
                                   size_t *taken);
 
@@ -332,27 +353,25 @@ int speedate_datetime_parse_front(const char *text, size_t size, SpeedateConfig 
  * speedate_time_check of the time. */
 int speedate_datetime_check(SpeedateDateTime value);
 
-/* Prints a date-time: "2020-02-29T12:13:14.500000+01:30". It reads back as the date-time where the offset is absent or
- * whole minutes; the seconds of another offset are not printed. */
+/* Prints a date-time: "2020-02-29T12:13:14.500000+01:30". It reads back as a printed time does. */
 int speedate_datetime_to_text(SpeedateDateTime value, char *buffer, size_t size, size_t *length);
 
-/* Writes -1 where the first date-time is the earlier one, 0 where they are the same instant, otherwise 1: in UTC where
- * both have an offset, otherwise as clocks show them. Date-times at other offsets can be the same instant. */
+/* Compares date-times as speedate_time_compare does times; what it says of sorting holds here too. */
 int speedate_datetime_compare(SpeedateDateTime first, SpeedateDateTime second, int32_t *out);
 
 /* The date-time of a timestamp in the unit of the configuration, and so many microseconds later, with the offset of the
- * configuration, which is attached and shifts nothing: 1970-01-01T00:00:01.000002 for 1 second and 2.
- * SPEEDATE_TIME_TOO_LARGE where a sum on the way is too large, SPEEDATE_DATE_TOO_SMALL before the year 0000,
- * SPEEDATE_DATE_TOO_LARGE after the year 9999. */
+ * configuration: 1970-01-01T00:00:01.000002 for 1 second and 2. SPEEDATE_TIME_TOO_LARGE where a sum on the way is too
+ * large, SPEEDATE_DATE_TOO_SMALL before the year 0000, SPEEDATE_DATE_TOO_LARGE after the year 9999. */
 int speedate_datetime_from_timestamp(int64_t timestamp, uint32_t microsecond, SpeedateConfig config,
                                      SpeedateDateTime *out);
 
-/* The second, and the millisecond, rounded down, since 1970-01-01T00:00:00 that a clock at the offset shows. */
+/* The second, and the millisecond, rounded down, since 1970-01-01T00:00:00, with the date and time as if they were in
+ * UTC: the offset is ignored. For Unix time call speedate_datetime_timestamp_tz. */
 int speedate_datetime_timestamp(SpeedateDateTime value, int64_t *out);
 int speedate_datetime_timestamp_ms(SpeedateDateTime value, int64_t *out);
 
-/* The second, and the millisecond, rounded down, since 1970-01-01T00:00:00 in UTC: a Unix timestamp. Without an offset
- * the date-time is taken to be in UTC. */
+/* Unix time: the second, and the millisecond, rounded down, since 1970-01-01T00:00:00 in UTC. Without an offset the
+ * date-time is taken to be in UTC. time.microsecond is the rest of the second: tv_nsec is 1000 times that. */
 int speedate_datetime_timestamp_tz(SpeedateDateTime value, int64_t *out);
 int speedate_datetime_timestamp_tz_ms(SpeedateDateTime value, int64_t *out);
 
@@ -363,12 +382,13 @@ int speedate_datetime_in_timezone(SpeedateDateTime value, int32_t offset, Speeda
 
 /* ---- Durations ---- */
 
-/* Reads a duration: "P1Y2DT3H4M5.5S" (ISO 8601), "-00:01:30.5" (a clock) or "2 days, 10:20" (days). */
+/* Reads a duration: "P1Y2DT3H4M5.5S" (ISO 8601), "-00:01:30.5" (a clock) or "2 days, 10:20" (days). A year is
+ * 365 days and a month 30; no call adds calendar months. */
 int speedate_duration_parse(const char *text, size_t size, SpeedateConfig config, SpeedateDuration *out);
 
 /* Brings days, seconds and microseconds of any size into their ranges: 2 days, 101 seconds and 123 microseconds for 1,
- * 86,500 and 1,000,123. SPEEDATE_DURATION_VALUE_TOO_LARGE where a sum is over 4,294,967,295,
- * SPEEDATE_DURATION_DAYS_TOO_LARGE where the days are over 999,999,999. */
+ * 86,500 and 1,000,123. Only a `negative` over 1 is SPEEDATE_VALUE_OUT_OF_RANGE. SPEEDATE_DURATION_VALUE_TOO_LARGE
+ * where a sum is over 4,294,967,295, SPEEDATE_DURATION_DAYS_TOO_LARGE where the days are over 999,999,999. */
 int speedate_duration_normalize(SpeedateDuration numbers, SpeedateDuration *out);
 
 /* SPEEDATE_OK where the numbers are those of a duration, SPEEDATE_DURATION_DAYS_TOO_LARGE for days over 999,999,999,
@@ -391,8 +411,8 @@ int speedate_duration_signed_microseconds(SpeedateDuration duration, int32_t *ou
 /* The duration with the other sign. */
 int speedate_duration_negate(SpeedateDuration duration, SpeedateDuration *out);
 
-/* The duration from one date-time to another, by their instants in UTC. It is negative where `later` is the earlier
- * one. */
+/* The duration from one date-time to another, by their instants in UTC; without an offset a date-time is taken to be in
+ * UTC. It is negative where `later` is the earlier one. */
 int speedate_duration_between(SpeedateDateTime earlier, SpeedateDateTime later, SpeedateDuration *out);
 
 /* The date-time so long after another, and so long before it, at the same offset. SPEEDATE_DATE_TOO_SMALL or
