@@ -6,6 +6,7 @@ pub mod calendar;
 pub mod canonical;
 pub mod clock;
 pub mod deadline;
+pub mod expiry;
 pub mod ledger;
 pub mod log;
 pub mod options;
