@@ -18,10 +18,10 @@ impl DateTime {
     /// them. So 2022-01-02T01:00:00+03:00 is less than 2022-01-01T23:00:00Z, and 2022-01-01T23:00:00 is
     /// less than 2022-01-02T01:00:00+03:00.
     ///
-    /// Date-times without offsets compare as their texts do, as bytes. The order is transitive among
-    /// date-times that all have an offset, and among date-times that all have none, but not across a
-    /// mixture. Date-times with different offsets can be equal here, while `==` tells them apart: so
-    /// this is a call, and no order trait.
+    /// Date-times without offsets compare as their texts do, as bytes. Date-times that all have an
+    /// offset, or that all have none, can be sorted by it: the order is then transitive. Date-times
+    /// with different offsets can be equal here, while `==` tells them apart: so this is a call, and
+    /// no order trait.
     #[inline]
     pub fn cmp_instant(&self, other: &DateTime) -> Ordering
         ensures order { result ≡ date_time_instant_order (parts self.now) (parts other.now) }

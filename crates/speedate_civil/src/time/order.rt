@@ -18,10 +18,9 @@ impl Time {
     /// So 12:00:00+01:00 is less than 11:30:00Z, and 11:30:00 is less than 12:00:00+01:00. Each time is
     /// taken to be one of the same day at its offset.
     ///
-    /// Times without offsets compare as their texts do, as bytes. The order is transitive among times
-    /// that all have an offset, and among times that all have none, but not across a mixture. Times
-    /// with different offsets can be equal here, while `==` tells them apart: so this is a call, and no
-    /// order trait.
+    /// Times without offsets compare as their texts do, as bytes. Times that all have an offset, or
+    /// that all have none, can be sorted by it: the order is then transitive. Times with different
+    /// offsets can be equal here, while `==` tells them apart: so this is a call, and no order trait.
     #[inline]
     pub fn cmp_instant(&self, other: &Time) -> Ordering
         ensures order { result ≡ time_instant_order (parts self.now) (parts other.now) }
