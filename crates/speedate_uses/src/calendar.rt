@@ -39,15 +39,15 @@ pub fn month_name(date: &Date) -> &'static str
 #[cfg(test)]
 mod tests {
     use super::{month_name, short_year};
+    use crate::checks::{same, value};
     use speedate::{Date, ParseError};
-    use std::test::Fail;
 
     #[test]
-    fn a_leap_day(rt: HostRuntime) -> Result<(), Fail> {
-        assert_eq!(rt; short_year("2020-02-29"), Ok(20));
-        assert_eq!(rt; short_year("2021-02-29"), Err(ParseError::OutOfRangeDay));
-        let date: Date = "2020-02-29".parse()?;
-        assert_eq!(rt; month_name(&date), "February");
-        Ok(())
+    fn a_leap_day(rt: HostRuntime) {
+        same(&rt, short_year("2020-02-29"), Ok(20), "2020-02-29");
+        let fault = Err(ParseError::OutOfRangeDay);
+        same(&rt, short_year("2021-02-29"), fault, "2021-02-29");
+        let date: Date = value(&rt, "2020-02-29");
+        same(&rt, month_name(&date), "February", "2020-02-29");
     }
 }

@@ -19,18 +19,15 @@ pub fn days_until(start: &Date, text: &str) -> Result<i32, ParseError>
 #[cfg(test)]
 mod tests {
     use super::days_until;
+    use crate::checks::{same, value};
     use speedate::{Date, ParseError};
-    use std::test::Fail;
 
     #[test]
-    fn days_left(rt: HostRuntime) -> Result<(), Fail> {
-        let start: Date = "2020-02-28".parse()?;
-        assert_eq!(rt; days_until(&start, "2020-03-01"), Ok(2));
-        assert_eq!(rt; days_until(&start, "2020-02-27"), Ok(-1));
-        assert_eq!(rt;
-            days_until(&start, "2020-02-30"),
-            Err(ParseError::OutOfRangeDay)
-        );
-        Ok(())
+    fn days_left(rt: HostRuntime) {
+        let start: Date = value(&rt, "2020-02-28");
+        same(&rt, days_until(&start, "2020-03-01"), Ok(2), "2020-03-01");
+        same(&rt, days_until(&start, "2020-02-27"), Ok(-1), "2020-02-27");
+        let fault = Err(ParseError::OutOfRangeDay);
+        same(&rt, days_until(&start, "2020-02-30"), fault, "2020-02-30");
     }
 }

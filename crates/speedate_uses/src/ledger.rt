@@ -51,7 +51,8 @@ pub fn sort_by_date<A: Allocator>(alloc: A, entries: &mut [Entry]) -> Result<(),
 #[cfg(test)]
 mod tests {
     use super::{Entry, are_in_order, is_in_order, sort_by_date};
-    use std::test::Fail;
+    use crate::checks::{same, value};
+    use std::process::Abort;
 
     /// Lines of a ledger, the next ones, and whether their dates are in order.
     const LEDGER: &str = "\
@@ -63,14 +64,22 @@ mod tests {
 2026-11-31 food, 2026-12-01 rent               no
 rent 2026-12-01, 2026-12-01 rent               no";
 
+    fn expect_order<R: Abort>(rt: &R, row: &str) {
+        let (line, rest) = row.split_once(", ").expect(rt, row);
+        let (next, ordered) = rest.rsplit_once(' ').expect(rt, row);
+        let found = is_in_order(line.as_bytes(), next.as_bytes());
+        same(rt, found, ordered == "yes", row);
+    }
+
     #[test]
-    fn lines_of_a_ledger(rt: HostRuntime) -> Result<(), Fail> {
+    fn lines_and_the_next_ones(rt: HostRuntime) {
         for row in LEDGER.lines() {
-            let (line, rest) = row.split_once(", ").ok_or("a row")?;
-            let (next, ordered) = rest.rsplit_once(' ').ok_or("a row")?;
-            let found = is_in_order(line.as_bytes(), next.as_bytes());
-            assert_eq!(rt; found, ordered == "yes", "{row}");
+            expect_order(&rt, row);
         }
+    }
+
+    #[test]
+    fn lines_of_a_ledger(rt: HostRuntime) {
         let lines: [&[u8]; 3] = [
             b"2026-11-22 opening balance",
             b"2026-11-22 rent",
@@ -79,26 +88,20 @@ rent 2026-12-01, 2026-12-01 rent               no";
         assert!(rt; are_in_order(&lines));
         assert!(rt; !are_in_order(&[lines[0], lines[2], lines[1]]));
         assert!(rt; !are_in_order(&[lines[0], lines[1], b"rent"]));
-        Ok(())
+    }
+
+    fn entry<R: Abort>(rt: &R, date: &str, cents: i64) -> Entry {
+        let date = value(rt, date);
+        Entry { date, cents }
     }
 
     #[test]
-    fn entries_by_date(rt: HostRuntime) -> Result<(), Fail> {
-        let rent = Entry {
-            date: "2026-12-01".parse()?,
-            cents: -90_000,
-        };
-        let food = Entry {
-            date: "2026-11-30".parse()?,
-            cents: -4_250,
-        };
-        let wages = Entry {
-            date: rent.date,
-            cents: 250_000,
-        };
+    fn entries_by_date(rt: HostRuntime) {
+        let rent = entry(&rt, "2026-12-01", -90_000);
+        let food = entry(&rt, "2026-11-30", -4_250);
+        let wages = entry(&rt, "2026-12-01", 250_000);
         let mut entries = [rent, wages, food];
-        sort_by_date(rt.alloc(), &mut entries)?;
-        assert!(rt; entries == [food, rent, wages]);
-        Ok(())
+        let sorted = sort_by_date(rt.alloc(), &mut entries);
+        assert!(rt; sorted.is_ok() && entries == [food, rent, wages]);
     }
 }

@@ -15,3 +15,40 @@ pub mod storage;
 pub mod timeout;
 pub mod trace;
 pub mod validator;
+
+#[cfg(test)]
+mod checks {
+    //! What the tests share: a test is proved at each place.
+
+    use speedate::{DateTime, ParseError};
+    use std::fmt::Debug;
+    use std::process::Abort;
+    use std::str::FromStr;
+
+    /// The value that a text is, which is to be one.
+    pub fn value<T: FromStr, R: Abort>(rt: &R, text: &str) -> T
+    where
+        T::Err: Drop,
+    {
+        text.parse().ok().expect(rt, text)
+    }
+
+    /// What was found is to be what a row wants.
+    pub fn same<T: PartialEq + Debug + Copy, R: Abort>(rt: &R, found: T, want: T, row: &str) {
+        assert_eq!(rt; found, want, "{row}");
+    }
+
+    /// The answer to a row is to be the date-time that is written so, `none`, or the fault of that name.
+    pub fn expect<R: Abort>(
+        rt: &R,
+        answer: Result<Option<DateTime>, ParseError>,
+        want: &str,
+        row: &str,
+    ) {
+        match answer {
+            Ok(Some(time)) => same(rt, time.to_text().as_str(), want, row),
+            Ok(None) => same(rt, "none", want, row),
+            Err(fault) => same(rt, fault.name(), want, row),
+        }
+    }
+}

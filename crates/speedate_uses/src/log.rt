@@ -58,8 +58,13 @@ pub fn lines_between<'a, A: Allocator>(
 #[cfg(test)]
 mod tests {
     use super::{is_between, lines_between, log_entry};
+    use crate::checks::{same, value};
     use speedate::{DateTime, MicrosecondsPrecisionOverflowBehavior, TimeConfig};
-    use std::test::Fail;
+    use std::process::Abort;
+
+    const FIRST: &str = "2026-11-22T12:13:14Z";
+
+    const LAST: &str = "2026-11-22T12:13:16Z";
 
     /// Lines of a log, and whether they lie between 12:13:14 and 12:13:16 in UTC on 22 November 2026.
     const LOG: &str = "\
@@ -82,32 +87,39 @@ GET / 2026-11-22T12:13:14Z              no";
             .build()
     }
 
+    fn expect_kept<R: Abort>(rt: &R, row: &str) {
+        let (line, kept) = row.rsplit_once(' ').expect(rt, row);
+        let (first, last): (DateTime, DateTime) = (value(rt, FIRST), value(rt, LAST));
+        let found = is_between(line.as_bytes(), &truncating(), &first, &last);
+        same(rt, found, kept == "yes", row);
+    }
+
     #[test]
-    fn lines_of_a_log(rt: HostRuntime) -> Result<(), Fail> {
-        let config = truncating();
-        let first: DateTime = "2026-11-22T12:13:14Z".parse()?;
-        let last: DateTime = "2026-11-22T12:13:16Z".parse()?;
+    fn lines_of_a_log(rt: HostRuntime) {
         for row in LOG.lines() {
-            let (line, kept) = row.rsplit_once(' ').ok_or("a row")?;
-            let found = is_between(line.as_bytes(), &config, &first, &last);
-            assert_eq!(rt; found, kept == "yes", "{row}");
+            expect_kept(&rt, row);
         }
+    }
+
+    #[test]
+    fn lines_that_are_kept(rt: HostRuntime) {
+        let (first, last): (DateTime, DateTime) = (value(&rt, FIRST), value(&rt, LAST));
         let lines: [&[u8]; 3] = [
             b"2026-11-22T12:13:13Z GET /",
             b"2026-11-22T12:13:14Z GET /",
             b"GET /",
         ];
-        let kept = lines_between(rt.alloc(), &lines, &config, &first, &last)?;
-        assert_eq!(rt; kept.len(), 1);
-        assert_eq!(rt; kept[0], lines[1]);
-        Ok(())
+        let kept = lines_between(rt.alloc(), &lines, &truncating(), &first, &last);
+        let kept = kept.ok().expect(&rt, "lines");
+        assert!(rt; kept.len() == 1 && kept[0] == lines[1]);
     }
 
     #[test]
-    fn a_line_in_two_parts(rt: HostRuntime) -> Result<(), Fail> {
-        let (value, rest) = log_entry(b"2026-11-22T12:13:14Z GET /", &truncating())?;
-        assert_eq!(rt; value.to_text().as_str(), "2026-11-22T12:13:14Z");
-        assert_eq!(rt; rest, b" GET /".as_slice());
-        Ok(())
+    fn a_line_in_two_parts(rt: HostRuntime) {
+        let line = "2026-11-22T12:13:14Z GET /";
+        let entry = log_entry(line.as_bytes(), &truncating());
+        let (value, rest) = entry.ok().expect(&rt, line);
+        same(&rt, value.to_text().as_str(), FIRST, line);
+        same(&rt, rest, b" GET /".as_slice(), line);
     }
 }

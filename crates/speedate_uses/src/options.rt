@@ -34,27 +34,23 @@ pub fn with_offset(hours: i8) -> Option<TimeConfig>
 #[cfg(test)]
 mod tests {
     use super::{date_config, with_offset};
+    use crate::checks::{same, value};
     use speedate::{ConfigError, Date, Time};
-    use std::test::Fail;
 
     #[test]
-    fn dates_of_seconds(rt: HostRuntime) -> Result<(), Fail> {
-        let config = date_config("s")?;
-        let date = Date::parse_str_with_config("1582934400", &config)?;
-        assert_eq!(rt; date, "2020-02-29".parse()?);
-        assert_eq!(rt;
-            date_config("h"),
-            Err(ConfigError::UnknownTimestampUnitString)
-        );
-        Ok(())
+    fn dates_of_seconds(rt: HostRuntime) {
+        let config = date_config("s").ok().expect(&rt, "s");
+        let date = Date::parse_str_with_config("1582934400", &config);
+        same(&rt, date, Ok(value(&rt, "2020-02-29")), "s");
+        let fault = Err(ConfigError::UnknownTimestampUnitString);
+        same(&rt, date_config("h"), fault, "h");
     }
 
     #[test]
-    fn times_at_an_offset(rt: HostRuntime) -> Result<(), Fail> {
-        let config = with_offset(-23).ok_or("an offset")?;
-        let time = Time::from_timestamp_with_config(3_661, 0, &config)?;
-        assert_eq!(rt; time, "01:01:01-23:00".parse()?);
-        assert_eq!(rt; with_offset(24), None);
-        Ok(())
+    fn times_at_an_offset(rt: HostRuntime) {
+        let config = with_offset(-23).expect(&rt, "-23");
+        let time = Time::from_timestamp_with_config(3_661, 0, &config);
+        same(&rt, time, Ok(value(&rt, "01:01:01-23:00")), "-23");
+        same(&rt, with_offset(24), None, "24");
     }
 }

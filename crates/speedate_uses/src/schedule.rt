@@ -87,8 +87,9 @@ fn of_microseconds(length: u64) -> Duration
 #[cfg(test)]
 mod tests {
     use super::next_run;
+    use crate::checks::{expect, value};
     use speedate::{DateTime, Duration};
-    use std::test::Fail;
+    use std::process::Abort;
 
     /// When a job ran last, how often it runs, now, and when it runs next.
     const RUNS: &str = "\
@@ -115,20 +116,19 @@ mod tests {
 2026-11-22T12:00:00Z       -PT0S        2026-11-22T12:30:00Z         none
 2026-11-22T12:00:00Z       -PT1H        2026-11-22T12:30:00Z         none";
 
+    fn expect_run<R: Abort>(rt: &R, row: &str) {
+        let mut words = row.split_whitespace();
+        let last: DateTime = value(rt, words.next().unwrap_or(""));
+        let every: Duration = value(rt, words.next().unwrap_or(""));
+        let now: DateTime = value(rt, words.next().unwrap_or(""));
+        let want = words.next().unwrap_or("");
+        expect(rt, next_run(&last, &every, &now), want, row);
+    }
+
     #[test]
-    fn runs(rt: HostRuntime) -> Result<(), Fail> {
+    fn runs(rt: HostRuntime) {
         for row in RUNS.lines() {
-            let mut words = row.split_whitespace();
-            let last: DateTime = words.next().unwrap_or("").parse()?;
-            let every: Duration = words.next().unwrap_or("").parse()?;
-            let now: DateTime = words.next().unwrap_or("").parse()?;
-            let want = words.next().unwrap_or("");
-            match next_run(&last, &every, &now) {
-                Ok(Some(run)) => assert_eq!(rt; run.to_text().as_str(), want, "{row}"),
-                Ok(None) => assert_eq!(rt; "none", want, "{row}"),
-                Err(fault) => assert_eq!(rt; fault.name(), want, "{row}"),
-            }
+            expect_run(&rt, row);
         }
-        Ok(())
     }
 }

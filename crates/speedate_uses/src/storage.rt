@@ -22,11 +22,11 @@ pub fn stored_and_read(time: &Time, config: &TimeConfig) -> Result<Time, ParseEr
 #[cfg(test)]
 mod tests {
     use super::stored_and_read;
+    use crate::checks::same;
     use speedate::{Time, TimeConfig};
-    use std::test::Fail;
 
     #[test]
-    fn a_time_is_kept(rt: HostRuntime) -> Result<(), Fail> {
+    fn a_time_is_kept(rt: HostRuntime) {
         let time = Time {
             hour: 23,
             minute: 59,
@@ -34,10 +34,7 @@ mod tests {
             microsecond: 999_999,
             tz_offset: Some(-3_600),
         };
-        assert_eq!(rt;
-            stored_and_read(&time, &TimeConfig::builder().build()),
-            Ok(time)
-        );
-        Ok(())
+        let read = stored_and_read(&time, &TimeConfig::builder().build());
+        same(&rt, read, Ok(time), "a time");
     }
 }

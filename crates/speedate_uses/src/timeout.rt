@@ -26,13 +26,14 @@ pub fn timeout_ms(text: &str) -> Result<Option<u64>, ParseError>
 #[cfg(test)]
 mod tests {
     use super::timeout_ms;
+    use crate::checks::same;
     use speedate::ParseError;
 
     #[test]
     fn timeouts(rt: HostRuntime) {
-        assert_eq!(rt; timeout_ms("PT30S"), Ok(Some(30_000)));
-        assert_eq!(rt; timeout_ms("PT0.0019S"), Ok(Some(1)));
-        assert_eq!(rt; timeout_ms("-PT30S"), Ok(None));
-        assert_eq!(rt; timeout_ms("PT"), Err(ParseError::TooShort));
+        same(&rt, timeout_ms("PT30S"), Ok(Some(30_000)), "PT30S");
+        same(&rt, timeout_ms("PT0.0019S"), Ok(Some(1)), "PT0.0019S");
+        same(&rt, timeout_ms("-PT30S"), Ok(None), "-PT30S");
+        same(&rt, timeout_ms("PT"), Err(ParseError::TooShort), "PT");
     }
 }

@@ -32,7 +32,7 @@ pub fn trace_time(number: &str) -> Result<Option<DateTime>, ParseError>
 #[cfg(test)]
 mod tests {
     use super::trace_time;
-    use std::test::Fail;
+    use crate::checks::expect;
 
     /// Numbers of a trace, and their date-times.
     const NUMBERS: &str = "\
@@ -43,16 +43,10 @@ mod tests {
 1e9                 none";
 
     #[test]
-    fn numbers_of_a_trace(rt: HostRuntime) -> Result<(), Fail> {
+    fn numbers_of_a_trace(rt: HostRuntime) {
         for row in NUMBERS.lines() {
-            let (number, want) = row.split_once(' ').ok_or("a row")?;
-            let want = want.trim_start();
-            match trace_time(number) {
-                Ok(Some(time)) => assert_eq!(rt; time.to_text().as_str(), want, "{row}"),
-                Ok(None) => assert_eq!(rt; "none", want, "{row}"),
-                Err(fault) => assert_eq!(rt; fault.name(), want, "{row}"),
-            }
+            let (number, want) = row.split_once(' ').expect(&rt, row);
+            expect(&rt, trace_time(number), want.trim_start(), row);
         }
-        Ok(())
     }
 }

@@ -56,20 +56,18 @@ pub fn schema_date_time(text: &str) -> Result<DateTime, ParseError>
 #[cfg(test)]
 mod tests {
     use super::date_time_field;
-    use std::test::Fail;
+    use crate::checks::same;
 
     #[test]
-    fn fields(rt: HostRuntime) -> Result<(), Fail> {
-        let due = date_time_field("due", "2026-11-22T12:13:14.1234567Z")
-            .ok()
-            .ok_or("a value")?;
-        assert_eq!(rt; due.to_text().as_str(), "2026-11-22T12:13:14.123456Z");
-        let fault = date_time_field("due", "2026-11-22T12:13")
-            .err()
-            .ok_or("a fault")?;
-        assert_eq!(rt; fault.field, "due");
-        assert_eq!(rt; fault.fault, "too_short");
-        assert_eq!(rt; fault.text, "input is too short");
-        Ok(())
+    fn fields(rt: HostRuntime) {
+        let due = date_time_field("due", "2026-11-22T12:13:14.1234567Z");
+        let due = due.ok().expect(&rt, "a value");
+        let want = "2026-11-22T12:13:14.123456Z";
+        same(&rt, due.to_text().as_str(), want, "a value");
+        let fault = date_time_field("due", "2026-11-22T12:13");
+        let fault = fault.err().expect(&rt, "a fault");
+        same(&rt, fault.field, "due", "the field");
+        same(&rt, fault.fault, "too_short", "the fault");
+        same(&rt, fault.text, "input is too short", "its text");
     }
 }

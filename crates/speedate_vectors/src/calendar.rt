@@ -1,9 +1,10 @@
 //! Day numbers, days of the year and midnights, and the walk over the calendar.
 
-use crate::rows::{same, value, words};
+use crate::rows::{Row, each, same, value, words};
 use jiff::civil;
 use speedate::Date;
-use std::test::Fail;
+use std::fmt::Debug;
+use std::process::Abort;
 
 /// Day numbers and their dates.
 const NUMBERED: &str = "\
@@ -36,35 +37,58 @@ const COUNTED: &str = "\
 2021-03-01  60   1614556800
 9999-12-31  365  253402214400";
 
+struct NumberedRow;
+
+impl Row for NumberedRow {
+    fn check<R: AllocGlobal + Abort>(rt: &R, row: &str) {
+        let [number, text, ..] = words(row);
+        let (number, date): (u32, Date) = (value(rt, number), value(rt, text));
+        same(rt, date.day_number(), number, row);
+        same(rt, Date::from_day_number(number), Some(date), row);
+    }
+}
+
 #[test]
 fn day_numbers(rt: HostRuntime) {
-    for row in NUMBERED.lines() {
-        let [number, text, ..] = words(row);
-        let (number, date): (u32, Date) = (value(&rt, number), value(&rt, text));
-        same(&rt, date.day_number(), number, row);
-        same(&rt, Date::from_day_number(number), Some(date), row);
-    }
+    each::<NumberedRow, _>(&rt, NUMBERED);
     same(&rt, Date::from_day_number(3_652_425), None, "3652425");
+}
+
+struct NextRow;
+
+impl Row for NextRow {
+    fn check<R: AllocGlobal + Abort>(rt: &R, row: &str) {
+        let [text, next, ..] = words(row);
+        let date: Date = value(rt, text);
+        same(rt, date.next_day(), Some(value(rt, next)), row);
+    }
 }
 
 #[test]
 fn next_days(rt: HostRuntime) {
-    for row in NEXT.lines() {
-        let [text, next, ..] = words(row);
-        let date: Date = value(&rt, text);
-        same(&rt, date.next_day(), Some(value(&rt, next)), row);
+    each::<NextRow, _>(&rt, NEXT);
+}
+
+struct CountedRow;
+
+impl Row for CountedRow {
+    fn check<R: AllocGlobal + Abort>(rt: &R, row: &str) {
+        let [text, day, second, ..] = words(row);
+        let (date, second): (Date, i64) = (value(rt, text), value(rt, second));
+        same(rt, date.ordinal_day(), value(rt, day), row);
+        same(rt, date.timestamp(), second, row);
+        same(rt, date.timestamp_ms(), second.saturating_mul(1000), row);
     }
 }
 
 #[test]
 fn days_of_the_year_and_midnights(rt: HostRuntime) {
-    for row in COUNTED.lines() {
-        let [text, day, second, ..] = words(row);
-        let (date, second): (Date, i64) = (value(&rt, text), value(&rt, second));
-        same(&rt, date.ordinal_day(), value(&rt, day), row);
-        same(&rt, date.timestamp(), second, row);
-        same(&rt, date.timestamp_ms(), second.saturating_mul(1000), row);
-    }
+    each::<CountedRow, _>(&rt, COUNTED);
+}
+
+/// What was found at a number is to be what is wanted there.
+fn same_at<T: PartialEq + Debug + Copy, R: Abort>(rt: &R, found: T, want: T, number: u32) {
+    assert_eq!(rt; found, want, "{number}");
 }
 
 /// The date in `jiff`'s civil calendar.
@@ -72,50 +96,45 @@ fn civil_date(date: &Date) -> Result<civil::Date, jiff::Error> {
     civil::Date::new(date.year as i16, date.month as i8, date.day as i8)
 }
 
-#[test]
-fn days_between_dates_all_over_the_calendar(rt: HostRuntime) -> Result<(), Fail> {
-    for step in 0..20_000 {
-        let date = Date::from_day_number(step * 7_919 % 3_652_425).expect(&rt, "a date");
-        let other = Date::from_day_number(step * 104_729 % 3_652_425).expect(&rt, "a date");
-        let days = civil_date(&date)?.until(civil_date(&other)?)?.get_days();
-        assert_eq!(rt; other.days_since(&date), days, "{date} {other}");
-        assert_eq!(rt; date.checked_add_days(days), Some(other), "{date} {days}");
-    }
-    Ok(())
+/// The days from the one date to the other in `jiff`'s civil calendar.
+fn civil_days(date: &Date, other: &Date) -> Result<i32, jiff::Error> {
+    let days = civil_date(date)?.until(civil_date(other)?)?;
+    Ok(days.get_days())
+}
+
+fn expect_days_between<R: Abort>(rt: &R, date: &Date, other: &Date, step: u32) {
+    let days = civil_days(date, other).ok().expect(rt, "days");
+    same_at(rt, other.days_since(date), days, step);
+    same_at(rt, date.checked_add_days(days), Some(*other), step);
 }
 
 #[test]
-fn each_day_of_the_calendar(rt: HostRuntime) -> Result<(), Fail> {
-    let first = value::<Date, _>(&rt, "0000-01-01");
+fn days_between_dates_all_over_the_calendar(rt: HostRuntime) {
+    for step in 0..20_000 {
+        let date = Date::from_day_number(step * 7_919 % 3_652_425).expect(&rt, "a date");
+        let other = Date::from_day_number(step * 104_729 % 3_652_425).expect(&rt, "a date");
+        expect_days_between(&rt, &date, &other, step);
+    }
+}
+
+fn expect_day<R: Abort>(rt: &R, first: &Date, date: &Date, number: u32, days: i32) {
+    same_at(rt, Date::from_day_number(number), Some(*date), number);
+    same_at(rt, first.checked_add_days(days), Some(*date), number);
+    same_at(rt, date.days_since(first), days, number);
+}
+
+#[test]
+fn each_day_of_the_calendar(rt: HostRuntime) {
+    let first: Date = value(&rt, "0000-01-01");
     let mut next = Some(first);
-    let mut civil = civil::Date::new(0, 1, 1);
+    let mut civil = civil::Date::new(0, 1, 1).ok();
     for number in 0..3_652_425 {
         let date = next.expect(&rt, "a date");
-        let day = civil?;
-        let found = (
-            Date::from_day_number(number),
-            first.checked_add_days(number as i32),
-            date.days_since(&first),
-            (
-                i32::from(date.year),
-                i32::from(date.month),
-                i32::from(date.day),
-            ),
-        );
-        let want = (
-            Some(date),
-            Some(date),
-            number as i32,
-            (
-                i32::from(day.year()),
-                i32::from(day.month()),
-                i32::from(day.day()),
-            ),
-        );
-        assert_eq!(rt; found, want, "{number}");
+        let day = civil.expect(&rt, "a date");
+        expect_day(&rt, &first, &date, number, number as i32);
+        same_at(&rt, civil_date(&date).ok(), Some(day), number);
         next = date.next_day();
-        civil = day.tomorrow();
+        civil = day.tomorrow().ok();
     }
-    assert!(rt; next.is_none() && civil.is_err());
-    Ok(())
+    assert!(rt; next.is_none() && civil.is_none());
 }

@@ -1,6 +1,6 @@
 //! Units, behaviors, orders and forms by their names.
 
-use crate::rows::{quoted, same};
+use crate::rows::{Row, each, quoted, same};
 use arrayvec::ArrayString;
 use speedate::{
     ConfigError, IsoOrder, MicrosecondsPrecisionOverflowBehavior, Rfc3339Form, TimestampUnit,
@@ -62,8 +62,10 @@ const FORMS: &str = "\
 '\u{17f}trict'  unknown_rfc3339_form_string";
 
 /// Each text is to name the value that is written so, or to fail with the fault of that name.
-fn expect_each<T: FromStr<Err = ConfigError> + Debug + Copy, R: Abort>(rt: &R, table: &str) {
-    for row in table.lines() {
+struct NamedRow<T>(T);
+
+impl<T: FromStr<Err = ConfigError> + Debug + Copy> Row for NamedRow<T> {
+    fn check<R: AllocGlobal + Abort>(rt: &R, row: &str) {
         let (_, text, want) = quoted(rt, row);
         match text.parse::<T>() {
             Ok(choice) => {
@@ -78,24 +80,19 @@ fn expect_each<T: FromStr<Err = ConfigError> + Debug + Copy, R: Abort>(rt: &R, t
 
 #[test]
 fn choices_of_names(rt: HostRuntime) {
-    expect_each::<TimestampUnit, _>(&rt, UNITS);
-    expect_each::<MicrosecondsPrecisionOverflowBehavior, _>(&rt, BEHAVIORS);
-    expect_each::<IsoOrder, _>(&rt, ORDERS);
-    expect_each::<Rfc3339Form, _>(&rt, FORMS);
+    each::<NamedRow<TimestampUnit>, _>(&rt, UNITS);
+    each::<NamedRow<MicrosecondsPrecisionOverflowBehavior>, _>(&rt, BEHAVIORS);
+    each::<NamedRow<IsoOrder>, _>(&rt, ORDERS);
+    each::<NamedRow<Rfc3339Form>, _>(&rt, FORMS);
 }
 
 #[test]
 fn names_of_choices(rt: HostRuntime) {
-    for (name, want) in [
-        (TimestampUnit::Microsecond.name(), "us"),
-        (
-            MicrosecondsPrecisionOverflowBehavior::Truncate.name(),
-            "truncate",
-        ),
-        (IsoOrder::Strict.name(), "strict"),
-        (Rfc3339Form::Relaxed.name(), "relaxed"),
-        (Rfc3339Form::Strict.name(), "strict"),
-    ] {
-        same(&rt, name, want, want);
-    }
+    let unit = TimestampUnit::Microsecond;
+    same(&rt, unit.name(), "us", "a unit");
+    let behavior = MicrosecondsPrecisionOverflowBehavior::Truncate;
+    same(&rt, behavior.name(), "truncate", "a behavior");
+    same(&rt, IsoOrder::Strict.name(), "strict", "an order");
+    same(&rt, Rfc3339Form::Relaxed.name(), "relaxed", "a form");
+    same(&rt, Rfc3339Form::Strict.name(), "strict", "a form");
 }

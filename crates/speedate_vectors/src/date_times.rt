@@ -1,9 +1,9 @@
 //! Date-times from texts and from timestamps, and their timestamps.
 
 use crate::configs::{date_time_config, time_config};
-use crate::rows::{bytes, expect, quoted, same, value, words};
+use crate::rows::{Row, bytes, each, expect, quoted, same, value, words};
 use speedate::{DateTime, DateTimeConfig, IntFloat, ParseError, float_parse_str};
-use std::test::Fail;
+use std::process::Abort;
 
 /// Texts that are no numbers, and the answer of each reader.
 const TEXTS: &str = "\
@@ -260,53 +260,47 @@ const COUNTED: &str = "\
 0000-01-01T00:00:00+23:59         -62167219200  -62167219200000  -62167305540  -62167305540000
 9999-12-31T23:59:59.999999-23:59  253402300799  253402300799999  253402387139  253402387139999";
 
-#[test]
-fn texts(rt: HostRuntime) {
-    for row in TEXTS.lines() {
-        let (_, text, want) = quoted(&rt, row);
-        expect(&rt, DateTime::parse_str_rfc3339(text), want, row);
-        expect(
-            &rt,
-            DateTime::parse_bytes_rfc3339(text.as_bytes()),
-            want,
-            row,
-        );
-        expect(&rt, DateTime::parse_str(text), want, row);
-        expect(&rt, DateTime::parse_bytes(text.as_bytes()), want, row);
-        expect(&rt, text.parse::<DateTime>(), want, row);
+struct TextRow;
+
+impl Row for TextRow {
+    fn check<R: AllocGlobal + Abort>(rt: &R, row: &str) {
+        let (_, text, want) = quoted(rt, row);
+        let bytes = text.as_bytes();
+        expect(rt, DateTime::parse_str_rfc3339(text), want, row);
+        expect(rt, DateTime::parse_bytes_rfc3339(bytes), want, row);
+        expect(rt, DateTime::parse_str(text), want, row);
+        expect(rt, DateTime::parse_bytes(bytes), want, row);
+        expect(rt, text.parse::<DateTime>(), want, row);
     }
-    let cut = b"2020-01-01T12:13:14.123456\xe2\x88";
-    expect(
-        &rt,
-        DateTime::parse_bytes(cut),
-        "invalid_char_tz_sign",
-        "half a minus sign",
-    );
-    expect(
-        &rt,
-        DateTime::parse_str_rfc3339("0"),
-        "too_short",
-        "no number",
-    );
 }
 
 #[test]
-fn configured_texts(rt: HostRuntime) -> Result<(), Fail> {
-    for row in CONFIGURED.lines() {
-        let (config, text, want) = quoted(&rt, row);
-        let config = date_time_config(&rt, config);
-        let bytes = bytes(&rt, text)?;
-        expect(
-            &rt,
-            DateTime::parse_bytes_with_config(&bytes, &config),
-            want,
-            row,
-        );
+fn texts(rt: HostRuntime) {
+    each::<TextRow, _>(&rt, TEXTS);
+    let read = DateTime::parse_bytes(b"2020-01-01T12:13:14.123456\xe2\x88");
+    expect(&rt, read, "invalid_char_tz_sign", "half a minus sign");
+    let read = DateTime::parse_str_rfc3339("0");
+    expect(&rt, read, "too_short", "no number");
+}
+
+struct ConfiguredRow;
+
+impl Row for ConfiguredRow {
+    fn check<R: AllocGlobal + Abort>(rt: &R, row: &str) {
+        let (config, text, want) = quoted(rt, row);
+        let config = date_time_config(rt, config);
+        let bytes = bytes(rt, text);
+        let read = DateTime::parse_bytes_with_config(&bytes, &config);
+        expect(rt, read, want, row);
         if config == DateTimeConfig::default() {
-            expect(&rt, DateTime::parse_bytes(&bytes), want, row);
+            expect(rt, DateTime::parse_bytes(&bytes), want, row);
         }
     }
-    Ok(())
+}
+
+#[test]
+fn configured_texts(rt: HostRuntime) {
+    each::<ConfiguredRow, _>(&rt, CONFIGURED);
 }
 
 /// What a decimal gives.
@@ -317,51 +311,60 @@ fn of_decimal(text: &str, config: &DateTimeConfig) -> Result<DateTime, ParseErro
     }
 }
 
-#[test]
-fn decimals(rt: HostRuntime) {
-    for row in DECIMALS.lines() {
-        let (unit, text, want) = quoted(&rt, row);
-        let refusing = DateTimeConfig::builder().timestamp_unit(value(&rt, unit.trim_end()));
-        let truncating = refusing.time_config(time_config(&rt, "truncate"));
-        expect(&rt, of_decimal(text, &refusing.build()), want, row);
-        expect(&rt, of_decimal(text, &truncating.build()), want, row);
+struct DecimalRow;
+
+impl Row for DecimalRow {
+    fn check<R: AllocGlobal + Abort>(rt: &R, row: &str) {
+        let (unit, text, want) = quoted(rt, row);
+        let refusing = DateTimeConfig::builder().timestamp_unit(value(rt, unit.trim_end()));
+        let truncating = refusing.time_config(time_config(rt, "truncate"));
+        expect(rt, of_decimal(text, &refusing.build()), want, row);
+        expect(rt, of_decimal(text, &truncating.build()), want, row);
     }
 }
 
 #[test]
-fn timestamps(rt: HostRuntime) {
-    for row in TIMESTAMPS.lines() {
+fn decimals(rt: HostRuntime) {
+    each::<DecimalRow, _>(&rt, DECIMALS);
+}
+
+struct TimestampRow;
+
+impl Row for TimestampRow {
+    fn check<R: AllocGlobal + Abort>(rt: &R, row: &str) {
         let [unit, timestamp, microsecond, want, ..] = words(row);
-        let config = DateTimeConfig::builder()
-            .timestamp_unit(value(&rt, unit))
-            .build();
-        let (timestamp, microsecond) = (value(&rt, timestamp), value(&rt, microsecond));
-        expect(
-            &rt,
-            DateTime::from_timestamp_with_config(timestamp, microsecond, &config),
-            want,
-            row,
-        );
+        let unit = value(rt, unit);
+        let config = DateTimeConfig::builder().timestamp_unit(unit).build();
+        let (timestamp, microsecond) = (value(rt, timestamp), value(rt, microsecond));
+        let read = DateTime::from_timestamp_with_config(timestamp, microsecond, &config);
+        expect(rt, read, want, row);
         if config == DateTimeConfig::default() {
-            expect(
-                &rt,
-                DateTime::from_timestamp(timestamp, microsecond),
-                want,
-                row,
-            );
+            let read = DateTime::from_timestamp(timestamp, microsecond);
+            expect(rt, read, want, row);
         }
     }
 }
 
 #[test]
-fn counted(rt: HostRuntime) {
-    for row in COUNTED.lines() {
+fn timestamps(rt: HostRuntime) {
+    each::<TimestampRow, _>(&rt, TIMESTAMPS);
+}
+
+struct CountedRow;
+
+impl Row for CountedRow {
+    fn check<R: AllocGlobal + Abort>(rt: &R, row: &str) {
         let [text, second, millisecond, utc_second, utc_millisecond] = words(row);
-        let shown: DateTime = value(&rt, text);
-        same(&rt, shown.timestamp(), value(&rt, second), row);
-        same(&rt, shown.timestamp_ms(), value(&rt, millisecond), row);
-        same(&rt, shown.timestamp_tz(), value(&rt, utc_second), row);
+        let shown: DateTime = value(rt, text);
+        same(rt, shown.timestamp(), value(rt, second), row);
+        same(rt, shown.timestamp_ms(), value(rt, millisecond), row);
+        same(rt, shown.timestamp_tz(), value(rt, utc_second), row);
         let found = shown.timestamp_tz_ms();
-        same(&rt, found, value(&rt, utc_millisecond), row);
+        same(rt, found, value(rt, utc_millisecond), row);
     }
+}
+
+#[test]
+fn counted(rt: HostRuntime) {
+    each::<CountedRow, _>(&rt, COUNTED);
 }

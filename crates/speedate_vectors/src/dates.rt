@@ -1,7 +1,8 @@
 //! Dates from texts and from timestamps.
 
-use crate::rows::{expect, quoted, value, words};
+use crate::rows::{Row, each, expect, quoted, value, words};
 use speedate::{Date, DateConfig, TimestampUnit};
+use std::process::Abort;
 
 /// Texts that are no numbers, and the answer of each reader.
 const TEXTS: &str = "\
@@ -120,68 +121,68 @@ us     exact  1000000               date_not_exact
 us     exact  -86400000000          1969-12-31
 us     exact  253402300800000000    date_too_large";
 
+struct TextRow;
+
+impl Row for TextRow {
+    fn check<R: AllocGlobal + Abort>(rt: &R, row: &str) {
+        let (_, text, want) = quoted(rt, row);
+        expect(rt, Date::parse_str_rfc3339(text), want, row);
+        expect(rt, Date::parse_bytes_rfc3339(text.as_bytes()), want, row);
+        expect(rt, Date::parse_str(text), want, row);
+        expect(rt, text.parse::<Date>(), want, row);
+    }
+}
+
 #[test]
 fn texts(rt: HostRuntime) {
-    for row in TEXTS.lines() {
-        let (_, text, want) = quoted(&rt, row);
-        expect(&rt, Date::parse_str_rfc3339(text), want, row);
-        expect(&rt, Date::parse_bytes_rfc3339(text.as_bytes()), want, row);
-        expect(&rt, Date::parse_str(text), want, row);
-        expect(&rt, text.parse::<Date>(), want, row);
-    }
+    each::<TextRow, _>(&rt, TEXTS);
 }
 
 #[test]
 fn bytes_that_are_no_text(rt: HostRuntime) {
-    let bytes = [0xff; 10];
-    expect(
-        &rt,
-        Date::parse_bytes(&bytes),
-        "invalid_char_year",
-        "ten bytes ff",
-    );
-    expect(
-        &rt,
-        Date::parse_bytes(b"2020-01-01\xff"),
-        "extra_characters",
-        "a date and ff",
-    );
+    let read = Date::parse_bytes(&[0xff; 10]);
+    expect(&rt, read, "invalid_char_year", "ten bytes ff");
+    let read = Date::parse_bytes(b"2020-01-01\xff");
+    expect(&rt, read, "extra_characters", "a date and ff");
+}
+
+struct NumberRow;
+
+impl Row for NumberRow {
+    fn check<R: AllocGlobal + Abort>(rt: &R, row: &str) {
+        let (unit, text, want) = quoted(rt, row);
+        let unit = value(rt, unit.trim_end());
+        let config = DateConfig::builder().timestamp_unit(unit).build();
+        let bytes = text.as_bytes();
+        expect(rt, Date::parse_str_with_config(text, &config), want, row);
+        expect(rt, Date::parse_bytes_with_config(bytes, &config), want, row);
+        if unit == TimestampUnit::Infer {
+            expect(rt, Date::parse_str(text), want, row);
+            expect(rt, Date::parse_bytes(bytes), want, row);
+        }
+    }
 }
 
 #[test]
 fn numbers(rt: HostRuntime) {
-    for row in NUMBERS.lines() {
-        let (unit, text, want) = quoted(&rt, row);
-        let unit = value(&rt, unit.trim_end());
+    each::<NumberRow, _>(&rt, NUMBERS);
+    let read = Date::parse_str_rfc3339("1654560000");
+    expect(&rt, read, "invalid_char_date_sep", "no number");
+}
+
+struct TimestampRow;
+
+impl Row for TimestampRow {
+    fn check<R: AllocGlobal + Abort>(rt: &R, row: &str) {
+        let [unit, exact, timestamp, want, ..] = words(row);
+        let unit = value(rt, unit);
         let config = DateConfig::builder().timestamp_unit(unit).build();
-        expect(&rt, Date::parse_str_with_config(text, &config), want, row);
-        expect(
-            &rt,
-            Date::parse_bytes_with_config(text.as_bytes(), &config),
-            want,
-            row,
-        );
-        if unit == TimestampUnit::Infer {
-            expect(&rt, Date::parse_str(text), want, row);
-            expect(&rt, Date::parse_bytes(text.as_bytes()), want, row);
-        }
+        let answer = Date::from_timestamp(value(rt, timestamp), exact == "exact", &config);
+        expect(rt, answer, want, row);
     }
-    expect(
-        &rt,
-        Date::parse_str_rfc3339("1654560000"),
-        "invalid_char_date_sep",
-        "no number",
-    );
 }
 
 #[test]
 fn timestamps(rt: HostRuntime) {
-    for row in TIMESTAMPS.lines() {
-        let [unit, exact, timestamp, want, ..] = words(row);
-        let config = DateConfig::builder()
-            .timestamp_unit(value(&rt, unit))
-            .build();
-        let answer = Date::from_timestamp(value(&rt, timestamp), exact == "exact", &config);
-        expect(&rt, answer, want, row);
-    }
+    each::<TimestampRow, _>(&rt, TIMESTAMPS);
 }

@@ -1,9 +1,9 @@
 //! Durations from texts and from numbers, and their totals.
 
 use crate::configs::time_config;
-use crate::rows::{bytes, expect, quoted, same, value, words};
+use crate::rows::{Row, bytes, each, expect, quoted, same, value, words};
 use speedate::{Duration, IsoOrder, TimeConfig};
-use std::test::Fail;
+use std::process::Abort;
 
 /// Texts, and the answer of each reader under both behaviors.
 const TEXTS: &str = "\
@@ -309,121 +309,114 @@ P1DT1S                         86401            0        86401000
 P2739726Y9DT23H59M59.999999S   86399999999999   999999   86399999999999999
 -P2739726Y9DT23H59M59.999999S  -86399999999999  -999999  -86399999999999999";
 
-#[test]
-fn texts(rt: HostRuntime) -> Result<(), Fail> {
-    let truncating = time_config(&rt, "truncate 3600");
-    for row in TEXTS.lines() {
-        let (_, text, want) = quoted(&rt, row);
-        let bytes = bytes(&rt, text)?;
-        expect(&rt, Duration::parse_bytes(&bytes), want, row);
-        expect(
-            &rt,
-            Duration::parse_bytes_with_config(&bytes, &truncating),
-            want,
-            row,
-        );
+struct TextRow;
+
+impl Row for TextRow {
+    fn check<R: AllocGlobal + Abort>(rt: &R, row: &str) {
+        let (_, text, want) = quoted(rt, row);
+        let bytes = bytes(rt, text);
+        expect(rt, Duration::parse_bytes(&bytes), want, row);
+        let truncating = time_config(rt, "truncate 3600");
+        let read = Duration::parse_bytes_with_config(&bytes, &truncating);
+        expect(rt, read, want, row);
         if !text.contains('<') {
-            expect(&rt, Duration::parse_str(text), want, row);
-            expect(&rt, text.parse::<Duration>(), want, row);
+            expect(rt, Duration::parse_str(text), want, row);
+            expect(rt, text.parse::<Duration>(), want, row);
         }
     }
-    let bytes = [0xff; 5];
-    expect(
-        &rt,
-        Duration::parse_bytes(&bytes),
-        "invalid_char_hour",
-        "five bytes ff",
-    );
-    Ok(())
 }
 
 #[test]
-fn truncated_texts(rt: HostRuntime) -> Result<(), Fail> {
-    let truncating = time_config(&rt, "truncate");
-    for row in TRUNCATED.lines() {
-        let (_, text, want) = quoted(&rt, row);
-        let bytes = bytes(&rt, text)?;
-        expect(
-            &rt,
-            Duration::parse_bytes(&bytes),
-            "second_fraction_too_long",
-            row,
-        );
-        expect(
-            &rt,
-            Duration::parse_bytes_with_config(&bytes, &truncating),
-            want,
-            row,
-        );
+fn texts(rt: HostRuntime) {
+    each::<TextRow, _>(&rt, TEXTS);
+    let read = Duration::parse_bytes(&[0xff; 5]);
+    expect(&rt, read, "invalid_char_hour", "five bytes ff");
+}
+
+struct TruncatedRow;
+
+impl Row for TruncatedRow {
+    fn check<R: AllocGlobal + Abort>(rt: &R, row: &str) {
+        let (_, text, want) = quoted(rt, row);
+        let bytes = bytes(rt, text);
+        let read = Duration::parse_bytes(&bytes);
+        expect(rt, read, "second_fraction_too_long", row);
+        let truncating = time_config(rt, "truncate");
+        let read = Duration::parse_bytes_with_config(&bytes, &truncating);
+        expect(rt, read, want, row);
     }
-    Ok(())
+}
+
+#[test]
+fn truncated_texts(rt: HostRuntime) {
+    each::<TruncatedRow, _>(&rt, TRUNCATED);
+}
+
+struct OrderedRow;
+
+impl Row for OrderedRow {
+    fn check<R: AllocGlobal + Abort>(rt: &R, row: &str) {
+        let (_, text, answers) = quoted(rt, row);
+        let [lax_want, strict_want, ..] = words(answers);
+        expect(rt, Duration::parse_str(text), lax_want, row);
+        let strict = TimeConfig::builder().iso_order(IsoOrder::Strict).build();
+        let read = Duration::parse_bytes_with_config(text.as_bytes(), &strict);
+        expect(rt, read, strict_want, row);
+    }
 }
 
 #[test]
 fn ordered_texts(rt: HostRuntime) {
-    let strict = TimeConfig::builder().iso_order(IsoOrder::Strict).build();
-    for row in ORDERED.lines() {
-        let (_, text, answers) = quoted(&rt, row);
-        let [lax_want, strict_want, ..] = words(answers);
-        expect(&rt, Duration::parse_str(text), lax_want, row);
-        expect(
-            &rt,
-            Duration::parse_bytes_with_config(text.as_bytes(), &strict),
-            strict_want,
-            row,
-        );
+    each::<OrderedRow, _>(&rt, ORDERED);
+}
+
+struct ExchangedRow;
+
+impl Row for ExchangedRow {
+    fn check<R: AllocGlobal + Abort>(rt: &R, row: &str) {
+        let [first, second, ..] = words(row);
+        let found = Duration::parse_str(first);
+        same(rt, found, Duration::parse_str(second), row);
     }
 }
 
 #[test]
 fn exchanged_texts(rt: HostRuntime) {
-    for row in EXCHANGED.lines() {
-        let [first, second, ..] = words(row);
-        let found = Duration::parse_str(first);
-        same(&rt, found, Duration::parse_str(second), row);
+    each::<ExchangedRow, _>(&rt, EXCHANGED);
+}
+
+struct NumberRow;
+
+impl Row for NumberRow {
+    fn check<R: AllocGlobal + Abort>(rt: &R, row: &str) {
+        let [sign, day, second, microsecond, want] = words(row);
+        let (day, second) = (value(rt, day), value(rt, second));
+        let made = Duration::new(sign == "+", day, second, value(rt, microsecond));
+        expect(rt, made, want, row);
     }
 }
 
 #[test]
 fn numbers(rt: HostRuntime) {
-    for row in NUMBERS.lines() {
-        let [sign, day, second, microsecond, want] = words(row);
-        let (day, second, microsecond) = (
-            value(&rt, day),
-            value(&rt, second),
-            value(&rt, microsecond),
-        );
-        expect(
-            &rt,
-            Duration::new(sign == "+", day, second, microsecond),
-            want,
-            row,
-        );
+    each::<NumberRow, _>(&rt, NUMBERS);
+}
+
+struct TotalsRow;
+
+impl Row for TotalsRow {
+    fn check<R: AllocGlobal + Abort>(rt: &R, row: &str) {
+        let [text, second, microsecond, millisecond, ..] = words(row);
+        let duration: Duration = value(rt, text);
+        let found = duration.signed_total_seconds();
+        same(rt, found, value(rt, second), row);
+        let found = duration.signed_microseconds();
+        same(rt, found, value(rt, microsecond), row);
+        let found = duration.signed_total_ms();
+        same(rt, found, value(rt, millisecond), row);
     }
 }
 
 #[test]
 fn totals(rt: HostRuntime) {
-    for row in TOTALS.lines() {
-        let [text, second, microsecond, millisecond, ..] = words(row);
-        let duration: Duration = value(&rt, text);
-        same(
-            &rt,
-            duration.signed_total_seconds(),
-            value(&rt, second),
-            row,
-        );
-        same(
-            &rt,
-            duration.signed_microseconds(),
-            value(&rt, microsecond),
-            row,
-        );
-        same(
-            &rt,
-            duration.signed_total_ms(),
-            value(&rt, millisecond),
-            row,
-        );
-    }
+    each::<TotalsRow, _>(&rt, TOTALS);
 }

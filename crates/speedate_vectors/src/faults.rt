@@ -3,6 +3,7 @@
 use crate::rows::same;
 use crate::shown::{expect_debug, expect_shown};
 use speedate::{ConfigError, ParseError};
+use std::process::Abort;
 
 const FAULTS: [ParseError; 42] = [
     ParseError::TooShort,
@@ -94,44 +95,54 @@ TimeTooLarge                time_too_large                 numeric times may not
 DurationUnitOrder           duration_unit_order            quantities out of order or repeated in duration
 MicrosecondFractionTooLong  microsecond_fraction_too_long  microsecond timestamps may not have fraction digits";
 
+fn expect_fault<R: AllocGlobal + Abort>(rt: &R, fault: &ParseError, row: &str) {
+    let (variant, texts) = row.split_once(' ').expect(rt, row);
+    let (name, documentation) = texts.trim_start().split_once(' ').expect(rt, row);
+    same(rt, fault.name(), name, row);
+    let documentation = documentation.trim_start();
+    same(rt, fault.get_documentation(), Some(documentation), row);
+    expect_shown(rt, fault, name);
+    expect_debug(rt, fault, variant);
+}
+
 #[test]
 fn of_texts_that_are_read(rt: HostRuntime) {
     same(&rt, TEXTS.lines().count(), 42, "how many faults");
     for (fault, row) in FAULTS.iter().zip(TEXTS.lines()) {
-        let (variant, texts) = row.split_once(' ').expect(&rt, row);
-        let (name, documentation) = texts.trim_start().split_once(' ').expect(&rt, row);
-        same(&rt, fault.name(), name, row);
-        let documentation = documentation.trim_start();
-        same(&rt, fault.get_documentation(), Some(documentation), row);
-        expect_shown(&rt, fault, name);
-        expect_debug(&rt, fault, variant);
+        expect_fault(&rt, fault, row);
     }
+}
+
+fn expect_choice<R: AllocGlobal + Abort>(rt: &R, fault: &ConfigError, name: &str, variant: &str) {
+    same(rt, fault.get_documentation(), None, name);
+    expect_shown(rt, fault, name);
+    expect_debug(rt, fault, variant);
 }
 
 #[test]
 fn of_choices(rt: HostRuntime) {
-    let unit = ConfigError::UnknownTimestampUnitString;
-    same(&rt, unit.get_documentation(), None, "a unit");
-    expect_shown(&rt, &unit, "unknown_timestamp_unit_string");
-    expect_debug(&rt, &unit, "UnknownTimestampUnitString");
-    let behavior = ConfigError::UnknownMicrosecondsPrecisionOverflowBehaviorString;
-    same(&rt, behavior.get_documentation(), None, "a behavior");
-    expect_shown(
+    expect_choice(
         &rt,
-        &behavior,
-        "unknown_microseconds_precision_overflow_behavior_string",
+        &ConfigError::UnknownTimestampUnitString,
+        "unknown_timestamp_unit_string",
+        "UnknownTimestampUnitString",
     );
-    expect_debug(
+    expect_choice(
         &rt,
-        &behavior,
+        &ConfigError::UnknownMicrosecondsPrecisionOverflowBehaviorString,
+        "unknown_microseconds_precision_overflow_behavior_string",
         "UnknownMicrosecondsPrecisionOverflowBehaviorString",
     );
-    let order = ConfigError::UnknownIsoOrderString;
-    same(&rt, order.get_documentation(), None, "an order");
-    expect_shown(&rt, &order, "unknown_iso_order_string");
-    expect_debug(&rt, &order, "UnknownIsoOrderString");
-    let form = ConfigError::UnknownRfc3339FormString;
-    same(&rt, form.get_documentation(), None, "a form");
-    expect_shown(&rt, &form, "unknown_rfc3339_form_string");
-    expect_debug(&rt, &form, "UnknownRfc3339FormString");
+    expect_choice(
+        &rt,
+        &ConfigError::UnknownIsoOrderString,
+        "unknown_iso_order_string",
+        "UnknownIsoOrderString",
+    );
+    expect_choice(
+        &rt,
+        &ConfigError::UnknownRfc3339FormString,
+        "unknown_rfc3339_form_string",
+        "UnknownRfc3339FormString",
+    );
 }

@@ -1,12 +1,11 @@
 //! Values at the fronts of texts, and how many bytes they take.
 
 use crate::configs::time_config;
-use crate::rows::{bytes, expect_front, quoted, value, words};
+use crate::rows::{Row, bytes, each, expect_front, joined, quoted, value, words};
 use arrayvec::ArrayString;
 use speedate::{Date, DateTime, ParseError, Time, TimeConfig};
 use std::fmt::Write;
 use std::process::Abort;
-use std::test::Fail;
 
 /// Texts, and the date at their front with its bytes, or the fault.
 const DATES: &str = "\
@@ -190,16 +189,17 @@ fn expect_time<R: AllocGlobal + Abort>(
     config: &TimeConfig,
     want: &str,
     row: &str,
-) -> Result<(), Fail> {
+) {
     expect_front(rt, Time::parse_front(text, config), want, row);
-    let mut dated = bytes(rt, "2026-11-22T")?;
-    dated.extend_from_slice(text)?;
-    let answer = match DateTime::parse_front(&dated, config) {
-        Ok((read, size)) => Ok((read.time, size.saturating_sub(11))),
-        Err(fault) => Err(fault),
-    };
-    expect_front(rt, answer, want, row);
-    Ok(())
+    let dated = joined(rt.alloc(), "2026-11-22T", text, 1, "");
+    let dated = dated.ok().expect(rt, row);
+    expect_front(rt, time_after_date(&dated, config), want, row);
+}
+
+/// The time of the date-time at the front of a text, and how many bytes it takes after the date and `T`.
+fn time_after_date(text: &[u8], config: &TimeConfig) -> Result<(Time, usize), ParseError> {
+    let (read, size) = DateTime::parse_front(text, config)?;
+    Ok((read.time, size.saturating_sub(11)))
 }
 
 /// The answer to the cut of a line, by the table of its cuts.
@@ -213,49 +213,67 @@ fn of_cut<'a, R: Abort>(rt: &R, table: &'a str, size: usize) -> &'a str {
     ""
 }
 
+struct DateRow;
+
+impl Row for DateRow {
+    fn check<R: AllocGlobal + Abort>(rt: &R, row: &str) {
+        let (_, text, want) = quoted(rt, row);
+        expect_front(rt, Date::parse_front(text.as_bytes()), want, row);
+    }
+}
+
 #[test]
 fn dates(rt: HostRuntime) {
-    for row in DATES.lines() {
-        let (_, text, want) = quoted(&rt, row);
-        expect_front(&rt, Date::parse_front(text.as_bytes()), want, row);
+    each::<DateRow, _>(&rt, DATES);
+}
+
+struct TimeRow;
+
+impl Row for TimeRow {
+    fn check<R: AllocGlobal + Abort>(rt: &R, row: &str) {
+        let (_, text, want) = quoted(rt, row);
+        let bytes = text.as_bytes();
+        expect_time(rt, bytes, &time_config(rt, "error"), want, row);
+        expect_time(rt, bytes, &time_config(rt, "truncate"), want, row);
     }
 }
 
 #[test]
-fn times(rt: HostRuntime) -> Result<(), Fail> {
-    for row in TIMES.lines() {
-        let (_, text, want) = quoted(&rt, row);
-        for behavior in ["error", "truncate"] {
-            expect_time(&rt, text.as_bytes(), &time_config(&rt, behavior), want, row)?;
-        }
+fn times(rt: HostRuntime) {
+    each::<TimeRow, _>(&rt, TIMES);
+}
+
+struct ConfiguredRow;
+
+impl Row for ConfiguredRow {
+    fn check<R: AllocGlobal + Abort>(rt: &R, row: &str) {
+        let (behavior, text, want) = quoted(rt, row);
+        let config = time_config(rt, behavior);
+        expect_time(rt, &bytes(rt, text), &config, want, row);
     }
-    Ok(())
 }
 
 #[test]
-fn configured_times(rt: HostRuntime) -> Result<(), Fail> {
-    for row in CONFIGURED.lines() {
-        let (behavior, text, want) = quoted(&rt, row);
-        let config = time_config(&rt, behavior);
-        expect_time(&rt, &bytes(&rt, text)?, &config, want, row)?;
+fn configured_times(rt: HostRuntime) {
+    each::<ConfiguredRow, _>(&rt, CONFIGURED);
+}
+
+struct DateTimeRow;
+
+impl Row for DateTimeRow {
+    fn check<R: AllocGlobal + Abort>(rt: &R, row: &str) {
+        let (_, text, want) = quoted(rt, row);
+        let bytes = text.as_bytes();
+        let read = DateTime::parse_front(bytes, &time_config(rt, "error"));
+        expect_front(rt, read, want, row);
+        let read = DateTime::parse_front(bytes, &time_config(rt, "truncate"));
+        expect_front(rt, read, want, row);
     }
-    Ok(())
 }
 
 #[test]
 fn date_times(rt: HostRuntime) {
-    for row in DATE_TIMES.lines() {
-        let (_, text, want) = quoted(&rt, row);
-        for behavior in ["error", "truncate"] {
-            let config = time_config(&rt, behavior);
-            expect_front(
-                &rt,
-                DateTime::parse_front(text.as_bytes(), &config),
-                want,
-                row,
-            );
-        }
-    }
+    each::<DateTimeRow, _>(&rt, DATE_TIMES);
 }
 
 #[test]
@@ -282,6 +300,19 @@ fn after(last: &str, byte: u8, behavior: &str) -> &'static str {
     }
 }
 
+/// The answer to a clock of so many bytes, which is shown so, with what a byte after it makes of it.
+fn wanted<R: Abort>(rt: &R, shown: &str, size: usize, made: &str) -> ArrayString<64> {
+    let size = size.saturating_add(made.len());
+    let mut want = ArrayString::new();
+    let written = match made {
+        "" | "0" => write!(want, "{shown} {size}"),
+        "Z" => write!(want, "{shown}Z {size}"),
+        fault => write!(want, "{fault}"),
+    };
+    assert!(rt; written.is_ok(), "{shown}");
+    want
+}
+
 /// The clock of a row with further bytes is to be read so as [`after`] says.
 fn expect_after<R: AllocGlobal + Abort>(
     rt: &R,
@@ -289,53 +320,59 @@ fn expect_after<R: AllocGlobal + Abort>(
     further: &[u8],
     behavior: &str,
     made: &str,
-) -> Result<(), Fail> {
+) {
     let (_, clock, rest) = quoted(rt, row);
     let [shown, ..] = words(rest);
-    let mut text = bytes(rt, clock)?;
-    text.extend_from_slice(further)?;
-    let (size, longer) = (clock.len(), clock.len().saturating_add(1));
-    let mut want = ArrayString::<64>::new();
-    let written = match made {
-        "" => write!(want, "{shown} {size}"),
-        "Z" => write!(want, "{shown}Z {longer}"),
-        "0" => write!(want, "{shown} {longer}"),
-        fault => write!(want, "{fault}"),
-    };
-    assert!(rt; written.is_ok(), "{row}");
-    expect_time(rt, &text, &time_config(rt, behavior), want.as_str(), row)
+    let text = joined(rt.alloc(), clock, further, 1, "");
+    let text = text.ok().expect(rt, row);
+    let want = wanted(rt, shown, clock.len(), made);
+    expect_time(rt, &text, &time_config(rt, behavior), want.as_str(), row);
 }
 
-#[test]
-fn bytes_after_a_time(rt: HostRuntime) -> Result<(), Fail> {
-    for row in CLOCKS.lines() {
-        let (_, _, rest) = quoted(&rt, row);
-        let [_, last, ..] = words(rest);
-        for behavior in ["error", "truncate"] {
-            for byte in 0..=255u8 {
-                let made = after(last, byte, behavior);
-                expect_after(&rt, row, &[byte], behavior, made)?;
-            }
+/// The last thing in the clock of a row.
+fn last_thing<'a, R: Abort>(rt: &R, row: &'a str) -> &'a str {
+    let (_, _, rest) = quoted(rt, row);
+    let [_, last, ..] = words(rest);
+    last
+}
+
+struct FurtherByteRow;
+
+impl Row for FurtherByteRow {
+    fn check<R: AllocGlobal + Abort>(rt: &R, row: &str) {
+        let last = last_thing(rt, row);
+        for byte in 0..=255u8 {
+            expect_after(rt, row, &[byte], "error", after(last, byte, "error"));
+            let made = after(last, byte, "truncate");
+            expect_after(rt, row, &[byte], "truncate", made);
         }
     }
-    Ok(())
 }
 
 #[test]
-fn bytes_of_a_minus_sign(rt: HostRuntime) -> Result<(), Fail> {
-    for row in CLOCKS.lines() {
-        let (_, _, rest) = quoted(&rt, row);
-        let [_, last, ..] = words(rest);
+fn bytes_after_a_time(rt: HostRuntime) {
+    each::<FurtherByteRow, _>(&rt, CLOCKS);
+}
+
+struct MinusSignRow;
+
+impl Row for MinusSignRow {
+    fn check<R: AllocGlobal + Abort>(rt: &R, row: &str) {
+        let has_offset = last_thing(rt, row) == "offset";
         for byte in 0..=255u8 {
-            let made = if byte == 0x92 && last != "offset" {
+            let made = if byte == 0x92 && !has_offset {
                 "invalid_char_tz_hour"
             } else {
                 ""
             };
-            expect_after(&rt, row, &[0xe2, 0x88, byte], "error", made)?;
+            expect_after(rt, row, &[0xe2, 0x88, byte], "error", made);
         }
     }
-    Ok(())
+}
+
+#[test]
+fn bytes_of_a_minus_sign(rt: HostRuntime) {
+    each::<MinusSignRow, _>(&rt, CLOCKS);
 }
 
 #[test]

@@ -1,7 +1,8 @@
 //! Days added and counted, durations between two values, and values so long after another.
 
-use crate::rows::{expect, same, value, words};
+use crate::rows::{Row, each, expect, same, value, words};
 use speedate::{Date, DateTime, Duration};
+use std::process::Abort;
 
 /// A date, days, and the date so many days later.
 const ADDED: &str = "\
@@ -64,60 +65,86 @@ const DATES: &str = "\
 9999-12-31  P1DT1S       date_not_exact
 2020-02-28  PT0.000001S  date_not_exact";
 
-#[test]
-fn days_added_and_counted(rt: HostRuntime) {
-    for row in ADDED.lines() {
+struct AddedRow;
+
+impl Row for AddedRow {
+    fn check<R: AllocGlobal + Abort>(rt: &R, row: &str) {
         let [date, days, want, ..] = words(row);
-        let (date, days): (Date, i32) = (value(&rt, date), value(&rt, days));
+        let (date, days): (Date, i32) = (value(rt, date), value(rt, days));
         match date.checked_add_days(days) {
             Some(later) => {
-                same(&rt, later, value(&rt, want), row);
-                same(&rt, later.days_since(&date), days, row);
+                same(rt, later, value(rt, want), row);
+                same(rt, later.days_since(&date), days, row);
             }
-            None => same(&rt, want, "none", row),
+            None => same(rt, want, "none", row),
         }
     }
 }
 
 #[test]
-fn durations_between_date_times(rt: HostRuntime) {
-    for row in BETWEEN.lines() {
+fn days_added_and_counted(rt: HostRuntime) {
+    each::<AddedRow, _>(&rt, ADDED);
+}
+
+struct BetweenRow;
+
+impl Row for BetweenRow {
+    fn check<R: AllocGlobal + Abort>(rt: &R, row: &str) {
         let [earlier, later, want, ..] = words(row);
-        let (earlier, later): (DateTime, DateTime) = (value(&rt, earlier), value(&rt, later));
-        expect(&rt, Ok(Duration::between(&earlier, &later)), want, row);
+        let (earlier, later): (DateTime, DateTime) = (value(rt, earlier), value(rt, later));
+        expect(rt, Ok(Duration::between(&earlier, &later)), want, row);
+    }
+}
+
+#[test]
+fn durations_between_date_times(rt: HostRuntime) {
+    each::<BetweenRow, _>(&rt, BETWEEN);
+}
+
+struct AfterRow;
+
+impl Row for AfterRow {
+    fn check<R: AllocGlobal + Abort>(rt: &R, row: &str) {
+        let [start, duration, want, ..] = words(row);
+        let (start, duration): (DateTime, Duration) = (value(rt, start), value(rt, duration));
+        expect(rt, duration.after(&start), want, row);
+        expect(rt, duration.negated().before(&start), want, row);
     }
 }
 
 #[test]
 fn date_times_after_a_duration(rt: HostRuntime) {
-    for row in AFTER.lines() {
-        let [start, duration, want, ..] = words(row);
-        let (start, duration): (DateTime, Duration) = (value(&rt, start), value(&rt, duration));
-        expect(&rt, duration.after(&start), want, row);
-        expect(&rt, duration.negated().before(&start), want, row);
+    each::<AfterRow, _>(&rt, AFTER);
+}
+
+struct SpanRow;
+
+impl Row for SpanRow {
+    fn check<R: AllocGlobal + Abort>(rt: &R, row: &str) {
+        let [earlier, later, want, ..] = words(row);
+        let (earlier, later): (Date, Date) = (value(rt, earlier), value(rt, later));
+        let span = Duration::between_dates(&earlier, &later);
+        expect(rt, Ok(span), want, row);
     }
 }
 
 #[test]
 fn durations_between_dates(rt: HostRuntime) {
-    for row in SPANS.lines() {
-        let [earlier, later, want, ..] = words(row);
-        let (earlier, later): (Date, Date) = (value(&rt, earlier), value(&rt, later));
-        expect(
-            &rt,
-            Ok(Duration::between_dates(&earlier, &later)),
-            want,
-            row,
-        );
+    each::<SpanRow, _>(&rt, SPANS);
+}
+
+struct DateRow;
+
+impl Row for DateRow {
+    fn check<R: AllocGlobal + Abort>(rt: &R, row: &str) {
+        let [start, duration, want, ..] = words(row);
+        let (start, duration): (Date, Duration) = (value(rt, start), value(rt, duration));
+        expect(rt, duration.after_date(&start), want, row);
+        expect(rt, duration.negated().before_date(&start), want, row);
     }
 }
 
 #[test]
 fn dates_after_a_duration(rt: HostRuntime) {
-    for row in DATES.lines() {
-        let [start, duration, want, ..] = words(row);
-        let (start, duration): (Date, Duration) = (value(&rt, start), value(&rt, duration));
-        expect(&rt, duration.after_date(&start), want, row);
-        expect(&rt, duration.negated().before_date(&start), want, row);
-    }
+    each::<DateRow, _>(&rt, DATES);
 }

@@ -1,9 +1,8 @@
 //! Whole numbers and decimals.
 
-use crate::rows::{bytes, quoted, same, value};
+use crate::rows::{Row, bytes, each, quoted, same, value};
 use speedate::{IntFloat, float_parse_bytes, float_parse_str, int_parse_bytes, int_parse_str};
 use std::process::Abort;
-use std::test::Fail;
 
 /// Texts, and the whole number that each is.
 const WHOLE: &str = "\
@@ -67,22 +66,31 @@ const NUMBERS: &str = "\
 'xxx'                                 none
 ''                                    none";
 
-#[test]
-fn whole_numbers(rt: HostRuntime) -> Result<(), Fail> {
-    for row in WHOLE.lines() {
-        let (_, text, want) = quoted(&rt, row);
-        let want = if want == "none" {
-            None
-        } else {
-            Some(value(&rt, want))
-        };
-        let bytes = bytes(&rt, text)?;
-        same(&rt, int_parse_bytes(&bytes), want, row);
+/// The number of a row, and none where it says so.
+fn number<R: Abort>(rt: &R, want: &str) -> Option<i64> {
+    if want == "none" {
+        return None;
+    }
+    Some(value(rt, want))
+}
+
+struct WholeRow;
+
+impl Row for WholeRow {
+    fn check<R: AllocGlobal + Abort>(rt: &R, row: &str) {
+        let (_, text, want) = quoted(rt, row);
+        let want = number(rt, want);
+        let bytes = bytes(rt, text);
+        same(rt, int_parse_bytes(&bytes), want, row);
         if !text.contains('<') {
-            same(&rt, int_parse_str(text), want, row);
+            same(rt, int_parse_str(text), want, row);
         }
     }
-    Ok(())
+}
+
+#[test]
+fn whole_numbers(rt: HostRuntime) {
+    each::<WholeRow, _>(&rt, WHOLE);
 }
 
 /// A number that was read is to be the one that is written so.
@@ -101,13 +109,19 @@ fn expect_number<R: Abort>(rt: &R, read: IntFloat<'_>, want: &str, row: &str) {
     }
 }
 
+struct NumberRow;
+
+impl Row for NumberRow {
+    fn check<R: AllocGlobal + Abort>(rt: &R, row: &str) {
+        let (_, text, want) = quoted(rt, row);
+        expect_number(rt, float_parse_str(text), want, row);
+        expect_number(rt, float_parse_bytes(text.as_bytes()), want, row);
+    }
+}
+
 #[test]
 fn numbers(rt: HostRuntime) {
-    for row in NUMBERS.lines() {
-        let (_, text, want) = quoted(&rt, row);
-        expect_number(&rt, float_parse_str(text), want, row);
-        expect_number(&rt, float_parse_bytes(text.as_bytes()), want, row);
-    }
+    each::<NumberRow, _>(&rt, NUMBERS);
 }
 
 #[test]

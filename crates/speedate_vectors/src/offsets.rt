@@ -1,6 +1,6 @@
 //! Times and date-times at other offsets, and what clocks tell.
 
-use crate::rows::{expect, quoted, value, words};
+use crate::rows::{Row, each, expect, quoted, value, words};
 use speedate::{Date, DateTime, Moment, Time};
 use std::process::Abort;
 
@@ -99,62 +99,79 @@ fn offset<R: Abort>(rt: &R, word: &str) -> Option<i32> {
     }
 }
 
+struct TimeRow;
+
+impl Row for TimeRow {
+    fn check<R: AllocGlobal + Abort>(rt: &R, row: &str) {
+        let (_, time, rest) = quoted(rt, row);
+        let [word, want, ..] = words(rest);
+        let time: Time = value(rt, time);
+        expect(rt, time.with_timezone_offset(offset(rt, word)), want, row);
+    }
+}
+
+struct DateTimeRow;
+
+impl Row for DateTimeRow {
+    fn check<R: AllocGlobal + Abort>(rt: &R, row: &str) {
+        let (_, date_time, rest) = quoted(rt, row);
+        let [word, want, ..] = words(rest);
+        let shown: DateTime = value(rt, date_time);
+        expect(rt, shown.with_timezone_offset(offset(rt, word)), want, row);
+    }
+}
+
 #[test]
 fn another_offset(rt: HostRuntime) {
-    for row in TIMES.lines() {
-        let (_, time, rest) = quoted(&rt, row);
-        let [word, want, ..] = words(rest);
-        let time: Time = value(&rt, time);
-        expect(&rt, time.with_timezone_offset(offset(&rt, word)), want, row);
+    each::<TimeRow, _>(&rt, TIMES);
+    each::<DateTimeRow, _>(&rt, DATE_TIMES);
+}
+
+struct MovedTimeRow;
+
+impl Row for MovedTimeRow {
+    fn check<R: AllocGlobal + Abort>(rt: &R, row: &str) {
+        let (_, time, rest) = quoted(rt, row);
+        let [offset, want, ..] = words(rest);
+        let time: Time = value(rt, time);
+        expect(rt, time.in_timezone(value(rt, offset)), want, row);
     }
-    for row in DATE_TIMES.lines() {
-        let (_, date_time, rest) = quoted(&rt, row);
-        let [word, want, ..] = words(rest);
-        let date_time: DateTime = value(&rt, date_time);
-        expect(
-            &rt,
-            date_time.with_timezone_offset(offset(&rt, word)),
-            want,
-            row,
-        );
+}
+
+struct MovedDateTimeRow;
+
+impl Row for MovedDateTimeRow {
+    fn check<R: AllocGlobal + Abort>(rt: &R, row: &str) {
+        let (_, date_time, rest) = quoted(rt, row);
+        let [offset, want, ..] = words(rest);
+        let shown: DateTime = value(rt, date_time);
+        expect(rt, shown.in_timezone(value(rt, offset)), want, row);
     }
 }
 
 #[test]
 fn the_same_instant(rt: HostRuntime) {
-    for row in MOVED_TIMES.lines() {
-        let (_, time, rest) = quoted(&rt, row);
-        let [offset, want, ..] = words(rest);
-        let time: Time = value(&rt, time);
-        expect(&rt, time.in_timezone(value(&rt, offset)), want, row);
-    }
-    for row in MOVED_DATE_TIMES.lines() {
-        let (_, date_time, rest) = quoted(&rt, row);
-        let [offset, want, ..] = words(rest);
-        let date_time: DateTime = value(&rt, date_time);
-        expect(&rt, date_time.in_timezone(value(&rt, offset)), want, row);
+    each::<MovedTimeRow, _>(&rt, MOVED_TIMES);
+    each::<MovedDateTimeRow, _>(&rt, MOVED_DATE_TIMES);
+}
+
+struct MomentRow;
+
+impl Row for MomentRow {
+    fn check<R: AllocGlobal + Abort>(rt: &R, row: &str) {
+        let [second, microsecond, offset, want, ..] = words(row);
+        let moment = Moment::new(value(rt, second), value(rt, microsecond));
+        let (moment, offset) = (moment.ok().expect(rt, row), value(rt, offset));
+        expect(rt, DateTime::now_at(moment, offset), want, row);
+        expect(rt, DateTime::now(|| Some(moment), offset), want, row);
+        let day = want.split_once('T').unwrap_or((want, "")).0;
+        expect(rt, Date::today(|| Some(moment), offset), day, row);
     }
 }
 
 #[test]
 fn clocks(rt: HostRuntime) {
-    for row in MOMENTS.lines() {
-        let [second, microsecond, offset, want, ..] = words(row);
-        let (second, microsecond, offset) = (
-            value(&rt, second),
-            value(&rt, microsecond),
-            value(&rt, offset),
-        );
-        assert!(rt; microsecond <= 999_999, "{row}");
-        let moment = Moment {
-            second,
-            microsecond,
-        };
-        expect(&rt, DateTime::now_at(moment, offset), want, row);
-        expect(&rt, DateTime::now(|| Some(moment), offset), want, row);
-        let day = want.split_once('T').unwrap_or((want, "")).0;
-        expect(&rt, Date::today(|| Some(moment), offset), day, row);
-    }
+    each::<MomentRow, _>(&rt, MOMENTS);
     for offset in [0, 86_400] {
         let want = "system_time_error";
         expect(&rt, DateTime::now(|| None, offset), want, want);

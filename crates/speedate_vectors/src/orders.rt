@@ -1,6 +1,6 @@
 //! The orders of dates, of times and date-times by instant, and of durations.
 
-use crate::rows::{same, value, words};
+use crate::rows::{Row, each, same, value, words};
 use speedate::{Date, DateTime, Duration, Time};
 use std::cmp::Ordering;
 use std::process::Abort;
@@ -52,43 +52,68 @@ fn expect_order<R: Abort>(rt: &R, sign: &str, found: Ordering, turned: Ordering,
     same(rt, turned, want.reverse(), row);
 }
 
+struct DateRow;
+
+impl Row for DateRow {
+    fn check<R: AllocGlobal + Abort>(rt: &R, row: &str) {
+        let [one, sign, two, ..] = words(row);
+        same(rt, one.cmp(two).is_lt(), sign == "<", row);
+        let (one, two): (Date, Date) = (value(rt, one), value(rt, two));
+        expect_order(rt, sign, one.cmp(&two), two.cmp(&one), row);
+        same(rt, one < two, sign == "<", row);
+    }
+}
+
 #[test]
 fn dates(rt: HostRuntime) {
-    for row in DATES.lines() {
+    each::<DateRow, _>(&rt, DATES);
+}
+
+struct TimeRow;
+
+impl Row for TimeRow {
+    fn check<R: AllocGlobal + Abort>(rt: &R, row: &str) {
         let [one, sign, two, ..] = words(row);
-        same(&rt, one.cmp(two).is_lt(), sign == "<", row);
-        let (one, two): (Date, Date) = (value(&rt, one), value(&rt, two));
-        expect_order(&rt, sign, one.cmp(&two), two.cmp(&one), row);
-        same(&rt, one < two, sign == "<", row);
+        let (one, two): (Time, Time) = (value(rt, one), value(rt, two));
+        expect_order(rt, sign, one.cmp_instant(&two), two.cmp_instant(&one), row);
     }
 }
 
 #[test]
 fn times(rt: HostRuntime) {
-    assert_eq!(rt; "12:00:00".cmp("12:00:00.000001"), Ordering::Less);
-    for row in TIMES.lines() {
+    let found = "12:00:00".cmp("12:00:00.000001");
+    same(&rt, found, Ordering::Less, "two texts");
+    each::<TimeRow, _>(&rt, TIMES);
+}
+
+struct DateTimeRow;
+
+impl Row for DateTimeRow {
+    fn check<R: AllocGlobal + Abort>(rt: &R, row: &str) {
         let [one, sign, two, ..] = words(row);
-        let (one, two): (Time, Time) = (value(&rt, one), value(&rt, two));
-        expect_order(&rt, sign, one.cmp_instant(&two), two.cmp_instant(&one), row);
+        let (one, two): (DateTime, DateTime) = (value(rt, one), value(rt, two));
+        expect_order(rt, sign, one.cmp_instant(&two), two.cmp_instant(&one), row);
     }
 }
 
 #[test]
 fn date_times(rt: HostRuntime) {
-    for row in DATE_TIMES.lines() {
+    each::<DateTimeRow, _>(&rt, DATE_TIMES);
+}
+
+struct DurationRow;
+
+impl Row for DurationRow {
+    fn check<R: AllocGlobal + Abort>(rt: &R, row: &str) {
         let [one, sign, two, ..] = words(row);
-        let (one, two): (DateTime, DateTime) = (value(&rt, one), value(&rt, two));
-        expect_order(&rt, sign, one.cmp_instant(&two), two.cmp_instant(&one), row);
+        let (one, two): (Duration, Duration) = (value(rt, one), value(rt, two));
+        expect_order(rt, sign, one.cmp(&two), two.cmp(&one), row);
+        same(rt, one < two, sign == "<", row);
+        same(rt, one == two, sign == "=", row);
     }
 }
 
 #[test]
 fn durations(rt: HostRuntime) {
-    for row in DURATIONS.lines() {
-        let [one, sign, two, ..] = words(row);
-        let (one, two): (Duration, Duration) = (value(&rt, one), value(&rt, two));
-        expect_order(&rt, sign, one.cmp(&two), two.cmp(&one), row);
-        same(&rt, one < two, sign == "<", row);
-        same(&rt, one == two, sign == "=", row);
-    }
+    each::<DurationRow, _>(&rt, DURATIONS);
 }

@@ -3,10 +3,24 @@
 
 use arrayvec::ArrayString;
 use speedate::ParseError;
-use std::alloc::AllocError;
+use std::alloc::{AllocError, Global};
 use std::fmt::{Debug, Display, Write};
 use std::process::Abort;
 use std::str::FromStr;
+
+/// What the rows of a table are to show.
+pub trait Row {
+    /// Fails where a row does not show it.
+    fn check<R: AllocGlobal + Abort>(rt: &R, row: &str);
+}
+
+/// Each row of a table is to show what rows of its kind do. The loop stands here once, since a test is
+/// proved at each place.
+pub fn each<T: Row, R: AllocGlobal + Abort>(rt: &R, table: &str) {
+    for row in table.lines() {
+        T::check(rt, row);
+    }
+}
 
 /// What stands before the text in quotes, that text, and what stands after it.
 pub fn quoted<'a, R: Abort>(rt: &R, row: &'a str) -> (&'a str, &'a str, &'a str) {
@@ -40,14 +54,27 @@ pub fn same<T: PartialEq + Debug + Copy, R: Abort>(rt: &R, found: T, want: T, ro
 }
 
 /// The bytes of a text in quotes.
-pub fn bytes<R: AllocGlobal + Abort>(rt: &R, text: &str) -> Result<Vec<u8>, AllocError> {
-    let mut bytes = Vec::new(rt.alloc());
+pub fn bytes<R: AllocGlobal + Abort>(rt: &R, text: &str) -> Vec<u8> {
     let (front, rest) = text.split_once('<').unwrap_or((text, ">"));
     let (run, back) = rest.split_once('>').expect(rt, text);
     let (repeated, count) = run.split_once('*').unwrap_or(("", "0"));
+    let count = value(rt, count);
+    let bytes = joined(rt.alloc(), front, repeated.as_bytes(), count, back);
+    bytes.ok().expect(rt, text)
+}
+
+/// `front`, so many times the repeated bytes, and `back`.
+pub fn joined(
+    alloc: Global,
+    front: &str,
+    repeated: &[u8],
+    count: u32,
+    back: &str,
+) -> Result<Vec<u8>, AllocError> {
+    let mut bytes = Vec::new(alloc);
     bytes.extend_from_slice(front.as_bytes())?;
-    for _ in 0..value::<u32, R>(rt, count) {
-        bytes.extend_from_slice(repeated.as_bytes())?;
+    for _ in 0..count {
+        bytes.extend_from_slice(repeated)?;
     }
     bytes.extend_from_slice(back.as_bytes())?;
     Ok(bytes)

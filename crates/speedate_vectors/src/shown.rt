@@ -11,18 +11,30 @@ use speedate::{
 use std::fmt::{Debug, Display, Write};
 use std::process::Abort;
 
-/// A value is to be written as the text, whatever precision, sign, width, fill or form is asked for, and
-/// not where there is no room.
-pub fn expect_shown<T: Display, R: AllocGlobal + Abort>(rt: &R, value: &T, want: &str) {
+/// A value in each form that can be asked for, with a precision, a sign, a width and a fill.
+fn in_each_form<T: Display, R: AllocGlobal + Abort>(rt: &R, value: &T, want: &str) -> String {
     let shown = format!(in rt.alloc();
         "{value} {value:.3} {value:+} {value:08} {value:#} {value:*>40}"
     );
-    let shown = shown.ok().expect(rt, want);
-    for text in shown.split(' ') {
+    shown.ok().expect(rt, want)
+}
+
+/// A value is to be written as the text, whatever precision, sign, width, fill or form is asked for, and
+/// not where there is no room.
+pub fn expect_shown<T: Display, R: AllocGlobal + Abort>(rt: &R, value: &T, want: &str) {
+    for text in in_each_form(rt, value, want).split(' ') {
         same(rt, text, want, want);
     }
     let mut none = ArrayString::<0>::new();
     assert!(rt; write!(none, "{value}").is_err(), "{want}");
+}
+
+/// The next drawn number.
+pub fn next_number(state: &mut u64) -> u32 {
+    *state = state
+        .wrapping_mul(6_364_136_223_846_793_005)
+        .wrapping_add(1_442_695_040_888_963_407);
+    (*state >> 33) as u32
 }
 
 /// The next drawn number, below `end`; each fourth one is 0.
@@ -30,40 +42,43 @@ fn drawn(state: &mut u64, end: u32) -> u32
     requires { 0 < end }
     ensures { result < end }
 {
-    *state = state
-        .wrapping_mul(6_364_136_223_846_793_005)
-        .wrapping_add(1_442_695_040_888_963_407);
-    let number = (*state >> 33) as u32;
+    let number = next_number(state);
     if number % 4 == 0 { 0 } else { number / 4 % end }
+}
+
+fn expect_time<R: AllocGlobal + Abort>(rt: &R, date: Date, time: Time) {
+    expect_shown(rt, &time, time.to_text().as_str());
+    let date_time = DateTime { date, time };
+    expect_shown(rt, &date_time, date_time.to_text().as_str());
+}
+
+fn expect_duration<R: AllocGlobal + Abort>(rt: &R, positive: bool, day: u32, time: (u32, u32)) {
+    let length = Duration::new(positive, day, time.0, time.1);
+    let length = length.ok().expect(rt, "a duration");
+    expect_shown(rt, &length, length.to_text().as_str());
+}
+
+/// Drawn values are to be written as their texts.
+fn expect_drawn<R: AllocGlobal + Abort>(rt: &R, state: &mut u64) {
+    let date = Date::from_day_number(drawn(state, 3_652_425)).expect(rt, "a date");
+    expect_shown(rt, &date, date.to_text().as_str());
+    let (second, microsecond) = (drawn(state, 86_400), drawn(state, 1_000_000));
+    let plain = Time::from_timestamp(second, microsecond);
+    let plain = plain.ok().expect(rt, "a time");
+    expect_time(rt, date, plain);
+    let offset = drawn(state, 172_799) as i32 - 86_399;
+    let time = plain.with_timezone_offset(Some(offset));
+    expect_time(rt, date, time.ok().expect(rt, "a time"));
+    let day = drawn(state, 1_000_000_000);
+    expect_duration(rt, true, day, (second, microsecond));
+    expect_duration(rt, false, day, (second, microsecond));
 }
 
 #[test]
 fn values(rt: HostRuntime) {
     let mut state = 20_240_602;
     for _ in 0..1000 {
-        let date = Date::from_day_number(drawn(&mut state, 3_652_425)).expect(&rt, "a date");
-        expect_shown(&rt, &date, date.to_text().as_str());
-        let (second, microsecond) = (drawn(&mut state, 86_400), drawn(&mut state, 1_000_000));
-        let offset = drawn(&mut state, 172_799) as i32 - 86_399;
-        let plain = Time::from_timestamp(second, microsecond)
-            .ok()
-            .expect(&rt, "a time");
-        let time = plain
-            .with_timezone_offset(Some(offset))
-            .ok()
-            .expect(&rt, "a time");
-        for time in [plain, time] {
-            expect_shown(&rt, &time, time.to_text().as_str());
-            let date_time = DateTime { date, time };
-            expect_shown(&rt, &date_time, date_time.to_text().as_str());
-        }
-        let day = drawn(&mut state, 1_000_000_000);
-        for positive in [true, false] {
-            let length = Duration::new(positive, day, second, microsecond)
-                .ok()
-                .expect(&rt, "a duration");
-            expect_shown(&rt, &length, length.to_text().as_str());
-        }
+        expect_drawn(&rt, &mut state);
     }
 }
 
@@ -74,7 +89,7 @@ pub fn expect_debug<T: Debug, R: AllocGlobal + Abort>(rt: &R, value: &T, want: &
 }
 
 #[test]
-fn debug_texts(rt: HostRuntime) {
+fn debug_texts_of_dates_and_times(rt: HostRuntime) {
     let date = Date {
         year: 2020,
         month: 2,
@@ -99,6 +114,10 @@ fn debug_texts(rt: HostRuntime) {
         "DateTime { date: Date { year: 2020, month: 2, day: 29 }, \
         time: Time { hour: 1, minute: 2, second: 3, microsecond: 4, tz_offset: Some(-5) } }",
     );
+}
+
+#[test]
+fn debug_texts_of_numbers(rt: HostRuntime) {
     let length = Duration {
         positive: false,
         day: 1,
@@ -122,6 +141,10 @@ fn debug_texts(rt: HostRuntime) {
         "Float(Decimal { negative: true, whole: [49], fraction: [53] })",
     );
     expect_debug(&rt, &IntFloat::Err, "Err");
+}
+
+#[test]
+fn debug_texts_of_configurations(rt: HostRuntime) {
     expect_debug(
         &rt,
         &DateConfig::default(),

@@ -2,8 +2,8 @@
 //! of JSON Schema's own tests, and texts for each row that the strict form alone has.
 
 use crate::configs::{date_time_config, time_config};
-use crate::rows::{expect, quoted, same, value, words};
-use speedate::{DateTime, Time};
+use crate::rows::{Row, each, expect, quoted, same, value, words};
+use speedate::{DateTime, DateTimeConfig, ParseError, Time};
 use std::process::Abort;
 
 /// Times of JSON Schema's tests, and the answer in the relaxed form and in the strict one; one word where
@@ -206,119 +206,139 @@ fn answers(row: &str) -> (&str, &str) {
     (relaxed, if strict.is_empty() { relaxed } else { strict })
 }
 
-/// Each text of the table is to have its answers as a time.
-fn expect_times<R: Abort>(rt: &R, table: &str) {
-    let (relaxed, strict) = (
-        time_config(rt, "error - relaxed"),
-        time_config(rt, "error - strict"),
-    );
-    for row in table.lines() {
-        let (_, text, wants) = quoted(rt, row);
-        let (in_relaxed, in_strict) = answers(wants);
-        let bytes = text.as_bytes();
-        let read = Time::parse_bytes_with_config(bytes, &relaxed);
-        expect(rt, read, in_relaxed, row);
-        expect(rt, Time::parse_str(text), in_relaxed, row);
-        let read = Time::parse_bytes_with_config(bytes, &strict);
-        expect(rt, read, in_strict, row);
-    }
+/// A text as a time in this form.
+fn time_of<R: Abort>(rt: &R, text: &str, form: &str) -> Result<Time, ParseError> {
+    Time::parse_bytes_with_config(text.as_bytes(), &time_config(rt, form))
 }
 
-/// Each text of the table is to have its answers as a date-time, by all readers.
-fn expect_date_times<R: Abort>(rt: &R, table: &str) {
-    let relaxed = date_time_config(rt, "infer error - relaxed");
-    let strict = date_time_config(rt, "infer error - strict");
-    for row in table.lines() {
+struct TimeRow;
+
+impl Row for TimeRow {
+    fn check<R: AllocGlobal + Abort>(rt: &R, row: &str) {
         let (_, text, wants) = quoted(rt, row);
         let (in_relaxed, in_strict) = answers(wants);
-        expect(rt, DateTime::parse_str_rfc3339(text), in_relaxed, row);
-        for (config, want) in [(relaxed, in_relaxed), (strict, in_strict)] {
-            let bytes = text.as_bytes();
-            let read = DateTime::parse_bytes_rfc3339_with_config(bytes, &config.time_config);
-            expect(rt, read, want, row);
-            expect(
-                rt,
-                DateTime::parse_bytes_with_config(bytes, &config),
-                want,
-                row,
-            );
-            expect(
-                rt,
-                DateTime::parse_str_with_config(text, &config),
-                want,
-                row,
-            );
-        }
+        expect(rt, time_of(rt, text, "error - relaxed"), in_relaxed, row);
+        expect(rt, Time::parse_str(text), in_relaxed, row);
+        expect(rt, time_of(rt, text, "error - strict"), in_strict, row);
     }
 }
 
 #[test]
 fn times(rt: HostRuntime) {
-    expect_times(&rt, SCHEMA_TIMES);
-    expect_times(&rt, TIMES);
+    each::<TimeRow, _>(&rt, SCHEMA_TIMES);
+    each::<TimeRow, _>(&rt, TIMES);
+}
+
+/// A text is to have this answer as a date-time by all readers that take a configuration.
+fn expect_read<R: Abort>(rt: &R, text: &str, config: &DateTimeConfig, want: &str, row: &str) {
+    let bytes = text.as_bytes();
+    let read = DateTime::parse_bytes_rfc3339_with_config(bytes, &config.time_config);
+    expect(rt, read, want, row);
+    expect(
+        rt,
+        DateTime::parse_bytes_with_config(bytes, config),
+        want,
+        row,
+    );
+    expect(rt, DateTime::parse_str_with_config(text, config), want, row);
+}
+
+struct DateTimeRow;
+
+impl Row for DateTimeRow {
+    fn check<R: AllocGlobal + Abort>(rt: &R, row: &str) {
+        let (_, text, wants) = quoted(rt, row);
+        let (in_relaxed, in_strict) = answers(wants);
+        expect(rt, DateTime::parse_str_rfc3339(text), in_relaxed, row);
+        let relaxed = date_time_config(rt, "infer error - relaxed");
+        expect_read(rt, text, &relaxed, in_relaxed, row);
+        let strict = date_time_config(rt, "infer error - strict");
+        expect_read(rt, text, &strict, in_strict, row);
+    }
 }
 
 #[test]
 fn date_times(rt: HostRuntime) {
-    expect_date_times(&rt, SCHEMA_DATE_TIMES);
-    expect_date_times(&rt, DATE_TIMES);
+    each::<DateTimeRow, _>(&rt, SCHEMA_DATE_TIMES);
+    each::<DateTimeRow, _>(&rt, DATE_TIMES);
+}
+
+struct ConfiguredRow;
+
+impl Row for ConfiguredRow {
+    fn check<R: AllocGlobal + Abort>(rt: &R, row: &str) {
+        let (config, text, want) = quoted(rt, row);
+        expect(rt, time_of(rt, text, config), want, row);
+    }
 }
 
 #[test]
 fn configured_times(rt: HostRuntime) {
-    for row in CONFIGURED.lines() {
-        let (config, text, want) = quoted(&rt, row);
-        let config = time_config(&rt, config);
-        let read = Time::parse_bytes_with_config(text.as_bytes(), &config);
-        expect(&rt, read, want, row);
+    each::<ConfiguredRow, _>(&rt, CONFIGURED);
+}
+
+struct TimestampRow;
+
+impl Row for TimestampRow {
+    fn check<R: AllocGlobal + Abort>(rt: &R, row: &str) {
+        let (_, text, want) = quoted(rt, row);
+        let strict = date_time_config(rt, "infer error 3600 strict");
+        let read = DateTime::parse_str_with_config(text, &strict);
+        expect(rt, read, want, row);
+        let bytes = text.as_bytes();
+        let read = DateTime::parse_bytes_rfc3339_with_config(bytes, &strict.time_config);
+        same(rt, read.is_err(), true, row);
     }
 }
 
 #[test]
 fn timestamps(rt: HostRuntime) {
-    let strict = date_time_config(&rt, "infer error 3600 strict");
-    for row in TIMESTAMPS.lines() {
-        let (_, text, want) = quoted(&rt, row);
-        expect(
-            &rt,
-            DateTime::parse_str_with_config(text, &strict),
-            want,
-            row,
-        );
-        let read = DateTime::parse_bytes_rfc3339_with_config(text.as_bytes(), &strict.time_config);
-        assert!(rt; read.is_err(), "{row}");
+    each::<TimestampRow, _>(&rt, TIMESTAMPS);
+}
+
+/// A time after a date.
+fn dated<R: Abort>(rt: &R, time: Time) -> DateTime {
+    let date = value(rt, "2020-02-29");
+    DateTime { date, time }
+}
+
+/// What the printed text of a time is in the strict form.
+fn printed_time<R: Abort>(rt: &R, time: &Time) -> Result<Time, ParseError> {
+    time_of(rt, time.to_text().as_str(), "error - strict")
+}
+
+/// What the printed text of a date-time is in the strict form.
+fn printed_date_time<R: Abort>(rt: &R, value: &DateTime) -> Result<DateTime, ParseError> {
+    let strict = time_config(rt, "error - strict");
+    DateTime::parse_bytes_rfc3339_with_config(value.to_text().as_str().as_bytes(), &strict)
+}
+
+struct WithOffsetRow;
+
+impl Row for WithOffsetRow {
+    fn check<R: AllocGlobal + Abort>(rt: &R, row: &str) {
+        let time: Time = value(rt, row);
+        same(rt, time.to_text().as_str(), row, row);
+        same(rt, printed_time(rt, &time), Ok(time), row);
+        let value = dated(rt, time);
+        same(rt, printed_date_time(rt, &value), Ok(value), row);
+    }
+}
+
+struct WithoutOffsetRow;
+
+impl Row for WithoutOffsetRow {
+    fn check<R: AllocGlobal + Abort>(rt: &R, row: &str) {
+        let [time, fault, ..] = words(row);
+        let time: Time = value(rt, time);
+        expect(rt, printed_time(rt, &time), fault, row);
+        let value = dated(rt, time);
+        expect(rt, printed_date_time(rt, &value), fault, row);
     }
 }
 
 #[test]
 fn printed_values(rt: HostRuntime) {
-    let strict = time_config(&rt, "error - strict");
-    for row in WITH_OFFSET.lines() {
-        let time: Time = value(&rt, row);
-        let text = time.to_text();
-        same(&rt, text.as_str(), row, row);
-        let read = Time::parse_bytes_with_config(text.as_str().as_bytes(), &strict);
-        same(&rt, read, Ok(time), row);
-        let value = DateTime {
-            date: value(&rt, "2020-02-29"),
-            time,
-        };
-        let text = value.to_text();
-        let read = DateTime::parse_bytes_rfc3339_with_config(text.as_str().as_bytes(), &strict);
-        same(&rt, read, Ok(value), row);
-    }
-    for row in WITHOUT_OFFSET.lines() {
-        let [time, fault, ..] = words(row);
-        let time: Time = value(&rt, time);
-        let text = time.to_text();
-        let read = Time::parse_bytes_with_config(text.as_str().as_bytes(), &strict);
-        expect(&rt, read, fault, row);
-        let value = DateTime {
-            date: value(&rt, "2020-02-29"),
-            time,
-        };
-        let text = value.to_text();
-        let read = DateTime::parse_bytes_rfc3339_with_config(text.as_str().as_bytes(), &strict);
-        expect(&rt, read, fault, row);
-    }
+    each::<WithOffsetRow, _>(&rt, WITH_OFFSET);
+    each::<WithoutOffsetRow, _>(&rt, WITHOUT_OFFSET);
 }

@@ -1,8 +1,9 @@
 //! Times of day from texts and from timestamps, and what has gone by since midnight.
 
 use crate::configs::{offset, time_config};
-use crate::rows::{expect, quoted, same, value, words};
+use crate::rows::{Row, each, expect, quoted, same, value, words};
 use speedate::{Time, TimeConfig};
+use std::process::Abort;
 
 /// Texts, and the answer of each reader under both behaviors.
 const TEXTS: &str = "\
@@ -113,77 +114,91 @@ const SINCE_MIDNIGHT: &str = "\
 01:02:03.040000-01:00  3723   3723040
 23:59:59.999999        86399  86399999";
 
+struct TextRow;
+
+impl Row for TextRow {
+    fn check<R: AllocGlobal + Abort>(rt: &R, row: &str) {
+        let (_, text, want) = quoted(rt, row);
+        let bytes = text.as_bytes();
+        expect(rt, Time::parse_str(text), want, row);
+        expect(rt, Time::parse_bytes(bytes), want, row);
+        let truncating = time_config(rt, "truncate 3600");
+        let read = Time::parse_bytes_with_config(bytes, &truncating);
+        expect(rt, read, want, row);
+        expect(rt, text.parse::<Time>(), want, row);
+    }
+}
+
 #[test]
 fn texts(rt: HostRuntime) {
-    let truncating = time_config(&rt, "truncate 3600");
-    for row in TEXTS.lines() {
-        let (_, text, want) = quoted(&rt, row);
-        expect(&rt, Time::parse_str(text), want, row);
-        expect(&rt, Time::parse_bytes(text.as_bytes()), want, row);
-        expect(
-            &rt,
-            Time::parse_bytes_with_config(text.as_bytes(), &truncating),
-            want,
-            row,
-        );
-        expect(&rt, text.parse::<Time>(), want, row);
+    each::<TextRow, _>(&rt, TEXTS);
+}
+
+struct ConfiguredRow;
+
+impl Row for ConfiguredRow {
+    fn check<R: AllocGlobal + Abort>(rt: &R, row: &str) {
+        let (config, text, want) = quoted(rt, row);
+        let config = time_config(rt, config);
+        let read = Time::parse_bytes_with_config(text.as_bytes(), &config);
+        expect(rt, read, want, row);
     }
 }
 
 #[test]
 fn configured_texts(rt: HostRuntime) {
-    for row in CONFIGURED.lines() {
-        let (config, text, want) = quoted(&rt, row);
-        let config = time_config(&rt, config);
-        expect(
-            &rt,
-            Time::parse_bytes_with_config(text.as_bytes(), &config),
-            want,
-            row,
-        );
-    }
+    each::<ConfiguredRow, _>(&rt, CONFIGURED);
 }
 
 #[test]
 fn bytes_that_are_no_text(rt: HostRuntime) {
-    let cases: [(&[u8], &str); 5] = [
-        (b"\xff\xff\xff\xff\xff", "invalid_char_hour"),
-        (b"12:13\xe2", "invalid_char_tz_sign"),
-        (b"12:13\xe2\x88", "invalid_char_tz_sign"),
-        (b"12:13\xe2\x88\x93", "invalid_char_tz_sign"),
-        (b"12:13\xe2\x88\x92", "invalid_char_tz_hour"),
-    ];
-    for (bytes, want) in cases {
-        expect(&rt, Time::parse_bytes(bytes), want, "no text");
-    }
+    let read = Time::parse_bytes(b"\xff\xff\xff\xff\xff");
+    expect(&rt, read, "invalid_char_hour", "five bytes ff");
+    let read = Time::parse_bytes(b"12:13\xe2");
+    expect(&rt, read, "invalid_char_tz_sign", "e2");
+    let read = Time::parse_bytes(b"12:13\xe2\x88");
+    expect(&rt, read, "invalid_char_tz_sign", "e2 88");
+    let read = Time::parse_bytes(b"12:13\xe2\x88\x93");
+    expect(&rt, read, "invalid_char_tz_sign", "e2 88 93");
+    let read = Time::parse_bytes(b"12:13\xe2\x88\x92");
+    expect(&rt, read, "invalid_char_tz_hour", "e2 88 92");
 }
 
-#[test]
-fn timestamps(rt: HostRuntime) {
-    for row in TIMESTAMPS.lines() {
+struct TimestampRow;
+
+impl Row for TimestampRow {
+    fn check<R: AllocGlobal + Abort>(rt: &R, row: &str) {
         let [second, microsecond, offset_word, want, ..] = words(row);
+        let attached = offset(rt, offset_word);
         let config = TimeConfig::builder()
-            .unix_timestamp_offset(offset(&rt, offset_word))
+            .unix_timestamp_offset(attached)
             .build();
-        let (second, microsecond) = (value(&rt, second), value(&rt, microsecond));
-        expect(
-            &rt,
-            Time::from_timestamp_with_config(second, microsecond, &config),
-            want,
-            row,
-        );
+        let (second, microsecond) = (value(rt, second), value(rt, microsecond));
+        let read = Time::from_timestamp_with_config(second, microsecond, &config);
+        expect(rt, read, want, row);
         if offset_word == "-" {
-            expect(&rt, Time::from_timestamp(second, microsecond), want, row);
+            expect(rt, Time::from_timestamp(second, microsecond), want, row);
         }
     }
 }
 
 #[test]
-fn since_midnight(rt: HostRuntime) {
-    for row in SINCE_MIDNIGHT.lines() {
+fn timestamps(rt: HostRuntime) {
+    each::<TimestampRow, _>(&rt, TIMESTAMPS);
+}
+
+struct SinceMidnightRow;
+
+impl Row for SinceMidnightRow {
+    fn check<R: AllocGlobal + Abort>(rt: &R, row: &str) {
         let [time, second, millisecond, ..] = words(row);
-        let time: Time = value(&rt, time);
-        same(&rt, time.total_seconds(), value(&rt, second), row);
-        same(&rt, time.total_ms(), value(&rt, millisecond), row);
+        let time: Time = value(rt, time);
+        same(rt, time.total_seconds(), value(rt, second), row);
+        same(rt, time.total_ms(), value(rt, millisecond), row);
     }
+}
+
+#[test]
+fn since_midnight(rt: HostRuntime) {
+    each::<SinceMidnightRow, _>(&rt, SINCE_MIDNIGHT);
 }

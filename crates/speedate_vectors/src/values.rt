@@ -1,6 +1,6 @@
 //! Values from their numbers.
 
-use crate::rows::{expect, value, words};
+use crate::rows::{Row, each, expect, same, value, words};
 use speedate::{Date, DateTime, Decimal, Moment, ParseError, Time, TimeConfig};
 use std::process::Abort;
 
@@ -38,29 +38,37 @@ fn offset<R: Abort>(rt: &R, word: &str) -> Option<i32> {
     Some(value(rt, word))
 }
 
+struct DateRow;
+
+impl Row for DateRow {
+    fn check<R: AllocGlobal + Abort>(rt: &R, row: &str) {
+        let [year, month, day, want, ..] = words(row);
+        let answer = Date::new(value(rt, year), value(rt, month), value(rt, day));
+        expect(rt, answer, want, row);
+    }
+}
+
 #[test]
 fn dates(rt: HostRuntime) {
-    for row in DATES.lines() {
-        let [year, month, day, want, ..] = words(row);
-        let answer = Date::new(value(&rt, year), value(&rt, month), value(&rt, day));
-        expect(&rt, answer, want, row);
+    each::<DateRow, _>(&rt, DATES);
+}
+
+struct TimeRow;
+
+impl Row for TimeRow {
+    fn check<R: AllocGlobal + Abort>(rt: &R, row: &str) {
+        let (want, numbers) = row.split_once(' ').expect(rt, row);
+        let [hour, minute, second, microsecond, offset_word] = words(numbers);
+        let (hour, minute, second) = (value(rt, hour), value(rt, minute), value(rt, second));
+        let (microsecond, offset) = (value(rt, microsecond), offset(rt, offset_word));
+        let answer = Time::new(hour, minute, second, microsecond, offset);
+        expect(rt, answer, want, row);
     }
 }
 
 #[test]
 fn times(rt: HostRuntime) {
-    for row in TIMES.lines() {
-        let (want, numbers) = row.split_once(' ').expect(&rt, row);
-        let [hour, minute, second, microsecond, offset_word] = words(numbers);
-        let answer = Time::new(
-            value(&rt, hour),
-            value(&rt, minute),
-            value(&rt, second),
-            value(&rt, microsecond),
-            offset(&rt, offset_word),
-        );
-        expect(&rt, answer, want, row);
-    }
+    each::<TimeRow, _>(&rt, TIMES);
 }
 
 #[test]
@@ -68,36 +76,51 @@ fn moments(rt: HostRuntime) {
     let moment = Moment::new(1, 999_999).ok().expect(&rt, "a moment");
     let want = "1970-01-01T00:00:01.999999Z";
     expect(&rt, DateTime::now_at(moment, 0), want, want);
-    assert_eq!(rt;
-        Moment::new(u64::MAX, 1_000_000),
-        Err(ParseError::TimeTooLarge)
-    );
+    let moment = Moment::new(u64::MAX, 1_000_000);
+    same(&rt, moment, Err(ParseError::TimeTooLarge), "a second more");
+}
+
+/// Whether there is a decimal of these digits.
+fn is_decimal(whole: &[u8], fraction: &[u8]) -> bool {
+    Decimal::new(false, whole, fraction).is_some()
 }
 
 #[test]
 fn decimals(rt: HostRuntime) {
     let decimal = Decimal::new(true, b"1", b"50").expect(&rt, "a decimal");
-    assert!(rt;
-        decimal.negative && decimal.whole == b"1".as_slice() && decimal.fraction == b"50".as_slice()
-    );
-    assert!(rt;
-        Decimal::new(false, b"", b"5").is_some() && Decimal::new(false, b"5", b"").is_some()
-    );
-    assert!(rt; Decimal::new(false, b"", b"").is_none());
-    assert!(rt;
-        Decimal::new(false, b"+1", b"5").is_none() && Decimal::new(false, b"1", b"5e3").is_none()
+    same(&rt, decimal.negative, true, "its sign");
+    same(&rt, decimal.whole, b"1".as_slice(), "its whole part");
+    same(&rt, decimal.fraction, b"50".as_slice(), "its fraction");
+    same(&rt, is_decimal(b"", b"5"), true, ".5");
+    same(&rt, is_decimal(b"5", b""), true, "5.");
+    same(&rt, is_decimal(b"", b""), false, ".");
+    same(&rt, is_decimal(b"+1", b"5"), false, "+1.5");
+    same(&rt, is_decimal(b"1", b"5e3"), false, "1.5e3");
+}
+
+fn expect_offset<R: Abort>(rt: &R, offset: Option<i32>) {
+    let builder = TimeConfig::builder().try_unix_timestamp_offset(offset);
+    let config = builder.ok().expect(rt, "a configuration").build();
+    same(rt, config.unix_timestamp_offset, offset, "an offset");
+}
+
+fn expect_no_offset<R: Abort>(rt: &R, offset: i32) {
+    let builder = TimeConfig::builder().try_unix_timestamp_offset(Some(offset));
+    same(
+        rt,
+        builder.err(),
+        Some(ParseError::OutOfRangeTz),
+        "no offset",
     );
 }
 
 #[test]
 fn offsets_of_configurations(rt: HostRuntime) {
-    for offset in [None, Some(0), Some(-86_399), Some(86_399)] {
-        let builder = TimeConfig::builder().try_unix_timestamp_offset(offset);
-        let config = builder.ok().expect(&rt, "a configuration").build();
-        assert_eq!(rt; config.unix_timestamp_offset, offset);
-    }
-    for offset in [86_400, -86_400, i32::MIN] {
-        let builder = TimeConfig::builder().try_unix_timestamp_offset(Some(offset));
-        assert_eq!(rt; builder.err(), Some(ParseError::OutOfRangeTz));
-    }
+    expect_offset(&rt, None);
+    expect_offset(&rt, Some(0));
+    expect_offset(&rt, Some(-86_399));
+    expect_offset(&rt, Some(86_399));
+    expect_no_offset(&rt, 86_400);
+    expect_no_offset(&rt, -86_400);
+    expect_no_offset(&rt, i32::MIN);
 }
