@@ -1,8 +1,9 @@
 -- A number in digits, from the last two to the first.
 use Rattle.std.specs.Prelude.{◌≡◌, ℕ, ◌+◌, ◌/◌, ◌%◌, ◌^◌, ◌<◌, ◌≤◌, List, [], ◌∷◌, ◌++◌}
 use Rattle.std.specs.Fmt.{decimal}
-use Rattle.std.proofs.Common.{arith, ap, ◌∙◌, append_assoc}
+use Rattle.std.proofs.Common.{arith, ap, ◌∙◌, append_assoc, length-append}
 use Rattle.std.proofs.lemmas.Fmt.{decimal_digit, decimal_step}
+use Rattle.std.proofs.lemmas.Str.{encode_ascii}
 use Rattle.speedate_base.specs.Digits.{two_digit_text}
 
 -- a number of two digits
@@ -33,3 +34,6 @@ decimal-pairs number long small =
     decimal-pair number (omega arith) small
     ∙ ap (λ (digits : List ℕ). digits ++ two_digit_text (number % 100)) (decimal-pair (number / 100) (omega arith) (omega arith)
     ∙ ap (λ (n : ℕ). decimal n ++ two_digit_text (number / 100 % 100)) front)
+
+-- what printers cite
+pub ruleset printed_digits = (decimal-two, decimal-pair, decimal-pairs, decimal_digit, encode_ascii, length-append, append_assoc)

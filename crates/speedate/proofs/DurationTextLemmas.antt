@@ -4,6 +4,7 @@ use Rattle.std.specs.Fmt.{decimal}
 use Rattle.std.proofs.Common.{arith, lit<}
 use Rattle.std.proofs.lemmas.List.{length-append}
 use Rattle.std.proofs.lemmas.Fmt.{length-decimal-le}
+use Rattle.std.proofs.lemmas.Str.{encode_ascii}
 use Rattle.speedate_base.specs.Ascii.{digit_zero, full_stop, capital_d, capital_h, capital_m, capital_s, capital_y}
 use Rattle.speedate_base.specs.Digits.{six_digit_text}
 use Rattle.speedate.specs.DurationText.{counted_text, kept_digit, without_last_zeros, short_fraction_text, seconds_text, start_text}
@@ -48,6 +49,9 @@ fraction-length microsecond =
     (omega (arith, without-length (six_digit_text microsecond)))
 
 -- seconds
+pub second-length : (second : ℕ) → second < 60 → length (decimal second) ≤ 2
+second-length second small = length-decimal-le 2 second (lit< tt) (omega (arith, small)) (omega (arith, small))
+
 pub seconds-length : (second microsecond : ℕ) → second < 60 → length (seconds_text second microsecond) ≤ 10
 seconds-length second microsecond small =
     chosen-length ((second == 0) && (microsecond == 0)) (decimal second ++ short_fraction_text microsecond ++ capital_s ∷ []) 10
@@ -56,9 +60,12 @@ seconds-length second microsecond small =
       length-append (decimal second ++ short_fraction_text microsecond) (capital_s ∷ []),
       length-append (decimal second) (short_fraction_text microsecond),
       fraction-length microsecond,
-      length-decimal-le 2 second (lit< tt) (omega (arith, small)) (omega (arith, small)),
+      second-length second small,
     ))
 
 pub start-length : (positive : Bool) → length (start_text positive) ≤ 2
 start-length true = omega arith
 start-length false = omega arith
+
+-- what printers cite
+pub ruleset printed_lengths = (start-length, years-length, days-length, hours-length, minutes-length, fraction-length, second-length, encode_ascii, length-append)

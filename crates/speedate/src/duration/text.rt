@@ -18,6 +18,7 @@ const TEXT_MAX: usize = 31;
 const DAYS_PER_YEAR: u32 = 365;
 
 /// Appends a number of at most eight digits, without leading zeros: `120` for 120.
+#[tactic(auto, using(crate::proofs::DecimalTextLemmas::printed_digits))]
 #[inline(always)]
 fn push_number<const LENGTH: usize>(number: u32, text: &mut ArrayString<LENGTH>)
     requires few { number < 100000000 }
@@ -34,6 +35,7 @@ fn push_number<const LENGTH: usize>(number: u32, text: &mut ArrayString<LENGTH>)
 }
 
 /// Appends a number of at most four digits, without leading zeros.
+#[tactic(auto, using(crate::proofs::DecimalTextLemmas::printed_digits))]
 #[inline(always)]
 fn push_up_to_four_digits<const LENGTH: usize>(number: u32, text: &mut ArrayString<LENGTH>)
     requires few { number < 10000 }
@@ -49,6 +51,7 @@ fn push_up_to_four_digits<const LENGTH: usize>(number: u32, text: &mut ArrayStri
 }
 
 /// Appends a number of one digit or two, without leading zeros.
+#[tactic(auto, using(crate::proofs::DecimalTextLemmas::printed_digits))]
 #[inline(always)]
 fn push_up_to_two_digits<const LENGTH: usize>(number: u8, text: &mut ArrayString<LENGTH>)
     requires few { number < 100 }
@@ -131,6 +134,7 @@ fn push_last_places<const LENGTH: usize>(number: u8, text: &mut ArrayString<LENG
 }
 
 /// Appends seconds and microseconds, and nothing for none: `7.5S` for 7 and 500,000.
+#[tactic(auto, using(crate::proofs::DurationTextLemmas::printed_lengths))]
 #[inline(always)]
 fn push_seconds<const LENGTH: usize>(second: u32, microsecond: u32, text: &mut ArrayString<LENGTH>)
     requires few { second < 60 }
@@ -184,6 +188,7 @@ impl Duration {
 
     /// Appends the text of [`Duration::to_text`]: `ok ` becomes `ok P1DT2H`. There must be room for 31
     /// bytes, the longest text, which is a condition on the caller.
+    #[tactic(auto, using(crate::proofs::DurationTextLemmas::printed_lengths))]
     #[inline(always)]
     pub fn push_onto<const LENGTH: usize>(&self, text: &mut ArrayString<LENGTH>)
         requires room { array_string_len text.old + TEXT_MAX ≤ LENGTH }
@@ -196,6 +201,7 @@ impl Duration {
     }
 
     /// Appends what follows the days.
+    #[tactic(auto, using(crate::proofs::DurationTextLemmas::printed_lengths))]
     #[inline(always)]
     fn push_rest<const LENGTH: usize>(&self, text: &mut ArrayString<LENGTH>)
         requires room { array_string_len text.old + 17 ≤ LENGTH }
