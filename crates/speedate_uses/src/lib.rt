@@ -18,7 +18,7 @@ pub mod validator;
 
 #[cfg(test)]
 mod checks {
-    //! What the tests share: a test is proved at each place.
+    //! What the tests share, so it is proved once.
 
     use speedate::{DateTime, ParseError};
     use std::fmt::Debug;

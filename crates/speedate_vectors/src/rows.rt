@@ -8,14 +8,13 @@ use std::fmt::{Debug, Display, Write};
 use std::process::Abort;
 use std::str::FromStr;
 
-/// What the rows of a table are to show.
+/// A kind of rows.
 pub trait Row {
-    /// Fails where a row does not show it.
+    /// Fails where the row is not as it is to be.
     fn check<R: AllocGlobal + Abort>(rt: &R, row: &str);
 }
 
-/// Each row of a table is to show what rows of its kind do. The loop stands here once, since a test is
-/// proved at each place.
+/// Checks each row of a table. The loop stands here, so it is proved once.
 pub fn each<T: Row, R: AllocGlobal + Abort>(rt: &R, table: &str) {
     for row in table.lines() {
         T::check(rt, row);
