@@ -36,7 +36,7 @@ enum SpeedateCode {
     /* What was asked for is written. */
     SPEEDATE_OK = 0,
 
-    /* 1 to 99: faults of a text or of a number. "Strict" is SPEEDATE_FORM_STRICT. */
+    /* 1 to 99: faults of a text or of a number. "Strict" are the calls whose names end in _strict. */
 
     /* The text ends before what it must hold. */
     SPEEDATE_TOO_SHORT = 1,
@@ -64,7 +64,7 @@ enum SpeedateCode {
     SPEEDATE_INVALID_CHAR_SECOND = 12,
     /* No call here returns it. */
     SPEEDATE_INVALID_CHAR_SECOND_FRACTION = 13,
-    /* What follows a time is no beginning of an offset. */
+    /* What follows a time is no beginning of an offset; or, strict, a comma follows the second, or U+2212 the clock. */
     SPEEDATE_INVALID_CHAR_TZ_SIGN = 14,
     /* The hour of an offset is not two digits. */
     SPEEDATE_INVALID_CHAR_TZ_HOUR = 15,
@@ -74,7 +74,7 @@ enum SpeedateCode {
     SPEEDATE_OUT_OF_RANGE_TZ_MINUTE = 17,
     /* An offset is of 24 hours or more. */
     SPEEDATE_OUT_OF_RANGE_TZ = 18,
-    /* A value without offset cannot be moved to another one; or a strict text has none after its fraction. */
+    /* A value without offset cannot be moved to another one; or a strict text has none. */
     SPEEDATE_TZ_REQUIRED = 19,
     /* No call here returns it: a clock stands before 1970. */
     SPEEDATE_SYSTEM_TIME_ERROR = 20,
@@ -171,12 +171,10 @@ typedef struct SpeedateConfig {
     uint8_t overflow_behavior;
     /* The order of the components of an ISO 8601 duration: SPEEDATE_ORDER_LAX or _STRICT. */
     uint8_t iso_order;
-    /* Which texts are times and date-times: SPEEDATE_FORM_RELAXED or _STRICT. */
-    uint8_t rfc3339_form;
 } SpeedateConfig;
 
 /* The default: SpeedateConfig config = SPEEDATE_CONFIG_DEFAULT; */
-#define SPEEDATE_CONFIG_DEFAULT {0, 0, 0, 0, 0, 0}
+#define SPEEDATE_CONFIG_DEFAULT {0, 0, 0, 0, 0}
 
 /* Seconds where the timestamp without its sign is at most 20,000,000,000, otherwise milliseconds. */
 #define SPEEDATE_UNIT_INFER 0
@@ -193,12 +191,6 @@ typedef struct SpeedateConfig {
 #define SPEEDATE_ORDER_LAX 0
 /* Each component comes at most once: years, months, weeks, days, and after the T hours, minutes, seconds. */
 #define SPEEDATE_ORDER_STRICT 1
-
-/* The texts of RFC 3339, and others: the second, the offset and the colon in it may be left out, and more. */
-#define SPEEDATE_FORM_RELAXED 0
-/* The texts of RFC 3339 without a second 60; SPEEDATE_OVERFLOW_ERROR refuses a seventh digit here too. Timestamps are
- * read as in the relaxed form. */
-#define SPEEDATE_FORM_STRICT 1
 
 /* ---- Values ---- */
 
@@ -301,6 +293,11 @@ int speedate_date_days_since(SpeedateDate date, SpeedateDate earlier, int32_t *o
 /* Reads a time: "12:13:14.5+01:00". */
 int speedate_time_parse(const char *text, size_t size, SpeedateConfig config, SpeedateTime *out);
 
+/* Reads a time from the texts of RFC 3339 alone, without those with a second 60; SPEEDATE_OVERFLOW_ERROR refuses a
+ * seventh digit of a fraction too. Of the configuration the overflow_behavior matters. A text that speedate_time_parse
+ * refuses has its fault. */
+int speedate_time_parse_strict(const char *text, size_t size, SpeedateConfig config, SpeedateTime *out);
+
 /* Reads the time at the front of a text, and writes how many bytes it takes to *taken: 12:13:14Z, and 9, from
  * "12:13:14Z GET /". */
 int speedate_time_parse_front(const char *text, size_t size, SpeedateConfig config, SpeedateTime *out, size_t *taken);
@@ -311,7 +308,7 @@ int speedate_time_parse_front(const char *text, size_t size, SpeedateConfig conf
 int speedate_time_check(SpeedateTime time);
 
 /* Prints a time: "12:13:14.500000+01:30", "12:13:14Z". It reads back as the time where the offset is absent or whole
- * minutes; the seconds of another offset are not printed. SPEEDATE_FORM_STRICT reads back only those with an offset. */
+ * minutes; the seconds of another offset are not printed. */
 int speedate_time_to_text(SpeedateTime time, char *buffer, size_t size, size_t *length);
 
 /* Writes -1 where the first time is the earlier one, 0 where they are the same instant, otherwise 1: in UTC where both
@@ -338,9 +335,11 @@ int speedate_time_in_timezone(SpeedateTime time, int32_t offset, SpeedateTime *o
  * unit and with the offset of the configuration. Every number is a timestamp: 20200229 too. */
 int speedate_datetime_parse(const char *text, size_t size, SpeedateConfig config, SpeedateDateTime *out);
 
-/* Reads the same texts as speedate_datetime_parse, without timestamps. For RFC 3339 alone call this with
- * SPEEDATE_FORM_STRICT. */
+/* Reads the same texts as speedate_datetime_parse, without timestamps. */
 int speedate_datetime_parse_rfc3339(const char *text, size_t size, SpeedateConfig config, SpeedateDateTime *out);
+
+/* Reads a date-time from the texts of RFC 3339 alone, as speedate_time_parse_strict does a time. */
+int speedate_datetime_parse_strict(const char *text, size_t size, SpeedateConfig config, SpeedateDateTime *out);
 
 /* Reads the date-time at the front of a text, and writes how many bytes it takes to *taken: 2026-11-22T12:13:14Z, and
  * 20, from "2026-11-22T12:13:14Z GET /". It reads no timestamp (cut the word and call speedate_datetime_parse) and no

@@ -52,18 +52,17 @@ static long long number(void) {
 
 static SpeedateConfig config(void) {
     SpeedateConfig it = SPEEDATE_CONFIG_DEFAULT;
-    long long n[6];
+    long long n[5];
     if (field < FIELDS && fields[field] && strcmp(fields[field], "default") == 0) {
         field++;
         return it;
     }
-    numbers(n, 6);
+    numbers(n, 5);
     it.timestamp_offset = (int32_t)n[0];
     it.has_timestamp_offset = (uint8_t)n[1];
     it.timestamp_unit = (uint8_t)n[2];
     it.overflow_behavior = (uint8_t)n[3];
     it.iso_order = (uint8_t)n[4];
-    it.rfc3339_form = (uint8_t)n[5];
     return it;
 }
 
@@ -271,9 +270,11 @@ static int run_text(const char *text, size_t size) {
         WRITES_FRONT(SpeedateDate, say_date, speedate_date_parse_front(text, size, &both.out, &both.taken))
     PARSE(SpeedateDate, say_date, date_parse)
     PARSE(SpeedateTime, say_time, time_parse)
+    PARSE(SpeedateTime, say_time, time_parse_strict)
     FRONT(SpeedateTime, say_time, time_parse_front)
     PARSE(SpeedateDateTime, say_datetime, datetime_parse)
     PARSE(SpeedateDateTime, say_datetime, datetime_parse_rfc3339)
+    PARSE(SpeedateDateTime, say_datetime, datetime_parse_strict)
     FRONT(SpeedateDateTime, say_datetime, datetime_parse_front)
     PARSE(SpeedateDuration, say_duration, duration_parse)
     return 0;

@@ -4,7 +4,7 @@ use std::hint::black_box;
 
 use speedate::{Date, DateTime, Duration, Time};
 use speedate_diff::draw::Draw;
-use speedate_diff::ffi::{self, Code, Config, FORM_STRICT};
+use speedate_diff::ffi::{self, Code, Config};
 
 use crate::peers;
 use crate::row::{Side, Table, side, written};
@@ -16,9 +16,7 @@ const DEFAULT: Config = Config {
     timestamp_unit: 0,
     overflow_behavior: 0,
     iso_order: 0,
-    rfc3339_form: 0,
 };
-const STRICT: Config = Config { rfc3339_form: FORM_STRICT, ..DEFAULT };
 
 pub fn rows(table: &mut Table) {
     date_rows(table);
@@ -60,7 +58,7 @@ fn time_rows(table: &mut Table) {
     row("time, 1 to 5 digits", one_to_five_digits, peers::time_with_fraction());
     row("time, fraction, offset", |draw| clock(draw) + &microseconds(draw) + &offset(draw), vec![]);
     row("time, refused", refused_clock, peers::time());
-    let strict = ours(|text| written(|out| ffi::speedate_time_parse(text, STRICT, out)));
+    let strict = ours(|text| written(|out| ffi::speedate_time_parse_strict(text, DEFAULT, out)));
     table.row("time, Z, strict", &texts(|draw| clock(draw) + "Z"), rust(Time::parse_bytes), strict, vec![]);
 }
 
@@ -76,7 +74,7 @@ fn date_time_rows(table: &mut Table) {
     row("date-time, fraction, offset", fraction_and_offset, peers::date_time());
     row("date-time, refused", refused_date_time, peers::date_time_in_utc());
     let mut row = |name: &str, text: fn(&mut Draw) -> String| {
-        let strict = ours(|text| written(|out| ffi::speedate_datetime_parse_rfc3339(text, STRICT, out)));
+        let strict = ours(|text| written(|out| ffi::speedate_datetime_parse_strict(text, DEFAULT, out)));
         table.row(name, &texts(text), rust(DateTime::parse_bytes_rfc3339), strict, vec![]);
     };
     row("date-time, Z, strict", z);

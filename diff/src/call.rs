@@ -5,7 +5,7 @@ use std::ops::Deref;
 
 use crate::answer::Value;
 use crate::draw::Draw;
-use crate::ffi::{Config, Date, DateTime, Duration, FORM_STRICT, ORDER_STRICT, Time};
+use crate::ffi::{Config, Date, DateTime, Duration, ORDER_STRICT, Time};
 use crate::text::{FIRST_SECOND, KINDS, Kind, LAST_SECOND};
 
 /// A text, which shows its bytes escaped and in hex.
@@ -89,10 +89,8 @@ impl Call {
     fn read(draw: &mut Draw) -> Self {
         let kind = draw.pick(&KINDS);
         let mut config = config(draw);
-        match kind {
-            Kind::Duration if draw.once_in(8) => config.iso_order = ORDER_STRICT,
-            Kind::Time | Kind::DateTime | Kind::DateTimeRfc3339 if draw.once_in(8) => config.rfc3339_form = FORM_STRICT,
-            _ => {}
+        if kind == Kind::Duration && draw.once_in(8) {
+            config.iso_order = ORDER_STRICT;
         }
         Call::Read { kind, text: Bytes(draw.text(kind)), config }
     }

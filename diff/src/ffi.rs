@@ -58,7 +58,6 @@ pub struct Config {
     pub timestamp_unit: u8,
     pub overflow_behavior: u8,
     pub iso_order: u8,
-    pub rfc3339_form: u8,
 }
 
 pub const UNIT_INFER: u8 = 0;
@@ -67,7 +66,6 @@ pub const UNIT_MILLISECOND: u8 = 2;
 pub const OVERFLOW_ERROR: u8 = 0;
 pub const OVERFLOW_TRUNCATE: u8 = 1;
 pub const ORDER_STRICT: u8 = 1;
-pub const FORM_STRICT: u8 = 1;
 
 impl Config {
     /// The offset that the value of a timestamp gets, if any.
@@ -181,8 +179,10 @@ readers! {
     fn speedate_date_parse(text, config: Config) -> Date;
     fn speedate_date_parse_rfc3339(text) -> Date;
     fn speedate_time_parse(text, config: Config) -> Time;
+    fn speedate_time_parse_strict(text, config: Config) -> Time;
     fn speedate_datetime_parse(text, config: Config) -> DateTime;
     fn speedate_datetime_parse_rfc3339(text, config: Config) -> DateTime;
+    fn speedate_datetime_parse_strict(text, config: Config) -> DateTime;
     fn speedate_duration_parse(text, config: Config) -> Duration;
 }
 

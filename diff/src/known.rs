@@ -4,7 +4,7 @@ use crate::answer::{Answer, PANIC, Value, is_fault};
 use crate::call::Call;
 use crate::exact::{Decimal, IsoFraction, split_digits, split_sign};
 use crate::ffi::{
-    Config, FORM_STRICT, ORDER_STRICT, OVERFLOW_TRUNCATE, Time, UNIT_INFER, UNIT_MILLISECOND, UNIT_SECOND,
+    Config, ORDER_STRICT, OVERFLOW_TRUNCATE, Time, UNIT_INFER, UNIT_MILLISECOND, UNIT_SECOND,
 };
 use crate::rust;
 use crate::text::{Kind, LARGEST_SECOND};
@@ -19,7 +19,7 @@ pub struct Known {
     explains: fn(&Call, &Answer, &Answer) -> bool,
 }
 
-pub const KNOWN: [Known; 11] = [
+pub const KNOWN: [Known; 10] = [
     Known { row: "fractions of ISO 8601 durations", explains: is_iso_fraction },
     Known { row: "the order of components in an ISO 8601 duration", explains: is_iso_order },
     Known { row: "a clock of a duration, with `Truncate`", explains: is_cut_clock },
@@ -30,7 +30,6 @@ pub const KNOWN: [Known; 11] = [
     Known { row: "`in_timezone` of `Time`", explains: is_moved_time },
     Known { row: "the offset `i32::MIN`", explains: is_smallest_offset },
     Known { row: "`unix_timestamp_offset`", explains: is_timestamp_offset },
-    Known { row: "`TimeConfigBuilder::rfc3339_form`, `Rfc3339Form`", explains: is_strict_form },
 ];
 
 /// The place in `KNOWN` of the row that explains the difference.
@@ -207,50 +206,6 @@ fn is_smallest_offset(call: &Call, rust: &Answer, ours: &Answer) -> bool {
 fn is_timestamp_offset(call: &Call, _rust: &Answer, ours: &Answer) -> bool {
     let offset = call.config().and_then(Config::offset);
     offset.is_some_and(|offset| !is_offset(offset)) && is_fault(ours, "config_out_of_range")
-}
-
-/// The strict form refuses a text that is no timestamp and does not have the form of RFC 3339.
-fn is_strict_form(call: &Call, _rust: &Answer, ours: &Answer) -> bool {
-    match call {
-        Call::Read { kind, text, config } => {
-            config.rfc3339_form == FORM_STRICT && ours.is_err() && !has_strict_form(*kind, text)
-        }
-        _ => false,
-    }
-}
-
-fn has_strict_form(kind: Kind, text: &[u8]) -> bool {
-    match (kind, text.split_at_checked(11)) {
-        (Kind::Time, _) => has_strict_time(text),
-        (Kind::DateTime, _) if is_number(text) => true,
-        (_, Some((date, time))) => (fits(date, b"0000-00-00T") || fits(date, b"0000-00-00t")) && has_strict_time(time),
-        _ => false,
-    }
-}
-
-fn has_strict_time(text: &[u8]) -> bool {
-    let Some((clock, rest)) = text.split_at_checked(8) else {
-        return false;
-    };
-    let offset = match rest {
-        [b'.', digit, rest @ ..] if digit.is_ascii_digit() => split_digits(rest).1,
-        _ => rest,
-    };
-    let is_offset = matches!(offset, b"Z" | b"z") || fits(offset, b"+00:00") || fits(offset, b"-00:00");
-    fits(clock, b"00:00:00") && is_offset
-}
-
-fn is_number(text: &[u8]) -> bool {
-    let (digits, rest) = split_digits(split_sign(text).1);
-    !digits.is_empty() && rest.is_empty() || Decimal::of(text).is_some()
-}
-
-/// Whether a text has a digit where the pattern has `0`, and elsewhere the pattern's byte.
-fn fits(text: &[u8], pattern: &[u8]) -> bool {
-    let fits_byte = |(byte, wanted): (&u8, &u8)| {
-        if *wanted == b'0' { byte.is_ascii_digit() } else { byte == wanted }
-    };
-    text.len() == pattern.len() && text.iter().zip(pattern).all(fits_byte)
 }
 
 /// Whether an offset is of less than a day.

@@ -9,7 +9,6 @@ use Rattle.std.proofs.lemmas.List.{take-append-drop, drop_more}
 use Rattle.std.proofs.lemmas.List.Folds.{list_any-append}
 use Rattle.std.proofs.lemmas.List.Sums.{passes_at_first}
 use Rattle.speedate_base.specs.declared.config.MicrosecondsPrecisionOverflowBehavior.{MicrosecondsPrecisionOverflowBehavior}
-use Rattle.speedate_base.specs.declared.config.Rfc3339Form.TheVariants as rfc3339
 use Rattle.speedate_base.specs.Ascii.{colon}
 use Rattle.speedate_base.specs.DigitRuns.{run_length, digits_value}
 use Rattle.speedate_base.proofs.DigitRunLemmas.{run-whole}
@@ -51,7 +50,7 @@ letter-after_digits text =
 -- what follows the minute of a clock that takes all of a text
 after-minute : (a b c : ℕ) (more : List ℕ) (second : Bool)
     → (second implies two_digits_at (a ∷ b ∷ c ∷ more) 3) ≡ true
-    → ((if second && has_point rfc3339.Relaxed (a ∷ b ∷ c ∷ more) then 6 + run_length (a ∷ b ∷ c ∷ more) 6 else (if second then 5 else 2)) == length (a ∷ b ∷ c ∷ more)) ≡ true
+    → ((if second && has_point (a ∷ b ∷ c ∷ more) then 6 + run_length (a ∷ b ∷ c ∷ more) 6 else (if second then 5 else 2)) == length (a ∷ b ∷ c ∷ more)) ≡ true
     → (second ≡ true) × (list_any is_day_letter more ≡ false)
 after-minute a b c more false asked sized = absurd (grind (arith, nat_tests, sized))
 after-minute a b c [] true asked sized = absurd (false≢true asked)
@@ -74,7 +73,7 @@ after-minute a b c (d ∷ e ∷ p ∷ last) true asked sized =
 
 -- no letter stands in a clock, from its minute on, that takes all of a text
 pub minute-no_letter : (rest : List ℕ) → two_digits_at rest 0 ≡ true → (has_second rest implies two_digits_at rest 3) ≡ true
-    → ((minute_clock rfc3339.Relaxed rest).size == length rest) ≡ true → list_any is_day_letter rest ≡ false
+    → ((minute_clock rest).size == length rest) ≡ true → list_any is_day_letter rest ≡ false
 minute-no_letter [] minute asked sized = refl
 minute-no_letter (a ∷ []) minute asked sized = absurd (false≢true (and_parts _ _ minute).1)
 minute-no_letter (a ∷ b ∷ []) minute asked sized =
@@ -95,11 +94,11 @@ clock-no_letter behavior text value same =
     let front = meets-ok (hours_table text) (after_hours behavior (digits_value (hours text)) rest) value same in
     let ranges = meets-ok (hours_range behavior (digits_value (hours text)) rest) (result_and_then (whole_clock (digits_value (hours text)) rest) (minute_front behavior rest)) value front.1 in
     let read = and_then-ok (whole_clock (digits_value (hours text)) rest) (minute_front behavior rest) value ranges.1 in
-    let minute = meets-ok (minute_digits rest) (clock_answer rfc3339.Relaxed behavior rest) read.0 read.1 in
-    let clock = meets-value (minute_table rfc3339.Relaxed behavior rest) (minute_clock rfc3339.Relaxed rest) read.0 minute.1 in
+    let minute = meets-ok (minute_digits rest) (clock_answer behavior rest) read.0 read.1 in
+    let clock = meets-value (minute_table behavior rest) (minute_clock rest) read.0 minute.1 in
     let whole = meets-ok (end_table rest read.0) (Ok (clock_numbers (digits_value (hours text)) read.0)) value read.2 in
     let sized = ap (λ (clock : Clock). clock.size == length rest) clock.1 ∙ whole.0.0 in
-    let none = minute-no_letter rest minute.0.0 clock.0.1.1.0 sized in
+    let none = minute-no_letter rest minute.0.0 clock.0.1.0 sized in
     let within : first < length text = grind (arith, nat_tests, front.0.1.0) in
     let at_colon = passes_at_first (λ byte. byte == colon) text 0 within in
     let long : nat_lt (length text) 5 ≡ false = grind (arith, nat_tests, front.0.0) in

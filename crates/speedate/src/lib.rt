@@ -39,8 +39,8 @@
 //!
 //! A number in place of a date or a date-time is a Unix timestamp: seconds, milliseconds or
 //! microseconds since 1970-01-01T00:00:00 in UTC, and by default seconds up to 20,000,000,000,
-//! otherwise milliseconds. The readers with `rfc3339` in their names, and `parse_front`, read no
-//! timestamps.
+//! otherwise milliseconds. The readers with `rfc3339` in their names, `parse_bytes_strict` and
+//! `parse_front` read no timestamps.
 //!
 //! # Documents
 //!
@@ -55,8 +55,7 @@ mod duration;
 pub use duration::Duration;
 pub use speedate_base::config::{
     DateConfig, DateConfigBuilder, DateTimeConfig, DateTimeConfigBuilder, IsoOrder,
-    MicrosecondsPrecisionOverflowBehavior, Rfc3339Form, TimeConfig, TimeConfigBuilder,
-    TimestampUnit,
+    MicrosecondsPrecisionOverflowBehavior, TimeConfig, TimeConfigBuilder, TimestampUnit,
 };
 pub use speedate_base::faults::{ConfigError, ParseError};
 pub use speedate_base::numbers::{

@@ -1,12 +1,11 @@
--- The texts by which a unit of timestamps, a behavior, an order and a form are chosen: names, in letters of any case.
-use Rattle.std.specs.Prelude.{ℕ, List, [], ◌∷◌, codes, if◌then◌else◌, Result, Ok, Err}
+-- The texts by which a unit of timestamps, a behavior and an order are chosen: names, in letters of any case.
+use Rattle.std.specs.Prelude.{ℕ, List, [], ◌∷◌, codes, if◌then◌else◌, Option, Some, None, Result}
+use Rattle.std.specs.Option.{ok_or}
 use Rattle.std.specs.Str.{str_eq_ignore_ascii_case}
 use Rattle.speedate_base.specs.declared.config.IsoOrder.{IsoOrder}
 use Rattle.speedate_base.specs.declared.config.IsoOrder.TheVariants as order
 use Rattle.speedate_base.specs.declared.config.MicrosecondsPrecisionOverflowBehavior.{MicrosecondsPrecisionOverflowBehavior}
 use Rattle.speedate_base.specs.declared.config.MicrosecondsPrecisionOverflowBehavior.TheVariants as behavior
-use Rattle.speedate_base.specs.declared.config.Rfc3339Form.{Rfc3339Form}
-use Rattle.speedate_base.specs.declared.config.Rfc3339Form.TheVariants as rfc3339
 use Rattle.speedate_base.specs.declared.config.TimestampUnit.{TimestampUnit}
 use Rattle.speedate_base.specs.declared.config.TimestampUnit.TheVariants as unit
 use Rattle.speedate_base.specs.declared.faults.config_error.ConfigError.{ConfigError}
@@ -22,11 +21,14 @@ infix 20 ◌chooses◌
 abbrev pub ◌chooses◌ : {A : Type 0} → List ℕ → A → Choice A
 name chooses value = record { name = name; value = value }
 
--- the value of the row whose name a text is, in ASCII letters of any case, or the fault if there is no such row
+-- the value of the row whose name a text is, in ASCII letters of any case, if there is such a row
+abbrev pub named : {A : Type 0} → List (Choice A) → List ℕ → Option A
+named [] text = None
+named (row ∷ rows) text = if str_eq_ignore_ascii_case row.name text then Some row.value else named rows text
+
+-- that value, or the fault
 abbrev pub choice_answer : {A : Type 0} → List (Choice A) → ConfigError → List ℕ → Result A ConfigError
-choice_answer [] unknown text = Err unknown
-choice_answer (row ∷ rows) unknown text =
-    if str_eq_ignore_ascii_case row.name text then Ok row.value else choice_answer rows unknown text
+choice_answer rows unknown text = ok_or (named rows text) unknown
 
 -- the units by their names
 abbrev pub unit_choices : List (Choice TimestampUnit)
@@ -53,14 +55,6 @@ behavior_answer text = choice_answer behavior_choices fault.UnknownMicrosecondsP
 abbrev pub order_choices : List (Choice IsoOrder)
 order_choices = (codes "lax" chooses order.Lax) ∷ (codes "strict" chooses order.Strict) ∷ []
 
--- the order that a text names, or the fault
-abbrev pub order_answer : List ℕ → Result IsoOrder ConfigError
-order_answer text = choice_answer order_choices fault.UnknownIsoOrderString text
-
--- the forms of times and date-times by their names
-abbrev pub form_choices : List (Choice Rfc3339Form)
-form_choices = (codes "relaxed" chooses rfc3339.Relaxed) ∷ (codes "strict" chooses rfc3339.Strict) ∷ []
-
--- the form that a text names, or the fault
-abbrev pub form_answer : List ℕ → Result Rfc3339Form ConfigError
-form_answer text = choice_answer form_choices fault.UnknownRfc3339FormString text
+-- the order that a text names, if it names one
+abbrev pub order_answer : List ℕ → Option IsoOrder
+order_answer text = named order_choices text

@@ -55,5 +55,3 @@ abbrev pub config_error_name : ConfigError → List ℕ
 config_error_name config_error.UnknownMicrosecondsPrecisionOverflowBehaviorString =
     codes "unknown_microseconds_precision_overflow_behavior_string"
 config_error_name config_error.UnknownTimestampUnitString = codes "unknown_timestamp_unit_string"
-config_error_name config_error.UnknownIsoOrderString = codes "unknown_iso_order_string"
-config_error_name config_error.UnknownRfc3339FormString = codes "unknown_rfc3339_form_string"

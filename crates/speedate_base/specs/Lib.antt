@@ -9,7 +9,6 @@ pub mod Numbers
 pub mod IntFloat
 pub mod Offset
 pub mod Refusal
-pub mod Form
 pub mod Nearest
 pub mod Timestamp
 pub mod DecimalTimestamp

@@ -3,7 +3,6 @@
 
 ghost use Rattle.std.specs.Prelude.{◌≡◌, IfOk, IsTrue, Ok, nat_le};
 ghost use Rattle.std.specs.Option.{ForSome};
-ghost use Rattle.speedate_base.specs.Form.{is_strict};
 ghost use Rattle.speedate_base.specs.Offset.{IsOffset, is_offset, offset_table};
 ghost use Rattle.speedate_base.specs.Refusal.{refuses_digits};
 ghost use Rattle.speedate_base.specs.Requirement.{◌implies◌, meets, result_map};
@@ -51,7 +50,7 @@ pub enum MicrosecondsPrecisionOverflowBehavior {
 
 /// Whether the components of an ISO 8601 duration have to come in order. The default takes any order.
 ///
-/// `"strict".parse()` gives `IsoOrder::Strict`.
+/// `IsoOrder::from_name("strict")` gives `IsoOrder::Strict`.
 #[derive(Clone, Copy, Debug, PartialEq, Eq, Default)]
 pub enum IsoOrder {
     /// They may come in any order on their side of the `T`, and more than once, as in `P1D1Y`.
@@ -59,35 +58,6 @@ pub enum IsoOrder {
     Lax,
     /// Each comes at most once: years, months, weeks, days, and after the `T` hours, minutes, seconds.
     Strict,
-}
-
-/// Which texts are times and date-times: those of RFC 3339 alone, or relaxed ones as well. The default
-/// is the relaxed form.
-///
-/// `"strict".parse()` gives `Rfc3339Form::Strict`. Dates have one form, and timestamps are read alike
-/// in both.
-#[derive(Clone, Copy, Debug, PartialEq, Eq, Default)]
-pub enum Rfc3339Form {
-    /// Relaxed texts as well: the second, the offset and the `:` of the offset may be left out; the
-    /// decimal mark may be a comma; the sign of an offset may be U+2212; a space or `_` may stand
-    /// between date and time.
-    #[default]
-    Relaxed,
-    /// The texts of RFC 3339 alone, except those with a second 60, which both forms refuse.
-    Strict,
-}
-
-impl Rfc3339Form {
-    /// Whether it is `Strict`: false for `Rfc3339Form::default()`.
-    #[inline]
-    pub fn is_strict(self) -> bool
-        ensures strict { result ≡ is_strict self }
-    {
-        match self {
-            Rfc3339Form::Relaxed => false,
-            Rfc3339Form::Strict => true,
-        }
-    }
 }
 
 /// Whether a text may have `count` digits after its decimal mark, if the first `most` of them reach the
@@ -212,10 +182,9 @@ impl Default for DateConfigBuilder {
 }
 
 /// How times, date-times and durations are read: what is done with digits past the microsecond, which
-/// offset the value of a timestamp gets, whether the components of a duration have to come in order,
-/// and which texts are times and date-times.
+/// offset the value of a timestamp gets, and whether the components of a duration have to come in order.
 ///
-/// The default refuses such digits, attaches no offset, and takes any order and the relaxed form;
+/// The default refuses such digits, attaches no offset, and takes any order;
 /// `TimeConfig::builder().unix_timestamp_offset(Some(3600)).build()` attaches one hour. That the offset
 /// is less than 24 hours is part of the type.
 #[derive(Clone, Copy, Debug, PartialEq, Eq)]
@@ -227,8 +196,6 @@ pub struct TimeConfig {
     pub unix_timestamp_offset: Option<i32>,
     /// Whether the components of an ISO 8601 duration have to come in order.
     pub iso_order: IsoOrder,
-    /// Which texts are times and date-times.
-    pub rfc3339_form: Rfc3339Form,
     pub ghost offset_in_range: { ForSome unix_timestamp_offset IsOffset },
 }
 
@@ -248,14 +215,13 @@ impl Default for TimeConfig {
 
     ghost is_default = { IsDefault };
 
-    /// Digits past the microsecond are refused, the value of a timestamp gets no offset, components may
-    /// come in any order, and the form is the relaxed one.
+    /// Digits past the microsecond are refused, the value of a timestamp gets no offset, and components
+    /// may come in any order.
     fn default() -> Self {
         TimeConfig {
             microseconds_precision_overflow_behavior: MicrosecondsPrecisionOverflowBehavior::default(),
             unix_timestamp_offset: None,
             iso_order: IsoOrder::default(),
-            rfc3339_form: Rfc3339Form::default(),
         }
     }
 }
@@ -299,7 +265,6 @@ impl TimeConfigBuilder {
         ensures behavior { result.microseconds_precision_overflow_behavior ≡ behavior }
         ensures offset { result.unix_timestamp_offset ≡ self.unix_timestamp_offset }
         ensures order { result.iso_order ≡ self.iso_order }
-        ensures form { result.rfc3339_form ≡ self.rfc3339_form }
     {
         let mut config = self.config;
         config.microseconds_precision_overflow_behavior = behavior;
@@ -314,7 +279,6 @@ impl TimeConfigBuilder {
         ensures behavior { result.microseconds_precision_overflow_behavior
             ≡ self.microseconds_precision_overflow_behavior }
         ensures order { result.iso_order ≡ self.iso_order }
-        ensures form { result.rfc3339_form ≡ self.rfc3339_form }
     {
         let mut config = self.config;
         config.unix_timestamp_offset = offset;
@@ -328,7 +292,6 @@ impl TimeConfigBuilder {
         ensures behavior { IfOk result (λ builder. builder.microseconds_precision_overflow_behavior
             ≡ self.microseconds_precision_overflow_behavior) }
         ensures order { IfOk result (λ builder. builder.iso_order ≡ self.iso_order) }
-        ensures form { IfOk result (λ builder. builder.rfc3339_form ≡ self.rfc3339_form) }
     {
         match offset {
             Some(seconds) if !is_offset(seconds) => Err(ParseError::OutOfRangeTz),
@@ -343,23 +306,9 @@ impl TimeConfigBuilder {
         ensures behavior { result.microseconds_precision_overflow_behavior
             ≡ self.microseconds_precision_overflow_behavior }
         ensures offset { result.unix_timestamp_offset ≡ self.unix_timestamp_offset }
-        ensures form { result.rfc3339_form ≡ self.rfc3339_form }
     {
         let mut config = self.config;
         config.iso_order = order;
-        TimeConfigBuilder { config }
-    }
-
-    /// Sets which texts are times and date-times: with `Strict`, `12:13` fails with `TooShort`.
-    pub fn rfc3339_form(self, form: Rfc3339Form) -> Self
-        ensures form { result.rfc3339_form ≡ form }
-        ensures behavior { result.microseconds_precision_overflow_behavior
-            ≡ self.microseconds_precision_overflow_behavior }
-        ensures offset { result.unix_timestamp_offset ≡ self.unix_timestamp_offset }
-        ensures order { result.iso_order ≡ self.iso_order }
-    {
-        let mut config = self.config;
-        config.rfc3339_form = form;
         TimeConfigBuilder { config }
     }
 

@@ -9,8 +9,6 @@ use Rattle.speedate.specs.declared.MicrosecondsPrecisionOverflowBehavior.{Micros
 use Rattle.speedate.specs.declared.MicrosecondsPrecisionOverflowBehavior.TheVariants as behavior
 use Rattle.speedate.specs.declared.ParseError.{ParseError}
 use Rattle.speedate.specs.declared.ParseError.TheVariants as fault
-use Rattle.speedate.specs.declared.Rfc3339Form.{Rfc3339Form}
-use Rattle.speedate.specs.declared.Rfc3339Form.TheVariants as rfc3339
 use Rattle.speedate.specs.declared.TimestampUnit.{TimestampUnit}
 use Rattle.speedate.specs.declared.TimestampUnit.TheVariants as unit
 use Rattle.speedate.specs.Offset.{offset_table}
@@ -26,9 +24,6 @@ behaviors = behavior.Error ∷ behavior.Truncate ∷ []
 
 abbrev pub orders : List IsoOrder
 orders = order.Lax ∷ order.Strict ∷ []
-
-abbrev pub forms : List Rfc3339Form
-forms = rfc3339.Relaxed ∷ rfc3339.Strict ∷ []
 
 -- what a flag says
 abbrev pub flags : List Bool
@@ -48,7 +43,6 @@ pub record Choices : Type 0 where
   pub unit : TimestampUnit
   pub behavior : MicrosecondsPrecisionOverflowBehavior
   pub order : IsoOrder
-  pub form : Rfc3339Form
   pub offset : Option ℤ
 
 abbrev pub choices : DateTimeConfig → Choices
@@ -56,7 +50,6 @@ choices config = record {
   unit = config.timestamp_unit;
   behavior = config.time_config.microseconds_precision_overflow_behavior;
   order = config.time_config.iso_order;
-  form = config.time_config.rfc3339_form;
   offset = config.time_config.unix_timestamp_offset;
 }
 
@@ -66,10 +59,8 @@ choices_of config =
     option_and_then (λ unit.
     option_and_then (λ behavior.
     option_and_then (λ order.
-    option_and_then (λ form.
-    option_and_then (λ offset. Some (record { unit = unit; behavior = behavior; order = order; form = form; offset = offset }))
+    option_and_then (λ offset. Some (record { unit = unit; behavior = behavior; order = order; offset = offset }))
     (result_ok (offset_answer config.has_timestamp_offset config.timestamp_offset)))
-    (slice_get forms config.rfc3339_form))
     (slice_get orders config.iso_order))
     (slice_get behaviors config.overflow_behavior))
     (slice_get units config.timestamp_unit)

@@ -3,11 +3,11 @@
 ghost use Rattle.std.specs.Option.{ForSome, option_map};
 ghost use Rattle.std.specs.Prelude.{◌≡◌, IfOk, slice_get};
 ghost use Rattle.speedate.specs.Offset.{IsOffset};
-ghost use Rattle.speedate_c.specs.Config.{behaviors, choices, choices_of, flags, forms, offset_answer, orders, units};
+ghost use Rattle.speedate_c.specs.Config.{behaviors, choices, choices_of, flags, offset_answer, orders, units};
 
 use speedate::{
-    DateTimeConfig, IsoOrder, MicrosecondsPrecisionOverflowBehavior, ParseError, Rfc3339Form,
-    TimeConfig, TimestampUnit,
+    DateTimeConfig, IsoOrder, MicrosecondsPrecisionOverflowBehavior, ParseError, TimeConfig,
+    TimestampUnit,
 };
 
 /// How texts and timestamps are read. In each field 0 stands for the default.
@@ -25,8 +25,6 @@ pub struct SpeedateConfig {
     pub overflow_behavior: u8,
     /// The order of the components of a duration: 0 for any, 1 for the strict one.
     pub iso_order: u8,
-    /// Which texts are times and date-times: 0 for the relaxed form, 1 for the strict one.
-    pub rfc3339_form: u8,
 }
 
 impl SpeedateConfig {
@@ -40,7 +38,6 @@ impl SpeedateConfig {
             time_config: TimeConfig {
                 microseconds_precision_overflow_behavior: behavior(self.overflow_behavior)?,
                 iso_order: order(self.iso_order)?,
-                rfc3339_form: form(self.rfc3339_form)?,
                 unix_timestamp_offset: offset(
                     self.has_timestamp_offset,
                     self.timestamp_offset,
@@ -84,18 +81,6 @@ fn order(number: u8) -> Option<IsoOrder>
     match number {
         0 => Some(IsoOrder::Lax),
         1 => Some(IsoOrder::Strict),
-        _ => None,
-    }
-}
-
-/// The form of a number.
-#[inline]
-fn form(number: u8) -> Option<Rfc3339Form>
-    ensures { result ≡ slice_get forms number }
-{
-    match number {
-        0 => Some(Rfc3339Form::Relaxed),
-        1 => Some(Rfc3339Form::Strict),
         _ => None,
     }
 }

@@ -5,6 +5,7 @@ ghost use Rattle.speedate.specs.DateAndTime.{local_millisecond, local_second, ut
 ghost use Rattle.speedate.specs.DateTime.{parts};
 ghost use Rattle.speedate.specs.DateTimeText.{date_time_answer, date_time_front, date_time_text};
 ghost use Rattle.speedate.specs.DateTimeTimestamp.{date_time_or_timestamp, date_time_timestamp_answer};
+ghost use Rattle.speedate.specs.StrictText.{strict_date_time_answer};
 ghost use Rattle.speedate.specs.InstantOrder.{date_time_instant_order};
 ghost use Rattle.speedate.specs.OffsetMove.{date_time_in_timezone};
 ghost use Rattle.speedate.specs.Requirement.{result_map};
@@ -84,7 +85,7 @@ pub extern "C" fn speedate_datetime_parse(
 ) -> i32
     ensures answer { (result, out.new) ≡ with_option (choices_of config) (config_out_of_range, out.old)
         (λ config. after_answer shown_date_time out.old
-        (date_time_or_timestamp config.unit config.form config.behavior config.offset text.now)) }
+        (date_time_or_timestamp config.unit config.behavior config.offset text.now)) }
 {
     let Some(config) = config.to_config() else {
         return CONFIG_OUT_OF_RANGE;
@@ -102,13 +103,32 @@ pub extern "C" fn speedate_datetime_parse_rfc3339(
     out: &mut SpeedateDateTime,
 ) -> i32
     ensures answer { (result, out.new) ≡ with_option (choices_of config) (config_out_of_range, out.old)
-        (λ config. after_answer shown_date_time out.old (date_time_answer config.form config.behavior text.now)) }
+        (λ config. after_answer shown_date_time out.old (date_time_answer config.behavior text.now)) }
 {
     let Some(config) = config.to_config() else {
         return CONFIG_OUT_OF_RANGE;
     };
     let answer = DateTime::parse_bytes_rfc3339_with_config(text, &config.time_config);
     write_date_time(answer, out)
+}
+
+/// Reads a date-time from a text of RFC 3339, and no timestamp, as [`DateTime::parse_bytes_strict`]
+/// does by the behavior of a configuration: 12:13:14 on 29 February 2020 in UTC from
+/// `2020-02-29T12:13:14Z`. `CONFIG_OUT_OF_RANGE` comes first.
+#[unsafe(no_mangle)]
+pub extern "C" fn speedate_datetime_parse_strict(
+    text: &[u8],
+    config: SpeedateConfig,
+    out: &mut SpeedateDateTime,
+) -> i32
+    ensures answer { (result, out.new) ≡ with_option (choices_of config) (config_out_of_range, out.old)
+        (λ config. after_answer shown_date_time out.old (strict_date_time_answer config.behavior text.now)) }
+{
+    let Some(config) = config.to_config() else {
+        return CONFIG_OUT_OF_RANGE;
+    };
+    let behavior = config.time_config.microseconds_precision_overflow_behavior;
+    write_date_time(DateTime::parse_bytes_strict(text, behavior), out)
 }
 
 /// Reads the date-time at the front of a text, and writes how many bytes it takes, as
@@ -122,7 +142,7 @@ pub extern "C" fn speedate_datetime_parse_front(
     size: &mut usize,
 ) -> i32
     ensures answer { (result, out.new, size.new) ≡ with_option (choices_of config) (config_out_of_range, out.old, size.old)
-        (λ config. after_front shown_date_time out.old size.old (date_time_front config.form config.behavior text.now)) }
+        (λ config. after_front shown_date_time out.old size.old (date_time_front config.behavior text.now)) }
 {
     let Some(config) = config.to_config() else {
         return CONFIG_OUT_OF_RANGE;

@@ -6,6 +6,7 @@ ghost use Rattle.speedate.specs.OffsetMove.{time_in_timezone};
 ghost use Rattle.speedate.specs.Requirement.{result_map};
 ghost use Rattle.speedate.specs.Time.{parts};
 ghost use Rattle.speedate.specs.TimeOfDay.{millisecond_of_day, second_of_day, timestamp_answer};
+ghost use Rattle.speedate.specs.StrictText.{strict_time_answer};
 ghost use Rattle.speedate.specs.TimeText.{time_answer, time_front, time_text};
 ghost use Rattle.speedate_c.specs.After.{after_answer, after_front, after_text, after_value, with_option, with_value};
 ghost use Rattle.speedate_c.specs.Code.{answer_code, buffer_too_small, config_out_of_range, order_number, value_out_of_range};
@@ -96,7 +97,7 @@ pub extern "C" fn speedate_time_parse(
     out: &mut SpeedateTime,
 ) -> i32
     ensures answer { (result, out.new) ≡ with_option (choices_of config) (config_out_of_range, out.old)
-        (λ config. after_answer shown_time out.old (time_answer config.form config.behavior text.now)) }
+        (λ config. after_answer shown_time out.old (time_answer config.behavior text.now)) }
 {
     let Some(config) = config.to_config() else {
         return CONFIG_OUT_OF_RANGE;
@@ -105,6 +106,26 @@ pub extern "C" fn speedate_time_parse(
         Time::parse_bytes_with_config(text, &config.time_config),
         out,
     )
+}
+
+/// Reads a time from a text of RFC 3339, as [`Time::parse_bytes_strict`] does by the behavior of a
+/// configuration: 12:13:14.5, an hour east of UTC, from `12:13:14.5+01:00`.
+///
+/// The faults are those of that call; `CONFIG_OUT_OF_RANGE` comes first.
+#[unsafe(no_mangle)]
+pub extern "C" fn speedate_time_parse_strict(
+    text: &[u8],
+    config: SpeedateConfig,
+    out: &mut SpeedateTime,
+) -> i32
+    ensures answer { (result, out.new) ≡ with_option (choices_of config) (config_out_of_range, out.old)
+        (λ config. after_answer shown_time out.old (strict_time_answer config.behavior text.now)) }
+{
+    let Some(config) = config.to_config() else {
+        return CONFIG_OUT_OF_RANGE;
+    };
+    let behavior = config.time_config.microseconds_precision_overflow_behavior;
+    write_time(Time::parse_bytes_strict(text, behavior), out)
 }
 
 /// Reads the time at the front of a text, and writes how many bytes it takes, as
@@ -118,7 +139,7 @@ pub extern "C" fn speedate_time_parse_front(
     size: &mut usize,
 ) -> i32
     ensures answer { (result, out.new, size.new) ≡ with_option (choices_of config) (config_out_of_range, out.old, size.old)
-        (λ config. after_front shown_time out.old size.old (time_front config.form config.behavior text.now)) }
+        (λ config. after_front shown_time out.old size.old (time_front config.behavior text.now)) }
 {
     let Some(config) = config.to_config() else {
         return CONFIG_OUT_OF_RANGE;

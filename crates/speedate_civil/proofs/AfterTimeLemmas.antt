@@ -5,8 +5,6 @@ use Rattle.std.specs.List.{prefix_len}
 use Rattle.std.specs.Option.{is_some}
 use Rattle.std.proofs.Common.{arith, ◌∙◌, ap, ap₂, sym}
 use Rattle.speedate_base.specs.declared.config.MicrosecondsPrecisionOverflowBehavior.{MicrosecondsPrecisionOverflowBehavior}
-use Rattle.speedate_base.specs.declared.config.Rfc3339Form.{Rfc3339Form}
-use Rattle.speedate_base.specs.declared.config.Rfc3339Form.TheVariants as rfc3339
 use Rattle.speedate_base.specs.declared.faults.ParseError.{ParseError}
 use Rattle.speedate_base.specs.Ascii.{colon, full_stop, hyphen, plus_sign}
 use Rattle.speedate_base.specs.DigitRuns.{run_length}
@@ -24,24 +22,24 @@ use Rattle.speedate_civil.proofs.FrontLemmas.{clock-size}
 use Rattle.speedate_civil.specs.OffsetText.{begins_offset, has_minus_sign, is_utc, offset_front, offset_size, signed_front}
 use Rattle.speedate_civil.proofs.OffsetLemmas.{signed-offset, minus_sign-front, signed-front, utc-front}
 use Rattle.speedate_civil.specs.TimeOfDay.{TimeOfDay, IsTime}
-use Rattle.speedate_civil.specs.TimeText.{clock_text, continues_fraction, is_after_time, is_of_form, joined, time_front, time_text, with_offset}
+use Rattle.speedate_civil.specs.TimeText.{clock_text, continues_fraction, is_after_time, joined, time_front, time_text, with_offset}
 use Rattle.speedate_civil.proofs.TimeLemmas.{time_text-front}
 
 -- a text after which no offset was read begins none
-signed-some : (west : Bool) (sign : ℕ) (numbers : List ℕ) (front : Option ℤ × ℕ) → signed_front rfc3339.Relaxed west sign numbers ≡ Ok front → front.0 ≡ None → ⊥
+signed-some : (west : Bool) (sign : ℕ) (numbers : List ℕ) (front : Option ℤ × ℕ) → signed_front west sign numbers ≡ Ok front → front.0 ≡ None → ⊥
 signed-some west sign numbers front read none =
-    let some : Some (with_sign west (offset_size numbers)) ≡ None = ap (λ (pair : Option ℤ × ℕ). pair.0) (signed-offset rfc3339.Relaxed west sign numbers front read).is ∙ none in
+    let some : Some (with_sign west (offset_size numbers)) ≡ None = ap (λ (pair : Option ℤ × ℕ). pair.0) (signed-offset west sign numbers front read).is ∙ none in
     absurd (cc)
 
-begins-none : (rest : List ℕ) (front : Option ℤ × ℕ) (minus signed utc : Bool) → has_minus_sign rfc3339.Relaxed rest ≡ minus
+begins-none : (rest : List ℕ) (front : Option ℤ × ℕ) (minus signed utc : Bool) → has_minus_sign rest ≡ minus
     → ((slice_index rest 0 == plus_sign) || (slice_index rest 0 == hyphen)) ≡ signed → is_utc rest ≡ utc
-    → offset_front rfc3339.Relaxed rest ≡ Ok front → front.0 ≡ None → begins_offset rest ≡ false
+    → offset_front rest ≡ Ok front → front.0 ≡ None → begins_offset rest ≡ false
 begins-none rest front true signed utc there some zulu read none =
-    absurd (signed-some true 3 (drop 3 rest) front (sym (minus_sign-front rfc3339.Relaxed rest there) ∙ read) none)
+    absurd (signed-some true 3 (drop 3 rest) front (sym (minus_sign-front rest there) ∙ read) none)
 begins-none rest front false true utc no_minus some zulu read none =
-    absurd (signed-some (slice_index rest 0 == hyphen) 1 (drop 1 rest) front (sym (signed-front rfc3339.Relaxed rest some) ∙ read) none)
+    absurd (signed-some (slice_index rest 0 == hyphen) 1 (drop 1 rest) front (sym (signed-front rest some) ∙ read) none)
 begins-none rest front false false true no_minus no_sign zulu read none =
-    let is : ◌≡◌ {A = Result (Option ℤ × ℕ) ParseError} (Ok (Some (pos 0), 1)) (Ok front) = sym (utc-front rfc3339.Relaxed rest zulu) ∙ read in
+    let is : ◌≡◌ {A = Result (Option ℤ × ℕ) ParseError} (Ok (Some (pos 0), 1)) (Ok front) = sym (utc-front rest zulu) ∙ read in
     let front_is : ◌≡◌ {A = Option ℤ × ℕ} (Some (pos 0), 1) front = cc in
     let some : Some (pos 0) ≡ None = ap (λ (pair : Option ℤ × ℕ). pair.0) front_is ∙ none in
     absurd (cc)
@@ -53,11 +51,11 @@ no-more true run size is small = absurd (omega (arith, is, small))
 no-more false run size is small = (refl, sym is)
 
 second-ends : (behavior : MicrosecondsPrecisionOverflowBehavior) (hour minute second : ℕ) (rest : List ℕ) (clock : Clock)
-    → clock_front rfc3339.Relaxed behavior (two_digit_text hour ++ colon ∷ minute_text minute second ++ rest) ≡ Ok clock → clock.size ≤ 8
-    → (is_decimal_mark rfc3339.Relaxed (slice_index rest 0) ≡ false) × (clock.size ≡ 8)
+    → clock_front behavior (two_digit_text hour ++ colon ∷ minute_text minute second ++ rest) ≡ Ok clock → clock.size ≤ 8
+    → (is_decimal_mark (slice_index rest 0) ≡ false) × (clock.size ≡ 8)
 second-ends behavior hour minute second rest clock read small =
     let text = two_digit_text hour ++ colon ∷ minute_text minute second ++ rest in
-    no-more (is_decimal_mark rfc3339.Relaxed (slice_index rest 0)) (run_length (drop 3 text) 6) clock.size (clock-size rfc3339.Relaxed behavior text clock read) small
+    no-more (is_decimal_mark (slice_index rest 0)) (run_length (drop 3 text) 6) clock.size (clock-size behavior text clock read) small
 
 -- nor, after six digits, with a digit
 no-first : (digit : Bool) (run : ℕ) → (if digit then 1 + run else 0) ≡ 0 → digit ≡ false
@@ -69,11 +67,11 @@ no-digit [] none = refl
 no-digit (byte ∷ rest) none = no-first (is_ascii_digit byte) (prefix_len is_ascii_digit rest) none
 
 fraction-ends : (behavior : MicrosecondsPrecisionOverflowBehavior) (hour minute second microsecond : ℕ) (rest : List ℕ) (clock : Clock) → microsecond < 1000000
-    → clock_front rfc3339.Relaxed behavior (two_digit_text hour ++ colon ∷ minute_text minute second ++ full_stop ∷ six_digit_text microsecond ++ rest) ≡ Ok clock
+    → clock_front behavior (two_digit_text hour ++ colon ∷ minute_text minute second ++ full_stop ∷ six_digit_text microsecond ++ rest) ≡ Ok clock
     → clock.size ≤ 15 → (is_ascii_digit (slice_index rest 0) ≡ false) × (clock.size ≡ 15)
 fraction-ends behavior hour minute second microsecond rest clock few read small =
     let text = two_digit_text hour ++ colon ∷ minute_text minute second ++ full_stop ∷ six_digit_text microsecond ++ rest in
-    let size : 3 + (6 + run_length (six_digit_text microsecond ++ rest) 0) ≡ clock.size = clock-size rfc3339.Relaxed behavior text clock read in
+    let size : 3 + (6 + run_length (six_digit_text microsecond ++ rest) 0) ≡ clock.size = clock-size behavior text clock read in
     let run : run_length (six_digit_text microsecond ++ rest) 0 ≡ 6 + run_length rest 0 = run_length-append (six_digit_text microsecond) rest (six_digits-printed microsecond few) in
     (no-digit rest (omega (arith, size, run, small)), omega (arith, size, run, small))
 
@@ -86,61 +84,60 @@ neither false false true none other = absurd (cc)
 
 ends-at : (behavior : MicrosecondsPrecisionOverflowBehavior) (time : TimeOfDay) (rest text : List ℕ) (size : ℕ) → time_text time ++ rest ≡ text
     → length (time_text time) ≡ size → drop size text ≡ rest → time.offset ≡ None
-    → ((clock : Clock) → clock_front rfc3339.Relaxed behavior text ≡ Ok clock → clock.size ≤ size → (continues_fraction time.microsecond rest ≡ false) × (clock.size ≡ size))
-    → time_front rfc3339.Relaxed behavior (time_text time ++ rest) ≡ Ok (time, length (time_text time)) → is_after_time time rest ≡ true
+    → ((clock : Clock) → clock_front behavior text ≡ Ok clock → clock.size ≤ size → (continues_fraction time.microsecond rest ≡ false) × (clock.size ≡ size))
+    → time_front behavior (time_text time ++ rest) ≡ Ok (time, length (time_text time)) → is_after_time time rest ≡ true
 ends-at behavior time rest text size text_is long left without stops read =
     let front : TimeOfDay × ℕ = (time, length (time_text time)) in
-    let clocked = and_then-ok (with_offset rfc3339.Relaxed text) (clock_front rfc3339.Relaxed behavior text) front (ap (time_front rfc3339.Relaxed behavior) (sym text_is) ∙ read) in
+    let clocked = and_then-ok (with_offset text) (clock_front behavior text) front (ap (time_front behavior) (sym text_is) ∙ read) in
     let clock = clocked.0 in
-    let after = map-ok (joined clock) (offset_front rfc3339.Relaxed (drop clock.size text)) front clocked.2 in
+    let after = map-ok (joined clock) (offset_front (drop clock.size text)) front clocked.2 in
     let both : clock.size + after.0.1 ≡ length (time_text time) = ap (λ (found : TimeOfDay × ℕ). found.1) after.2 in
     let stopped = stops clock clocked.1 (omega (arith, both, long)) in
-    let offset = ap (offset_front rfc3339.Relaxed) (sym left ∙ ap (λ (n : ℕ). drop n text) (sym stopped.1)) ∙ after.1 in
+    let offset = ap (offset_front) (sym left ∙ ap (λ (n : ℕ). drop n text) (sym stopped.1)) ∙ after.1 in
     let none = ap (λ (found : TimeOfDay × ℕ). found.0.offset) after.2 ∙ without in
     neither (is_some time.offset) (continues_fraction time.microsecond rest) (begins_offset rest) stopped.0 (begins-none rest after.0 _ _ _ refl refl refl offset none)
 
 ends : (behavior : MicrosecondsPrecisionOverflowBehavior) (time : TimeOfDay) (rest : List ℕ) (none : Bool) → IsTime time → (time.microsecond == 0) ≡ none → time.offset ≡ None
-    → time_front rfc3339.Relaxed behavior (time_text time ++ rest) ≡ Ok (time, length (time_text time)) → is_after_time time rest ≡ true
+    → time_front behavior (time_text time ++ rest) ≡ Ok (time, length (time_text time)) → is_after_time time rest ≡ true
 ends behavior time rest true valid none without read =
     ends-at behavior time rest (clock_text time ++ rest) 8 (rw (none, without) refl) (rw (none, without) refl) refl without
     (λ clock is small. let stopped = second-ends behavior time.hour time.minute time.second rest clock is small in (
-      ap (λ (test : Bool). if test then is_decimal_mark rfc3339.Relaxed (slice_index rest 0) else is_ascii_digit (slice_index rest 0)) none ∙ stopped.0,
+      ap (λ (test : Bool). if test then is_decimal_mark (slice_index rest 0) else is_ascii_digit (slice_index rest 0)) none ∙ stopped.0,
       stopped.1,
     )) read
 ends behavior time rest false valid some without read =
     ends-at behavior time rest (clock_text time ++ full_stop ∷ six_digit_text time.microsecond ++ rest) 15 (rw (some, without) refl) (rw (some, without) refl) refl without
     (λ clock is small. let stopped = fraction-ends behavior time.hour time.minute time.second time.microsecond rest clock (omega (arith, valid.microsecond)) is small in (
-      ap (λ (test : Bool). if test then is_decimal_mark rfc3339.Relaxed (slice_index rest 0) else is_ascii_digit (slice_index rest 0)) some ∙ stopped.0,
+      ap (λ (test : Bool). if test then is_decimal_mark (slice_index rest 0) else is_ascii_digit (slice_index rest 0)) some ∙ stopped.0,
       stopped.1,
     )) read
 
-after-read : (form : Rfc3339Form) (behavior : MicrosecondsPrecisionOverflowBehavior) (time : TimeOfDay) (rest : List ℕ) (offset : Option ℤ) → time.offset ≡ offset
-    → is_of_form form offset ≡ true → IsTime time → time_front form behavior (time_text time ++ rest) ≡ Ok (time, length (time_text time)) → is_after_time time rest ≡ true
-after-read form behavior time rest (Some seconds) is given valid read = rw (is) refl
-after-read rfc3339.Relaxed behavior time rest None is given valid read = ends behavior time rest (time.microsecond == 0) valid refl is read
-after-read rfc3339.Strict behavior time rest None is given valid read = absurd (cc)
+after-read : (behavior : MicrosecondsPrecisionOverflowBehavior) (time : TimeOfDay) (rest : List ℕ) (offset : Option ℤ) → time.offset ≡ offset
+    → IsTime time → time_front behavior (time_text time ++ rest) ≡ Ok (time, length (time_text time)) → is_after_time time rest ≡ true
+after-read behavior time rest (Some seconds) is valid read = rw (is) refl
+after-read behavior time rest None is valid read = ends behavior time rest (time.microsecond == 0) valid refl is read
 
--- where its form may have the time, and its offset is whole minutes, that is the one condition
-pub time_text-front-iff : (form : Rfc3339Form) (behavior : MicrosecondsPrecisionOverflowBehavior) (time : TimeOfDay) (rest : List ℕ) → is_of_form form time.offset ≡ true → IsTime time → IsWholeMinutes time.offset
-    → (is_after_time time rest ≡ true) ↔ (time_front form behavior (time_text time ++ rest) ≡ Ok (time, length (time_text time)))
-time_text-front-iff form behavior time rest given valid whole = (
-  λ after. time_text-front form behavior time rest given valid whole after,
-  λ read. after-read form behavior time rest time.offset refl given valid read,
+-- where its offset is whole minutes, that is the one condition
+pub time_text-front-iff : (behavior : MicrosecondsPrecisionOverflowBehavior) (time : TimeOfDay) (rest : List ℕ) → IsTime time → IsWholeMinutes time.offset
+    → (is_after_time time rest ≡ true) ↔ (time_front behavior (time_text time ++ rest) ≡ Ok (time, length (time_text time)))
+time_text-front-iff behavior time rest valid whole = (
+  λ after. time_text-front behavior time rest valid whole after,
+  λ read. after-read behavior time rest time.offset refl valid read,
 )
 
-pub date_time_text-front-iff : (form : Rfc3339Form) (behavior : MicrosecondsPrecisionOverflowBehavior) (value : DateAndTime) (rest : List ℕ) → IsDateAndTime value
-    → is_of_form form value.time.offset ≡ true → IsWholeMinutes value.time.offset
-    → (is_after_time value.time rest ≡ true) ↔ (date_time_front form behavior (date_time_text value ++ rest) ≡ Ok (value, length (date_time_text value)))
-date_time_text-front-iff form behavior value rest valid given whole = (
-  λ after. date_time_text-front form behavior value rest valid given whole after,
+pub date_time_text-front-iff : (behavior : MicrosecondsPrecisionOverflowBehavior) (value : DateAndTime) (rest : List ℕ) → IsDateAndTime value
+    → IsWholeMinutes value.time.offset
+    → (is_after_time value.time rest ≡ true) ↔ (date_time_front behavior (date_time_text value ++ rest) ≡ Ok (value, length (date_time_text value)))
+date_time_text-front-iff behavior value rest valid whole = (
+  λ after. date_time_text-front behavior value rest valid whole after,
   λ read.
       let time = value.time in
       let long : 11 + length (time_text time) ≡ length (date_time_text value) = omega arith in
-      let after = map-ok (date_and_time value.date) (time_front form behavior (time_text time ++ rest)) (value, length (date_time_text value))
-      (sym (date_time_text-parted form behavior value rest valid) ∙ read) in
+      let after = map-ok (date_and_time value.date) (time_front behavior (time_text time ++ rest)) (value, length (date_time_text value))
+      (sym (date_time_text-parted behavior value rest valid) ∙ read) in
       let size : 11 + after.0.1 ≡ length (date_time_text value) = ap (λ (front : DateAndTime × ℕ). front.1) after.2 in
       let count : after.0.1 ≡ length (time_text time) = omega (arith, size, long) in
-      let is : time_front form behavior (time_text time ++ rest) ≡ Ok (time, length (time_text time)) =
+      let is : time_front behavior (time_text time ++ rest) ≡ Ok (time, length (time_text time)) =
       after.1 ∙ ap₂ (λ (found : TimeOfDay) (n : ℕ). Ok (found, n)) (ap (λ (front : DateAndTime × ℕ). front.0.time) after.2) count in
-      (time_text-front-iff form behavior time rest given valid.time whole).1 is,
+      (time_text-front-iff behavior time rest valid.time whole).1 is,
 )

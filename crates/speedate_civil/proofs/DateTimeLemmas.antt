@@ -5,8 +5,6 @@ use Rattle.std.proofs.Common.{◌∙◌, ap, arith, sym}
 use Rattle.std.proofs.lemmas.List.{append-nil}
 use Rattle.speedate_base.specs.declared.config.MicrosecondsPrecisionOverflowBehavior.{MicrosecondsPrecisionOverflowBehavior}
 use Rattle.speedate_base.specs.declared.config.MicrosecondsPrecisionOverflowBehavior.TheVariants as behavior
-use Rattle.speedate_base.specs.declared.config.Rfc3339Form.{Rfc3339Form}
-use Rattle.speedate_base.specs.declared.config.Rfc3339Form.TheVariants as rfc3339
 use Rattle.speedate_base.specs.declared.faults.ParseError.{ParseError}
 use Rattle.speedate_base.specs.declared.faults.ParseError.TheVariants as fault
 use Rattle.speedate_base.specs.Ascii.{capital_t}
@@ -16,41 +14,34 @@ use Rattle.speedate_base.proofs.RequirementLemmas.{alone-whole}
 use Rattle.speedate_base.proofs.TextLemmas.{text-distinct}
 use Rattle.speedate_civil.specs.DateAndTime.{DateAndTime, IsDateAndTime}
 use Rattle.speedate_civil.proofs.DateLemmas.{date_text-front}
-use Rattle.speedate_civil.specs.DateTimeText.{is_separator, date_and_time, with_time, date_time_front, date_time_answer, date_time_text}
+use Rattle.speedate_civil.specs.DateTimeText.{date_and_time, with_time, date_time_front, date_time_answer, date_time_text}
 use Rattle.speedate_civil.specs.OffsetText.{end_fault}
-use Rattle.speedate_civil.specs.TimeText.{time_front, time_text, is_after_time, is_of_form}
+use Rattle.speedate_civil.specs.TimeText.{time_front, time_text, is_after_time}
 use Rattle.speedate_civil.proofs.TimeLemmas.{time_text-front, nothing-after}
 
--- `T` parts date and time in both forms
-separated : (form : Rfc3339Form) (next : Result (DateAndTime × ℕ) ParseError)
-    → (if is_separator form capital_t then next else Err fault.InvalidCharDateTimeSep) ≡ next
-separated rfc3339.Relaxed next = refl
-separated rfc3339.Strict next = refl
-
 -- the printed date is read, and then the time after it
-pub date_time_text-parted : (form : Rfc3339Form) (behavior : MicrosecondsPrecisionOverflowBehavior) (value : DateAndTime) (rest : List ℕ) → IsDateAndTime value
-    → date_time_front form behavior (date_time_text value ++ rest)
-    ≡ result_map (date_and_time value.date) (time_front form behavior (time_text value.time ++ rest))
-date_time_text-parted form behavior value rest valid =
-    ap (result_and_then (with_time form behavior (date_time_text value ++ rest))) (date_text-front value.date (capital_t ∷ time_text value.time ++ rest) valid.date)
-    ∙ separated form _
+pub date_time_text-parted : (behavior : MicrosecondsPrecisionOverflowBehavior) (value : DateAndTime) (rest : List ℕ) → IsDateAndTime value
+    → date_time_front behavior (date_time_text value ++ rest)
+    ≡ result_map (date_and_time value.date) (time_front behavior (time_text value.time ++ rest))
+date_time_text-parted behavior value rest valid =
+    ap (result_and_then (with_time behavior (date_time_text value ++ rest))) (date_text-front value.date (capital_t ∷ time_text value.time ++ rest) valid.date)
 
 -- the text by which a date-time is printed, at the front of another that is no part of it, is read as that date-time
-pub date_time_text-front : (form : Rfc3339Form) (behavior : MicrosecondsPrecisionOverflowBehavior) (value : DateAndTime) (rest : List ℕ) → IsDateAndTime value
-    → is_of_form form value.time.offset ≡ true → IsWholeMinutes value.time.offset → is_after_time value.time rest ≡ true
-    → date_time_front form behavior (date_time_text value ++ rest) ≡ Ok (value, length (date_time_text value))
-date_time_text-front form behavior value rest valid given whole after =
+pub date_time_text-front : (behavior : MicrosecondsPrecisionOverflowBehavior) (value : DateAndTime) (rest : List ℕ) → IsDateAndTime value
+    → IsWholeMinutes value.time.offset → is_after_time value.time rest ≡ true
+    → date_time_front behavior (date_time_text value ++ rest) ≡ Ok (value, length (date_time_text value))
+date_time_text-front behavior value rest valid whole after =
     let long : 11 + length (time_text value.time) ≡ length (date_time_text value) = omega arith in
-    date_time_text-parted form behavior value rest valid
-    ∙ ap (result_map (date_and_time value.date)) (time_text-front form behavior value.time rest given valid.time whole after)
+    date_time_text-parted behavior value rest valid
+    ∙ ap (result_map (date_and_time value.date)) (time_text-front behavior value.time rest valid.time whole after)
     ∙ ap (λ (size : ℕ). Ok (value, size)) long
 
 -- and alone it is that date-time
-pub date_time_text-reads : (form : Rfc3339Form) (behavior : MicrosecondsPrecisionOverflowBehavior) (value : DateAndTime) → IsDateAndTime value → is_of_form form value.time.offset ≡ true → IsWholeMinutes value.time.offset
-    → date_time_answer form behavior (date_time_text value) ≡ Ok value
-date_time_text-reads form behavior value valid given whole =
+pub date_time_text-reads : (behavior : MicrosecondsPrecisionOverflowBehavior) (value : DateAndTime) → IsDateAndTime value → IsWholeMinutes value.time.offset
+    → date_time_answer behavior (date_time_text value) ≡ Ok value
+date_time_text-reads behavior value valid whole =
     let text = date_time_text value in
-    let front = sym (ap (date_time_front form behavior) (append-nil text)) ∙ date_time_text-front form behavior value [] valid given whole (nothing-after value.time) in
+    let front = sym (ap (date_time_front behavior) (append-nil text)) ∙ date_time_text-front behavior value [] valid whole (nothing-after value.time) in
     let fault = λ (read : DateAndTime). end_fault read.time.offset in
     ap (result_and_then (alone fault text)) front ∙ alone-whole fault text value (length text) refl
 
@@ -59,5 +50,5 @@ pub date_time_text-distinct : (first second : DateAndTime) → IsDateAndTime fir
     → IsWholeMinutes first.time.offset → IsWholeMinutes second.time.offset
     → date_time_text first ≡ date_time_text second → first ≡ second
 date_time_text-distinct first second one two whole_one whole_two =
-    text-distinct date_time_text (date_time_answer rfc3339.Relaxed behavior.Error) first second
-    (date_time_text-reads rfc3339.Relaxed behavior.Error first one refl whole_one) (date_time_text-reads rfc3339.Relaxed behavior.Error second two refl whole_two)
+    text-distinct date_time_text (date_time_answer behavior.Error) first second
+    (date_time_text-reads behavior.Error first one whole_one) (date_time_text-reads behavior.Error second two whole_two)

@@ -16,7 +16,6 @@ mod OffsetLemmas
 mod OffsetMoveLemmas
 mod Rfc3339Lemmas
 mod StandardFacts
-mod StrictLemmas
 mod TimeLemmas
 pub mod DateValueLemmas
 mod TimeValueLemmas

@@ -3,7 +3,6 @@
 use Rattle.std.specs.Prelude.{◌≡◌, true, false, codes, Some, None, pos, Ok, Err, refl}
 use Rattle.std.specs.declared.cmp.Ordering.TheVariants.{Equal}
 use Rattle.speedate_base.specs.declared.config.MicrosecondsPrecisionOverflowBehavior.TheVariants as behavior
-use Rattle.speedate_base.specs.declared.config.Rfc3339Form.TheVariants as rfc3339
 use Rattle.speedate_base.specs.declared.faults.ParseError.TheVariants as fault
 use Rattle.speedate_base.specs.Numbers.{with_sign}
 use Rattle.speedate_civil.specs.Calendar.{is_leap_year, month_length}
@@ -16,17 +15,17 @@ use Rattle.speedate_civil.specs.TimeText.{time_answer, time_text}
 april_12 : date_answer (codes "1985-04-12") ≡ Ok (record { year = 1985; month = 4; day = 12 })
 april_12 = refl
 
-after_the_23rd_hour : time_answer rfc3339.Relaxed behavior.Error (codes "23:20:50.52Z")
+after_the_23rd_hour : time_answer behavior.Error (codes "23:20:50.52Z")
     ≡ Ok (record { hour = 23; minute = 20; second = 50; microsecond = 520000; offset = Some (pos 0) })
 after_the_23rd_hour = refl
 
 -- "an offset of -08:00 from UTC"
-west_of_utc : time_answer rfc3339.Relaxed behavior.Error (codes "16:39:57-08:00")
+west_of_utc : time_answer behavior.Error (codes "16:39:57-08:00")
     ≡ Ok (record { hour = 16; minute = 39; second = 57; microsecond = 0; offset = Some (with_sign true 28800) })
 west_of_utc = refl
 
 -- the leap second of 1990, which is refused here
-leap_second : time_answer rfc3339.Relaxed behavior.Error (codes "23:59:60Z") ≡ Err fault.OutOfRangeSecond
+leap_second : time_answer behavior.Error (codes "23:59:60Z") ≡ Err fault.OutOfRangeSecond
 leap_second = refl
 
 -- "this is equivalent to 1996-12-20T00:39:57Z in UTC"
@@ -44,7 +43,7 @@ unfolding days_before_year days_of_months
 equivalent = refl
 
 -- the time of the Netherlands in 1937
-netherlands : time_answer rfc3339.Relaxed behavior.Error (codes "12:00:27.87+00:20")
+netherlands : time_answer behavior.Error (codes "12:00:27.87+00:20")
     ≡ Ok (record { hour = 12; minute = 0; second = 27; microsecond = 870000; offset = Some (pos 1200) })
 netherlands = refl
 
@@ -87,14 +86,14 @@ month_13 = refl
 day_0 : date_answer (codes "0000-01-00") ≡ Err fault.OutOfRangeDay
 day_0 = refl
 
-last_time : time_answer rfc3339.Relaxed behavior.Error (codes "23:59:59.999999+23:59")
+last_time : time_answer behavior.Error (codes "23:59:59.999999+23:59")
     ≡ Ok (record { hour = 23; minute = 59; second = 59; microsecond = 999999; offset = Some (pos 86340) })
 last_time = refl
 
-hour_24 : time_answer rfc3339.Relaxed behavior.Error (codes "24:00") ≡ Err fault.OutOfRangeHour
+hour_24 : time_answer behavior.Error (codes "24:00") ≡ Err fault.OutOfRangeHour
 hour_24 = refl
 
-offset_of_a_day : time_answer rfc3339.Relaxed behavior.Error (codes "00:00-24:00") ≡ Err fault.OutOfRangeTz
+offset_of_a_day : time_answer behavior.Error (codes "00:00-24:00") ≡ Err fault.OutOfRangeTz
 offset_of_a_day = refl
 
 -- print

@@ -8,43 +8,28 @@ use Rattle.std.proofs.lemmas.Bool.{le-leb, eqb-true}
 use Rattle.std.proofs.lemmas.List.{append-nil}
 use Rattle.speedate_base.specs.declared.config.MicrosecondsPrecisionOverflowBehavior.{MicrosecondsPrecisionOverflowBehavior}
 use Rattle.speedate_base.specs.declared.config.MicrosecondsPrecisionOverflowBehavior.TheVariants as behavior
-use Rattle.speedate_base.specs.declared.config.Rfc3339Form.{Rfc3339Form}
-use Rattle.speedate_base.specs.declared.config.Rfc3339Form.TheVariants as rfc3339
-use Rattle.speedate_base.specs.Ascii.{colon, comma, full_stop}
+use Rattle.speedate_base.specs.Ascii.{colon, full_stop}
 use Rattle.speedate_base.specs.Digits.{two_digit_text, six_digit_text}
 use Rattle.speedate_base.proofs.DigitLemmas.{two_digits-printed, two_digit_value-printed}
-use Rattle.speedate_base.specs.Form.{is_strict}
 use Rattle.speedate_base.specs.Offset.{IsWholeMinutes}
 use Rattle.speedate_base.specs.Requirement.{alone, result_map, result_and_then}
 use Rattle.speedate_base.proofs.RequirementLemmas.{alone-whole}
 use Rattle.speedate_base.proofs.TextLemmas.{text-distinct}
-use Rattle.speedate_civil.specs.ClockText.{Clock, at_hour, clock_answer, clock_front, is_decimal_mark, least_length, minute_text}
+use Rattle.speedate_civil.specs.ClockText.{Clock, at_hour, clock_answer, clock_front, is_decimal_mark, minute_text}
 use Rattle.speedate_civil.proofs.ClockLemmas.{clock-whole, clock-fraction}
 use Rattle.speedate_civil.specs.OffsetText.{begins_offset, end_fault, offset_text}
-use Rattle.speedate_civil.proofs.OffsetLemmas.{offset_text-east, offset_text-west, offset_text-first, offset_text-front}
+use Rattle.speedate_civil.proofs.OffsetLemmas.{offset_text-first, offset_text-front}
 use Rattle.speedate_civil.specs.TimeOfDay.{TimeOfDay, IsTime}
-use Rattle.speedate_civil.specs.TimeText.{time_front, time_answer, clock_text, time_text, continues_fraction, is_after_time, is_of_form}
-
--- a printed clock is long enough, in the strict form with anything after it
-least : (form : Rfc3339Form) (tail text : ℕ) → (is_strict form ≡ true → 1 ≤ tail) → 8 + tail ≤ text → least_length form ≤ text
-least rfc3339.Relaxed tail text more long = omega (arith, long)
-least rfc3339.Strict tail text more long = omega (arith, long, more refl)
-
--- an offset is printed where one is due
-some-printed : (form : Rfc3339Form) (offset : Option ℤ) (rest : List ℕ) → is_of_form form offset ≡ true → is_strict form ≡ true → 1 ≤ length (offset_text offset ++ rest)
-some-printed form None rest given strict = absurd (cc)
-some-printed form (Some (pos zero)) rest given strict = omega arith
-some-printed form (Some (pos (suc size))) rest given strict = rw (offset_text-east size) (omega arith)
-some-printed form (Some (negsuc size)) rest given strict = rw (offset_text-west size) (omega arith)
+use Rattle.speedate_civil.specs.TimeText.{time_front, time_answer, clock_text, time_text, continues_fraction, is_after_time}
 
 -- a printed hour, before a clock that is read
-pub front-printed : (form : Rfc3339Form) (behavior : MicrosecondsPrecisionOverflowBehavior) (hour minute second : ℕ) (tail : List ℕ) (clock : Clock)
-    → (is_strict form ≡ true → 1 ≤ length tail) → hour ≤ 23 → minute ≤ 59 → clock_answer form behavior (minute_text minute second ++ tail) ≡ Ok clock
-    → clock_front form behavior (two_digit_text hour ++ colon ∷ minute_text minute second ++ tail) ≡ Ok (at_hour hour clock)
-front-printed form behavior hour minute second tail clock more small_hour small_minute answer =
+pub front-printed : (behavior : MicrosecondsPrecisionOverflowBehavior) (hour minute second : ℕ) (tail : List ℕ) (clock : Clock)
+    → hour ≤ 23 → minute ≤ 59 → clock_answer behavior (minute_text minute second ++ tail) ≡ Ok clock
+    → clock_front behavior (two_digit_text hour ++ colon ∷ minute_text minute second ++ tail) ≡ Ok (at_hour hour clock)
+front-printed behavior hour minute second tail clock small_hour small_minute answer =
     let text = two_digit_text hour ++ colon ∷ minute_text minute second ++ tail in
-    let long : least_length form ≤ length text = least form (length tail) (length text) more (omega arith) in
-    rw (le-leb (least_length form) (length text) long, two_digits-printed hour (omega arith), two_digits-printed minute (omega arith), two_digit_value-printed hour, le-leb hour 23 small_hour)
+    let long : 5 ≤ length text = omega arith in
+    rw (le-leb 5 (length text) long, two_digits-printed hour (omega arith), two_digits-printed minute (omega arith), two_digit_value-printed hour, le-leb hour 23 small_hour)
     (ap (result_map (at_hour hour)) answer)
 
 -- what follows is neither
@@ -59,62 +44,53 @@ nothing true none = refl
 nothing false true = refl
 nothing false false = refl
 
--- what is no decimal mark is none of the strict form
-either : (first second : Bool) → (first || second) ≡ false → (first || false) ≡ false
-either true second none = none
-either false second none = refl
-
-no-mark : (form : Rfc3339Form) (byte : ℕ) → is_decimal_mark rfc3339.Relaxed byte ≡ false → is_decimal_mark form byte ≡ false
-no-mark rfc3339.Relaxed byte none = none
-no-mark rfc3339.Strict byte none = either (byte == full_stop) (byte == comma) none
-
 -- how a fraction would go on, where it is known whether one is printed
 goes-on : (time : TimeOfDay) (rest : List ℕ) (none : Bool) → (time.microsecond == 0) ≡ none → (is_some time.offset || not (continues_fraction time.microsecond rest)) ≡ true
-    → (is_some time.offset || not (if none then (slice_index rest 0 == full_stop) || (slice_index rest 0 == comma) else is_ascii_digit (slice_index rest 0))) ≡ true
+    → (is_some time.offset || not (if none then is_decimal_mark (slice_index rest 0) else is_ascii_digit (slice_index rest 0))) ≡ true
 goes-on time rest none is after =
-    subst (λ (test : Bool). (is_some time.offset || not (if test then (slice_index rest 0 == full_stop) || (slice_index rest 0 == comma) else is_ascii_digit (slice_index rest 0))) ≡ true) is after
+    subst (λ (test : Bool). (is_some time.offset || not (if test then is_decimal_mark (slice_index rest 0) else is_ascii_digit (slice_index rest 0))) ≡ true) is after
 
-text-front : (form : Rfc3339Form) (behavior : MicrosecondsPrecisionOverflowBehavior) (time : TimeOfDay) (rest : List ℕ) (none : Bool) → is_of_form form time.offset ≡ true → IsTime time → IsWholeMinutes time.offset
+text-front : (behavior : MicrosecondsPrecisionOverflowBehavior) (time : TimeOfDay) (rest : List ℕ) (none : Bool) → IsTime time → IsWholeMinutes time.offset
     → is_after_time time rest ≡ true → (time.microsecond == 0) ≡ none
-    → time_front form behavior (time_text time ++ rest) ≡ Ok (time, length (time_text time))
-text-front form behavior time rest true given valid whole after none =
+    → time_front behavior (time_text time ++ rest) ≡ Ok (time, length (time_text time))
+text-front behavior time rest true valid whole after none =
     let tail = offset_text time.offset ++ rest in
     let zero_is : 0 ≡ time.microsecond = sym (eqb-true time.microsecond 0 none) in
     let parted = neither (is_some time.offset) (continues_fraction time.microsecond rest) (begins_offset rest) after in
-    let plain = no-mark form _ (offset_text-first (is_decimal_mark rfc3339.Relaxed) time.offset rest refl refl refl (goes-on time rest true none parted.0)) in
-    let front = front-printed form behavior time.hour time.minute time.second tail _ (some-printed form time.offset rest given) valid.hour valid.minute
-    (clock-whole form behavior time.minute time.second tail valid.minute valid.second plain) in
+    let plain = offset_text-first is_decimal_mark time.offset rest refl refl refl (goes-on time rest true none parted.0) in
+    let front = front-printed behavior time.hour time.minute time.second tail _ valid.hour valid.minute
+    (clock-whole behavior time.minute time.second tail valid.minute valid.second plain) in
     let long : 8 + length (offset_text time.offset) ≡ length (clock_text time ++ offset_text time.offset) = omega arith in
-    rw (none, front, offset_text-front form time.offset rest given valid.offset whole parted.1, zero_is) (ap (λ (size : ℕ). Ok (time, size)) long)
-text-front form behavior time rest false given valid whole after some =
+    rw (none, front, offset_text-front time.offset rest valid.offset whole parted.1, zero_is) (ap (λ (size : ℕ). Ok (time, size)) long)
+text-front behavior time rest false valid whole after some =
     let tail = offset_text time.offset ++ rest in
     let parted = neither (is_some time.offset) (continues_fraction time.microsecond rest) (begins_offset rest) after in
     let other = offset_text-first is_ascii_digit time.offset rest refl refl refl (goes-on time rest false some parted.0) in
-    let front = front-printed form behavior time.hour time.minute time.second (full_stop ∷ six_digit_text time.microsecond ++ tail) _ (λ strict. omega arith) valid.hour valid.minute
-    (clock-fraction form behavior time.minute time.second time.microsecond tail valid.minute valid.second (omega (arith, valid.microsecond)) other) in
+    let front = front-printed behavior time.hour time.minute time.second (full_stop ∷ six_digit_text time.microsecond ++ tail) _ valid.hour valid.minute
+    (clock-fraction behavior time.minute time.second time.microsecond tail valid.minute valid.second (omega (arith, valid.microsecond)) other) in
     let long : 15 + length (offset_text time.offset) ≡ length (clock_text time ++ full_stop ∷ six_digit_text time.microsecond ++ offset_text time.offset) = omega arith in
-    rw (some, front, offset_text-front form time.offset rest given valid.offset whole parted.1) (ap (λ (size : ℕ). Ok (time, size)) long)
+    rw (some, front, offset_text-front time.offset rest valid.offset whole parted.1) (ap (λ (size : ℕ). Ok (time, size)) long)
 
-pub time_text-front : (form : Rfc3339Form) (behavior : MicrosecondsPrecisionOverflowBehavior) (time : TimeOfDay) (rest : List ℕ) → is_of_form form time.offset ≡ true → IsTime time → IsWholeMinutes time.offset
-    → is_after_time time rest ≡ true → time_front form behavior (time_text time ++ rest) ≡ Ok (time, length (time_text time))
-time_text-front form behavior time rest given valid whole after = text-front form behavior time rest (time.microsecond == 0) given valid whole after refl
+pub time_text-front : (behavior : MicrosecondsPrecisionOverflowBehavior) (time : TimeOfDay) (rest : List ℕ) → IsTime time → IsWholeMinutes time.offset
+    → is_after_time time rest ≡ true → time_front behavior (time_text time ++ rest) ≡ Ok (time, length (time_text time))
+time_text-front behavior time rest valid whole after = text-front behavior time rest (time.microsecond == 0) valid whole after refl
 
 -- nothing that follows is no part of a time
 pub nothing-after : (time : TimeOfDay) → is_after_time time [] ≡ true
 nothing-after time = nothing (is_some time.offset) (time.microsecond == 0)
 
 -- and alone it is that time
-pub time_text-reads : (form : Rfc3339Form) (behavior : MicrosecondsPrecisionOverflowBehavior) (time : TimeOfDay) → is_of_form form time.offset ≡ true → IsTime time → IsWholeMinutes time.offset
-    → time_answer form behavior (time_text time) ≡ Ok time
-time_text-reads form behavior time given valid whole =
+pub time_text-reads : (behavior : MicrosecondsPrecisionOverflowBehavior) (time : TimeOfDay) → IsTime time → IsWholeMinutes time.offset
+    → time_answer behavior (time_text time) ≡ Ok time
+time_text-reads behavior time valid whole =
     let text = time_text time in
     let fault = λ (read : TimeOfDay). end_fault read.offset in
-    let front = sym (ap (time_front form behavior) (append-nil text)) ∙ time_text-front form behavior time [] given valid whole (nothing-after time) in
+    let front = sym (ap (time_front behavior) (append-nil text)) ∙ time_text-front behavior time [] valid whole (nothing-after time) in
     ap (result_and_then (alone fault text)) front ∙ alone-whole fault text time (length text) refl
 
 -- two such times with the same text are equal
 pub time_text-distinct : (first second : TimeOfDay) → IsTime first → IsTime second → IsWholeMinutes first.offset → IsWholeMinutes second.offset
     → time_text first ≡ time_text second → first ≡ second
 time_text-distinct first second one two whole_one whole_two =
-    text-distinct time_text (time_answer rfc3339.Relaxed behavior.Error) first second
-    (time_text-reads rfc3339.Relaxed behavior.Error first refl one whole_one) (time_text-reads rfc3339.Relaxed behavior.Error second refl two whole_two)
+    text-distinct time_text (time_answer behavior.Error) first second
+    (time_text-reads behavior.Error first one whole_one) (time_text-reads behavior.Error second two whole_two)

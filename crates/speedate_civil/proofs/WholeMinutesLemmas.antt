@@ -3,7 +3,6 @@ use Rattle.std.specs.Prelude.{◌≡◌, ℕ, zero, suc, ◌+◌, ◌*◌, ◌%�
 use Rattle.std.proofs.Common.{arith, ap, subst, sym, ◌∙◌}
 use Rattle.std.proofs.Math.Nat.{mul-mod_right}
 use Rattle.speedate_base.specs.declared.config.MicrosecondsPrecisionOverflowBehavior.{MicrosecondsPrecisionOverflowBehavior}
-use Rattle.speedate_base.specs.declared.config.Rfc3339Form.{Rfc3339Form}
 use Rattle.speedate_base.specs.declared.config.TimestampUnit.{TimestampUnit}
 use Rattle.speedate_base.specs.declared.faults.ParseError.{ParseError}
 use Rattle.speedate_base.specs.DecimalTimestamp.{decimal_instant, decimal_row, digits_table}
@@ -12,7 +11,7 @@ use Rattle.speedate_base.specs.Numbers.{Number, Whole, Fractional, NoNumber, num
 use Rattle.speedate_base.specs.Offset.{IsWholeMinutes}
 use Rattle.speedate_base.specs.Requirement.{meets, result_map, result_and_then}
 use Rattle.speedate_base.specs.Timestamp.{Instant, instant_answer, range_answer}
-use Rattle.speedate_base.proofs.RequirementLemmas.{alone-iff, and_then-ok, map-ok, meets-ok, meets-value}
+use Rattle.speedate_base.proofs.RequirementLemmas.{alone-iff, and_then-ok, map-ok, meets-ok}
 use Rattle.speedate_civil.specs.declared.datetime.DateTime.{DateTime}
 use Rattle.speedate_civil.specs.ClockText.{clock_front}
 use Rattle.speedate_civil.specs.DateAndTime.{DateAndTime}
@@ -21,7 +20,7 @@ use Rattle.speedate_civil.specs.DateTime.{parts}
 use Rattle.speedate_civil.specs.DateTimeText.{date_and_time, date_time_answer, date_time_front, separator_table, with_time}
 use Rattle.speedate_civil.specs.DateTimeTimestamp.{date_time_at, date_time_decimal_answer, date_time_number_answer, date_time_or_timestamp, instant_date_time, later_answer}
 use Rattle.speedate_civil.specs.NumberText.{or_number}
-use Rattle.speedate_civil.specs.OffsetText.{end_fault, is_utc, is_west, offset_front, offset_minute, offset_sign_length, offset_size, signed_front, unsigned_front, unsigned_table}
+use Rattle.speedate_civil.specs.OffsetText.{end_fault, is_utc, is_west, offset_front, offset_minute, offset_sign_length, offset_size, signed_front, unsigned_front}
 use Rattle.speedate_civil.specs.TimeOfDay.{TimeOfDay}
 use Rattle.speedate_civil.specs.TimeText.{joined, time_answer, time_front, with_offset}
 use Rattle.speedate_civil.proofs.OffsetLemmas.{signed-offset}
@@ -49,53 +48,53 @@ zero-minutes false front is =
     let none : IsWholeMinutes None = λ seconds same. absurd (cc) in
     subst (λ (front : Option ℤ × ℕ). IsWholeMinutes front.0) is none
 
-front-minutes : (form : Rfc3339Form) (rest : List ℕ) (front : Option ℤ × ℕ) (signed : Bool)
-    → (if signed then signed_front form (is_west form rest) (offset_sign_length form rest) (drop (offset_sign_length form rest) rest)
-    else meets (unsigned_table form rest) (Ok (unsigned_front rest))) ≡ Ok front
+front-minutes : (rest : List ℕ) (front : Option ℤ × ℕ) (signed : Bool)
+    → (if signed then signed_front (is_west rest) (offset_sign_length rest) (drop (offset_sign_length rest) rest)
+    else Ok (unsigned_front rest)) ≡ Ok front
     → IsWholeMinutes front.0
-front-minutes form rest front true read =
-    let numbers : List ℕ = drop (offset_sign_length form rest) rest in
-    let rows = signed-offset form (is_west form rest) (offset_sign_length form rest) numbers front read in
+front-minutes rest front true read =
+    let numbers : List ℕ = drop (offset_sign_length rest) rest in
+    let rows = signed-offset (is_west rest) (offset_sign_length rest) numbers front read in
     subst (λ (front : Option ℤ × ℕ). IsWholeMinutes front.0) rows.is
-    (some-minutes (with_sign (is_west form rest) (offset_size numbers))
-    (signed-minutes (is_west form rest) (offset_size numbers) (sixty (two_digit_value numbers 0) (offset_minute numbers))))
-front-minutes form rest front false read =
-    let rows = meets-value (unsigned_table form rest) (unsigned_front rest) front read in
-    zero-minutes (is_utc rest) front rows.1
+    (some-minutes (with_sign (is_west rest) (offset_size numbers))
+    (signed-minutes (is_west rest) (offset_size numbers) (sixty (two_digit_value numbers 0) (offset_minute numbers))))
+front-minutes rest front false read =
+    let is : unsigned_front rest ≡ front = cc in
+    zero-minutes (is_utc rest) front is
 
-offset_front-minutes : (form : Rfc3339Form) (rest : List ℕ) (front : Option ℤ × ℕ) → offset_front form rest ≡ Ok front → IsWholeMinutes front.0
-offset_front-minutes form rest front read = front-minutes form rest front (nat_lt 0 (offset_sign_length form rest)) read
+offset_front-minutes : (rest : List ℕ) (front : Option ℤ × ℕ) → offset_front rest ≡ Ok front → IsWholeMinutes front.0
+offset_front-minutes rest front read = front-minutes rest front (nat_lt 0 (offset_sign_length rest)) read
 
 -- so is that of a time
-pub time_front-minutes : (form : Rfc3339Form) (behavior : MicrosecondsPrecisionOverflowBehavior) (text : List ℕ) (front : TimeOfDay × ℕ)
-    → time_front form behavior text ≡ Ok front → IsWholeMinutes front.0.offset
-time_front-minutes form behavior text front read =
-    let clocked = and_then-ok (with_offset form text) (clock_front form behavior text) front read in
+pub time_front-minutes : (behavior : MicrosecondsPrecisionOverflowBehavior) (text : List ℕ) (front : TimeOfDay × ℕ)
+    → time_front behavior text ≡ Ok front → IsWholeMinutes front.0.offset
+time_front-minutes behavior text front read =
+    let clocked = and_then-ok (with_offset text) (clock_front behavior text) front read in
     let rest : List ℕ = drop clocked.0.size text in
-    let after = map-ok (joined clocked.0) (offset_front form rest) front clocked.2 in
-    subst (λ (front : TimeOfDay × ℕ). IsWholeMinutes front.0.offset) after.2 (offset_front-minutes form rest after.0 after.1)
+    let after = map-ok (joined clocked.0) (offset_front rest) front clocked.2 in
+    subst (λ (front : TimeOfDay × ℕ). IsWholeMinutes front.0.offset) after.2 (offset_front-minutes rest after.0 after.1)
 
-pub time_answer-minutes : (form : Rfc3339Form) (behavior : MicrosecondsPrecisionOverflowBehavior) (text : List ℕ) (time : TimeOfDay)
-    → time_answer form behavior text ≡ Ok time → IsWholeMinutes time.offset
-time_answer-minutes form behavior text time read =
-    let whole = alone-iff (λ (time : TimeOfDay). end_fault time.offset) text (time_front form behavior text) time in
-    time_front-minutes form behavior text (time, length text) (whole.0 read)
+pub time_answer-minutes : (behavior : MicrosecondsPrecisionOverflowBehavior) (text : List ℕ) (time : TimeOfDay)
+    → time_answer behavior text ≡ Ok time → IsWholeMinutes time.offset
+time_answer-minutes behavior text time read =
+    let whole = alone-iff (λ (time : TimeOfDay). end_fault time.offset) text (time_front behavior text) time in
+    time_front-minutes behavior text (time, length text) (whole.0 read)
 
 -- and that of a date-time
-pub date_time_front-minutes : (form : Rfc3339Form) (behavior : MicrosecondsPrecisionOverflowBehavior) (text : List ℕ) (front : DateAndTime × ℕ)
-    → date_time_front form behavior text ≡ Ok front → IsWholeMinutes front.0.time.offset
-date_time_front-minutes form behavior text front read =
-    let dated = and_then-ok (with_time form behavior text) (date_front text) front read in
+pub date_time_front-minutes : (behavior : MicrosecondsPrecisionOverflowBehavior) (text : List ℕ) (front : DateAndTime × ℕ)
+    → date_time_front behavior text ≡ Ok front → IsWholeMinutes front.0.time.offset
+date_time_front-minutes behavior text front read =
+    let dated = and_then-ok (with_time behavior text) (date_front text) front read in
     let date = dated.0.0 in
-    let parted = meets-ok (separator_table form text) (result_map (date_and_time date) (time_front form behavior (drop 11 text))) front dated.2 in
-    let after = map-ok (date_and_time date) (time_front form behavior (drop 11 text)) front parted.1 in
-    subst (λ (front : DateAndTime × ℕ). IsWholeMinutes front.0.time.offset) after.2 (time_front-minutes form behavior (drop 11 text) after.0 after.1)
+    let parted = meets-ok (separator_table text) (result_map (date_and_time date) (time_front behavior (drop 11 text))) front dated.2 in
+    let after = map-ok (date_and_time date) (time_front behavior (drop 11 text)) front parted.1 in
+    subst (λ (front : DateAndTime × ℕ). IsWholeMinutes front.0.time.offset) after.2 (time_front-minutes behavior (drop 11 text) after.0 after.1)
 
-date_time_answer-minutes : (form : Rfc3339Form) (behavior : MicrosecondsPrecisionOverflowBehavior) (text : List ℕ) (value : DateAndTime)
-    → date_time_answer form behavior text ≡ Ok value → IsWholeMinutes value.time.offset
-date_time_answer-minutes form behavior text value read =
-    let whole = alone-iff (λ (value : DateAndTime). end_fault value.time.offset) text (date_time_front form behavior text) value in
-    date_time_front-minutes form behavior text (value, length text) (whole.0 read)
+date_time_answer-minutes : (behavior : MicrosecondsPrecisionOverflowBehavior) (text : List ℕ) (value : DateAndTime)
+    → date_time_answer behavior text ≡ Ok value → IsWholeMinutes value.time.offset
+date_time_answer-minutes behavior text value read =
+    let whole = alone-iff (λ (value : DateAndTime). end_fault value.time.offset) text (date_time_front behavior text) value in
+    date_time_front-minutes behavior text (value, length text) (whole.0 read)
 
 -- a timestamp has the offset that is attached to it
 instant-minutes : (offset : Option ℤ) (instant : Instant) (value : DateAndTime) → IsWholeMinutes offset
@@ -117,10 +116,10 @@ number-minutes unit behavior offset value (Fractional decimal) (Err fault) text 
     instant-minutes offset (decimal_instant row decimal) value whole counted.1
 number-minutes unit behavior offset value NoNumber (Err fault) text whole same = absurd (cc)
 
-pub date_time_or_timestamp-minutes : (unit : TimestampUnit) (form : Rfc3339Form) (behavior : MicrosecondsPrecisionOverflowBehavior) (offset : Option ℤ)
+pub date_time_or_timestamp-minutes : (unit : TimestampUnit) (behavior : MicrosecondsPrecisionOverflowBehavior) (offset : Option ℤ)
     (text : List ℕ) (result : Result DateTime ParseError) → IsWholeMinutes offset
-    → result_map parts result ≡ date_time_or_timestamp unit form behavior offset text → IfOk result (λ value. IsWholeMinutes value.time.tz_offset)
-date_time_or_timestamp-minutes unit form behavior offset text (Ok value) whole is =
-    number-minutes unit behavior offset (parts value) (number_answer text) (date_time_answer form behavior text)
-    (date_time_answer-minutes form behavior text) whole (sym is)
-date_time_or_timestamp-minutes unit form behavior offset text (Err fault) whole is = tt
+    → result_map parts result ≡ date_time_or_timestamp unit behavior offset text → IfOk result (λ value. IsWholeMinutes value.time.tz_offset)
+date_time_or_timestamp-minutes unit behavior offset text (Ok value) whole is =
+    number-minutes unit behavior offset (parts value) (number_answer text) (date_time_answer behavior text)
+    (date_time_answer-minutes behavior text) whole (sym is)
+date_time_or_timestamp-minutes unit behavior offset text (Err fault) whole is = tt

@@ -1,17 +1,14 @@
 -- A clock at the front of a text: an hour, a minute, and a second with a fraction (RFC 3339 5.6, partial-time; the
 -- ranges are those of its 5.7). `text` begins with the hour, and `rest` with the minute.
--- Departs from it: there is no second 60; a fraction has at most six digits, or further ones are dropped. The relaxed form
--- departs too: the second may be left out, with its fraction, and the decimal mark may be a comma, as in ISO 8601.
-use Rattle.std.specs.Prelude.{ℕ, ◌+◌, Bool, not, ◌&&◌, ◌||◌, List, [], ◌∷◌, ◌++◌, length, drop, nat_le, nat_lt, ◌==◌, slice_index, if◌then◌else◌, Option, Some, None, Result, Ok}
+-- Departs from it: there is no second 60; a fraction has at most six digits, or further ones are dropped; the second may be
+-- left out, with its fraction; the decimal mark may be a comma, as in ISO 8601.
+use Rattle.std.specs.Prelude.{ℕ, ◌+◌, Bool, ◌&&◌, ◌||◌, List, [], ◌∷◌, ◌++◌, length, drop, nat_le, nat_lt, ◌==◌, slice_index, if◌then◌else◌, Option, Some, None, Result, Ok}
 use Rattle.speedate_base.specs.declared.config.MicrosecondsPrecisionOverflowBehavior.{MicrosecondsPrecisionOverflowBehavior}
-use Rattle.speedate_base.specs.declared.config.Rfc3339Form.{Rfc3339Form}
-use Rattle.speedate_base.specs.declared.config.Rfc3339Form.TheVariants as rfc3339
 use Rattle.speedate_base.specs.declared.faults.ParseError.{ParseError}
 use Rattle.speedate_base.specs.declared.faults.ParseError.TheVariants as fault
 use Rattle.speedate_base.specs.Ascii.{colon, comma, full_stop}
 use Rattle.speedate_base.specs.DigitRuns.{run_length, run_digits, fraction_value}
 use Rattle.speedate_base.specs.Digits.{two_digits_at, two_digit_value, two_digit_text, six_digit_text}
-use Rattle.speedate_base.specs.Form.{is_strict}
 use Rattle.speedate_base.specs.Refusal.{refuses_digits}
 use Rattle.speedate_base.specs.Requirement.{Requirement, ◌else_fault◌, ◌implies◌, meets, result_map}
 
@@ -32,40 +29,36 @@ abbrev pub second_there : List ℕ → Option (Option ℕ)
 second_there rest =
     if has_second rest then Some (if two_digits_at rest 3 then Some (two_digit_value rest 3) else None) else None
 
--- a byte is a decimal mark: `.`, or in the relaxed form `,`
-abbrev pub is_decimal_mark : Rfc3339Form → ℕ → Bool
-is_decimal_mark form byte = (byte == full_stop) || (not (is_strict form) && (byte == comma))
+-- a byte is a decimal mark: `.` or `,`
+abbrev pub is_decimal_mark : ℕ → Bool
+is_decimal_mark byte = (byte == full_stop) || (byte == comma)
 
 -- a decimal mark stands where the second ends
-abbrev pub has_point : Rfc3339Form → List ℕ → Bool
-has_point form rest = is_decimal_mark form (slice_index rest 5)
+abbrev pub has_point : List ℕ → Bool
+has_point rest = is_decimal_mark (slice_index rest 5)
 
 -- a fraction follows the second
-abbrev pub has_fraction : Rfc3339Form → List ℕ → Bool
-has_fraction form rest = has_second rest && has_point form rest
+abbrev pub has_fraction : List ℕ → Bool
+has_fraction rest = has_second rest && has_point rest
 
 -- the clock of hour 0 whose minute stands at the front of a text
-abbrev pub minute_clock : Rfc3339Form → List ℕ → Clock
-minute_clock form rest = record {
+abbrev pub minute_clock : List ℕ → Clock
+minute_clock rest = record {
   hour = 0;
   minute = two_digit_value rest 0;
   second = if has_second rest then two_digit_value rest 3 else 0;
-  microsecond = if has_fraction form rest then fraction_value 6 (run_digits rest 6) else 0;
-  size = if has_fraction form rest then 6 + run_length rest 6 else (if has_second rest then 5 else 2);
+  microsecond = if has_fraction rest then fraction_value 6 (run_digits rest 6) else 0;
+  size = if has_fraction rest then 6 + run_length rest 6 else (if has_second rest then 5 else 2);
 }
 
 -- a clock with an hour before its minute: two digits and `:`, three bytes more
 abbrev pub at_hour : ℕ → Clock → Clock
 at_hour hour clock = record clock { hour = hour; size = 3 + clock.size }
 
--- how many bytes a time has at least: an hour and a minute, in the strict form a second and an offset too
-abbrev pub least_length : Rfc3339Form → ℕ
-least_length form = if is_strict form then 9 else 5
-
 -- what a text has to meet to begin with an hour
-abbrev pub hour_table : Rfc3339Form → List ℕ → List Requirement
-hour_table form text =
-    (nat_le (least_length form) (length text) else_fault fault.TooShort)
+abbrev pub hour_table : List ℕ → List Requirement
+hour_table text =
+    (nat_le 5 (length text) else_fault fault.TooShort)
     ∷ (two_digits_at text 0 else_fault fault.InvalidCharHour)
     ∷ (slice_index text 2 == colon else_fault fault.InvalidCharTimeSep)
     ∷ []
@@ -79,30 +72,29 @@ abbrev pub hour_range : List ℕ → List Requirement
 hour_range text = (nat_le (two_digit_value text 0) 23 else_fault fault.OutOfRangeHour) ∷ []
 
 -- then the range of its minute, its second, and the fraction
-abbrev pub minute_table : Rfc3339Form → MicrosecondsPrecisionOverflowBehavior → List ℕ → List Requirement
-minute_table form behavior rest =
+abbrev pub minute_table : MicrosecondsPrecisionOverflowBehavior → List ℕ → List Requirement
+minute_table behavior rest =
     (nat_le (two_digit_value rest 0) 59 else_fault fault.OutOfRangeMinute)
-    ∷ ((is_strict form implies has_second rest) else_fault fault.InvalidCharTimeSep)
     ∷ ((has_second rest implies two_digits_at rest 3) else_fault fault.InvalidCharSecond)
     ∷ ((has_second rest implies nat_le (two_digit_value rest 3) 59) else_fault fault.OutOfRangeSecond)
-    ∷ ((has_fraction form rest implies nat_lt 0 (run_length rest 6)) else_fault fault.SecondFractionMissing)
-    ∷ (((has_fraction form rest && refuses_digits behavior) implies nat_le (run_length rest 6) 6) else_fault fault.SecondFractionTooLong)
+    ∷ ((has_fraction rest implies nat_lt 0 (run_length rest 6)) else_fault fault.SecondFractionMissing)
+    ∷ (((has_fraction rest && refuses_digits behavior) implies nat_le (run_length rest 6) 6) else_fault fault.SecondFractionTooLong)
     ∷ []
 
 -- the clock whose minute begins a text, given that it is two digits, or the text's fault
-abbrev pub clock_answer : Rfc3339Form → MicrosecondsPrecisionOverflowBehavior → List ℕ → Result Clock ParseError
-clock_answer form behavior rest = meets (minute_table form behavior rest) (Ok (minute_clock form rest))
+abbrev pub clock_answer : MicrosecondsPrecisionOverflowBehavior → List ℕ → Result Clock ParseError
+clock_answer behavior rest = meets (minute_table behavior rest) (Ok (minute_clock rest))
 
--- the clock, from its minute on, at the front of a text in the relaxed form, or the text's fault
+-- the clock, from its minute on, at the front of a text, or the text's fault
 abbrev pub minute_front : MicrosecondsPrecisionOverflowBehavior → List ℕ → Result Clock ParseError
-minute_front behavior rest = meets (minute_digits rest) (clock_answer rfc3339.Relaxed behavior rest)
+minute_front behavior rest = meets (minute_digits rest) (clock_answer behavior rest)
 
 -- the clock, from its hour on, at the front of a text, or the text's fault
-abbrev pub clock_front : Rfc3339Form → MicrosecondsPrecisionOverflowBehavior → List ℕ → Result Clock ParseError
-clock_front form behavior text =
+abbrev pub clock_front : MicrosecondsPrecisionOverflowBehavior → List ℕ → Result Clock ParseError
+clock_front behavior text =
     let rest = drop 3 text in
-    meets (hour_table form text) (meets (minute_digits rest) (meets (hour_range text)
-    (result_map (at_hour (two_digit_value text 0)) (clock_answer form behavior rest))))
+    meets (hour_table text) (meets (minute_digits rest) (meets (hour_range text)
+    (result_map (at_hour (two_digit_value text 0)) (clock_answer behavior rest))))
 
 -- a minute and a second in print
 abbrev pub minute_text : ℕ → ℕ → List ℕ

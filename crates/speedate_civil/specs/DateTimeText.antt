@@ -1,12 +1,10 @@
 -- The text of a date-time: a date, a separator, and a time of day (RFC 3339 5.6, date-time).
--- Departs from it: as times do. In the relaxed form the separator may be a space or `_` too (the notes of 5.6 allow a space).
-use Rattle.std.specs.Prelude.{ℕ, ◌+◌, Bool, not, ◌&&◌, ◌||◌, ◌==◌, List, [], ◌∷◌, ◌++◌, drop, slice_index, Result}
+-- Departs from it: as times do; the separator may be a space or `_` too (the notes of 5.6 allow a space).
+use Rattle.std.specs.Prelude.{ℕ, ◌+◌, Bool, ◌||◌, ◌==◌, List, [], ◌∷◌, ◌++◌, drop, slice_index, Result}
 use Rattle.speedate_base.specs.declared.config.MicrosecondsPrecisionOverflowBehavior.{MicrosecondsPrecisionOverflowBehavior}
-use Rattle.speedate_base.specs.declared.config.Rfc3339Form.{Rfc3339Form}
 use Rattle.speedate_base.specs.declared.faults.ParseError.{ParseError}
 use Rattle.speedate_base.specs.declared.faults.ParseError.TheVariants as fault
 use Rattle.speedate_base.specs.Ascii.{space, capital_t, low_line, small_t}
-use Rattle.speedate_base.specs.Form.{is_strict}
 use Rattle.speedate_base.specs.Requirement.{Requirement, ◌else_fault◌, meets, alone, result_map, result_and_then}
 use Rattle.speedate_civil.specs.Calendar.{Ymd}
 use Rattle.speedate_civil.specs.DateAndTime.{DateAndTime}
@@ -15,32 +13,31 @@ use Rattle.speedate_civil.specs.OffsetText.{end_fault}
 use Rattle.speedate_civil.specs.TimeOfDay.{TimeOfDay}
 use Rattle.speedate_civil.specs.TimeText.{time_front, time_text}
 
--- a byte that may stand between a date and a time: `T` or `t`, and in the relaxed form a space or `_`
-abbrev pub is_separator : Rfc3339Form → ℕ → Bool
-is_separator form byte =
-    (byte == capital_t) || (byte == small_t) || (not (is_strict form) && ((byte == space) || (byte == low_line)))
+-- a byte that may stand between a date and a time
+abbrev pub is_separator : ℕ → Bool
+is_separator byte = (byte == capital_t) || (byte == small_t) || (byte == space) || (byte == low_line)
 
 -- what a text that begins with a date has to meet to go on to a time
-abbrev pub separator_table : Rfc3339Form → List ℕ → List Requirement
-separator_table form text = (is_separator form (slice_index text 10) else_fault fault.InvalidCharDateTimeSep) ∷ []
+abbrev pub separator_table : List ℕ → List Requirement
+separator_table text = (is_separator (slice_index text 10) else_fault fault.InvalidCharDateTimeSep) ∷ []
 
 -- the date-time of a date, and of the time after it with how many bytes it takes: the date and the separator take eleven
 abbrev pub date_and_time : Ymd → TimeOfDay × ℕ → DateAndTime × ℕ
 date_and_time date time = (record { date = date; time = time.0 }, 11 + time.1)
 
 -- the date-time of a date at the front of a text, and of the time that follows it there after the separator
-abbrev pub with_time : Rfc3339Form → MicrosecondsPrecisionOverflowBehavior → List ℕ → Ymd × ℕ → Result (DateAndTime × ℕ) ParseError
-with_time form behavior text date =
-    meets (separator_table form text) (result_map (date_and_time date.0) (time_front form behavior (drop 11 text)))
+abbrev pub with_time : MicrosecondsPrecisionOverflowBehavior → List ℕ → Ymd × ℕ → Result (DateAndTime × ℕ) ParseError
+with_time behavior text date =
+    meets (separator_table text) (result_map (date_and_time date.0) (time_front behavior (drop 11 text)))
 
 -- the date-time at the front of a text, and how many bytes it takes, or the text's fault
-abbrev pub date_time_front : Rfc3339Form → MicrosecondsPrecisionOverflowBehavior → List ℕ → Result (DateAndTime × ℕ) ParseError
-date_time_front form behavior text = result_and_then (with_time form behavior text) (date_front text)
+abbrev pub date_time_front : MicrosecondsPrecisionOverflowBehavior → List ℕ → Result (DateAndTime × ℕ) ParseError
+date_time_front behavior text = result_and_then (with_time behavior text) (date_front text)
 
 -- the date-time that a text is, or the text's fault
-abbrev pub date_time_answer : Rfc3339Form → MicrosecondsPrecisionOverflowBehavior → List ℕ → Result DateAndTime ParseError
-date_time_answer form behavior text =
-    result_and_then (alone (λ value. end_fault value.time.offset) text) (date_time_front form behavior text)
+abbrev pub date_time_answer : MicrosecondsPrecisionOverflowBehavior → List ℕ → Result DateAndTime ParseError
+date_time_answer behavior text =
+    result_and_then (alone (λ value. end_fault value.time.offset) text) (date_time_front behavior text)
 
 -- the one text by which a date-time is printed
 abbrev pub date_time_text : DateAndTime → List ℕ

@@ -1,7 +1,6 @@
 -- Date-times from timestamps (Unix time), and from texts that are a timestamp instead.
 use Rattle.std.specs.Prelude.{◌≡◌, ℕ, ◌+◌, ◌/◌, ◌%◌, ◌^◌, List, [], ◌∷◌, nat_lt, Option, Some, None, ℤ, pos, ◌+ℤ◌, ◌*ℤ◌, int_lt, Result, Ok}
 use Rattle.speedate_base.specs.declared.config.MicrosecondsPrecisionOverflowBehavior.{MicrosecondsPrecisionOverflowBehavior}
-use Rattle.speedate_base.specs.declared.config.Rfc3339Form.{Rfc3339Form}
 use Rattle.speedate_base.specs.declared.config.TimestampUnit.{TimestampUnit}
 use Rattle.speedate_base.specs.declared.faults.ParseError.{ParseError}
 use Rattle.speedate_base.specs.declared.faults.ParseError.TheVariants as fault
@@ -78,6 +77,6 @@ date_time_number_answer unit behavior offset (Fractional decimal) = Some (date_t
 date_time_number_answer unit behavior offset NoNumber = None
 
 -- the date-time that a text is, as its text or as a timestamp, or the text's fault
-abbrev pub date_time_or_timestamp : TimestampUnit → Rfc3339Form → MicrosecondsPrecisionOverflowBehavior → Option ℤ → List ℕ → Result DateAndTime ParseError
-date_time_or_timestamp unit form behavior offset text =
-    or_number (date_time_number_answer unit behavior offset (number_answer text)) (date_time_answer form behavior text)
+abbrev pub date_time_or_timestamp : TimestampUnit → MicrosecondsPrecisionOverflowBehavior → Option ℤ → List ℕ → Result DateAndTime ParseError
+date_time_or_timestamp unit behavior offset text =
+    or_number (date_time_number_answer unit behavior offset (number_answer text)) (date_time_answer behavior text)

@@ -14,6 +14,7 @@ pub mod Rfc3339Text
 pub mod Time
 pub mod DateAndTime
 pub mod DateTimeText
+pub mod StrictText
 pub mod DateTime
 pub mod DateTimeTimestamp
 pub mod OffsetMove

@@ -1,34 +1,30 @@
 -- The offset after a time (RFC 3339 5.6, time-offset; the ranges are those of its 5.7). `rest` is what follows the time,
 -- and `numbers` what follows the sign.
--- Departs from it: `-00:00` is the offset 0, which for RFC 3339 4.3 is an unknown one. The relaxed form departs too: the
--- offset may be left out, and so may its `:`; the sign may be U+2212, as in ISO 8601.
-use Rattle.std.specs.Prelude.{ℕ, ◌+◌, ◌*◌, ◌/◌, ◌%◌, Bool, not, ◌&&◌, ◌||◌, List, [], ◌∷◌, ◌++◌, length, drop, nat_le, nat_lt, ◌==◌, slice_index, if◌then◌else◌, Option, Some, None, ℤ, pos, unsigned_abs, Result, Ok}
+-- Departs from it: the offset may be left out, and so may its `:`; the sign may be U+2212, as in ISO 8601; `-00:00` is the
+-- offset 0, which for RFC 3339 4.3 is an unknown one.
+use Rattle.std.specs.Prelude.{ℕ, ◌+◌, ◌*◌, ◌/◌, ◌%◌, Bool, ◌&&◌, ◌||◌, List, [], ◌∷◌, ◌++◌, drop, nat_le, nat_lt, ◌==◌, slice_index, if◌then◌else◌, Option, Some, None, ℤ, pos, unsigned_abs, Result, Ok}
 use Rattle.std.specs.Int.{is_negative}
 use Rattle.std.specs.Option.{is_some}
-use Rattle.speedate_base.specs.declared.config.Rfc3339Form.{Rfc3339Form}
-use Rattle.speedate_base.specs.declared.config.Rfc3339Form.TheVariants as rfc3339
 use Rattle.speedate_base.specs.declared.faults.ParseError.{ParseError}
 use Rattle.speedate_base.specs.declared.faults.ParseError.TheVariants as fault
 use Rattle.speedate_base.specs.Ascii.{plus_sign, hyphen, colon, capital_z, small_z}
 use Rattle.speedate_base.specs.Digits.{two_digits_at, two_digit_value, two_digit_text}
-use Rattle.speedate_base.specs.Form.{is_strict}
 use Rattle.speedate_base.specs.Numbers.{with_sign}
 use Rattle.speedate_base.specs.Offset.{seconds_per_day}
-use Rattle.speedate_base.specs.Requirement.{Requirement, ◌else_fault◌, ◌implies◌, meets}
+use Rattle.speedate_base.specs.Requirement.{Requirement, ◌else_fault◌, meets}
 
--- the three bytes of U+2212, the minus sign, which the strict form does not have
-abbrev pub has_minus_sign : Rfc3339Form → List ℕ → Bool
-has_minus_sign form rest =
-    not (is_strict form) && ((slice_index rest 0 == 0xe2) && (slice_index rest 1 == 0x88) && (slice_index rest 2 == 0x92))
+-- the three bytes of U+2212, the minus sign
+abbrev pub has_minus_sign : List ℕ → Bool
+has_minus_sign rest = (slice_index rest 0 == 0xe2) && (slice_index rest 1 == 0x88) && (slice_index rest 2 == 0x92)
 
 -- the offset is west of UTC
-abbrev pub is_west : Rfc3339Form → List ℕ → Bool
-is_west form rest = (slice_index rest 0 == hyphen) || has_minus_sign form rest
+abbrev pub is_west : List ℕ → Bool
+is_west rest = (slice_index rest 0 == hyphen) || has_minus_sign rest
 
 -- how many bytes its sign has
-abbrev pub offset_sign_length : Rfc3339Form → List ℕ → ℕ
-offset_sign_length form rest =
-    if has_minus_sign form rest then 3
+abbrev pub offset_sign_length : List ℕ → ℕ
+offset_sign_length rest =
+    if has_minus_sign rest then 3
     else (if (slice_index rest 0 == plus_sign) || (slice_index rest 0 == hyphen) then 1 else 0)
 
 -- the place of its minute, after the hour and an optional `:`
@@ -48,10 +44,9 @@ abbrev pub offset_size : List ℕ → ℕ
 offset_size numbers = 3600 * two_digit_value numbers 0 + 60 * offset_minute numbers
 
 -- what its digits after the sign have to be
-abbrev pub offset_digits : Rfc3339Form → List ℕ → List Requirement
-offset_digits form numbers =
+abbrev pub offset_digits : List ℕ → List Requirement
+offset_digits numbers =
     (two_digits_at numbers 0 else_fault fault.InvalidCharTzHour)
-    ∷ ((is_strict form implies (slice_index numbers 2 == colon)) else_fault fault.InvalidCharTzMinute)
     ∷ (two_digits_at numbers (offset_minute_place numbers) else_fault fault.InvalidCharTzMinute)
     ∷ []
 
@@ -67,32 +62,25 @@ abbrev pub is_utc : List ℕ → Bool
 is_utc rest = (slice_index rest 0 == capital_z) || (slice_index rest 0 == small_z)
 
 -- the offset after a sign of so many bytes, and how many both take, or the fault
-abbrev pub signed_front : Rfc3339Form → Bool → ℕ → List ℕ → Result (Option ℤ × ℕ) ParseError
-signed_front form west sign numbers =
-    meets (offset_digits form numbers) (meets (offset_ranges numbers)
+abbrev pub signed_front : Bool → ℕ → List ℕ → Result (Option ℤ × ℕ) ParseError
+signed_front west sign numbers =
+    meets (offset_digits numbers) (meets (offset_ranges numbers)
     (Ok (Some (with_sign west (offset_size numbers)), sign + offset_digits_length numbers)))
 
 -- the offset at the front of a text without a sign, if any, and how many bytes it takes
 abbrev pub unsigned_front : List ℕ → Option ℤ × ℕ
 unsigned_front rest = if is_utc rest then (Some (pos 0), 1) else (None, 0)
 
--- what a text without a sign has to meet in the strict form: an offset is due
-abbrev pub unsigned_table : Rfc3339Form → List ℕ → List Requirement
-unsigned_table form rest =
-    ((is_strict form implies nat_lt 0 (length rest)) else_fault fault.TzRequired)
-    ∷ ((is_strict form implies is_utc rest) else_fault fault.InvalidCharTzSign)
-    ∷ []
-
 -- the offset that follows a time, if any, and how many bytes it takes, or the fault of what follows it
-abbrev pub offset_front : Rfc3339Form → List ℕ → Result (Option ℤ × ℕ) ParseError
-offset_front form rest =
-    let sign = offset_sign_length form rest in
-    if nat_lt 0 sign then signed_front form (is_west form rest) sign (drop sign rest)
-    else meets (unsigned_table form rest) (Ok (unsigned_front rest))
+abbrev pub offset_front : List ℕ → Result (Option ℤ × ℕ) ParseError
+offset_front rest =
+    let sign = offset_sign_length rest in
+    if nat_lt 0 sign then signed_front (is_west rest) sign (drop sign rest)
+    else Ok (unsigned_front rest)
 
--- an offset begins a text in the relaxed form: a sign, `Z` or `z`
+-- an offset begins a text: a sign, `Z` or `z`
 abbrev pub begins_offset : List ℕ → Bool
-begins_offset rest = nat_lt 0 (offset_sign_length rfc3339.Relaxed rest) || is_utc rest
+begins_offset rest = nat_lt 0 (offset_sign_length rest) || is_utc rest
 
 -- the fault of a text that goes on after a time with this offset, or after one without
 abbrev pub end_fault : Option ℤ → ParseError

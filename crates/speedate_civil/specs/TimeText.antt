@@ -4,13 +4,10 @@ use Rattle.std.specs.Prelude.{ℕ, ◌+◌, Bool, not, ◌&&◌, ◌||◌, ◌==
 use Rattle.std.specs.Char.{is_ascii_digit}
 use Rattle.std.specs.Option.{is_some}
 use Rattle.speedate_base.specs.declared.config.MicrosecondsPrecisionOverflowBehavior.{MicrosecondsPrecisionOverflowBehavior}
-use Rattle.speedate_base.specs.declared.config.Rfc3339Form.{Rfc3339Form}
-use Rattle.speedate_base.specs.declared.config.Rfc3339Form.TheVariants as rfc3339
 use Rattle.speedate_base.specs.declared.faults.ParseError.{ParseError}
 use Rattle.speedate_base.specs.Ascii.{colon}
 use Rattle.speedate_base.specs.Digits.{two_digit_text}
-use Rattle.speedate_base.specs.Form.{is_strict}
-use Rattle.speedate_base.specs.Requirement.{◌implies◌, alone, result_map, result_and_then}
+use Rattle.speedate_base.specs.Requirement.{alone, result_map, result_and_then}
 use Rattle.speedate_civil.specs.ClockText.{Clock, clock_front, is_decimal_mark, minute_text, fraction_text}
 use Rattle.speedate_civil.specs.OffsetText.{begins_offset, offset_front, end_fault, offset_text}
 use Rattle.speedate_civil.specs.TimeOfDay.{TimeOfDay}
@@ -30,17 +27,17 @@ abbrev pub joined : Clock → Option ℤ × ℕ → TimeOfDay × ℕ
 joined clock offset = (time_of clock offset.0, clock.size + offset.1)
 
 -- the time of a clock at the front of a text, and of the offset that follows it there
-abbrev pub with_offset : Rfc3339Form → List ℕ → Clock → Result (TimeOfDay × ℕ) ParseError
-with_offset form text clock = result_map (joined clock) (offset_front form (drop clock.size text))
+abbrev pub with_offset : List ℕ → Clock → Result (TimeOfDay × ℕ) ParseError
+with_offset text clock = result_map (joined clock) (offset_front (drop clock.size text))
 
 -- the time at the front of a text, and how many bytes it takes, or the text's fault
-abbrev pub time_front : Rfc3339Form → MicrosecondsPrecisionOverflowBehavior → List ℕ → Result (TimeOfDay × ℕ) ParseError
-time_front form behavior text = result_and_then (with_offset form text) (clock_front form behavior text)
+abbrev pub time_front : MicrosecondsPrecisionOverflowBehavior → List ℕ → Result (TimeOfDay × ℕ) ParseError
+time_front behavior text = result_and_then (with_offset text) (clock_front behavior text)
 
 -- the time that a text is, or the text's fault
-abbrev pub time_answer : Rfc3339Form → MicrosecondsPrecisionOverflowBehavior → List ℕ → Result TimeOfDay ParseError
-time_answer form behavior text =
-    result_and_then (alone (λ time. end_fault time.offset) text) (time_front form behavior text)
+abbrev pub time_answer : MicrosecondsPrecisionOverflowBehavior → List ℕ → Result TimeOfDay ParseError
+time_answer behavior text =
+    result_and_then (alone (λ time. end_fault time.offset) text) (time_front behavior text)
 
 -- an hour, a minute and a second in print
 abbrev pub clock_text : TimeOfDay → List ℕ
@@ -53,13 +50,9 @@ time_text time = clock_text time ++ fraction_text time.microsecond ++ offset_tex
 -- a text goes on with a fraction after such a microsecond in print: with a decimal mark after none, with a digit after six
 abbrev pub continues_fraction : ℕ → List ℕ → Bool
 continues_fraction microsecond rest =
-    if microsecond == 0 then is_decimal_mark rfc3339.Relaxed (slice_index rest 0) else is_ascii_digit (slice_index rest 0)
+    if microsecond == 0 then is_decimal_mark (slice_index rest 0) else is_ascii_digit (slice_index rest 0)
 
 -- a text that follows a time in print is no part of it: an offset ends it, otherwise neither a fraction nor an offset begins
 abbrev pub is_after_time : TimeOfDay → List ℕ → Bool
 is_after_time time rest =
     is_some time.offset || (not (continues_fraction time.microsecond rest) && not (begins_offset rest))
-
--- a time may be printed and read again in a form: the strict one asks for an offset
-abbrev pub is_of_form : Rfc3339Form → Option ℤ → Bool
-is_of_form form offset = is_strict form implies is_some offset

@@ -1,19 +1,17 @@
 //! Date-times: a date and a time of day, with or without an offset from UTC.
 
-ghost use Rattle.std.specs.Prelude.{◌≡◌, ◌≤◌, ◌↔◌, IfOk, IsOk, IsTrue, Ok, length, slice_index, take, OnOk};
+ghost use Rattle.std.specs.Prelude.{◌≡◌, ◌≤◌, ◌↔◌, IfOk, IsTrue, Ok, length, slice_index, take, OnOk};
 ghost use Rattle.speedate_base.specs.declared.config.MicrosecondsPrecisionOverflowBehavior.TheVariants as behavior;
-ghost use Rattle.speedate_base.specs.declared.config.Rfc3339Form.TheVariants as rfc3339;
-ghost use Rattle.speedate_base.specs.Form.{is_strict};
 ghost use Rattle.speedate_base.specs.Numbers.{NoNumber, number_answer};
 ghost use Rattle.speedate_base.specs.Requirement.{result_map, with_size};
 ghost use Rattle.speedate_civil.specs.DateAndTime.{DateAndTime};
 ghost use Rattle.speedate_civil.specs.DateTimeText.{is_separator, date_time_front, date_time_answer};
-ghost use Rattle.speedate_civil.specs.Rfc3339Text.{IsDateTime};
 
 mod decimal;
 mod instant;
 mod now;
 mod order;
+mod strict;
 mod text;
 mod timestamp;
 mod timezone;
@@ -22,7 +20,7 @@ use crate::date::Date;
 use crate::time::{Time, end_fault};
 pub use instant::of_instant;
 pub use now::Moment;
-use speedate_base::config::{Rfc3339Form, TimeConfig};
+use speedate_base::config::TimeConfig;
 use speedate_base::faults::ParseError;
 use speedate_base::numbers::byte_at;
 
@@ -61,7 +59,7 @@ impl DateTime {
     /// - those of [`Time::parse_str`] for what follows the separator.
     #[inline(always)]
     pub fn parse_str_rfc3339(text: &str) -> Result<Self, ParseError>
-        ensures answer { result_map parts result ≡ date_time_answer rfc3339.Relaxed behavior.Error text.now }
+        ensures answer { result_map parts result ≡ date_time_answer behavior.Error text.now }
         ensures minutes { IfOk result (λ value. IsWholeMinutes value.time.tz_offset) }
     {
         Self::parse_bytes_rfc3339(text.as_bytes())
@@ -72,7 +70,7 @@ impl DateTime {
     /// [`DateTime::parse_str_rfc3339`].
     #[inline(always)]
     pub fn parse_bytes_rfc3339(bytes: &[u8]) -> Result<Self, ParseError>
-        ensures answer { result_map parts result ≡ date_time_answer rfc3339.Relaxed behavior.Error bytes.now }
+        ensures answer { result_map parts result ≡ date_time_answer behavior.Error bytes.now }
         ensures minutes { IfOk result (λ value. IsWholeMinutes value.time.tz_offset) }
         ensures no_number { OnOk result (number_answer bytes.now ≡ NoNumber) }
     {
@@ -81,25 +79,16 @@ impl DateTime {
 
     /// Reads a date-time from bytes, and no timestamp, by a configuration: 12:13:12.123456 on 1 January
     /// 2020 from `b"2020-01-01T12:13:12.1234567"` with the behavior `Truncate`, which drops the digits
-    /// of a second past the sixth. The bytes need not be text. The offset of the configuration does not
-    /// matter.
-    ///
-    /// By default the form and the faults are those of [`DateTime::parse_str_rfc3339`]. In the form
-    /// `Strict` the texts are those of RFC 3339 alone, except those with a second 60: a separator other
-    /// than `T` or `t` is `InvalidCharDateTimeSep`, and the time has the faults of
-    /// [`Time::parse_bytes_with_config`]. What `Strict` accepts, `Relaxed` accepts too, with the same
-    /// value.
+    /// of a second past the sixth. The bytes need not be text. The form and the faults are those of
+    /// [`DateTime::parse_str_rfc3339`], but with `Truncate` there is no `SecondFractionTooLong`. The
+    /// offset of the configuration does not matter.
     #[inline(always)]
     pub fn parse_bytes_rfc3339_with_config(
         bytes: &[u8],
         config: &TimeConfig,
     ) -> Result<Self, ParseError>
         ensures answer { result_map parts result
-            ≡ date_time_answer config.now.rfc3339_form config.now.microseconds_precision_overflow_behavior bytes.now }
-        ensures relaxed { IfOk result (λ value.
-            date_time_answer rfc3339.Relaxed config.now.microseconds_precision_overflow_behavior bytes.now ≡ Ok (parts value)) }
-        ensures standard { IsTrue (is_strict config.now.rfc3339_form)
-            → IsOk result ↔ IsDateTime config.now.microseconds_precision_overflow_behavior bytes.now }
+            ≡ date_time_answer config.now.microseconds_precision_overflow_behavior bytes.now }
         ensures minutes { IfOk result (λ value. IsWholeMinutes value.time.tz_offset) }
         ensures no_number { OnOk result (number_answer bytes.now ≡ NoNumber) }
     {
@@ -119,34 +108,33 @@ impl DateTime {
     #[inline(always)]
     pub fn parse_front(bytes: &[u8], config: &TimeConfig) -> Result<(Self, usize), ParseError>
         ensures answer { result_map (with_size parts) result
-            ≡ date_time_front config.now.rfc3339_form config.now.microseconds_precision_overflow_behavior bytes.now }
+            ≡ date_time_front config.now.microseconds_precision_overflow_behavior bytes.now }
         ensures within { IfOk result (λ front. front.1 ≤ length bytes.now) }
         ensures whole { (value : DateAndTime)
-            → (date_time_answer config.now.rfc3339_form config.now.microseconds_precision_overflow_behavior bytes.now ≡ Ok value)
+            → (date_time_answer config.now.microseconds_precision_overflow_behavior bytes.now ≡ Ok value)
             ↔ (result_map (with_size parts) result ≡ Ok (value, length bytes.now)) }
         ensures alone { IfOk result (λ front.
-            date_time_answer config.now.rfc3339_form config.now.microseconds_precision_overflow_behavior (take front.1 bytes.now)
+            date_time_answer config.now.microseconds_precision_overflow_behavior (take front.1 bytes.now)
             ≡ Ok (parts front.0)) }
         ensures minutes { IfOk result (λ front. IsWholeMinutes front.0.time.tz_offset) }
         ensures no_number { OnOk result (number_answer bytes.now ≡ NoNumber) }
     {
         let (date, _) = Date::parse_front(bytes)?;
-        if !has_separator(bytes, config.rfc3339_form) {
+        if !has_separator(bytes) {
             return Err(ParseError::InvalidCharDateTimeSep);
         }
         let behavior = config.microseconds_precision_overflow_behavior;
-        let (time, size) = Time::front_at(bytes, TIME_PLACE, config.rfc3339_form, behavior)?;
+        let (time, size) = Time::front_at(bytes, TIME_PLACE, behavior)?;
         Ok((DateTime { date, time }, TIME_PLACE + size))
     }
 }
 
-/// Whether a separator follows the ten bytes of a date: `T` or `t`, and in the relaxed form a space or
-/// `_`.
+/// Whether a separator follows the ten bytes of a date: `T`, `t`, a space or `_`.
 #[inline(always)]
-fn has_separator(bytes: &[u8], form: Rfc3339Form) -> bool
-    ensures value { result ≡ is_separator form (slice_index bytes.now 10) }
+fn has_separator(bytes: &[u8]) -> bool
+    ensures value { result ≡ is_separator (slice_index bytes.now 10) }
     ensures there { IsTrue result → 11 ≤ length bytes.now }
 {
     let byte = byte_at(bytes, 10);
-    byte == b'T' || byte == b't' || (byte == b' ' || byte == b'_') && !form.is_strict()
+    matches!(byte, b'T' | b't' | b' ' | b'_')
 }

@@ -9,6 +9,7 @@ mod new;
 mod offset;
 mod order;
 mod pure;
+mod strict;
 mod text;
 mod timezone;
 
@@ -16,10 +17,11 @@ pub use fraction::Fraction;
 use offset::read_offset;
 pub(crate) use offset::{clock_shift, end_fault};
 pub use pure::PureTime;
-use speedate_base::config::{MicrosecondsPrecisionOverflowBehavior, Rfc3339Form, TimeConfig};
+use speedate_base::config::{MicrosecondsPrecisionOverflowBehavior, TimeConfig};
 use speedate_base::faults::ParseError;
 use speedate_base::util::SECONDS_PER_DAY;
 use std::str::FromStr;
+pub(crate) use strict::require_standard;
 
 /// A time of day, to the microsecond, with an offset from UTC or without one.
 ///
@@ -53,13 +55,10 @@ pub struct Time {
 }
 
 impl Time {
-    ghost use Rattle.std.specs.Prelude.{◌+◌, ◌*◌, ◌<◌, ◌↔◌, IfOk, IsOk, IsTrue, Ok, drop, take, length, None};
+    ghost use Rattle.std.specs.Prelude.{◌+◌, ◌*◌, ◌<◌, ◌↔◌, IfOk, Ok, drop, take, length, None};
     ghost use Rattle.speedate_base.specs.declared.config.MicrosecondsPrecisionOverflowBehavior.TheVariants as behavior;
-    ghost use Rattle.speedate_base.specs.declared.config.Rfc3339Form.TheVariants as rfc3339;
-    ghost use Rattle.speedate_base.specs.Form.{is_strict};
     ghost use Rattle.speedate_base.specs.Offset.{IsWholeMinutes, seconds_per_day};
     ghost use Rattle.speedate_base.specs.Requirement.{result_map, with_size};
-    ghost use Rattle.speedate_civil.specs.Rfc3339Text.{IsFullTime};
     ghost use Rattle.speedate_civil.specs.Time.{parts};
     ghost use Rattle.speedate_civil.specs.TimeOfDay.{TimeOfDay, second_of_day, millisecond_of_day, microsecond_of_day, time_at, timestamp_answer};
     ghost use Rattle.speedate_civil.specs.TimeText.{time_front, time_answer};
@@ -89,7 +88,7 @@ impl Time {
     /// - `ExtraCharacters` if something follows the offset.
     #[inline(always)]
     pub fn parse_str(text: &str) -> Result<Self, ParseError>
-        ensures answer { result_map parts result ≡ time_answer rfc3339.Relaxed behavior.Error text.now }
+        ensures answer { result_map parts result ≡ time_answer behavior.Error text.now }
         ensures minutes { IfOk result (λ time. IsWholeMinutes time.tz_offset) }
     {
         Self::parse_bytes(text.as_bytes())
@@ -99,46 +98,23 @@ impl Time {
     /// faults are those of [`Time::parse_str`].
     #[inline(always)]
     pub fn parse_bytes(bytes: &[u8]) -> Result<Self, ParseError>
-        ensures answer { result_map parts result ≡ time_answer rfc3339.Relaxed behavior.Error bytes.now }
+        ensures answer { result_map parts result ≡ time_answer behavior.Error bytes.now }
         ensures minutes { IfOk result (λ time. IsWholeMinutes time.tz_offset) }
     {
-        Self::parse_whole(
-            bytes,
-            Rfc3339Form::Relaxed,
-            MicrosecondsPrecisionOverflowBehavior::Error,
-        )
+        Self::parse_whole(bytes, MicrosecondsPrecisionOverflowBehavior::Error)
     }
 
     /// Reads a time from bytes, by a configuration: 12:13:12.123456 from `b"12:13:12.1234567"` with the
     /// behavior `Truncate`, which drops the digits of a second past the sixth. The bytes need not be
-    /// text. The offset of the configuration does not matter.
-    ///
-    /// By default the form and the faults are those of [`Time::parse_str`]. In the form `Strict` the
-    /// texts are those of RFC 3339 alone, except those with a second 60, which both forms refuse.
-    /// Further texts then have a fault:
-    ///
-    /// - `TooShort` if there are fewer than nine bytes;
-    /// - `InvalidCharTimeSep` if no `:` follows the minute;
-    /// - `TzRequired` if nothing follows the clock;
-    /// - `InvalidCharTzSign` if a comma follows the second, or U+2212 the clock;
-    /// - `InvalidCharTzMinute` if no `:` follows the hour of the offset.
-    ///
-    /// What `Strict` accepts, `Relaxed` accepts too, with the same value.
+    /// text. The form and the faults are those of [`Time::parse_str`], but with `Truncate` there is no
+    /// `SecondFractionTooLong`. The offset of the configuration does not matter.
     #[inline(always)]
     pub fn parse_bytes_with_config(bytes: &[u8], config: &TimeConfig) -> Result<Self, ParseError>
         ensures answer { result_map parts result
-            ≡ time_answer config.now.rfc3339_form config.now.microseconds_precision_overflow_behavior bytes.now }
-        ensures relaxed { IfOk result (λ time.
-            time_answer rfc3339.Relaxed config.now.microseconds_precision_overflow_behavior bytes.now ≡ Ok (parts time)) }
-        ensures standard { IsTrue (is_strict config.now.rfc3339_form)
-            → IsOk result ↔ IsFullTime config.now.microseconds_precision_overflow_behavior bytes.now }
+            ≡ time_answer config.now.microseconds_precision_overflow_behavior bytes.now }
         ensures minutes { IfOk result (λ time. IsWholeMinutes time.tz_offset) }
     {
-        Self::parse_whole(
-            bytes,
-            config.rfc3339_form,
-            config.microseconds_precision_overflow_behavior,
-        )
+        Self::parse_whole(bytes, config.microseconds_precision_overflow_behavior)
     }
 
     /// Reads the time at the front of a text, whatever follows it, and answers how many bytes it takes:
@@ -146,43 +122,36 @@ impl Time {
     ///
     /// A time that goes on has to go on without a fault: after a `:` that follows the minute with two
     /// digits, after a decimal mark that follows the second with a digit, after a sign that follows the
-    /// clock with an offset; `Z` or `z` is an offset too. In the form `Relaxed` any other byte after
-    /// the clock, or none, ends a time without an offset. The faults are those of
-    /// [`Time::parse_bytes_with_config`], in its order, except `ExtraCharacters`, and in the form
-    /// `Relaxed` except `InvalidCharTzSign`.
+    /// clock with an offset; `Z` or `z` is an offset too. Any other byte after the clock, or none, ends
+    /// a time without an offset. The faults are those of [`Time::parse_bytes_with_config`], in its
+    /// order, except `InvalidCharTzSign` and `ExtraCharacters`.
     #[inline(always)]
     pub fn parse_front(bytes: &[u8], config: &TimeConfig) -> Result<(Self, usize), ParseError>
         ensures answer { result_map (with_size parts) result
-            ≡ time_front config.now.rfc3339_form config.now.microseconds_precision_overflow_behavior bytes.now }
+            ≡ time_front config.now.microseconds_precision_overflow_behavior bytes.now }
         ensures within { IfOk result (λ front. front.1 ≤ length bytes.now) }
         ensures whole { (time : TimeOfDay)
-            → (time_answer config.now.rfc3339_form config.now.microseconds_precision_overflow_behavior bytes.now ≡ Ok time)
+            → (time_answer config.now.microseconds_precision_overflow_behavior bytes.now ≡ Ok time)
             ↔ (result_map (with_size parts) result ≡ Ok (time, length bytes.now)) }
         ensures alone { IfOk result (λ front.
-            time_answer config.now.rfc3339_form config.now.microseconds_precision_overflow_behavior (take front.1 bytes.now)
+            time_answer config.now.microseconds_precision_overflow_behavior (take front.1 bytes.now)
             ≡ Ok (parts front.0)) }
         ensures minutes { IfOk result (λ front. IsWholeMinutes front.0.tz_offset) }
     {
-        Self::front_at(
-            bytes,
-            0,
-            config.rfc3339_form,
-            config.microseconds_precision_overflow_behavior,
-        )
+        Self::front_at(bytes, 0, config.microseconds_precision_overflow_behavior)
     }
 
     /// Reads the time that takes all the bytes.
     #[inline(always)]
     fn parse_whole(
         bytes: &[u8],
-        form: Rfc3339Form,
         behavior: MicrosecondsPrecisionOverflowBehavior,
     ) -> Result<Self, ParseError>
-        ensures answer { result_map parts result ≡ time_answer form behavior bytes.now }
+        ensures answer { result_map parts result ≡ time_answer behavior bytes.now }
         ensures minutes { IfOk result (λ time. IsWholeMinutes time.tz_offset) }
     {
-        let clock = PureTime::parse(bytes, 0, form, behavior)?;
-        let (tz_offset, size) = read_offset(bytes, clock.size, form)?;
+        let clock = PureTime::parse(bytes, 0, behavior)?;
+        let (tz_offset, size) = read_offset(bytes, clock.size)?;
         if clock.size + size != bytes.len() {
             return Err(end_fault(tz_offset));
         }
@@ -194,16 +163,15 @@ impl Time {
     pub(crate) fn front_at(
         bytes: &[u8],
         place: usize,
-        form: Rfc3339Form,
         behavior: MicrosecondsPrecisionOverflowBehavior,
     ) -> Result<(Self, usize), ParseError>
         requires { place ≤ length bytes.now }
-        ensures answer { result_map (with_size parts) result ≡ time_front form behavior (drop place bytes.now) }
+        ensures answer { result_map (with_size parts) result ≡ time_front behavior (drop place bytes.now) }
         ensures within { IfOk result (λ front. place + front.1 ≤ length bytes.now) }
         ensures minutes { IfOk result (λ front. IsWholeMinutes front.0.tz_offset) }
     {
-        let clock = PureTime::parse(bytes, place, form, behavior)?;
-        let (tz_offset, size) = read_offset(bytes, place + clock.size, form)?;
+        let clock = PureTime::parse(bytes, place, behavior)?;
+        let (tz_offset, size) = read_offset(bytes, place + clock.size)?;
         Ok((clock.at_offset(tz_offset), clock.size + size))
     }
 
@@ -290,12 +258,11 @@ impl FromStr for Time {
     type Err = ParseError;
 
     ghost use Rattle.speedate_base.specs.declared.config.MicrosecondsPrecisionOverflowBehavior.TheVariants as behavior;
-    ghost use Rattle.speedate_base.specs.declared.config.Rfc3339Form.TheVariants as rfc3339;
     ghost use Rattle.speedate_base.specs.Requirement.{result_map};
     ghost use Rattle.speedate_civil.specs.Time.{parts};
     ghost use Rattle.speedate_civil.specs.TimeText.{time_answer};
 
-    ghost from_str_gives = { λ text result. result_map parts result ≡ time_answer rfc3339.Relaxed behavior.Error text };
+    ghost from_str_gives = { λ text result. result_map parts result ≡ time_answer behavior.Error text };
 
     /// The answer of [`Time::parse_str`]: `"12:13Z".parse()` gives 12:13:00 in UTC.
     #[inline]

@@ -4,11 +4,10 @@ use Rattle.std.specs.List.{flat_map}
 use Rattle.speedate.specs.declared.IsoOrder.TheVariants as order
 use Rattle.speedate.specs.declared.MicrosecondsPrecisionOverflowBehavior.TheVariants as behavior
 use Rattle.speedate.specs.declared.ParseError.{ParseError}
-use Rattle.speedate.specs.declared.Rfc3339Form.TheVariants as rfc3339
 use Rattle.speedate.specs.declared.TimestampUnit.TheVariants as unit
 use Rattle.speedate.specs.Ascii.{space, line_feed}
 use Rattle.speedate.specs.DateText.{date_text}
-use Rattle.speedate.specs.DateTimeText.{date_time_answer, date_time_text}
+use Rattle.speedate.specs.DateTimeText.{date_time_text}
 use Rattle.speedate.specs.DateTimeTimestamp.{date_time_or_timestamp}
 use Rattle.speedate.specs.DateTimestamp.{date_or_timestamp}
 use Rattle.speedate.specs.DurationAnswer.{duration_answer}
@@ -39,12 +38,12 @@ abbrev pub date_kind : Kind
 date_kind = record { word = codes "date"; reply_to = λ text. reply date_text (date_or_timestamp unit.Infer text) }
 
 abbrev pub time_kind : Kind
-time_kind = record { word = codes "time"; reply_to = λ text. reply time_text (time_answer rfc3339.Relaxed behavior.Error text) }
+time_kind = record { word = codes "time"; reply_to = λ text. reply time_text (time_answer behavior.Error text) }
 
 abbrev pub date_time_kind : Kind
 date_time_kind = record {
   word = codes "datetime";
-  reply_to = λ text. reply date_time_text (date_time_or_timestamp unit.Infer rfc3339.Relaxed behavior.Error None text);
+  reply_to = λ text. reply date_time_text (date_time_or_timestamp unit.Infer behavior.Error None text);
 }
 
 abbrev pub duration_kind : Kind
@@ -56,19 +55,9 @@ strict_duration_kind = record {
   reply_to = λ text. reply duration_text (duration_answer order.Strict behavior.Error text);
 }
 
-abbrev pub strict_time_kind : Kind
-strict_time_kind = record { word = codes "time-strict"; reply_to = λ text. reply time_text (time_answer rfc3339.Strict behavior.Error text) }
-
--- it reads no timestamps, which the standard does not have
-abbrev pub strict_date_time_kind : Kind
-strict_date_time_kind = record {
-  word = codes "datetime-strict";
-  reply_to = λ text. reply date_time_text (date_time_answer rfc3339.Strict behavior.Error text);
-}
-
 -- all kinds
 abbrev pub kinds : List Kind
-kinds = date_kind ∷ time_kind ∷ date_time_kind ∷ duration_kind ∷ strict_duration_kind ∷ strict_time_kind ∷ strict_date_time_kind ∷ []
+kinds = date_kind ∷ time_kind ∷ date_time_kind ∷ duration_kind ∷ strict_duration_kind ∷ []
 
 -- what a line of a kind begins with: the kind's word and a space
 abbrev pub front : Kind → List ℕ

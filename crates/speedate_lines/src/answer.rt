@@ -3,18 +3,13 @@
 ghost use Rattle.std.specs.Prelude.{◌≡◌, ◌+◌, ◌≤◌, true, false, length, take, drop, bytes_eq, MatchOption, [], ◌∷◌, ◌++◌};
 ghost use Rattle.arrayvec.specs.ArrayString.{array_string_len};
 ghost use Rattle.speedate.specs.declared.MicrosecondsPrecisionOverflowBehavior.TheVariants as behavior;
-ghost use Rattle.speedate.specs.declared.Rfc3339Form.TheVariants as rfc3339;
 ghost use Rattle.speedate.specs.Ascii.{line_feed};
-ghost use Rattle.speedate.specs.DateTime.{parts};
-ghost use Rattle.speedate.specs.DateTimeText.{date_time_text};
 ghost use Rattle.speedate.specs.DurationAnswer.{duration_answer};
 ghost use Rattle.speedate.specs.DurationText.{duration_text};
-ghost use Rattle.speedate.specs.Requirement.{result_map};
-ghost use Rattle.speedate.specs.TimeText.{time_answer, time_text};
-ghost use Rattle.speedate_lines.specs.Answer.{line_answer, reply, err_answer, date_kind, date_time_kind, strict_date_time_kind};
+ghost use Rattle.speedate_lines.specs.Answer.{line_answer, reply, err_answer, date_kind, time_kind, date_time_kind};
 
 use arrayvec::ArrayString;
-use speedate::{Date, DateTime, Duration, IsoOrder, ParseError, Rfc3339Form, Time, TimeConfig};
+use speedate::{Date, DateTime, Duration, IsoOrder, Time, TimeConfig};
 
 /// How many bytes a line may have. A longer one is refused, whatever it holds.
 pub const LINE_MAX: usize = 4096;
@@ -46,17 +41,13 @@ pub fn answer_line(line: &[u8], pending: &mut Pending)
     } else if let Some(text) = text_after(line, b"date ") {
         answer_date(text, pending)
     } else if let Some(text) = text_after(line, b"time ") {
-        answer_time(text, Rfc3339Form::Relaxed, pending)
+        answer_time(text, pending)
     } else if let Some(text) = text_after(line, b"datetime ") {
         answer_date_time(text, pending)
     } else if let Some(text) = text_after(line, b"duration ") {
         answer_duration(text, IsoOrder::Lax, pending)
     } else if let Some(text) = text_after(line, b"duration-strict ") {
         answer_duration(text, IsoOrder::Strict, pending)
-    } else if let Some(text) = text_after(line, b"time-strict ") {
-        answer_time(text, Rfc3339Form::Strict, pending)
-    } else if let Some(text) = text_after(line, b"datetime-strict ") {
-        answer_strict_date_time(text, pending)
     } else {
         refuse("unknown_kind", pending)
     }
@@ -92,14 +83,14 @@ fn answer_date(text: &[u8], pending: &mut Pending)
     }
 }
 
-/// Appends the answer to the text of a time in this form.
+/// Appends the answer to the text of a time.
 #[inline]
-fn answer_time(text: &[u8], form: Rfc3339Form, pending: &mut Pending)
+fn answer_time(text: &[u8], pending: &mut Pending)
     requires { array_string_len pending.old + ANSWER_MAX ≤ PENDING_MAX }
     ensures answered { pending.new.bytes ≡ pending.old.bytes
-        ++ (reply time_text (time_answer form behavior.Error text.now) ++ line_feed ∷ []) }
+        ++ (time_kind.reply_to text.now ++ line_feed ∷ []) }
 {
-    match Time::parse_bytes_with_config(text, &form_config(form)) {
+    match Time::parse_bytes(text) {
         Ok(time) => {
             pending.push_str(ACCEPTED);
             time.push_onto(pending);
@@ -116,31 +107,7 @@ fn answer_date_time(text: &[u8], pending: &mut Pending)
     ensures answered { pending.new.bytes ≡ pending.old.bytes
         ++ (date_time_kind.reply_to text.now ++ line_feed ∷ []) }
 {
-    reply_date_time(DateTime::parse_bytes(text), pending)
-}
-
-/// Appends the answer to the text of a date-time in the strict form.
-#[inline]
-fn answer_strict_date_time(text: &[u8], pending: &mut Pending)
-    requires { array_string_len pending.old + ANSWER_MAX ≤ PENDING_MAX }
-    ensures answered { pending.new.bytes ≡ pending.old.bytes
-        ++ (strict_date_time_kind.reply_to text.now ++ line_feed ∷ []) }
-{
-    let config = form_config(Rfc3339Form::Strict);
-    reply_date_time(
-        DateTime::parse_bytes_rfc3339_with_config(text, &config),
-        pending,
-    )
-}
-
-/// Appends the reply to what a reader of date-times answered.
-#[inline(always)]
-fn reply_date_time(answer: Result<DateTime, ParseError>, pending: &mut Pending)
-    requires { array_string_len pending.old + ANSWER_MAX ≤ PENDING_MAX }
-    ensures answered { pending.new.bytes ≡ pending.old.bytes
-        ++ (reply date_time_text (result_map parts answer) ++ line_feed ∷ []) }
-{
-    match answer {
+    match DateTime::parse_bytes(text) {
         Ok(value) => {
             pending.push_str(ACCEPTED);
             value.push_onto(pending);
@@ -174,15 +141,6 @@ fn order_config(order: IsoOrder) -> TimeConfig
     ensures behavior { result.microseconds_precision_overflow_behavior ≡ behavior.Error }
 {
     TimeConfig::builder().iso_order(order).build()
-}
-
-/// The default configuration, except for the form of times and date-times.
-#[inline]
-fn form_config(form: Rfc3339Form) -> TimeConfig
-    ensures form { result.rfc3339_form ≡ form }
-    ensures behavior { result.microseconds_precision_overflow_behavior ≡ behavior.Error }
-{
-    TimeConfig::builder().rfc3339_form(form).build()
 }
 
 /// Appends the answer to a line that was refused: the name of the reason.

@@ -41,8 +41,6 @@ pub enum RunError {
 /// - `date TEXT`, `time TEXT`, `datetime TEXT` and `duration TEXT` are answered by `ok` and the
 ///   canonical text of the value, or by `err` and the name of the fault.
 /// - `duration-strict TEXT` is answered in the same way; the components have to come in order.
-/// - `time-strict TEXT` and `datetime-strict TEXT` too; the texts are those of RFC 3339 alone, and no
-///   timestamp.
 /// - A line of more than 4,096 bytes is answered by `err line_too_long`.
 /// - Any other line is answered by `err unknown_kind`.
 ///

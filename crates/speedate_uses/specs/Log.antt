@@ -3,7 +3,6 @@ use Rattle.std.specs.Prelude.{ℕ, Bool, false, ◌&&◌, List, Result, Ok, Err}
 use Rattle.std.specs.Ordering.{is_le}
 use Rattle.speedate.specs.declared.MicrosecondsPrecisionOverflowBehavior.{MicrosecondsPrecisionOverflowBehavior}
 use Rattle.speedate.specs.declared.ParseError.{ParseError}
-use Rattle.speedate.specs.declared.Rfc3339Form.{Rfc3339Form}
 use Rattle.speedate.specs.DateAndTime.{DateAndTime}
 use Rattle.speedate.specs.DateTimeText.{date_time_front}
 use Rattle.speedate.specs.InstantOrder.{date_time_instant_order}
@@ -14,5 +13,5 @@ lies_between first last (Ok front) = is_le (date_time_instant_order first front.
 lies_between first last (Err fault) = false
 
 -- a line begins with such a date-time
-abbrev pub is_between : Rfc3339Form → MicrosecondsPrecisionOverflowBehavior → DateAndTime → DateAndTime → List ℕ → Bool
-is_between form behavior first last line = lies_between first last (date_time_front form behavior line)
+abbrev pub is_between : MicrosecondsPrecisionOverflowBehavior → DateAndTime → DateAndTime → List ℕ → Bool
+is_between behavior first last line = lies_between first last (date_time_front behavior line)

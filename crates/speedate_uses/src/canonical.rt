@@ -2,7 +2,6 @@
 
 ghost use Rattle.std.specs.Prelude.{◌≡◌, IfOk, None, Ok};
 ghost use Rattle.speedate.specs.declared.MicrosecondsPrecisionOverflowBehavior.TheVariants as behavior;
-ghost use Rattle.speedate.specs.declared.Rfc3339Form.TheVariants as rfc3339;
 ghost use Rattle.speedate.specs.declared.TimestampUnit.TheVariants as unit;
 ghost use Rattle.speedate.specs.DateTimeText.{date_time_text};
 ghost use Rattle.speedate.specs.DateTimeTimestamp.{date_time_or_timestamp};
@@ -15,9 +14,9 @@ use speedate::{DateTime, DateTimeConfig, ParseError, TimestampUnit};
 /// `"1654646404000"` and for `"2022-06-08 00:00:04.000"`. It is the one text of itself.
 pub fn canonical(text: &str) -> Result<ArrayString<32>, ParseError>
     ensures text { result_map (λ printed. printed.bytes) result ≡ result_map date_time_text
-        (date_time_or_timestamp unit.Millisecond rfc3339.Relaxed behavior.Error None text.now) }
+        (date_time_or_timestamp unit.Millisecond behavior.Error None text.now) }
     ensures again { IfOk result (λ printed. result_map date_time_text
-        (date_time_or_timestamp unit.Millisecond rfc3339.Relaxed behavior.Error None printed.bytes)
+        (date_time_or_timestamp unit.Millisecond behavior.Error None printed.bytes)
         ≡ Ok printed.bytes) }
 {
     let config = DateTimeConfig::builder()

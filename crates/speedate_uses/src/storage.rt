@@ -1,18 +1,15 @@
 //! A store: a value that is kept as its text.
 
-ghost use Rattle.std.specs.Prelude.{◌≡◌, IsTrue, Ok};
+ghost use Rattle.std.specs.Prelude.{◌≡◌, Ok};
 ghost use Rattle.speedate.specs.Offset.{IsWholeMinutes};
 ghost use Rattle.speedate.specs.Requirement.{result_map};
 ghost use Rattle.speedate.specs.Time.{parts};
-ghost use Rattle.speedate.specs.TimeText.{is_of_form};
 
 use speedate::{ParseError, Time, TimeConfig};
 
-/// The time that is read from a text that was stored: the same one, under any configuration whose form
-/// it is of.
+/// The time that is read from a text that was stored: the same one, under any configuration.
 pub fn stored_and_read(time: &Time, config: &TimeConfig) -> Result<Time, ParseError>
-    requires offset { IsWholeMinutes time.now.tz_offset }
-    requires form { IsTrue (is_of_form config.now.rfc3339_form time.now.tz_offset) }
+    requires { IsWholeMinutes time.now.tz_offset }
     ensures same { result_map parts result ≡ Ok (parts time.now) }
 {
     let stored = time.to_text();

@@ -3,14 +3,12 @@
 ghost use Rattle.std.specs.Prelude.{◌≡◌, Err, MatchResult, Ok};
 ghost use Rattle.speedate.specs.declared.ParseError.{ParseError};
 ghost use Rattle.speedate.specs.DateTime.{parts};
-ghost use Rattle.speedate.specs.DateTimeText.{date_time_answer};
 ghost use Rattle.speedate.specs.Fault.{fault_name};
 ghost use Rattle.speedate.specs.FaultDocumentation.{fault_documentation};
 ghost use Rattle.speedate.specs.Requirement.{result_map};
+ghost use Rattle.speedate.specs.StrictText.{strict_date_time_answer};
 
-use speedate::{
-    DateTime, MicrosecondsPrecisionOverflowBehavior, ParseError, Rfc3339Form, TimeConfig,
-};
+use speedate::{DateTime, MicrosecondsPrecisionOverflowBehavior, ParseError};
 
 /// What is wrong with a field.
 #[derive(Clone, Copy, Debug)]
@@ -26,9 +24,9 @@ pub struct FieldFault<'a> {
 /// The date-time that a field has, or what is wrong with it.
 pub fn date_time_field<'a>(field: &'a str, text: &str) -> Result<DateTime, FieldFault<'a>>
     ensures answer { MatchResult result
-        (λ value. date_time_answer Rfc3339Form.Strict MicrosecondsPrecisionOverflowBehavior.Truncate text.now ≡ Ok (parts value))
+        (λ value. strict_date_time_answer MicrosecondsPrecisionOverflowBehavior.Truncate text.now ≡ Ok (parts value))
         (λ found. (fault : ParseError) × (found.field.now ≡ field.now) × (found.fault.now ≡ fault_name fault) × (found.text.now ≡ fault_documentation fault)
-        × (date_time_answer Rfc3339Form.Strict MicrosecondsPrecisionOverflowBehavior.Truncate text.now ≡ Err fault)) }
+        × (strict_date_time_answer MicrosecondsPrecisionOverflowBehavior.Truncate text.now ≡ Err fault)) }
 {
     match schema_date_time(text) {
         Ok(value) => Ok(value),
@@ -44,13 +42,12 @@ pub fn date_time_field<'a>(field: &'a str, text: &str) -> Result<DateTime, Field
 /// digits past the microsecond are dropped.
 pub fn schema_date_time(text: &str) -> Result<DateTime, ParseError>
     ensures answer { result_map parts result
-        ≡ date_time_answer Rfc3339Form.Strict MicrosecondsPrecisionOverflowBehavior.Truncate text.now }
+        ≡ strict_date_time_answer MicrosecondsPrecisionOverflowBehavior.Truncate text.now }
 {
-    let config = TimeConfig::builder()
-        .rfc3339_form(Rfc3339Form::Strict)
-        .microseconds_precision_overflow_behavior(MicrosecondsPrecisionOverflowBehavior::Truncate)
-        .build();
-    DateTime::parse_bytes_rfc3339_with_config(text.as_bytes(), &config)
+    DateTime::parse_bytes_strict(
+        text.as_bytes(),
+        MicrosecondsPrecisionOverflowBehavior::Truncate,
+    )
 }
 
 #[cfg(test)]

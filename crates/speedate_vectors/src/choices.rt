@@ -1,10 +1,8 @@
-//! Units, behaviors, orders and forms by their names.
+//! Units, behaviors and orders by their names.
 
 use crate::rows::{Row, each, quoted, same};
 use arrayvec::ArrayString;
-use speedate::{
-    ConfigError, IsoOrder, MicrosecondsPrecisionOverflowBehavior, Rfc3339Form, TimestampUnit,
-};
+use speedate::{ConfigError, IsoOrder, MicrosecondsPrecisionOverflowBehavior, TimestampUnit};
 use std::fmt::{Debug, Write};
 use std::process::Abort;
 use std::str::FromStr;
@@ -38,28 +36,14 @@ const BEHAVIORS: &str = "\
 ' error'    unknown_microseconds_precision_overflow_behavior_string
 'infer'     unknown_microseconds_precision_overflow_behavior_string";
 
-/// Texts, and the order that each names.
+/// Texts, and the order that each names, if it names one.
 const ORDERS: &str = "\
 'lax'       Lax
 'Strict'    Strict
 'STRICT'    Strict
-''          unknown_iso_order_string
-'strict '   unknown_iso_order_string
-'strictly'  unknown_iso_order_string";
-
-/// Texts, and the form that each names.
-const FORMS: &str = "\
-'relaxed'     Relaxed
-'ReLaXeD'     Relaxed
-'strict'      Strict
-'Strict'      Strict
-'STRICT'      Strict
-''            unknown_rfc3339_form_string
-'lax'         unknown_rfc3339_form_string
-'relax'       unknown_rfc3339_form_string
-' strict'     unknown_rfc3339_form_string
-'strict '     unknown_rfc3339_form_string
-'\u{17f}trict'  unknown_rfc3339_form_string";
+''          none
+'strict '   none
+'strictly'  none";
 
 /// Each text is to name the value that is written so, or to fail with the fault of that name.
 struct NamedRow<T>(T);
@@ -78,12 +62,25 @@ impl<T: FromStr<Err = ConfigError> + Debug + Copy> Row for NamedRow<T> {
     }
 }
 
+struct OrderRow;
+
+impl Row for OrderRow {
+    fn check<R: AllocGlobal + Abort>(rt: &R, row: &str) {
+        let (_, text, want) = quoted(rt, row);
+        let name = match IsoOrder::from_name(text) {
+            Some(IsoOrder::Lax) => "Lax",
+            Some(IsoOrder::Strict) => "Strict",
+            None => "none",
+        };
+        same(rt, name, want, row);
+    }
+}
+
 #[test]
 fn choices_of_names(rt: HostRuntime) {
     each::<NamedRow<TimestampUnit>, _>(&rt, UNITS);
     each::<NamedRow<MicrosecondsPrecisionOverflowBehavior>, _>(&rt, BEHAVIORS);
-    each::<NamedRow<IsoOrder>, _>(&rt, ORDERS);
-    each::<NamedRow<Rfc3339Form>, _>(&rt, FORMS);
+    each::<OrderRow, _>(&rt, ORDERS);
 }
 
 #[test]
@@ -93,6 +90,4 @@ fn names_of_choices(rt: HostRuntime) {
     let behavior = MicrosecondsPrecisionOverflowBehavior::Truncate;
     same(&rt, behavior.name(), "truncate", "a behavior");
     same(&rt, IsoOrder::Strict.name(), "strict", "an order");
-    same(&rt, Rfc3339Form::Relaxed.name(), "relaxed", "a form");
-    same(&rt, Rfc3339Form::Strict.name(), "strict", "a form");
 }

@@ -4,7 +4,7 @@ ghost use Rattle.std.specs.Option.{ForSome};
 ghost use Rattle.speedate.specs.Offset.{IsOffset};
 
 use crate::rows::{value, words};
-use speedate::{DateTimeConfig, Rfc3339Form, TimeConfig};
+use speedate::{DateTimeConfig, TimeConfig};
 use std::process::Abort;
 
 /// An offset in seconds, and none for `-` and for no word.
@@ -19,25 +19,16 @@ pub fn offset<R: Abort>(rt: &R, word: &str) -> Option<i32>
     Some(offset)
 }
 
-/// The form that a word names, and the default one for no word.
-fn form<R: Abort>(rt: &R, word: &str) -> Rfc3339Form {
-    if word.is_empty() {
-        return Rfc3339Form::default();
-    }
-    value(rt, word)
-}
-
-/// The configuration of a behavior, an offset and a form.
+/// The configuration of a behavior and an offset.
 pub fn time_config<R: Abort>(rt: &R, row: &str) -> TimeConfig {
-    let [behavior, offset_word, form_word, ..] = words(row);
+    let [behavior, offset_word, ..] = words(row);
     TimeConfig::builder()
         .microseconds_precision_overflow_behavior(value(rt, behavior))
         .unix_timestamp_offset(offset(rt, offset_word))
-        .rfc3339_form(form(rt, form_word))
         .build()
 }
 
-/// The configuration of a unit, and of a behavior, an offset and a form.
+/// The configuration of a unit, a behavior and an offset.
 pub fn date_time_config<R: Abort>(rt: &R, row: &str) -> DateTimeConfig {
     let (unit, rest) = row.split_once(' ').expect(rt, row);
     DateTimeConfig::builder()

@@ -133,16 +133,4 @@ fn of_choices(rt: HostRuntime) {
         "unknown_microseconds_precision_overflow_behavior_string",
         "UnknownMicrosecondsPrecisionOverflowBehaviorString",
     );
-    expect_choice(
-        &rt,
-        &ConfigError::UnknownIsoOrderString,
-        "unknown_iso_order_string",
-        "UnknownIsoOrderString",
-    );
-    expect_choice(
-        &rt,
-        &ConfigError::UnknownRfc3339FormString,
-        "unknown_rfc3339_form_string",
-        "UnknownRfc3339FormString",
-    );
 }

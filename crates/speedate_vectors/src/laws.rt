@@ -12,8 +12,7 @@ ghost use Rattle.speedate_civil.specs.PureTime.{parts as clock_parts};
 
 use speedate::{
     ConfigError, Date, DateConfig, DateTime, DateTimeConfig, Duration, IsoOrder,
-    MicrosecondsPrecisionOverflowBehavior, Moment, ParseError, Rfc3339Form, Time, TimeConfig,
-    TimestampUnit,
+    MicrosecondsPrecisionOverflowBehavior, Moment, ParseError, Time, TimeConfig, TimestampUnit,
 };
 use speedate_base::numbers::DigitRun;
 use speedate_base::util::UnixTime;
@@ -50,13 +49,6 @@ pub fn same_iso_order(first: &IsoOrder, second: &IsoOrder) -> bool
     first == second
 }
 
-/// Whether two forms are equal: false for `Relaxed` and `Strict`.
-pub fn same_rfc3339_form(first: &Rfc3339Form, second: &Rfc3339Form) -> bool
-    ensures same { IsTrue result ↔ (first.now ≡ second.now) }
-{
-    first == second
-}
-
 /// Whether two units are equal: false for `Second` and `Infer`.
 pub fn same_timestamp_unit(first: &TimestampUnit, second: &TimestampUnit) -> bool
     ensures same { IsTrue result ↔ (first.now ≡ second.now) }
@@ -84,8 +76,7 @@ pub fn same_date_time_config(first: &DateTimeConfig, second: &DateTimeConfig) ->
         ↔ ((first.now.timestamp_unit ≡ second.now.timestamp_unit)
         × (first.now.time_config.microseconds_precision_overflow_behavior ≡ second.now.time_config.microseconds_precision_overflow_behavior)
         × (first.now.time_config.unix_timestamp_offset ≡ second.now.time_config.unix_timestamp_offset)
-        × (first.now.time_config.iso_order ≡ second.now.time_config.iso_order)
-        × (first.now.time_config.rfc3339_form ≡ second.now.time_config.rfc3339_form)) }
+        × (first.now.time_config.iso_order ≡ second.now.time_config.iso_order)) }
 {
     first == second
 }
@@ -173,11 +164,4 @@ pub fn default_iso_order() -> IsoOrder
     ensures default { result ≡ IsoOrder.Lax }
 {
     IsoOrder::default()
-}
-
-/// The default form: texts are relaxed.
-pub fn default_rfc3339_form() -> Rfc3339Form
-    ensures default { result ≡ Rfc3339Form.Relaxed }
-{
-    Rfc3339Form::default()
 }

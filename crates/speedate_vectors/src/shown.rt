@@ -159,24 +159,24 @@ fn debug_texts_of_configurations(rt: HostRuntime) {
         &rt,
         &TimeConfig::default(),
         "TimeConfig { microseconds_precision_overflow_behavior: Error, unix_timestamp_offset: None, \
-        iso_order: Lax, rfc3339_form: Relaxed }",
+        iso_order: Lax }",
     );
     expect_debug(
         &rt,
         &TimeConfig::builder(),
         "TimeConfigBuilder { config: TimeConfig { microseconds_precision_overflow_behavior: Error, \
-        unix_timestamp_offset: None, iso_order: Lax, rfc3339_form: Relaxed } }",
+        unix_timestamp_offset: None, iso_order: Lax } }",
     );
     expect_debug(
         &rt,
         &DateTimeConfig::default(),
         "DateTimeConfig { timestamp_unit: Infer, time_config: TimeConfig { \
-        microseconds_precision_overflow_behavior: Error, unix_timestamp_offset: None, iso_order: Lax, rfc3339_form: Relaxed } }",
+        microseconds_precision_overflow_behavior: Error, unix_timestamp_offset: None, iso_order: Lax } }",
     );
     expect_debug(
         &rt,
         &DateTimeConfig::builder(),
         "DateTimeConfigBuilder { config: DateTimeConfig { timestamp_unit: Infer, time_config: TimeConfig { \
-        microseconds_precision_overflow_behavior: Error, unix_timestamp_offset: None, iso_order: Lax, rfc3339_form: Relaxed } } }",
+        microseconds_precision_overflow_behavior: Error, unix_timestamp_offset: None, iso_order: Lax } } }",
     );
 }

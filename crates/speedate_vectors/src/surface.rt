@@ -3,9 +3,9 @@
 use speedate::{
     ConfigError, Date, DateConfig, DateConfigBuilder, DateTime, DateTimeConfig,
     DateTimeConfigBuilder, Decimal, Duration, IntFloat, IsoOrder,
-    MicrosecondsPrecisionOverflowBehavior, Moment, ParseError, Rfc3339Form, Time, TimeConfig,
-    TimeConfigBuilder, TimestampUnit, float_parse_bytes, float_parse_str, int_parse_bytes,
-    int_parse_str, is_leap_year, month_length,
+    MicrosecondsPrecisionOverflowBehavior, Moment, ParseError, Time, TimeConfig, TimeConfigBuilder,
+    TimestampUnit, float_parse_bytes, float_parse_str, int_parse_bytes, int_parse_str,
+    is_leap_year, month_length,
 };
 use std::error::Error;
 use std::fmt::{Debug, Display};
@@ -41,7 +41,6 @@ fn each_type_has_its_traits() {
     is_choice::<TimestampUnit>();
     is_choice::<MicrosecondsPrecisionOverflowBehavior>();
     is_choice::<IsoOrder>();
-    is_choice::<Rfc3339Form>();
     is_choice::<DateConfig>();
     is_choice::<TimeConfig>();
     is_choice::<DateTimeConfig>();
@@ -54,8 +53,6 @@ fn each_type_has_its_traits() {
     is_read::<Duration>();
     is_read::<TimestampUnit>();
     is_read::<MicrosecondsPrecisionOverflowBehavior>();
-    is_read::<IsoOrder>();
-    is_read::<Rfc3339Form>();
     is_written::<Date>();
     is_written::<Time>();
     is_written::<DateTime>();

@@ -1,11 +1,11 @@
-//! The names of the units of timestamps, the behaviors, the orders of components and the forms of
-//! texts, and how a text chooses one of them.
+//! The names of the units of timestamps, the behaviors and the orders of components, and how a text
+//! chooses one of them.
 
-ghost use Rattle.std.specs.Prelude.{◌≡◌, Contains, Ok};
+ghost use Rattle.std.specs.Prelude.{◌≡◌, Contains, Ok, Some};
 ghost use Rattle.std.specs.Str.{str_eq_ignore_ascii_case};
-ghost use Rattle.speedate_base.specs.Choice.{◌chooses◌, unit_choices, unit_answer, behavior_choices, behavior_answer, order_choices, order_answer, form_choices, form_answer};
+ghost use Rattle.speedate_base.specs.Choice.{◌chooses◌, unit_choices, unit_answer, behavior_choices, behavior_answer, order_choices, order_answer};
 
-use super::{IsoOrder, MicrosecondsPrecisionOverflowBehavior, Rfc3339Form, TimestampUnit};
+use super::{IsoOrder, MicrosecondsPrecisionOverflowBehavior, TimestampUnit};
 use crate::faults::ConfigError;
 use std::str::FromStr;
 
@@ -89,63 +89,26 @@ impl IsoOrder {
     #[inline]
     pub fn name(&self) -> &'static str
         ensures name { Contains order_choices (result.now chooses self.now) }
-        ensures reads_back { order_answer result.now ≡ Ok self.now }
+        ensures reads_back { order_answer result.now ≡ Some self.now }
     {
         match self {
             IsoOrder::Lax => "lax",
             IsoOrder::Strict => "strict",
         }
     }
-}
-
-impl FromStr for IsoOrder {
-    type Err = ConfigError;
-
-    ghost from_str_gives = { λ text result. result ≡ order_answer text };
 
     /// The order that a text names, in ASCII letters of any case: `Lax` for `"lax"`, and `Strict` for
-    /// `"strict"`. Fails with `UnknownIsoOrderString` for any other text.
+    /// `"strict"`. `None` for any other text.
     #[inline]
-    fn from_str(text: &str) -> Result<Self, ConfigError> {
-        if names(text, "lax") {
-            Ok(IsoOrder::Lax)
-        } else if names(text, "strict") {
-            Ok(IsoOrder::Strict)
-        } else {
-            Err(ConfigError::UnknownIsoOrderString)
-        }
-    }
-}
-
-impl Rfc3339Form {
-    /// The name, in small letters: `strict` for `Rfc3339Form::Strict`. It reads back as the form.
-    #[inline]
-    pub fn name(&self) -> &'static str
-        ensures name { Contains form_choices (result.now chooses self.now) }
-        ensures reads_back { form_answer result.now ≡ Ok self.now }
+    pub fn from_name(text: &str) -> Option<Self>
+        ensures answer { result ≡ order_answer text.now }
     {
-        match self {
-            Rfc3339Form::Relaxed => "relaxed",
-            Rfc3339Form::Strict => "strict",
-        }
-    }
-}
-
-impl FromStr for Rfc3339Form {
-    type Err = ConfigError;
-
-    ghost from_str_gives = { λ text result. result ≡ form_answer text };
-
-    /// The form that a text names, in ASCII letters of any case: `Relaxed` for `"relaxed"`, and
-    /// `Strict` for `"strict"`. Fails with `UnknownRfc3339FormString` for any other text.
-    #[inline]
-    fn from_str(text: &str) -> Result<Self, ConfigError> {
-        if names(text, "relaxed") {
-            Ok(Rfc3339Form::Relaxed)
+        if names(text, "lax") {
+            Some(IsoOrder::Lax)
         } else if names(text, "strict") {
-            Ok(Rfc3339Form::Strict)
+            Some(IsoOrder::Strict)
         } else {
-            Err(ConfigError::UnknownRfc3339FormString)
+            None
         }
     }
 }

@@ -16,10 +16,6 @@ pub enum ConfigError {
     UnknownMicrosecondsPrecisionOverflowBehaviorString,
     /// The text names no unit of timestamps.
     UnknownTimestampUnitString,
-    /// The text names no order of the components of a duration.
-    UnknownIsoOrderString,
-    /// The text names no form of times and date-times.
-    UnknownRfc3339FormString,
 }
 
 impl ConfigError {
@@ -35,8 +31,6 @@ impl ConfigError {
                 "unknown_microseconds_precision_overflow_behavior_string"
             }
             ConfigError::UnknownTimestampUnitString => "unknown_timestamp_unit_string",
-            ConfigError::UnknownIsoOrderString => "unknown_iso_order_string",
-            ConfigError::UnknownRfc3339FormString => "unknown_rfc3339_form_string",
         }
     }
 

@@ -20,39 +20,34 @@ impl DateTime {
     ghost use Rattle.speedate_civil.specs.DateTime.{parts};
     ghost use Rattle.speedate_civil.specs.DateTimeText.{date_time_answer, date_time_front, date_time_text};
     ghost use Rattle.speedate_civil.specs.DateTimeTimestamp.{date_time_or_timestamp};
-    ghost use Rattle.speedate_civil.specs.TimeText.{is_after_time, is_of_form};
+    ghost use Rattle.speedate_civil.specs.TimeText.{is_after_time};
 
     /// The canonical text, `YYYY-MM-DDTHH:MM:SS`, then `.` and six digits if the microsecond is not 0,
     /// then the offset if there is one: `2020-02-29T12:13:14.500000+01:30`. It is not allocated;
     /// `.as_str()` is the text.
     ///
-    /// If the offset is absent or whole minutes, the text reads back as the date-time, except that the
-    /// form `Strict` requires an offset. At the front of a text it reads back if and only if what
-    /// follows is no part of it; [`Time::to_text`] says what may follow. Seconds of an offset are not
+    /// If the offset is absent or whole minutes, the text reads back as the date-time. At the front of a
+    /// text it reads back if and only if what follows is no part of it;
+    /// [`Time::to_text`](crate::time::Time::to_text) says what may follow. Seconds of an offset are not
     /// printed.
     #[inline]
     pub fn to_text(&self) -> ArrayString<TEXT_MAX>
         ensures text { result.bytes ≡ date_time_text (parts self.now) }
         ensures reads_back { IsWholeMinutes self.now.time.tz_offset → (config : TimeConfig)
-            → IsTrue (is_of_form config.rfc3339_form self.now.time.tz_offset)
-            → date_time_answer config.rfc3339_form config.microseconds_precision_overflow_behavior result.bytes ≡ Ok (parts self.now) }
+            → date_time_answer config.microseconds_precision_overflow_behavior result.bytes ≡ Ok (parts self.now) }
         ensures reads_back_with_config { IsWholeMinutes self.now.time.tz_offset → (config : DateTimeConfig)
-            → IsTrue (is_of_form config.time_config.rfc3339_form self.now.time.tz_offset)
-            → date_time_or_timestamp config.timestamp_unit config.time_config.rfc3339_form
+            → date_time_or_timestamp config.timestamp_unit
             config.time_config.microseconds_precision_overflow_behavior
             config.time_config.unix_timestamp_offset result.bytes ≡ Ok (parts self.now) }
         ensures reads_front { IsWholeMinutes self.now.time.tz_offset → (config : TimeConfig) (rest : List ℕ)
-            → IsTrue (is_of_form config.rfc3339_form self.now.time.tz_offset)
             → IsTrue (is_after_time (parts self.now).time rest)
-            ↔ (date_time_front config.rfc3339_form config.microseconds_precision_overflow_behavior (result.bytes ++ rest)
+            ↔ (date_time_front config.microseconds_precision_overflow_behavior (result.bytes ++ rest)
             ≡ Ok (parts self.now, length result.bytes)) }
         ensures canonical { IsWholeMinutes self.now.time.tz_offset → (config : TimeConfig)
-            → IsTrue (is_of_form config.rfc3339_form self.now.time.tz_offset)
-            → result_map date_time_text (date_time_answer config.rfc3339_form config.microseconds_precision_overflow_behavior result.bytes)
+            → result_map date_time_text (date_time_answer config.microseconds_precision_overflow_behavior result.bytes)
             ≡ Ok result.bytes }
         ensures canonical_with_config { IsWholeMinutes self.now.time.tz_offset → (config : DateTimeConfig)
-            → IsTrue (is_of_form config.time_config.rfc3339_form self.now.time.tz_offset)
-            → result_map date_time_text (date_time_or_timestamp config.timestamp_unit config.time_config.rfc3339_form
+            → result_map date_time_text (date_time_or_timestamp config.timestamp_unit
             config.time_config.microseconds_precision_overflow_behavior
             config.time_config.unix_timestamp_offset result.bytes) ≡ Ok result.bytes }
         ensures distinct { IsWholeMinutes self.now.time.tz_offset → (other : DateTime) → IsWholeMinutes other.time.tz_offset

@@ -3,7 +3,6 @@
 ghost use Rattle.std.specs.Prelude.{◌≡◌, Ok, Err, IfOk, None};
 ghost use Rattle.std.specs.Option.{ForSome};
 ghost use Rattle.speedate_base.specs.declared.config.MicrosecondsPrecisionOverflowBehavior.TheVariants as behavior;
-ghost use Rattle.speedate_base.specs.declared.config.Rfc3339Form.TheVariants as rfc3339;
 ghost use Rattle.speedate_base.specs.declared.config.TimestampUnit.TheVariants as unit;
 ghost use Rattle.speedate_base.specs.Offset.{IsOffset, IsWholeMinutes};
 ghost use Rattle.speedate_base.specs.Requirement.{result_map};
@@ -39,7 +38,7 @@ impl DateTime {
     /// - of any other text: those of [`DateTime::parse_str_rfc3339`].
     #[inline(always)]
     pub fn parse_str(text: &str) -> Result<Self, ParseError>
-        ensures answer { result_map parts result ≡ date_time_or_timestamp unit.Infer rfc3339.Relaxed behavior.Error None text.now }
+        ensures answer { result_map parts result ≡ date_time_or_timestamp unit.Infer behavior.Error None text.now }
         ensures minutes { IfOk result (λ value. IsWholeMinutes value.time.tz_offset) }
     {
         Self::parse_bytes(text.as_bytes())
@@ -49,7 +48,7 @@ impl DateTime {
     /// bytes need not be text. The forms and the faults are those of [`DateTime::parse_str`].
     #[inline(always)]
     pub fn parse_bytes(bytes: &[u8]) -> Result<Self, ParseError>
-        ensures answer { result_map parts result ≡ date_time_or_timestamp unit.Infer rfc3339.Relaxed behavior.Error None bytes.now }
+        ensures answer { result_map parts result ≡ date_time_or_timestamp unit.Infer behavior.Error None bytes.now }
         ensures minutes { IfOk result (λ value. IsWholeMinutes value.time.tz_offset) }
     {
         Self::parse_bytes_with_config(bytes, &DateTimeConfig::default())
@@ -59,9 +58,9 @@ impl DateTime {
     /// 1970-01-01T00:00:01+01:00 from `"1"` with the offset 3,600.
     ///
     /// The configuration has the unit of timestamps, their offset, which is attached and shifts
-    /// nothing, the form of the texts, and the behavior for digits past the microsecond. `Truncate`
-    /// drops those of a text, but rounds a timestamp to the nearest microsecond. The offset and the
-    /// unit do not matter to texts of a date-time, nor does the form to timestamps.
+    /// nothing, and the behavior for digits past the microsecond. `Truncate` drops those of a text, but
+    /// rounds a timestamp to the nearest microsecond. The offset and the unit do not matter to texts of
+    /// a date-time.
     ///
     /// The faults of a number are those of [`DateTime::parse_str`], but only the behavior `Error`
     /// counts digits, and in microseconds a digit after the point is `MicrosecondFractionTooLong`. The
@@ -69,7 +68,7 @@ impl DateTime {
     #[inline(always)]
     pub fn parse_str_with_config(text: &str, config: &DateTimeConfig) -> Result<Self, ParseError>
         ensures answer { result_map parts result
-            ≡ date_time_or_timestamp config.now.timestamp_unit config.now.time_config.rfc3339_form
+            ≡ date_time_or_timestamp config.now.timestamp_unit
             config.now.time_config.microseconds_precision_overflow_behavior
             config.now.time_config.unix_timestamp_offset text.now }
         ensures minutes { IsWholeMinutes config.now.time_config.unix_timestamp_offset
@@ -87,7 +86,7 @@ impl DateTime {
         config: &DateTimeConfig,
     ) -> Result<Self, ParseError>
         ensures answer { result_map parts result
-            ≡ date_time_or_timestamp config.now.timestamp_unit config.now.time_config.rfc3339_form
+            ≡ date_time_or_timestamp config.now.timestamp_unit
             config.now.time_config.microseconds_precision_overflow_behavior
             config.now.time_config.unix_timestamp_offset bytes.now }
         ensures minutes { IsWholeMinutes config.now.time_config.unix_timestamp_offset
@@ -106,10 +105,10 @@ impl DateTime {
         fault: ParseError,
         config: &DateTimeConfig,
     ) -> Result<Self, ParseError>
-        requires { date_time_answer config.now.time_config.rfc3339_form
+        requires { date_time_answer
             config.now.time_config.microseconds_precision_overflow_behavior bytes.now ≡ Err fault }
         ensures answer { result_map parts result
-            ≡ date_time_or_timestamp config.now.timestamp_unit config.now.time_config.rfc3339_form
+            ≡ date_time_or_timestamp config.now.timestamp_unit
             config.now.time_config.microseconds_precision_overflow_behavior
             config.now.time_config.unix_timestamp_offset bytes.now }
     {
@@ -239,7 +238,7 @@ impl FromStr for DateTime {
     type Err = ParseError;
 
     ghost from_str_gives = { λ text result. result_map parts result
-        ≡ date_time_or_timestamp unit.Infer rfc3339.Relaxed behavior.Error None text };
+        ≡ date_time_or_timestamp unit.Infer behavior.Error None text };
 
     /// The answer of [`DateTime::parse_str`]: `"1654560000".parse()` gives midnight on 7 June 2022.
     #[inline]

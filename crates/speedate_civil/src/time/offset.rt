@@ -1,11 +1,9 @@
 //! Offsets from UTC, after a time.
 
-ghost use Rattle.std.specs.Prelude.{◌≡◌, ◌≤◌, ◌+◌, ◌<◌, ◌∷◌, ◌*◌, ◌++◌, ◌-ℤ◌, ◌==◌, ◌||◌, IfOk, Ok, IsTrue, length, drop, codes, if◌then◌else◌, nat_lt, pos, unsigned_abs};
+ghost use Rattle.std.specs.Prelude.{◌≡◌, ◌≤◌, ◌+◌, ◌<◌, ◌∷◌, ◌*◌, ◌++◌, ◌-ℤ◌, ◌==◌, ◌||◌, IfOk, Ok, IsTrue, length, drop, codes, if◌then◌else◌, pos, unsigned_abs};
 ghost use Rattle.std.specs.Int.{is_negative};
 ghost use Rattle.std.specs.Option.{ForSome, unwrap_or};
 ghost use Rattle.arrayvec.specs.ArrayString.{array_string_len};
-ghost use Rattle.speedate_base.specs.declared.config.Rfc3339Form.TheVariants as rfc3339;
-ghost use Rattle.speedate_base.specs.declared.faults.ParseError.TheVariants as fault;
 ghost use Rattle.speedate_base.specs.Ascii.{plus_sign, hyphen, capital_z, small_z};
 ghost use Rattle.speedate_base.specs.Digits.{two_digit_value};
 ghost use Rattle.speedate_base.specs.Numbers.{with_sign};
@@ -17,7 +15,7 @@ ghost use Rattle.speedate_civil.specs.OffsetText.{end_fault, has_minus_sign, off
 
 use crate::text::two_digit_text;
 use arrayvec::ArrayString;
-use speedate_base::config::{Rfc3339Form, is_offset};
+use speedate_base::config::is_offset;
 use speedate_base::faults::ParseError;
 use speedate_base::numbers::{byte_at, eight_bytes, fitting, pairs};
 use speedate_base::util::SECONDS_PER_DAY;
@@ -27,28 +25,21 @@ use std::simd::prelude::*;
 /// follows it: 0 and one byte for `Z` or `z`, 5,400 and six bytes for `+01:30`, none and no byte for
 /// ` GET`.
 #[inline(always)]
-pub(crate) fn read_offset(
-    bytes: &[u8],
-    place: usize,
-    form: Rfc3339Form,
-) -> Result<(Option<i32>, usize), ParseError>
+pub(crate) fn read_offset(bytes: &[u8], place: usize) -> Result<(Option<i32>, usize), ParseError>
     requires { place ≤ length bytes.now }
-    ensures answer { result ≡ offset_front form (drop place bytes.now) }
+    ensures answer { result ≡ offset_front (drop place bytes.now) }
     ensures range { IfOk result (λ front. ForSome front.0 IsOffset) }
     ensures within { IfOk result (λ front. place + front.1 ≤ length bytes.now) }
 {
     let first = byte_at(bytes, place);
     if is_plus_or_minus(first) {
-        return signed_offset(first == b'-', 1, bytes, place + 1, form);
+        return signed_offset(first == b'-', 1, bytes, place + 1);
     }
     if is_utc(first) {
         return Ok((Some(0), 1));
     }
-    if form.is_strict() {
-        return Err(unsigned_fault(bytes, place));
-    }
     if has_minus_sign(bytes, place) {
-        return signed_offset(true, 3, bytes, place + 3, form);
+        return signed_offset(true, 3, bytes, place + 3);
     }
     Ok((None, 0))
 }
@@ -74,25 +65,12 @@ fn is_plus_or_minus(byte: u8) -> bool
     byte.abs_diff(b',') == 1
 }
 
-/// The fault of a text in which an offset is due at `place` and none begins there.
-#[inline]
-fn unsigned_fault(bytes: &[u8], place: usize) -> ParseError
-    requires { place ≤ length bytes.now }
-    ensures fault { result ≡ (if nat_lt 0 (length (drop place bytes.now)) then fault.InvalidCharTzSign else fault.TzRequired) }
-{
-    if place < bytes.len() {
-        ParseError::InvalidCharTzSign
-    } else {
-        ParseError::TzRequired
-    }
-}
-
 /// Whether the three bytes of U+2212, the minus sign, begin at `place`.
 #[inline(always)]
 #[tactic(auto, using(std::proofs::lemmas::List::take_rest))]
-fn has_minus_sign(bytes: &[u8], place: usize) -> bool
+pub(super) fn has_minus_sign(bytes: &[u8], place: usize) -> bool
     requires { place ≤ length bytes.now }
-    ensures value { result ≡ has_minus_sign rfc3339.Relaxed (drop place bytes.now) }
+    ensures value { result ≡ has_minus_sign (drop place bytes.now) }
     ensures there { IsTrue result → place + 3 ≤ length bytes.now }
 {
     matches!(&bytes[place..], [0xe2, 0x88, 0x92, ..])
@@ -100,7 +78,7 @@ fn has_minus_sign(bytes: &[u8], place: usize) -> bool
 
 /// Whether a byte is UTC itself, `Z` or `z`.
 #[inline(always)]
-fn is_utc(byte: u8) -> bool
+pub(super) fn is_utc(byte: u8) -> bool
     ensures value { result ≡ ((byte == capital_z) || (byte == small_z)) }
 {
     byte == b'Z' || byte == b'z'
@@ -114,15 +92,14 @@ fn signed_offset(
     sign: usize,
     bytes: &[u8],
     place: usize,
-    form: Rfc3339Form,
 ) -> Result<(Option<i32>, usize), ParseError>
     requires place { place ≤ length bytes.now }
     requires sign { sign ≤ place }
-    ensures answer { result ≡ signed_front form west sign (drop place bytes.now) }
+    ensures answer { result ≡ signed_front west sign (drop place bytes.now) }
     ensures range { IfOk result (λ front. ForSome front.0 IsOffset) }
     ensures within { IfOk result (λ front. place + front.1 ≤ sign + length bytes.now) }
 {
-    let (hour, minute, size) = hour_and_minute(eight_bytes(bytes, place), form)?;
+    let (hour, minute, size) = hour_and_minute(eight_bytes(bytes, place))?;
     if minute > 59 {
         return Err(ParseError::OutOfRangeTzMinute);
     }
@@ -134,10 +111,10 @@ fn signed_offset(
 }
 
 /// The hour and the minute at the front of an offset without its sign, and how many bytes they take:
-/// `HH:MM`, or in the relaxed form `HHMM`.
+/// `HH:MM` or `HHMM`.
 #[inline(always)]
-fn hour_and_minute(front: u8x8, form: Rfc3339Form) -> Result<(u8, u8, usize), ParseError>
-    ensures numbers { result ≡ meets (offset_digits form front)
+fn hour_and_minute(front: u8x8) -> Result<(u8, u8, usize), ParseError>
+    ensures numbers { result ≡ meets (offset_digits front)
         (Ok (two_digit_value front 0, offset_minute front, offset_digits_length front)) }
     ensures small { IfOk result (λ numbers. (numbers.0 ≤ 99) × (numbers.1 ≤ 99)) }
 {
@@ -150,7 +127,7 @@ fn hour_and_minute(front: u8x8, form: Rfc3339Form) -> Result<(u8, u8, usize), Pa
         let [hour, _, _, minute, _, _, _, _] = pairs(front, pattern, 5);
         return Ok((hour, minute, 5));
     }
-    if fits > 2 || form.is_strict() {
+    if fits > 2 {
         return Err(ParseError::InvalidCharTzMinute);
     }
     hour_then_minute(front)
@@ -160,7 +137,7 @@ fn hour_and_minute(front: u8x8, form: Rfc3339Form) -> Result<(u8, u8, usize), Pa
 #[inline(always)]
 fn hour_then_minute(front: u8x8) -> Result<(u8, u8, usize), ParseError>
     requires { fit_length (codes "00:00:00") front ≡ 2 }
-    ensures numbers { result ≡ meets (offset_digits rfc3339.Relaxed front)
+    ensures numbers { result ≡ meets (offset_digits front)
         (Ok (two_digit_value front 0, offset_minute front, offset_digits_length front)) }
     ensures small { IfOk result (λ numbers. (numbers.0 ≤ 99) × (numbers.1 ≤ 99)) }
 {

@@ -3,11 +3,11 @@
 ghost use Rattle.std.specs.Prelude.{◌≡◌, ◌+◌, ◌≤◌, IfOk, IsTrue, length, drop, codes};
 ghost use Rattle.speedate_base.specs.Digits.{two_digit_value};
 ghost use Rattle.speedate_base.specs.Pattern.{fit_length};
-ghost use Rattle.speedate_civil.specs.ClockText.{has_point, least_length, second_there};
+ghost use Rattle.speedate_civil.specs.ClockText.{has_point, second_there};
 
 use crate::time::Time;
 use crate::time::fraction::Fraction;
-use speedate_base::config::{MicrosecondsPrecisionOverflowBehavior, Rfc3339Form, takes_digits};
+use speedate_base::config::{MicrosecondsPrecisionOverflowBehavior, takes_digits};
 use speedate_base::faults::ParseError;
 use speedate_base::numbers::{LANES, byte_at, eight_bytes, fitting, pairs};
 use std::simd::prelude::*;
@@ -51,15 +51,14 @@ impl PureTime {
     pub fn parse(
         bytes: &[u8],
         place: usize,
-        form: Rfc3339Form,
         behavior: MicrosecondsPrecisionOverflowBehavior,
     ) -> Result<Self, ParseError>
         requires { place ≤ length bytes.now }
-        ensures answer { result_map parts result ≡ clock_front form behavior (drop place bytes.now) }
+        ensures answer { result_map parts result ≡ clock_front behavior (drop place bytes.now) }
         ensures within { IfOk result (λ time. place + time.size ≤ length bytes.now) }
     {
         let text = &bytes[place..];
-        if text.len() < least_length(form) {
+        if text.len() < 5 {
             return Err(ParseError::TooShort);
         }
         let front = eight_bytes(text, 0);
@@ -76,7 +75,7 @@ impl PureTime {
         if hour > 23 {
             return Err(ParseError::OutOfRangeHour);
         }
-        let time = Self::after_minute(minute, second_there(front, fits), text, 3, form, behavior)?;
+        let time = Self::after_minute(minute, second_there(front, fits), text, 3, behavior)?;
         Ok(PureTime {
             hour,
             minute,
@@ -114,7 +113,7 @@ impl PureTime {
             3 | 4 => Some(None),
             _ => Some(Some(second)),
         };
-        Self::after_minute(minute, second, rest, 0, Rfc3339Form::Relaxed, behavior)
+        Self::after_minute(minute, second, rest, 0, behavior)
     }
 
     /// The time of day with this offset, if there is one.
@@ -141,13 +140,12 @@ impl PureTime {
         second: Option<Option<u8>>,
         bytes: &[u8],
         place: usize,
-        form: Rfc3339Form,
         behavior: MicrosecondsPrecisionOverflowBehavior,
     ) -> Result<Self, ParseError>
         requires place { place + 2 ≤ length bytes.now }
         requires minute { minute ≡ two_digit_value (drop place bytes.now) 0 }
         requires second { second ≡ second_there (drop place bytes.now) }
-        ensures answer { result_map parts result ≡ clock_answer form behavior (drop place bytes.now) }
+        ensures answer { result_map parts result ≡ clock_answer behavior (drop place bytes.now) }
         ensures minute { IfOk result (λ time. time.minute ≡ minute) }
         ensures within { IfOk result (λ time. place + time.size ≤ length bytes.now) }
     {
@@ -156,9 +154,6 @@ impl PureTime {
         }
         let rest = &bytes[place..];
         let Some(second) = second else {
-            if form.is_strict() {
-                return Err(ParseError::InvalidCharTimeSep);
-            }
             return Ok(PureTime {
                 hour: 0,
                 minute,
@@ -173,7 +168,7 @@ impl PureTime {
         if second > 59 {
             return Err(ParseError::OutOfRangeSecond);
         }
-        if !has_point(rest, form) {
+        if !has_point(rest) {
             return Ok(PureTime {
                 hour: 0,
                 minute,
@@ -214,22 +209,12 @@ fn second_there(front: u8x8, fits: usize) -> Option<Option<u8>>
     if fits == 5 { None } else { Some(None) }
 }
 
-/// How many bytes a time has at least.
-#[inline(always)]
-fn least_length(form: Rfc3339Form) -> usize
-    ensures length { result ≡ least_length form }
-    ensures enough { 5 ≤ result }
-{
-    if form.is_strict() { 9 } else { 5 }
-}
-
-/// Whether a decimal mark, `.` or in the relaxed form `,`, follows the second of a time that is given
-/// from its minute on.
+/// Whether a decimal mark, `.` or `,`, follows the second of a time that is given from its minute on.
 #[inline]
-fn has_point(rest: &[u8], form: Rfc3339Form) -> bool
-    ensures value { result ≡ has_point form rest.now }
+fn has_point(rest: &[u8]) -> bool
+    ensures value { result ≡ has_point rest.now }
     ensures there { IsTrue result → 6 ≤ length rest.now }
 {
     let byte = byte_at(rest, 5);
-    byte == b'.' || byte == b',' && !form.is_strict()
+    byte == b'.' || byte == b','
 }

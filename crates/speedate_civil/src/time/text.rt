@@ -19,31 +19,27 @@ impl Time {
     ghost use Rattle.speedate_base.specs.Requirement.{result_map};
     ghost use Rattle.speedate_civil.specs.declared.time.Time.{Time};
     ghost use Rattle.speedate_civil.specs.Time.{parts};
-    ghost use Rattle.speedate_civil.specs.TimeText.{time_answer, time_front, clock_text, time_text, is_after_time, is_of_form};
+    ghost use Rattle.speedate_civil.specs.TimeText.{time_answer, time_front, clock_text, time_text, is_after_time};
 
     /// The canonical text, `HH:MM:SS`, then `.` and six digits if the microsecond is not 0, then the
     /// offset if there is one, `Z`, or a sign, hours and minutes: `12:13:14.500000+01:30`. It is not
     /// allocated; `.as_str()` is the text.
     ///
-    /// If the offset is absent or whole minutes, the text reads back as the time, except that the form
-    /// `Strict` requires an offset. At the front of a text it reads back if and only if what follows is
-    /// no part of it: after an offset anything may follow; without one neither `Z`, `z` nor a sign, nor
-    /// a decimal mark after the second, nor a digit after the fraction. Seconds of an offset are not
-    /// printed.
+    /// If the offset is absent or whole minutes, the text reads back as the time. At the front of a text
+    /// it reads back if and only if what follows is no part of it: after an offset anything may follow;
+    /// without one neither `Z`, `z` nor a sign, nor a decimal mark after the second, nor a digit after
+    /// the fraction. Seconds of an offset are not printed.
     #[inline]
     pub fn to_text(&self) -> ArrayString<TEXT_MAX>
         ensures text { result.bytes ≡ time_text (parts self.now) }
         ensures reads_back { IsWholeMinutes self.now.tz_offset → (config : TimeConfig)
-            → IsTrue (is_of_form config.rfc3339_form self.now.tz_offset)
-            → time_answer config.rfc3339_form config.microseconds_precision_overflow_behavior result.bytes ≡ Ok (parts self.now) }
+            → time_answer config.microseconds_precision_overflow_behavior result.bytes ≡ Ok (parts self.now) }
         ensures reads_front { IsWholeMinutes self.now.tz_offset → (config : TimeConfig) (rest : List ℕ)
-            → IsTrue (is_of_form config.rfc3339_form self.now.tz_offset)
             → IsTrue (is_after_time (parts self.now) rest)
-            ↔ (time_front config.rfc3339_form config.microseconds_precision_overflow_behavior (result.bytes ++ rest)
+            ↔ (time_front config.microseconds_precision_overflow_behavior (result.bytes ++ rest)
             ≡ Ok (parts self.now, length result.bytes)) }
         ensures canonical { IsWholeMinutes self.now.tz_offset → (config : TimeConfig)
-            → IsTrue (is_of_form config.rfc3339_form self.now.tz_offset)
-            → result_map time_text (time_answer config.rfc3339_form config.microseconds_precision_overflow_behavior result.bytes)
+            → result_map time_text (time_answer config.microseconds_precision_overflow_behavior result.bytes)
             ≡ Ok result.bytes }
         ensures distinct { IsWholeMinutes self.now.tz_offset → (other : Time) → IsWholeMinutes other.tz_offset
             → (result.bytes ≡ time_text (parts other)) ↔ (parts self.now ≡ parts other) }

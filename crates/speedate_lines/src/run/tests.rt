@@ -53,18 +53,8 @@ const SHORT: &str = "\
 'duration-strict -1 day, 01:00' ok -P1DT1H|
 'duration-strict' err unknown_kind|
 'duration-lax P1Y' err unknown_kind|
-'time-strict 12:13:14.5z' ok 12:13:14.500000Z|
-'time-strict 12:13:14' err too_short|
-'time-strict 12:13:14,5Z' err invalid_char_tz_sign|
-'time-strict 01:02:03+0030' err invalid_char_tz_minute|
-'time-strict' err unknown_kind|
-'time-strict12:13:14Z' err unknown_kind|
-'time-lax 12:13' err unknown_kind|
-'datetime-strict 1963-06-19t08:30:06.283185z' ok 1963-06-19T08:30:06.283185Z|
-'datetime-strict 1963-06-19 08:30:06Z' err invalid_char_date_time_sep|
-'datetime-strict 2020-01-01T12:13:14.1234567Z' err second_fraction_too_long|
-'datetime-strict 1654646404' err invalid_char_date_sep|
-'datetime-strict' err unknown_kind|
+'time-strict 12:13:14Z' err unknown_kind|
+'datetime-strict 2020-01-01T12:13:14Z' err unknown_kind|
 'time 23:59|date 2000-02-29|time 2000-02-29|date 23:59' ok 23:59:00|ok 2000-02-29|err invalid_char_time_sep|err too_short|";
 
 /// The same with long lines, and many of them.

@@ -1,6 +1,6 @@
 use Rattle.std.proofs.Common.{◌≡◌, ◌∙◌, ap, sym, ◌++◌, ◌∷◌, [], ℕ, List}
 use Rattle.speedate.specs.Ascii.{line_feed}
-use Rattle.speedate_lines.specs.Answer.{date_kind, time_kind, date_time_kind, duration_kind, strict_duration_kind, strict_time_kind, strict_date_time_kind}
+use Rattle.speedate_lines.specs.Answer.{date_kind, time_kind, date_time_kind, duration_kind, strict_duration_kind}
 use Rattle.speedate_lines.proofs.AnswerLemmas.{line_answer-long, line_answer-short, answer_by_kind-first, answer_by_kind-others, answer_by_kind-none}
 use Rattle.speedate_lines.proofs.answer.answer_line.Goals as goal
 
@@ -62,35 +62,8 @@ returns-in-Some-text_after-4 c =
     ∙ answer_by_kind-first strict_duration_kind _ line _ duration.0 duration.1 in
     record { answered = appended _ _ _ _ c.answer_duration-in-Some-text_after-4.ensures.answered same }
 
-pub returns-in-Some-text_after-5 : goal.returns-in-Some-text_after-5
-returns-in-Some-text_after-5 c =
-    let line = c.args.line.now in
-    let time = c.in-Some-text_after-5.ensures.cases in
-    let same = line_answer-short line c.if-line-gt-LINE_MAX.false
-    ∙ answer_by_kind-others date_kind _ line c.in_default.ensures.cases
-    ∙ answer_by_kind-others time_kind _ line c.in_default-text_after.ensures.cases
-    ∙ answer_by_kind-others date_time_kind _ line c.in_default-text_after-2.ensures.cases
-    ∙ answer_by_kind-others duration_kind _ line c.in_default-text_after-3.ensures.cases
-    ∙ answer_by_kind-others strict_duration_kind _ line c.in_default-text_after-4.ensures.cases
-    ∙ answer_by_kind-first strict_time_kind _ line _ time.0 time.1 in
-    record { answered = appended _ _ _ _ c.answer_time-in-Some-text_after-5.ensures.answered same }
-
-pub returns-in-Some-text_after-6 : goal.returns-in-Some-text_after-6
-returns-in-Some-text_after-6 c =
-    let line = c.args.line.now in
-    let value = c.in-Some-text_after-6.ensures.cases in
-    let same = line_answer-short line c.if-line-gt-LINE_MAX.false
-    ∙ answer_by_kind-others date_kind _ line c.in_default.ensures.cases
-    ∙ answer_by_kind-others time_kind _ line c.in_default-text_after.ensures.cases
-    ∙ answer_by_kind-others date_time_kind _ line c.in_default-text_after-2.ensures.cases
-    ∙ answer_by_kind-others duration_kind _ line c.in_default-text_after-3.ensures.cases
-    ∙ answer_by_kind-others strict_duration_kind _ line c.in_default-text_after-4.ensures.cases
-    ∙ answer_by_kind-others strict_time_kind _ line c.in_default-text_after-5.ensures.cases
-    ∙ answer_by_kind-first strict_date_time_kind _ line _ value.0 value.1 in
-    record { answered = appended _ _ _ _ c.answer_strict_date_time.ensures.answered same }
-
-pub returns-in_default-text_after-6 : goal.returns-in_default-text_after-6
-returns-in_default-text_after-6 c =
+pub returns-in_default-text_after-4 : goal.returns-in_default-text_after-4
+returns-in_default-text_after-4 c =
     let line = c.args.line.now in
     let same = line_answer-short line c.if-line-gt-LINE_MAX.false
     ∙ answer_by_kind-others date_kind _ line c.in_default.ensures.cases
@@ -98,7 +71,5 @@ returns-in_default-text_after-6 c =
     ∙ answer_by_kind-others date_time_kind _ line c.in_default-text_after-2.ensures.cases
     ∙ answer_by_kind-others duration_kind _ line c.in_default-text_after-3.ensures.cases
     ∙ answer_by_kind-others strict_duration_kind _ line c.in_default-text_after-4.ensures.cases
-    ∙ answer_by_kind-others strict_time_kind _ line c.in_default-text_after-5.ensures.cases
-    ∙ answer_by_kind-others strict_date_time_kind _ line c.in_default-text_after-6.ensures.cases
     ∙ answer_by_kind-none line in
-    record { answered = appended _ _ _ _ c.refuse-in_default-text_after-6.ensures.answered same }
+    record { answered = appended _ _ _ _ c.refuse-in_default-text_after-4.ensures.answered same }

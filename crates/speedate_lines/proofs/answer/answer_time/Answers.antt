@@ -1,8 +1,5 @@
-use Rattle.std.proofs.Common.{◌≡◌, ◌∙◌, ap, ℕ, ◌+◌, ◌≤◌, List, length, length-append, lit<, refl, arith}
-use Rattle.speedate.specs.declared.MicrosecondsPrecisionOverflowBehavior.{MicrosecondsPrecisionOverflowBehavior}
-use Rattle.speedate.specs.declared.MicrosecondsPrecisionOverflowBehavior.TheVariants as behavior
-use Rattle.speedate.specs.declared.Rfc3339Form.{Rfc3339Form}
-use Rattle.speedate.specs.TimeText.{time_answer, time_text}
+use Rattle.std.proofs.Common.{ap, ◌+◌, ◌≤◌, length, length-append, lit<, arith}
+use Rattle.speedate.specs.TimeText.{time_text}
 use Rattle.speedate.specs.Time.{parts}
 use Rattle.std.proofs.Math.Utf8.{encode}
 use Rattle.std.proofs.lemmas.Str.{encode_ascii}
@@ -10,11 +7,6 @@ use Rattle.speedate.specs.Ascii.{line_feed}
 use Rattle.speedate_lines.proofs.TextLengthLemmas.{time-length}
 use Rattle.speedate_lines.proofs.AnswerLemmas.{reply-printed, reply-refused}
 use Rattle.speedate_lines.proofs.answer.answer_time.Goals as goal
-
--- the answer of a configuration with the form is the one of the form
-same-answer : (given asked : Rfc3339Form) (taken : MicrosecondsPrecisionOverflowBehavior) (text : List ℕ) → given ≡ asked → taken ≡ behavior.Error
-    → time_answer given taken text ≡ time_answer asked behavior.Error text
-same-answer given asked taken text same error = rw (same, error) refl
 
 pub push-requires : goal.push-requires
 push-requires c =
@@ -24,11 +16,7 @@ push-requires c =
     (lit< tt, room)
 
 pub returns-in-Ok : goal.returns-in-Ok
-returns-in-Ok c =
-    let same = same-answer _ _ _ c.args.text.now c.form_config.ensures.form c.form_config.ensures.behavior in
-    record { answered = reply-printed time_text _ _ _ _ _ _ c.push_str.ensures.bytes c.push_onto.ensures.text (c.push.ensures.ascii (lit< tt)) (c.in-Ok.ensures.answer ∙ same) }
+returns-in-Ok c = record { answered = reply-printed time_text _ _ _ _ _ _ c.push_str.ensures.bytes c.push_onto.ensures.text (c.push.ensures.ascii (lit< tt)) c.in-Ok.ensures.answer }
 
 pub returns-in-Err : goal.returns-in-Err
-returns-in-Err c =
-    let same = same-answer _ _ _ c.args.text.now c.form_config.ensures.form c.form_config.ensures.behavior in
-    record { answered = reply-refused time_text _ _ _ _ _ c.refuse.ensures.answered c.name.ensures.name (c.in-Err.ensures.answer ∙ same) }
+returns-in-Err c = record { answered = reply-refused time_text _ _ _ _ _ c.refuse.ensures.answered c.name.ensures.name c.in-Err.ensures.answer }

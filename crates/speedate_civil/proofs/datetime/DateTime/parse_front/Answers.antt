@@ -21,4 +21,4 @@ returns-clause-whole c = λ value.
 
 pub returns-clause-alone : goal.returns-clause-alone
 returns-clause-alone c =
-    date_time_front-alone c.args.config.now.rfc3339_form c.args.config.now.microseconds_precision_overflow_behavior c.args.bytes.now _ (sym (returns-clause-answer c)) (returns-clause-within c)
+    date_time_front-alone c.args.config.now.microseconds_precision_overflow_behavior c.args.bytes.now _ (sym (returns-clause-answer c)) (returns-clause-within c)

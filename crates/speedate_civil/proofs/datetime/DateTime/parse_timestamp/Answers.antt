@@ -30,11 +30,10 @@ pub returns-then-not-may_be_number : goal.returns-then-not-may_be_number
 returns-then-not-may_be_number c =
     let text = c.args.bytes.now in
     let config = c.args.config.now in
-    let form = config.time_config.rfc3339_form in
     let behavior = config.time_config.microseconds_precision_overflow_behavior in
     let fault = λ (value : DateAndTime). end_fault value.time.offset in
-    let step = λ (date : Ymd × ℕ). result_and_then (alone fault text) (with_time form behavior text date) in
-    let refused = sym (and_then-chain (with_time form behavior text) (alone fault text) (date_front text)) ∙ c.requires in
+    let step = λ (date : Ymd × ℕ). result_and_then (alone fault text) (with_time behavior text date) in
+    let refused = sym (and_then-chain (with_time behavior text) (alone fault text) (date_front text)) ∙ c.requires in
     let none = number_answer-refused step text c.args.fault refused (sym c.may_be_number.ensures ∙ c.if-not-may_be_number.true) in
     record { answer = sym (known config.timestamp_unit behavior config.time_config.unix_timestamp_offset _ _ _ _ none c.requires) }
 

@@ -11,42 +11,39 @@ use Rattle.speedate_civil.proofs.DateTimeValueLemmas.{is_date_and_time}
 use Rattle.speedate_civil.proofs.datetime.DateTime.to_text.Goals as goal
 
 pub returns-clause-reads_back : goal.returns-clause-reads_back
-returns-clause-reads_back c whole config given =
+returns-clause-reads_back c whole config =
     let value = c.args.self.now in
-    let form = config.rfc3339_form in
     let behavior = config.microseconds_precision_overflow_behavior in
     let bytes = text-alone _ _ _ c.new-text.ensures c.push_onto.ensures.text in
-    ap (date_time_answer form behavior) bytes ∙ date_time_text-reads form behavior (parts value) (is_date_and_time value) given whole
+    ap (date_time_answer behavior) bytes ∙ date_time_text-reads behavior (parts value) (is_date_and_time value) whole
 
 pub returns-clause-reads_back_with_config : goal.returns-clause-reads_back_with_config
-returns-clause-reads_back_with_config c whole config given =
+returns-clause-reads_back_with_config c whole config =
     let value = c.args.self.now in
     let unit = config.timestamp_unit in
-    let form = config.time_config.rfc3339_form in
     let behavior = config.time_config.microseconds_precision_overflow_behavior in
     let offset = config.time_config.unix_timestamp_offset in
     let bytes = text-alone _ _ _ c.new-text.ensures c.push_onto.ensures.text in
-    ap (date_time_or_timestamp unit form behavior offset) bytes
+    ap (date_time_or_timestamp unit behavior offset) bytes
     ∙ ap (or_number (date_time_number_answer unit behavior offset (number_answer (date_time_text (parts value)))))
-    (date_time_text-reads form behavior (parts value) (is_date_and_time value) given whole)
+    (date_time_text-reads behavior (parts value) (is_date_and_time value) whole)
 
 pub returns-clause-reads_front : goal.returns-clause-reads_front
-returns-clause-reads_front c whole config rest given =
+returns-clause-reads_front c whole config rest =
     let value = parts c.args.self.now in
-    let form = config.rfc3339_form in
     let behavior = config.microseconds_precision_overflow_behavior in
     let bytes = text-alone _ _ _ c.new-text.ensures c.push_onto.ensures.text in
-    rw (bytes) (date_time_text-front-iff form behavior value rest (is_date_and_time c.args.self.now) given whole)
+    rw (bytes) (date_time_text-front-iff behavior value rest (is_date_and_time c.args.self.now) whole)
 
 pub returns-clause-canonical : goal.returns-clause-canonical
-returns-clause-canonical c whole config given =
+returns-clause-canonical c whole config =
     let bytes = text-alone _ _ _ c.new-text.ensures c.push_onto.ensures.text in
-    text-canonical date_time_text _ _ _ bytes (returns-clause-reads_back c whole config given)
+    text-canonical date_time_text _ _ _ bytes (returns-clause-reads_back c whole config)
 
 pub returns-clause-canonical_with_config : goal.returns-clause-canonical_with_config
-returns-clause-canonical_with_config c whole config given =
+returns-clause-canonical_with_config c whole config =
     let bytes = text-alone _ _ _ c.new-text.ensures c.push_onto.ensures.text in
-    text-canonical date_time_text _ _ _ bytes (returns-clause-reads_back_with_config c whole config given)
+    text-canonical date_time_text _ _ _ bytes (returns-clause-reads_back_with_config c whole config)
 
 pub returns-clause-distinct : goal.returns-clause-distinct
 returns-clause-distinct c whole other other_whole =

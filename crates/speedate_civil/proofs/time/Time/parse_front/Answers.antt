@@ -1,6 +1,5 @@
 use Rattle.std.proofs.Common.{◌≡◌, arith, sym}
 use Rattle.std.specs.Prelude.{ℕ, ◌+◌, ◌≤◌, IfOk, List, length, take, Result, Ok, Err}
-use Rattle.speedate_base.specs.declared.config.Rfc3339Form.{Rfc3339Form}
 use Rattle.speedate_base.specs.declared.config.MicrosecondsPrecisionOverflowBehavior.{MicrosecondsPrecisionOverflowBehavior}
 use Rattle.speedate_base.specs.declared.faults.ParseError.{ParseError}
 use Rattle.speedate_base.specs.Requirement.{result_map, with_size}
@@ -17,12 +16,12 @@ pub returns-clause-whole : goal.returns-clause-whole
 returns-clause-whole c = λ time.
     rw (c.front_at.ensures.answer) (alone-iff (λ (read : TimeOfDay). end_fault read.offset) c.args.bytes.now _ time)
 
-read-alone : (form : Rfc3339Form) (behavior : MicrosecondsPrecisionOverflowBehavior) (text : List ℕ) (result : Result (Time × ℕ) ParseError)
-    → result_map (with_size parts) result ≡ time_front form behavior text → IfOk result (λ front. 0 + front.1 ≤ length text)
-    → IfOk result (λ front. time_answer form behavior (take front.1 text) ≡ Ok (parts front.0))
-read-alone form behavior text (Ok front) is within = time_front-alone form behavior text (parts front.0, front.1) (sym is) (omega (arith, within))
-read-alone form behavior text (Err fault) is within = tt
+read-alone : (behavior : MicrosecondsPrecisionOverflowBehavior) (text : List ℕ) (result : Result (Time × ℕ) ParseError)
+    → result_map (with_size parts) result ≡ time_front behavior text → IfOk result (λ front. 0 + front.1 ≤ length text)
+    → IfOk result (λ front. time_answer behavior (take front.1 text) ≡ Ok (parts front.0))
+read-alone behavior text (Ok front) is within = time_front-alone behavior text (parts front.0, front.1) (sym is) (omega (arith, within))
+read-alone behavior text (Err fault) is within = tt
 
 pub returns-clause-alone : goal.returns-clause-alone
 returns-clause-alone c =
-    read-alone c.args.config.now.rfc3339_form c.args.config.now.microseconds_precision_overflow_behavior c.args.bytes.now _ c.front_at.ensures.answer c.front_at.ensures.within
+    read-alone c.args.config.now.microseconds_precision_overflow_behavior c.args.bytes.now _ c.front_at.ensures.answer c.front_at.ensures.within

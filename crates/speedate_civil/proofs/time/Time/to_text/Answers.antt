@@ -8,25 +8,23 @@ use Rattle.speedate_civil.proofs.TimeValueLemmas.{is_time}
 use Rattle.speedate_civil.proofs.time.Time.to_text.Goals as goal
 
 pub returns-clause-reads_back : goal.returns-clause-reads_back
-returns-clause-reads_back c whole config given =
+returns-clause-reads_back c whole config =
     let time = c.args.self.now in
-    let form = config.rfc3339_form in
     let behavior = config.microseconds_precision_overflow_behavior in
     let bytes = text-alone _ _ _ c.new-text.ensures c.push_onto.ensures.text in
-    ap (time_answer form behavior) bytes ∙ time_text-reads form behavior (parts time) given (is_time time) whole
+    ap (time_answer behavior) bytes ∙ time_text-reads behavior (parts time) (is_time time) whole
 
 pub returns-clause-reads_front : goal.returns-clause-reads_front
-returns-clause-reads_front c whole config rest given =
+returns-clause-reads_front c whole config rest =
     let time = parts c.args.self.now in
-    let form = config.rfc3339_form in
     let behavior = config.microseconds_precision_overflow_behavior in
     let bytes = text-alone _ _ _ c.new-text.ensures c.push_onto.ensures.text in
-    rw (bytes) (time_text-front-iff form behavior time rest given (is_time c.args.self.now) whole)
+    rw (bytes) (time_text-front-iff behavior time rest (is_time c.args.self.now) whole)
 
 pub returns-clause-canonical : goal.returns-clause-canonical
-returns-clause-canonical c whole config given =
+returns-clause-canonical c whole config =
     let bytes = text-alone _ _ _ c.new-text.ensures c.push_onto.ensures.text in
-    text-canonical time_text _ _ _ bytes (returns-clause-reads_back c whole config given)
+    text-canonical time_text _ _ _ bytes (returns-clause-reads_back c whole config)
 
 pub returns-clause-distinct : goal.returns-clause-distinct
 returns-clause-distinct c whole other other_whole =

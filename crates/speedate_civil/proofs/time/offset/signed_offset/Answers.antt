@@ -6,42 +6,40 @@ use Rattle.std.proofs.lemmas.Result.{err_from_is_err_and}
 use mir.Val.{SFits}
 use Rattle.speedate_base.specs.declared.faults.ParseError.{ParseError}
 use Rattle.speedate_base.specs.declared.faults.ParseError.TheVariants as fault
-use Rattle.speedate_base.specs.declared.config.Rfc3339Form.{Rfc3339Form}
-use Rattle.speedate_base.specs.Form.{is_strict}
 use Rattle.speedate_base.specs.Ascii.{colon}
 use Rattle.speedate_base.specs.Digits.{two_digits_at, two_digit_value}
 use Rattle.speedate_base.specs.Numbers.{with_sign}
 use Rattle.speedate_base.specs.Offset.{seconds_per_day}
 use Rattle.speedate_base.specs.Pattern.{eight_at}
-use Rattle.speedate_base.specs.Requirement.{◌else_fault◌, ◌implies◌, meets}
+use Rattle.speedate_base.specs.Requirement.{◌else_fault◌, meets}
 use Rattle.speedate_base.proofs.RequirementLemmas.{meets-all, meets-next, meets-value}
 use Rattle.speedate_base.proofs.PatternLemmas.{eight_at-drop}
 use Rattle.speedate_civil.specs.OffsetText.{offset_digits, offset_ranges, signed_front, offset_minute, offset_digits_length, offset_size}
 use Rattle.speedate_civil.proofs.time.offset.signed_offset.Goals as goal
 
 -- hour, minute and length of an offset after its sign, or the fault of its digits
-abbrev numbers_of : Rfc3339Form → List ℕ → Result (ℕ × ℕ × ℕ) ParseError
-numbers_of form rest = meets (offset_digits form rest) (Ok (two_digit_value rest 0, offset_minute rest, offset_digits_length rest))
+abbrev numbers_of : List ℕ → Result (ℕ × ℕ × ℕ) ParseError
+numbers_of rest = meets (offset_digits rest) (Ok (two_digit_value rest 0, offset_minute rest, offset_digits_length rest))
 
 -- the same, with the minute at a place
-abbrev numbers_at : Rfc3339Form → ℕ → List ℕ → Result (ℕ × ℕ × ℕ) ParseError
-numbers_at form minute rest =
-    meets ((two_digits_at rest 0 else_fault fault.InvalidCharTzHour) ∷ ((is_strict form implies (slice_index rest 2 == colon)) else_fault fault.InvalidCharTzMinute) ∷ (two_digits_at rest minute else_fault fault.InvalidCharTzMinute) ∷ [])
+abbrev numbers_at : ℕ → List ℕ → Result (ℕ × ℕ × ℕ) ParseError
+numbers_at minute rest =
+    meets ((two_digits_at rest 0 else_fault fault.InvalidCharTzHour) ∷ (two_digits_at rest minute else_fault fault.InvalidCharTzMinute) ∷ [])
     (Ok (two_digit_value rest 0, two_digit_value rest minute, minute + 2))
 
 -- eight bytes have them all
-eight-enough : (form : Rfc3339Form) (rest : List ℕ) → numbers_of form (eight_at rest 0) ≡ numbers_of form rest
-eight-enough form rest =
-    let step : (test : Bool) → numbers_at form (if test then 3 else 2) (eight_at rest 0) ≡ numbers_at form (if test then 3 else 2) rest =
-    λ test. elim test as (λ (t : Bool). numbers_at form (if t then 3 else 2) (eight_at rest 0) ≡ numbers_at form (if t then 3 else 2) rest) [
+eight-enough : (rest : List ℕ) → numbers_of (eight_at rest 0) ≡ numbers_of rest
+eight-enough rest =
+    let step : (test : Bool) → numbers_at (if test then 3 else 2) (eight_at rest 0) ≡ numbers_at (if test then 3 else 2) rest =
+    λ test. elim test as (λ (t : Bool). numbers_at (if t then 3 else 2) (eight_at rest 0) ≡ numbers_at (if t then 3 else 2) rest) [
       | true ↦ refl
       | false ↦ refl
     ] in
     step (slice_index rest 2 == colon)
 
-read : (form : Rfc3339Form) (text front : List ℕ) (place : ℕ) (answer : Result (ℕ × ℕ × ℕ) ParseError) → front ≡ eight_at text place → answer ≡ numbers_of form front
-    → answer ≡ numbers_of form (drop place text)
-read form text front place answer from is = is ∙ ap (numbers_of form) (from ∙ eight_at-drop place text) ∙ eight-enough form (drop place text)
+read : (text front : List ℕ) (place : ℕ) (answer : Result (ℕ × ℕ × ℕ) ParseError) → front ≡ eight_at text place → answer ≡ numbers_of front
+    → answer ≡ numbers_of (drop place text)
+read text front place answer from is = is ∙ ap (numbers_of) (from ∙ eight_at-drop place text) ∙ eight-enough (drop place text)
 
 -- what is left to decide once they are known
 abbrev decided : Bool → ℕ → ℕ × ℕ × ℕ → Result (Option ℤ × ℕ) ParseError
@@ -51,35 +49,35 @@ decided west sign numbers = meets (
     ∷ []
     ) (Ok (Some (with_sign west (3600 * numbers.0 + 60 * numbers.1)), sign + numbers.2))
 
-known : (form : Rfc3339Form) (west : Bool) (sign : ℕ) (text front : List ℕ) (place : ℕ) (numbers : ℕ × ℕ × ℕ) → front ≡ eight_at text place → Ok numbers ≡ numbers_of form front
-    → decided west sign numbers ≡ signed_front form west sign (drop place text)
-known form west sign text front place numbers from is =
+known : (west : Bool) (sign : ℕ) (text front : List ℕ) (place : ℕ) (numbers : ℕ × ℕ × ℕ) → front ≡ eight_at text place → Ok numbers ≡ numbers_of front
+    → decided west sign numbers ≡ signed_front west sign (drop place text)
+known west sign text front place numbers from is =
     let rest : List ℕ = drop place text in
-    let value = meets-value (offset_digits form rest) _ numbers (sym (read form text front place _ from is)) in
+    let value = meets-value (offset_digits rest) _ numbers (sym (read text front place _ from is)) in
     ap (decided west sign) (sym value.1)
-    ∙ sym (meets-all (offset_digits form rest) (meets (offset_ranges rest) (Ok (Some (with_sign west (offset_size rest)), sign + offset_digits_length rest))) value.0)
+    ∙ sym (meets-all (offset_digits rest) (meets (offset_ranges rest) (Ok (Some (with_sign west (offset_size rest)), sign + offset_digits_length rest))) value.0)
 
 pub returns-in_err-hour-clause-answer : goal.returns-in_err-hour-clause-answer
 returns-in_err-hour-clause-answer c =
     let rest : List ℕ = drop c.args.place c.args.bytes.now in
     let p = err_from_is_err_and c.from_residual.result c.from_residual.ensures.1 in
-    let refused = read c.args.form c.args.bytes.now _ c.args.place _ c.eight_bytes.ensures.bytes c.in_err-hour.ensures.numbers in
+    let refused = read c.args.bytes.now _ c.args.place _ c.eight_bytes.ensures.bytes c.in_err-hour.ensures.numbers in
     let next : Result (Option ℤ × ℕ) ParseError = meets (offset_ranges rest) (Ok (Some (with_sign c.args.west (offset_size rest)), c.args.sign + offset_digits_length rest)) in
-    rw (p.1, p.2) (meets-next (offset_digits c.args.form rest) _ _ next refused)
+    rw (p.1, p.2) (meets-next (offset_digits rest) _ _ next refused)
 
 pub returns-then-minute-gt59-clause-answer : goal.returns-then-minute-gt59-clause-answer
 returns-then-minute-gt59-clause-answer c =
-    let is = known c.args.form c.args.west c.args.sign c.args.bytes.now _ c.args.place (c.in_ok-hour.hour, c.in_ok-hour.minute, c.in_ok-hour.size) c.eight_bytes.ensures.bytes c.in_ok-hour.ensures.numbers in
+    let is = known c.args.west c.args.sign c.args.bytes.now _ c.args.place (c.in_ok-hour.hour, c.in_ok-hour.minute, c.in_ok-hour.size) c.eight_bytes.ensures.bytes c.in_ok-hour.ensures.numbers in
     grind (arith, nat_tests) ∙ is
 
 pub returns-then-seconds-ge-SECONDS_PER_DAY-clause-answer : goal.returns-then-seconds-ge-SECONDS_PER_DAY-clause-answer
 returns-then-seconds-ge-SECONDS_PER_DAY-clause-answer c =
-    let is = known c.args.form c.args.west c.args.sign c.args.bytes.now _ c.args.place (c.in_ok-hour.hour, c.in_ok-hour.minute, c.in_ok-hour.size) c.eight_bytes.ensures.bytes c.in_ok-hour.ensures.numbers in
+    let is = known c.args.west c.args.sign c.args.bytes.now _ c.args.place (c.in_ok-hour.hour, c.in_ok-hour.minute, c.in_ok-hour.size) c.eight_bytes.ensures.bytes c.in_ok-hour.ensures.numbers in
     grind (arith, nat_tests, c.from.ensures, c.from-2.ensures) ∙ is
 
 pub returns-clause-answer : goal.returns-clause-answer
 returns-clause-answer c =
-    let is = known c.args.form c.args.west c.args.sign c.args.bytes.now _ c.args.place (c.in_ok-hour.hour, c.in_ok-hour.minute, c.in_ok-hour.size) c.eight_bytes.ensures.bytes c.in_ok-hour.ensures.numbers in
+    let is = known c.args.west c.args.sign c.args.bytes.now _ c.args.place (c.in_ok-hour.hour, c.in_ok-hour.minute, c.in_ok-hour.size) c.eight_bytes.ensures.bytes c.in_ok-hour.ensures.numbers in
     let fits : SFits w32 c.with_sign.result = search rules in
     let value = to_z-of_z w32 c.with_sign.result fits in
     grind (arith, nat_tests, c.from.ensures, c.from-2.ensures, value, c.with_sign.ensures.value) ∙ is

@@ -4,14 +4,13 @@ use Rattle.std.proofs.lemmas.Bool.{and_from, le-leb}
 use Rattle.std.proofs.lemmas.List.{get_or-drop, take_rest}
 use Rattle.std.proofs.lemmas.Result.{err_from_is_err_and}
 use Rattle.speedate_base.specs.declared.config.MicrosecondsPrecisionOverflowBehavior.{MicrosecondsPrecisionOverflowBehavior}
-use Rattle.speedate_base.specs.declared.config.Rfc3339Form.{Rfc3339Form}
 use Rattle.speedate_base.specs.Ascii.{colon}
 use Rattle.speedate_base.specs.Digits.{two_digits_at, two_digit_value}
 use Rattle.speedate_base.specs.Pattern.{eight_at, fit_length, fit_digits, neighbours}
 use Rattle.speedate_base.specs.Requirement.{result_map}
 use Rattle.speedate_base.proofs.RequirementLemmas.{meets-all}
 use Rattle.speedate_base.proofs.PatternLemmas.{fit_length-all}
-use Rattle.speedate_civil.specs.ClockText.{Clock, at_hour, least_length, clock_answer, clock_front, hour_table, minute_digits, hour_range}
+use Rattle.speedate_civil.specs.ClockText.{Clock, at_hour, clock_answer, clock_front, hour_table, minute_digits, hour_range}
 use Rattle.speedate_civil.specs.PureTime.{parts}
 use Rattle.speedate_civil.proofs.time.pure.PureTime.parse.Goals as goal
 
@@ -43,13 +42,13 @@ read text front numbers fits from counted enough spelled =
     subst (λ (all : List ℕ). Front text all) (sym (spelled ∙ ap (λ (block : List ℕ). neighbours (fit_digits 5 pattern block)) from)) (front_is text five)
 
 -- the rows of the hour and the minute hold, so the clock after them decides
-decided : (form : Rfc3339Form) (behavior : MicrosecondsPrecisionOverflowBehavior) (text numbers : List ℕ) → Front text numbers → least_length form ≤ length text → get_or numbers 0 0 ≤ 23
-    → clock_front form behavior text ≡ result_map (at_hour (get_or numbers 0 0)) (clock_answer form behavior (drop 3 text))
-decided form behavior text numbers front long early =
-    meets-all (hour_table form text) _ (le-leb (least_length form) (length text) long, (front.hour, (front.separator, tt)))
+decided : (behavior : MicrosecondsPrecisionOverflowBehavior) (text numbers : List ℕ) → Front text numbers → 5 ≤ length text → get_or numbers 0 0 ≤ 23
+    → clock_front behavior text ≡ result_map (at_hour (get_or numbers 0 0)) (clock_answer behavior (drop 3 text))
+decided behavior text numbers front long early =
+    meets-all (hour_table text) _ (le-leb 5 (length text) long, (front.hour, (front.separator, tt)))
     ∙ meets-all (minute_digits (drop 3 text)) _ (front.minute, tt)
     ∙ meets-all (hour_range text) _ (le-leb (two_digit_value text 0) 23 (omega (arith, front.hour_is, early)), tt)
-    ∙ ap (λ (hour : ℕ). result_map (at_hour hour) (clock_answer form behavior (drop 3 text))) (sym front.hour_is)
+    ∙ ap (λ (hour : ℕ). result_map (at_hour hour) (clock_answer behavior (drop 3 text))) (sym front.hour_is)
 
 -- a clock with another name for its minute
 renamed : (hour : ℕ) (clock : Clock) (minute : ℕ) → clock.minute ≡ minute
@@ -68,7 +67,7 @@ returns-in_err-time-clause-answer c =
     let place = c.args.place in
     let text : List ℕ = take (length bytes - place) (drop place bytes) in
     let front = read text _ _ _ c.eight_bytes-front.ensures.bytes c.fitting-fits.ensures.count c.if-fits-lt5.false c.pairs.ensures.numbers in
-    let is = ap (clock_front c.args.form c.args.behavior) (sym (take_rest bytes place)) ∙ decided c.args.form c.args.behavior text _ front (subst (λ (least : ℕ). least ≤ length text) c.least_length.ensures.length c.if-text-least_length.false) c.if-hour-gt23.false
+    let is = ap (clock_front c.args.behavior) (sym (take_rest bytes place)) ∙ decided c.args.behavior text _ front c.if-text-lt5.false c.if-hour-gt23.false
     ∙ ap (result_map (at_hour (get_or c.pairs.result 0 0))) (sym c.in_err-time.ensures.answer) in
     let p = err_from_is_err_and c.from_residual.result c.from_residual.ensures.1 in
     rw (p.1, p.2) (sym is)
@@ -79,6 +78,6 @@ returns-clause-answer c =
     let place = c.args.place in
     let text : List ℕ = take (length bytes - place) (drop place bytes) in
     let front = read text _ _ _ c.eight_bytes-front.ensures.bytes c.fitting-fits.ensures.count c.if-fits-lt5.false c.pairs.ensures.numbers in
-    let is = ap (clock_front c.args.form c.args.behavior) (sym (take_rest bytes place)) ∙ decided c.args.form c.args.behavior text _ front (subst (λ (least : ℕ). least ≤ length text) c.least_length.ensures.length c.if-text-least_length.false) c.if-hour-gt23.false
+    let is = ap (clock_front c.args.behavior) (sym (take_rest bytes place)) ∙ decided c.args.behavior text _ front c.if-text-lt5.false c.if-hour-gt23.false
     ∙ ap (result_map (at_hour (get_or c.pairs.result 0 0))) (sym c.in_ok-time.ensures.answer) in
     ap Ok (renamed (get_or c.pairs.result 0 0) (parts c.in_ok-time.time) _ c.in_ok-time.ensures.minute) ∙ sym is

@@ -1,0 +1,41 @@
+use Rattle.std.proofs.Common.{◌≡◌, ◌∙◌, ap, sym, List, ℕ, Result, Ok, Err}
+use Rattle.std.proofs.lemmas.Result.{err_from_is_err_and}
+use Rattle.speedate_base.specs.declared.config.MicrosecondsPrecisionOverflowBehavior.{MicrosecondsPrecisionOverflowBehavior}
+use Rattle.speedate_base.specs.declared.faults.ParseError.{ParseError}
+use Rattle.speedate_base.specs.Requirement.{meets, result_and_then}
+use Rattle.speedate_base.proofs.RequirementLemmas.{meets-and_then}
+use Rattle.speedate_civil.specs.Time.{parts}
+use Rattle.speedate_civil.specs.TimeOfDay.{TimeOfDay}
+use Rattle.speedate_civil.specs.StrictText.{standard_time, strict_time_answer}
+use Rattle.speedate_civil.specs.TimeText.{time_answer}
+use Rattle.speedate_civil.proofs.Rfc3339Lemmas.{time-standard}
+use Rattle.speedate_civil.proofs.time.Time.parse_bytes_strict.Goals as goal
+
+-- a value that was read, if its text then meets the table
+known : (behavior : MicrosecondsPrecisionOverflowBehavior) (text : List ℕ) (value : TimeOfDay) (ended : Result (Unit {0}) ParseError)
+    → Ok value ≡ time_answer behavior text → ended ≡ meets (standard_time text) (Ok tt)
+    → result_and_then (λ (met : Unit {0}). Ok value) ended ≡ strict_time_answer behavior text
+known behavior text value ended read is =
+    ap (result_and_then (λ (met : Unit {0}). Ok value)) is ∙ meets-and_then (λ (met : Unit {0}). Ok value) (standard_time text) (Ok tt)
+    ∙ ap (result_and_then (λ (found : TimeOfDay). meets (standard_time text) (Ok found))) read
+
+pub returns-in_err-require_standard-clause-answer : goal.returns-in_err-require_standard-clause-answer
+returns-in_err-require_standard-clause-answer c =
+    let p = err_from_is_err_and c.from_residual-in_err-require_standard.result c.from_residual-in_err-require_standard.ensures.1 in
+    rw (p.1, p.2) (known c.args.behavior c.args.bytes.now (parts c.in_ok-time.time) _ c.in_ok-time.ensures.answer c.in_err-require_standard.ensures.answer)
+
+pub returns-clause-answer : goal.returns-clause-answer
+returns-clause-answer c = known c.args.behavior c.args.bytes.now (parts c.in_ok-time.time) _ c.in_ok-time.ensures.answer c.in_ok-require_standard.ensures.answer
+
+pub returns-in_err-time-clause-standard : goal.returns-in_err-time-clause-standard
+returns-in_err-time-clause-standard c =
+    let p = err_from_is_err_and c.from_residual.result c.from_residual.ensures.1 in
+    rw (p.1) (time-standard c.args.behavior c.args.bytes.now (Err c.in_err-time.field-0.0)
+    (ap (result_and_then (λ (found : TimeOfDay). meets (standard_time c.args.bytes.now) (Ok found))) c.in_err-time.ensures.answer))
+
+pub returns-in_err-require_standard-clause-standard : goal.returns-in_err-require_standard-clause-standard
+returns-in_err-require_standard-clause-standard c =
+    time-standard c.args.behavior c.args.bytes.now c.from_residual-in_err-require_standard.result (returns-in_err-require_standard-clause-answer c)
+
+pub returns-clause-standard : goal.returns-clause-standard
+returns-clause-standard c = time-standard c.args.behavior c.args.bytes.now (Ok c.in_ok-time.time) (returns-clause-answer c)
