@@ -1,5 +1,5 @@
 -- A fraction's digits taken in blocks, the last ones first.
-use Rattle.std.specs.Prelude.{◌≡◌, ℕ, ◌+◌, ◌-◌, ◌*◌, ◌/◌, ◌%◌, ◌^◌, ◌<◌, ◌≤◌, Bool, true, List, ◌++◌, length, take, drop}
+use Rattle.std.specs.Prelude.{◌≡◌, ℕ, ◌+◌, ◌-◌, ◌*◌, ◌^◌, ◌<◌, ◌≤◌, Bool, true, List, ◌++◌, length, take, drop}
 use Rattle.std.specs.Char.{is_ascii_digit}
 use Rattle.std.specs.List.{list_all}
 use Rattle.std.proofs.Common.{arith, ap, sym, ◌∙◌, lit<}
@@ -46,19 +46,6 @@ filled-taken up unit count value twice few taken =
     taken ∙ ap (λ (n : ℕ). quotient up n 100000000) product ∙ ap (λ (n : ℕ). quotient up (size * zeros + 0 * zeros) n) (sym power)
     ∙ sym (quotient-carried up 0 (size * zeros) zeros (10 ^ count) (scale-some (8 - count)) (scale-some count))
     ∙ once ∙ ap (λ (n : ℕ). quotient up n (10 ^ count)) bare
-
--- four digits after four
-pub fours-taken : (up : Bool) (unit value rest last : ℕ) → last ≡ quotient up (2 * (value % 10000 * unit) + rest) 10000
-    → quotient up (2 * (value / 10000 * unit) + last) 10000 ≡ quotient up (2 * (value * unit) + rest) 100000000
-fours-taken up unit value rest last is =
-    let first = 2 * (value / 10000 * unit) in
-    let second = 2 * (value % 10000 * unit) + rest in
-    let halves : value ≡ value / 10000 * 10000 + value % 10000 = omega arith in
-    let product : value * unit ≡ value / 10000 * unit * 10000 + value % 10000 * unit =
-    ap (λ (n : ℕ). n * unit) halves ∙ grind arith in
-    let sum : second + first * 10000 ≡ 2 * (value * unit) + rest = omega (arith, product) in
-    ap (λ (n : ℕ). quotient up (first + n) 10000) is ∙ quotient-carried up first second 10000 10000 (lit< tt) (lit< tt)
-    ∙ ap (λ (n : ℕ). quotient up n 100000000) sum
 
 -- a block before digits
 pub block-taken : (up : Bool) (unit : ℕ) (front rest : List ℕ) (value later twice : ℕ) → length front ≡ 8 → value ≡ digits_value front

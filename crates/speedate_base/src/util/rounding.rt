@@ -95,7 +95,8 @@ pub(super) fn power_of_ten(exponent: usize) -> u64
     }
 }
 
-/// Twice the microseconds of eight digits, where `rest` is that of the digits after them.
+/// Twice the microseconds of eight digits, where `rest` is that of the digits after them. Numbers of 128
+/// bits hold it before it is divided.
 #[inline]
 fn eight_taken(value: u64, rest: u64, unit: u64, up: bool) -> u64
     requires value { value < 100000000 }
@@ -104,24 +105,10 @@ fn eight_taken(value: u64, rest: u64, unit: u64, up: bool) -> u64
     ensures twice { result ≡ quotient up (2 * (value * unit) + rest) (10 ^ 8) }
     ensures within { result ≤ 2 * unit }
 {
-    let last = four_taken(value % 10_000, rest, unit, up);
-    four_taken(value / 10_000, last, unit, up)
-}
-
-/// Twice the microseconds of four digits, where `rest` is that of the digits after them. Numbers of 64
-/// bits hold it; those of 128 bits divide slowly.
-#[inline]
-fn four_taken(value: u64, rest: u64, unit: u64, up: bool) -> u64
-    requires value { value < 10000 }
-    requires rest { rest ≤ 2 * unit }
-    requires unit { unit ≤ LARGEST_UNIT }
-    ensures twice { result ≡ quotient up (2 * (value * unit) + rest) 10000 }
-    ensures within { result ≤ 2 * unit }
-{
-    let sum = 2 * (value * unit) + rest;
+    let sum = 2 * (u128::from(value) * u128::from(unit)) + u128::from(rest);
     if up {
-        (sum + 9_999) / 10_000
+        ((sum + 99_999_999) / 100_000_000) as u64
     } else {
-        sum / 10_000
+        (sum / 100_000_000) as u64
     }
 }

@@ -1,13 +1,13 @@
 //! Days counted from 0000-01-01, and what follows from the count: the day of the year, the next
 //! day, and Unix timestamps.
 
-ghost use Rattle.std.specs.Prelude.{◌≡◌, ◌+◌, ◌-◌, ◌<◌, ◌≤◌, Bool, Ok, Some, IfSome};
+ghost use Rattle.std.specs.Prelude.{◌≡◌, ◌+◌, ◌-◌, ◌*◌, ◌<◌, ◌≤◌, min, Bool, Ok, Some, IfSome};
 ghost use Rattle.std.specs.Int.{IsInRange};
 ghost use Rattle.std.specs.Option.{option_map};
 ghost use Rattle.speedate_base.specs.declared.config.TimestampUnit.TheVariants as unit;
 ghost use Rattle.speedate_civil.specs.Date.{parts};
 ghost use Rattle.speedate_civil.specs.DateTimestamp.{date_timestamp_answer};
-ghost use Rattle.speedate_civil.specs.DayNumber.{days_of_months, year_length, ordinal_day, day_number, date_after, date_numbered, next_date, midnight_second, midnight_millisecond};
+ghost use Rattle.speedate_civil.specs.DayNumber.{days_of_months, days_before_year, year_length, ordinal_day, day_number, date_after, date_numbered, next_date, midnight_second, midnight_millisecond};
 
 use super::{Date, is_leap_year, month_length};
 use speedate_base::util::SECONDS_PER_DAY;
@@ -23,6 +23,15 @@ const UNIX_EPOCH: i64 = 719_528;
 /// the one that has a day more.
 const DAYS_BEFORE_YEAR_0: u32 = 145_731;
 
+/// The days of 400 years, after which the calendar repeats.
+const CYCLE_DAYS: u32 = 146_097;
+
+/// The first days of the centuries of a cycle, whose first century has a day more than the others.
+const CENTURY_STARTS: [u32; 4] = [0, 36_525, 73_049, 109_573];
+
+/// The first days of four years, whose first year is leap.
+const YEAR_STARTS: [u32; 4] = [0, 366, 731, 1_096];
+
 /// The days of the months before a month of a year.
 #[inline]
 fn days_before_month(year: u16, month: u8) -> u16
@@ -36,6 +45,52 @@ fn days_before_month(year: u16, month: u8) -> u16
         days - 1
     } else {
         days - 2
+    }
+}
+
+/// The century of a day of a cycle, and the day of that century, both counted from 0.
+#[inline]
+#[tactic(auto, using(crate::proofs::YearLemmas::days_before_century))]
+fn century(day: u32) -> (u32, u32)
+    requires { day < 146097 }
+    ensures century { result.0 ≤ 3 }
+    ensures day { days_before_year (100 * result.0) + result.1 ≡ day }
+    ensures within { result.1 + min result.0 1 < 36525 }
+{
+    let century = day.saturating_sub(1) / 36_524;
+    (century, day - CENTURY_STARTS[century as usize])
+}
+
+/// The four years of a day of a century, and the day of these four years, both counted from 0.
+///
+/// Only the first century of a cycle begins with a leap year. The first four years of another one lack
+/// a day; their days are counted from 1, as if the day that they lack went before them.
+#[inline]
+fn four_years(century: u32, day: u32) -> (u32, u32)
+    requires { day + min century 1 < 36525 }
+    ensures day { 1461 * result.0 + result.1 ≡ day + min century 1 }
+    ensures within { result.1 < 1461 }
+{
+    let counted = if century == 0 { day } else { day + 1 };
+    (counted / 1_461, counted % 1_461)
+}
+
+/// The year of a day of a century, and the day of that year, both counted from 0.
+#[inline]
+fn year_of_century(century: u32, day: u32) -> (u32, u32)
+    requires century { century ≤ 3 }
+    requires day { day + min century 1 < 36525 }
+    ensures year { result.0 ≤ 99 }
+    ensures day { days_before_year (100 * century + result.0) + result.1 ≡ days_before_year (100 * century) + day }
+    ensures within { result.1 < year_length (100 * century + result.0) }
+{
+    let (four_years, in_four_years) = four_years(century, day);
+    let last = in_four_years.saturating_sub(1) / 365;
+    let year = 4 * four_years + last;
+    if year == 0 {
+        (0, day)
+    } else {
+        (year, in_four_years - YEAR_STARTS[last as usize])
     }
 }
 
@@ -101,12 +156,9 @@ impl Date {
         ensures date { parts result ≡ date_after number }
         ensures number { day_number (parts result) ≡ number }
     {
-        // In quarters of a day a century has 146,097 and a year 1,461, if the last century of each
-        // four and the last year of each four are the longer ones: so rounding down finds them.
-        let scaled = 4 * (number + DAYS_BEFORE_YEAR_0) + 3;
-        let in_century = scaled % 146_097 / 4 * 4 + 3;
-        let year = 100 * (scaled / 146_097) + in_century / 1461 - 399;
-        let day = in_century % 1461 / 4;
+        let (century, day) = century(number % CYCLE_DAYS);
+        let (year, day) = year_of_century(century, day);
+        let year = 400 * (number / CYCLE_DAYS) + 100 * century + year;
         day_of_year(year as u16, day as u16)
     }
 

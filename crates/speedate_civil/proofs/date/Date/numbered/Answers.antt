@@ -1,21 +1,30 @@
-use Rattle.std.proofs.Common.{◌∙◌, ap, sym}
+use Rattle.std.proofs.Common.{◌≡◌, ◌+◌, ◌*◌, ◌/◌, ℕ, arith, ◌∙◌, ap, sym}
 use Rattle.speedate_civil.specs.Date.{parts}
+use Rattle.speedate_civil.specs.DayNumber.{date_after, day_number, days_before_year}
 use Rattle.speedate_civil.proofs.DateNumberedLemmas.{date_after-day_number}
-use Rattle.speedate_civil.specs.DayNumber.{date_after}
 use Rattle.speedate_civil.proofs.DateValueLemmas.{is_day}
-use Rattle.speedate_civil.proofs.YearLemmas.{year_numbered-is, year_numbered-date}
+use Rattle.speedate_civil.proofs.DayNumberLemmas.{year_length-is, leap_day-small}
+use Rattle.speedate_civil.proofs.YearLemmas.{days_before_year-cycle, year_length-cycle}
 use Rattle.speedate_civil.proofs.date.Date.numbered.Goals as goal
 
+pub overflow_cast-day : goal.overflow_cast-day
+overflow_cast-day c =
+    let year : ℕ = 100 * c.century-century.result.0 + c.year_of_century-year.result.0 in
+    omega (arith, year_length-is year, leap_day-small year)
+
 pub day_of_year-requires-clause-day : goal.day_of_year-requires-clause-day
-day_of_year-requires-clause-day c = (year_numbered-is c.args.number).1
+day_of_year-requires-clause-day c =
+    omega (arith, year_length-cycle (c.args.number / 146097) c.century-century.result.0 c.year_of_century-year.result.0)
+
+number-is : (c : goal.After-day_of_year) → day_number (parts c.day_of_year.result) ≡ c.args.number
+number-is c =
+    let before = ap days_before_year c.day_of_year.ensures.year in
+    omega (arith, days_before_year-cycle (c.args.number / 146097) c.century-century.result.0 c.year_of_century-year.result.0, c.day_of_year.result.day_in_range.0)
 
 pub returns-clause-date : goal.returns-clause-date
 returns-clause-date c =
     let date = c.day_of_year.result in
-    let number = year_numbered-date c.args.number (parts date) (is_day date) c.day_of_year.ensures.year c.day_of_year.ensures.day in
-    sym (ap date_after (sym number) ∙ date_after-day_number (parts date) (is_day date))
+    sym (ap date_after (sym (number-is c)) ∙ date_after-day_number (parts date) (is_day date))
 
 pub returns-clause-number : goal.returns-clause-number
-returns-clause-number c =
-    let date = c.day_of_year.result in
-    year_numbered-date c.args.number (parts date) (is_day date) c.day_of_year.ensures.year c.day_of_year.ensures.day
+returns-clause-number c = number-is c
