@@ -1,8 +1,10 @@
 -- The duration between two values, and the value so long after another: lengths with their sign, and the instants that they lead to.
-use Rattle.std.specs.Prelude.{◌≡◌, ℕ, zero, suc, ◌+◌, ◌*◌, ◌<◌, ◌≤◌, Bool, true, false, not, ◌||◌, ◌==◌, ℤ, pos, negsuc, neg_ℤ, ◌+ℤ◌, ◌-ℤ◌, ◌*ℤ◌, ◌≤ℤ◌, Option, Result, Ok, Err, IfOk, unsigned_abs, refl}
+use Rattle.std.specs.Prelude.{◌≡◌, ℕ, zero, suc, ◌+◌, ◌*◌, ◌/◌, ◌<◌, ◌≤◌, Bool, true, false, not, ◌||◌, ◌==◌, ℤ, pos, negsuc, neg_ℤ, ◌+ℤ◌, ◌-ℤ◌, ◌*ℤ◌, ◌≤ℤ◌, Option, Result, Ok, Err, IfOk, unsigned_abs, refl}
+use Rattle.std.specs.Int.{int_div_euclid, int_rem_euclid}
 use Rattle.std.specs.Option.{unwrap_or}
 use Rattle.std.specs.Ordering.{int_cmp}
-use Rattle.std.proofs.Common.{arith, ◌∙◌, ap, sym}
+use Rattle.std.specs.declared.cmp.Ordering.{Ordering}
+use Rattle.std.proofs.Common.{arith, ◌∙◌, ap, sym, subst}
 use Rattle.std.proofs.lemmas.Bool.Decides.{nat_tests}
 use Rattle.std.proofs.lemmas.Int.{ints}
 use Rattle.std.proofs.lemmas.Result.{IfOk-weaker}
@@ -14,9 +16,10 @@ use Rattle.speedate_base.proofs.TimestampLemmas.{instant_microsecond}
 use Rattle.speedate_civil.specs.declared.datetime.DateTime.{DateTime}
 use Rattle.speedate_civil.specs.DateAndTime.{DateAndTime, IsDateAndTime, local_second, local_microsecond, utc_microsecond}
 use Rattle.speedate_civil.specs.DateTime.{parts as date_time_parts}
-use Rattle.speedate_civil.specs.DateTimeTimestamp.{IsShownAt}
+use Rattle.speedate_civil.specs.DateTimeTimestamp.{IsShownAt, instant_date_time}
 use Rattle.speedate_civil.proofs.DateTimeInstantLemmas.{million-each, instant_date_time-shown}
-use Rattle.speedate_civil.proofs.DateTimeValueLemmas.{offset-small, local_second-late, local_second-early}
+use Rattle.speedate_civil.proofs.DateTimeTimestampLemmas.{instant_date_time-local}
+use Rattle.speedate_civil.proofs.DateTimeValueLemmas.{is_date_and_time, offset-small, local_second-late, local_second-early}
 use Rattle.speedate_civil.proofs.InstantOrderLemmas.{left-order}
 use Rattle.speedate.proofs.DurationLemmas.{of_length-only}
 use Rattle.speedate.specs.DurationMove.{signed_length, duration_of_length, with_positive_zero, duration_between, date_time_after}
@@ -184,3 +187,98 @@ between-days numbers length earlier later valid other is same =
     (local_second-late later other) (local_second-early later other) (local_second-late earlier valid) (local_second-early earlier valid)
     (offset-small later.time.offset other.time.offset) (offset-small earlier.time.offset valid.time.offset)
     other.time.microsecond valid.time.microsecond))
+
+-- an instant of a second and a microsecond has them
+second-kept : (at second : ℤ) (microsecond : ℕ) → microsecond ≤ 999999 → at ≡ pos 1000000 *ℤ second +ℤ pos microsecond
+    → int_div_euclid at (pos 1000000) ≡ second
+second-kept (pos n) second microsecond small is = omega (arith, ints, is)
+second-kept (negsuc n) second microsecond small is = omega (arith, ints, is)
+
+microsecond-kept : (at second : ℤ) (microsecond : ℕ) → microsecond ≤ 999999 → at ≡ pos 1000000 *ℤ second +ℤ pos microsecond
+    → unsigned_abs (int_rem_euclid at (pos 1000000)) * (1000000 / 1000000) ≡ microsecond
+microsecond-kept (pos n) second microsecond small is = omega (arith, ints, is)
+microsecond-kept (negsuc n) second microsecond small is = omega (arith, ints, is)
+
+local_instant : (value : DateAndTime) → value.time.microsecond ≤ 999999
+    → instant_at 1000000 (local_microsecond value) ≡ record { second = local_second value; microsecond = value.time.microsecond }
+local_instant value small = λ i. record {
+  second = second-kept (local_microsecond value) (local_second value) value.time.microsecond small refl i;
+  microsecond = microsecond-kept (local_microsecond value) (local_second value) value.time.microsecond small refl i;
+}
+
+-- at one offset clocks are as far apart as the instants are
+unmoved : (second local offset length : ℤ) (microsecond own : ℕ)
+    → pos 1000000 *ℤ (second -ℤ offset) +ℤ pos microsecond ≡ (pos 1000000 *ℤ (local -ℤ offset) +ℤ pos own) +ℤ length
+    → (pos 1000000 *ℤ local +ℤ pos own) +ℤ length ≡ pos 1000000 *ℤ second +ℤ pos microsecond
+unmoved second local offset length microsecond own same = omega (arith, ints, same)
+
+-- so a date-time that lies so much later, at the same offset, is the one that is answered
+pub date_time_after-exact : (length : ℤ) (start end : DateAndTime) → IsDateAndTime end → end.time.offset ≡ start.time.offset
+    → utc_microsecond end ≡ utc_microsecond start +ℤ length → date_time_after length start ≡ Ok end
+date_time_after-exact length start end valid attached same =
+    let offset = unwrap_or start.time.offset (pos 0) in
+    let later = ap (λ (given : Option ℤ). pos 1000000 *ℤ (local_second end -ℤ unwrap_or given (pos 0)) +ℤ pos end.time.microsecond) (sym attached) ∙ same in
+    ap (λ (n : ℤ). instant_date_time start.time.offset (instant_at 1000000 n))
+    (unmoved (local_second end) (local_second start) offset length end.time.microsecond start.time.microsecond later)
+    ∙ ap (instant_date_time start.time.offset) (local_instant end valid.time.microsecond)
+    ∙ ap (λ (given : Option ℤ). instant_date_time given (record { second = local_second end; microsecond = end.time.microsecond })) (sym attached)
+    ∙ instant_date_time-local end valid
+
+pub between-back : (earlier later : DateTime) (length : ℤ) → later.time.tz_offset ≡ earlier.time.tz_offset
+    → length ≡ utc_microsecond (date_time_parts later) -ℤ utc_microsecond (date_time_parts earlier)
+    → date_time_after length (date_time_parts earlier) ≡ Ok (date_time_parts later)
+between-back earlier later length attached same =
+    date_time_after-exact length (date_time_parts earlier) (date_time_parts later) (is_date_and_time later) attached
+    (sym (back (utc_microsecond (date_time_parts earlier)) (utc_microsecond (date_time_parts later)) length same))
+
+-- so much earlier than so much later lies the start
+earlier-again : (start end length : ℤ) → end ≡ start +ℤ length → start ≡ end +ℤ neg_ℤ length
+earlier-again start end length same = omega (arith, ints, same)
+
+later-again : (start end length : ℤ) → end ≡ start -ℤ length → start ≡ end +ℤ length
+later-again start end length same = omega (arith, ints, same)
+
+pub ends-back : (result : Result DateTime ParseError) (start : DateTime) (length : ℤ)
+    → IfOk result (λ end. end.time.tz_offset ≡ start.time.tz_offset)
+    → IfOk result (λ end. utc_microsecond (date_time_parts end) ≡ utc_microsecond (date_time_parts start) +ℤ length)
+    → IfOk result (λ end. date_time_after (neg_ℤ length) (date_time_parts end) ≡ Ok (date_time_parts start))
+ends-back (Ok end) start length attached same =
+    date_time_after-exact (neg_ℤ length) (date_time_parts end) (date_time_parts start) (is_date_and_time start) (sym attached)
+    (earlier-again (utc_microsecond (date_time_parts start)) (utc_microsecond (date_time_parts end)) length same)
+ends-back (Err fault) start length attached same = tt
+
+-- before a start lies the end from which a duration leads to it
+between-before : (start end length : ℤ) → end ≡ start -ℤ length → start -ℤ end ≡ length
+between-before start end length same = omega (arith, ints, same)
+
+pub begins-between : (result : Result DateTime ParseError) (start : DateAndTime) (numbers : DurationNumbers) → IsDuration numbers
+    → IfOk result (λ end. utc_microsecond (date_time_parts end) ≡ utc_microsecond start -ℤ signed_length numbers)
+    → IfOk result (λ end. duration_between (date_time_parts end) start ≡ with_positive_zero numbers)
+begins-between result start numbers valid same =
+    IfOk-weaker result (λ end. utc_microsecond (date_time_parts end) ≡ utc_microsecond start -ℤ signed_length numbers)
+    (λ end. duration_between (date_time_parts end) start ≡ with_positive_zero numbers)
+    (λ end is. ap duration_of_length (between-before (utc_microsecond start) (utc_microsecond (date_time_parts end)) (signed_length numbers) is)
+    ∙ duration_of_length-signed_length numbers valid) same
+
+-- and the longer the duration, the earlier that end
+turned-order : (one two : ℤ) → int_cmp (neg_ℤ one) (neg_ℤ two) ≡ int_cmp two one
+turned-order one two =
+    let first : neg_ℤ one ≡ two -ℤ (one +ℤ two) = omega (arith, ints) in
+    let second : neg_ℤ two ≡ one -ℤ (one +ℤ two) = omega (arith, ints) in
+    (λ i. int_cmp (first i) (second i)) ∙ left-order two one (one +ℤ two)
+
+pub begins-order : (result : Result DateTime ParseError) (start : DateAndTime) (one two : ℤ)
+    → IfOk result (λ end. utc_microsecond (date_time_parts end) ≡ utc_microsecond start +ℤ neg_ℤ one)
+    → IfOk result (λ end. IfOk (date_time_after (neg_ℤ two) start) (λ next. int_cmp (utc_microsecond (date_time_parts end)) (utc_microsecond next) ≡ int_cmp two one))
+begins-order result start one two same =
+    subst (λ (order : Ordering). IfOk result (λ end. IfOk (date_time_after (neg_ℤ two) start) (λ next. int_cmp (utc_microsecond (date_time_parts end)) (utc_microsecond next) ≡ order)))
+    (turned-order one two) (ends-order result start (neg_ℤ one) (neg_ℤ two) same)
+
+pub begins-back : (result : Result DateTime ParseError) (start : DateTime) (length : ℤ)
+    → IfOk result (λ end. end.time.tz_offset ≡ start.time.tz_offset)
+    → IfOk result (λ end. utc_microsecond (date_time_parts end) ≡ utc_microsecond (date_time_parts start) -ℤ length)
+    → IfOk result (λ end. date_time_after length (date_time_parts end) ≡ Ok (date_time_parts start))
+begins-back (Ok end) start length attached same =
+    date_time_after-exact length (date_time_parts end) (date_time_parts start) (is_date_and_time start) (sym attached)
+    (later-again (utc_microsecond (date_time_parts start)) (utc_microsecond (date_time_parts end)) length same)
+begins-back (Err fault) start length attached same = tt

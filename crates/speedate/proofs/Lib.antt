@@ -14,3 +14,4 @@ mod IsoTextLemmas
 mod DecimalTextLemmas
 mod DurationValueLemmas
 mod LetterLemmas
+mod DaysMoveLemmas

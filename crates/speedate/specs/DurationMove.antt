@@ -54,8 +54,12 @@ abbrev pub date_or_fault : Bool → Option Ymd → Result Ymd ParseError
 date_or_fault onward (Some date) = Ok date
 date_or_fault onward None = Err (if onward then fault.DateTooLarge else fault.DateTooSmall)
 
+-- the days of a duration with its sign
+abbrev pub signed_days : DurationNumbers → ℤ
+signed_days numbers = with_sign (not numbers.positive) numbers.day
+
 -- the date so long after another, or the fault: that of a duration which is not whole days comes first
 abbrev pub date_after_days : DurationNumbers → Ymd → Result Ymd ParseError
 date_after_days numbers start =
     meets ((is_whole_days numbers else_fault fault.DateNotExact) ∷ [])
-    (date_or_fault numbers.positive (date_added (with_sign (not numbers.positive) numbers.day) start))
+    (date_or_fault numbers.positive (date_added (signed_days numbers) start))

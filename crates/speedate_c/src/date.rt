@@ -45,6 +45,7 @@ impl SpeedateDate {
     #[inline]
     pub(crate) fn from_value(date: &Date) -> Self
         ensures numbers { result ≡ shown_date (parts date.now) }
+        ensures leads_back { date_of result ≡ Ok (parts date.now) }
     {
         SpeedateDate {
             year: date.year,

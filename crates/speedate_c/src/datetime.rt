@@ -47,6 +47,7 @@ impl SpeedateDateTime {
     #[inline]
     fn from_value(value: &DateTime) -> Self
         ensures numbers { result ≡ shown_date_time (parts value.now) }
+        ensures leads_back { date_time_of result ≡ Ok (parts value.now) }
     {
         SpeedateDateTime {
             date: SpeedateDate::from_value(&value.date),

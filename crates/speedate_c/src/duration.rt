@@ -62,6 +62,7 @@ impl SpeedateDuration {
     #[inline]
     pub(crate) fn from_value(duration: &Duration) -> Self
         ensures numbers { result ≡ shown_duration (parts duration.now) }
+        ensures leads_back { duration_of result ≡ Ok (parts duration.now) }
     {
         SpeedateDuration {
             negative: if duration.positive { 0 } else { 1 },

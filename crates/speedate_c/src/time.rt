@@ -56,6 +56,7 @@ impl SpeedateTime {
     #[inline]
     pub(crate) fn from_value(time: &Time) -> Self
         ensures numbers { result ≡ shown_time (parts time.now) }
+        ensures leads_back { time_of result ≡ Ok (parts time.now) }
     {
         let (has_offset, offset) = match time.tz_offset {
             Some(seconds) => (1, seconds),

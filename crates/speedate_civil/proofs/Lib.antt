@@ -3,12 +3,12 @@ mod CalendarFacts
 mod DaysLemmas
 mod ClockLemmas
 mod DateLemmas
-mod DateNumberedLemmas
+pub mod DateNumberedLemmas
 pub mod DateOrderLemmas
 pub mod DateTimeInstantLemmas
 mod DateTimeLemmas
-mod DateTimeTimestampLemmas
-mod DayNumberLemmas
+pub mod DateTimeTimestampLemmas
+pub mod DayNumberLemmas
 mod FrontLemmas
 pub mod InstantOrderLemmas
 mod NumberTextLemmas

@@ -8,7 +8,7 @@ ghost use Rattle.speedate_lines.specs.Block.{kept_part, ReadsAfter};
 ghost use Rattle.speedate_lines.specs.Lines.{IsOneLine, complete_lines, unfinished_line, last_line, lines};
 ghost use Rattle.speedate_lines.specs.Outcome.{EndsBy};
 ghost use Rattle.speedate_lines.specs.Sent.{AppendsBut, AppendsBeginning, AnswersCompleteLines, AnswersBeginning};
-ghost use Rattle.speedate_lines.specs.Watch.{KeepsUnflushed};
+ghost use Rattle.speedate_lines.specs.Watch.{one_more};
 
 use crate::answer::{ANSWER_MAX, LINE_MAX, PENDING_MAX, Pending, answer_line};
 use crate::line_end::line_end;
@@ -54,17 +54,19 @@ pub fn run<R: Read, W: Write>(
     // An end that had not failed has failed if and only if the answer says so.
     ensures failed { input.old.failed ≡ false → output.old.failed ≡ false →
         EndsBy result input.new.failed output.new.failed }
-    // All input was read, and what was written is the answers to its lines.
+    // All input was read, and what was written is the answers to its lines. One flush came, after the
+    // last write.
     ensures read { OnOk result (IsAtEnd (R.remaining input.new.inner)) }
     ensures answered { OnOk result (IfSome (R.remaining input.old.inner) (λ text.
         Appends (W.contents output.old.inner) (W.contents output.new.inner) (answers (lines text)))) }
     ensures flushed { OnOk result (output.new.flushed ≡ true) }
+    ensures flushed_once { OnOk result (output.new.flushes ≡ one_more output.old.flushes) }
     // After a failed read what was written is the answers to all complete lines that were read, and
     // no flush came.
     ensures read_failed { result ≡ Err RunError.Read →
         AnswersCompleteLines (R.remaining input.old.inner) (R.remaining input.new.inner)
         (W.contents output.old.inner) (W.contents output.new.inner) }
-    ensures unflushed { result ≡ Err RunError.Read → KeepsUnflushed output.old output.new }
+    ensures unflushed { result ≡ Err RunError.Read → output.new.flushes ≡ output.old.flushes }
     // After a failed write or flush what was written is a beginning of the answers that were due,
     // and in it all that were due before the last read.
     ensures write_failed { result ≡ Err RunError.Write →
@@ -130,7 +132,7 @@ fn answer_block<W: Write>(
         (W.contents output.new.inner) (answers (complete_lines text.now))) }
     ensures beginning { OnErr result (AppendsBeginning (W.contents output.old.inner)
         (W.contents output.new.inner) (answers (complete_lines text.now))) }
-    ensures unflushed { KeepsUnflushed output.old output.new }
+    ensures unflushed { output.new.flushes ≡ output.old.flushes }
 {
     let start = answer_lines(text, seen, pending, output)?;
     send(pending, output)?;
@@ -154,7 +156,7 @@ fn answer_lines<W: Write>(
         (W.contents output.new.inner) (pending.old.bytes ++ answers (complete_lines text.now))) }
     ensures beginning { OnErr result (AppendsBeginning (W.contents output.old.inner)
         (W.contents output.new.inner) (pending.old.bytes ++ answers (complete_lines text.now))) }
-    ensures unflushed { KeepsUnflushed output.old output.new }
+    ensures unflushed { output.new.flushes ≡ output.old.flushes }
 {
     let mut start = 0;
     let mut searched = seen;
@@ -175,7 +177,7 @@ fn make_room<W: Write>(pending: &mut Pending, output: &mut Watched<W>) -> Result
         (W.contents output.new.inner) pending.old.bytes) }
     ensures beginning { OnErr result (AppendsBeginning (W.contents output.old.inner)
         (W.contents output.new.inner) pending.old.bytes) }
-    ensures unflushed { KeepsUnflushed output.old output.new }
+    ensures unflushed { output.new.flushes ≡ output.old.flushes }
 {
     if pending.remaining_capacity() < ANSWER_MAX {
         send(pending, output)?;
@@ -191,7 +193,7 @@ fn send<W: Write>(pending: &mut Pending, output: &mut Watched<W>) -> Result<(), 
         (W.contents output.new.inner) pending.old.bytes) }
     ensures beginning { OnErr result (AppendsBeginning (W.contents output.old.inner)
         (W.contents output.new.inner) pending.old.bytes) }
-    ensures unflushed { KeepsUnflushed output.old output.new }
+    ensures unflushed { output.new.flushes ≡ output.old.flushes }
 {
     write_all(pending.as_str().as_bytes(), output)?;
     pending.clear();
@@ -205,7 +207,7 @@ fn write_all<W: Write>(bytes: &[u8], output: &mut Watched<W>) -> Result<(), Fail
         (W.contents output.new.inner) bytes.now) }
     ensures beginning { OnErr result (AppendsBeginning (W.contents output.old.inner)
         (W.contents output.new.inner) bytes.now) }
-    ensures unflushed { KeepsUnflushed output.old output.new }
+    ensures unflushed { output.new.flushes ≡ output.old.flushes }
 {
     let mut rest = bytes;
     while !rest.is_empty() {
@@ -241,6 +243,7 @@ fn finish<W: Write>(
     ensures beginning { OnErr result (AppendsBeginning (W.contents output.old.inner)
         (W.contents output.new.inner) (answers (last_line last.now))) }
     ensures flushed { OnOk result (output.new.flushed ≡ true) }
+    ensures flushed_once { OnOk result (output.new.flushes ≡ one_more output.old.flushes) }
 {
     if !last.is_empty() {
         answer_line(last, pending);

@@ -3,6 +3,7 @@
 ghost use Rattle.std.specs.Prelude.{◌≡◌, ◌+◌, ◌-◌, ◌^◌, ◌<◌, ◌≤◌, ◌||◌, false, length, is_ok, is_err, IsErr, IfOk};
 ghost use Rattle.std.specs.Io.{ReadsAtMost, WritesAtMost};
 ghost use Rattle.std.specs.Io.KnownBytes.{ReadConsumes, WriteAppends, Keeps};
+ghost use Rattle.speedate_lines.specs.Watch.{one_more};
 
 use std::io::{Read, Write};
 use std::marker::Model;
@@ -12,13 +13,14 @@ use std::marker::Model;
 pub struct Failed;
 
 /// A reader or a writer that remembers whether a call of it has failed and whether what was written
-/// has been flushed, and counts its reads.
+/// has been flushed, and counts its reads and its flushes.
 #[derive(Drop)]
 pub struct Watched<T> {
     inner: T,
     failed: bool,
     flushed: bool,
     reads: u64,
+    flushes: u64,
 }
 
 impl<T> Model for Watched<T> {
@@ -26,19 +28,20 @@ impl<T> Model for Watched<T> {
 
     ghost Value = { Watch T };
 
-    ghost view = { λ w. record { inner = w.inner; failed = w.failed; flushed = w.flushed; reads = w.reads } };
+    ghost view = { λ w. record { inner = w.inner; failed = w.failed; flushed = w.flushed; reads = w.reads; flushes = w.flushes } };
 }
 
 impl<T> Watched<T> {
-    /// Watches `inner`, which has not failed, has not been read and is not known to be flushed.
+    /// Watches `inner`, which has not failed, has not been read and has not been flushed.
     pub fn new(inner: T) -> Self
-        ensures new { result ≡ record { inner = inner; failed = false; flushed = false; reads = 0 } }
+        ensures new { result ≡ record { inner = inner; failed = false; flushed = false; reads = 0; flushes = 0 } }
     {
         Watched {
             inner,
             failed: false,
             flushed: false,
             reads: 0,
+            flushes: 0,
         }
     }
 
@@ -58,6 +61,7 @@ impl<T> Watched<T> {
             failed: _,
             flushed: _,
             reads: _,
+            flushes: _,
         } = self;
         inner
     }
@@ -74,6 +78,7 @@ impl<R: Read> Watched<R> {
             result buffer.new }
         ensures failed { self.new.failed ≡ (self.old.failed || is_err result) }
         ensures flushed { self.new.flushed ≡ self.old.flushed }
+        ensures flushes { self.new.flushes ≡ self.old.flushes }
         ensures counted { self.old.reads < 2 ^ 64 - 1 → self.new.reads ≡ self.old.reads + 1 }
         ensures limited { self.new.reads < 2 ^ 64 }
         ensures refused { 2 ^ 64 - 1 ≤ self.old.reads →
@@ -106,6 +111,7 @@ impl<W: Write> Watched<W> {
         ensures progress { IfOk result (λ count. 0 < length bytes.now → 0 < count) }
         ensures failed { self.new.failed ≡ (self.old.failed || is_err result) }
         ensures flushed { self.new.flushed ≡ false }
+        ensures flushes { self.new.flushes ≡ self.old.flushes }
         ensures reads { self.new.reads ≡ self.old.reads }
     {
         self.flushed = false;
@@ -123,12 +129,16 @@ impl<W: Write> Watched<W> {
     }
 
     /// Flushes the writer. Fails with `Failed` if it answers an error.
+    ///
+    /// Each flush is counted, up to `u64::MAX` of them; a further one is a flush like the others.
     pub fn flush(&mut self) -> Result<(), Failed>
         ensures bytes { Keeps (W.contents self.old.inner) (W.contents self.new.inner) }
         ensures failed { self.new.failed ≡ (self.old.failed || is_err result) }
         ensures flushed { self.new.flushed ≡ is_ok result }
+        ensures counted { self.new.flushes ≡ one_more self.old.flushes }
         ensures reads { self.new.reads ≡ self.old.reads }
     {
+        self.flushes = self.flushes.saturating_add(1);
         match self.inner.flush() {
             Ok(()) => {
                 self.flushed = true;

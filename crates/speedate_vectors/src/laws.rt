@@ -1,7 +1,7 @@
-//! Laws of equality, of defaults and of `<`. Each function makes the one call that its law is about,
-//! and its contract is the law.
+//! Laws of equality, of cloning, of defaults and of `<`. Each function makes the one call that its law
+//! is about, and its contract is the law.
 
-ghost use Rattle.std.specs.Prelude.{◌≡◌, ◌<◌, ◌↔◌, IsTrue};
+ghost use Rattle.std.specs.Prelude.{◌≡◌, ◌<◌, ◌↔◌, IsTrue, Ok};
 ghost use Rattle.speedate.specs.Date.{parts as date_parts};
 ghost use Rattle.speedate.specs.DateTime.{parts as date_time_parts};
 ghost use Rattle.speedate.specs.DayNumber.{day_number};
@@ -11,12 +11,15 @@ ghost use Rattle.speedate_base.specs.UnixTime.{parts as instant_parts};
 ghost use Rattle.speedate_civil.specs.PureTime.{parts as clock_parts};
 
 use speedate::{
-    ConfigError, Date, DateConfig, DateTime, DateTimeConfig, Duration, IsoOrder,
-    MicrosecondsPrecisionOverflowBehavior, Moment, ParseError, Time, TimeConfig, TimestampUnit,
+    ConfigError, Date, DateConfig, DateConfigBuilder, DateTime, DateTimeConfig,
+    DateTimeConfigBuilder, Decimal, Duration, IntFloat, IsoOrder,
+    MicrosecondsPrecisionOverflowBehavior, Moment, ParseError, Time, TimeConfig,
+    TimeConfigBuilder, TimestampUnit,
 };
 use speedate_base::numbers::DigitRun;
 use speedate_base::util::UnixTime;
 use speedate_civil::time::PureTime;
+use std::alloc::AllocError;
 
 /// Whether two faults are equal: false for `TooShort` and `ExtraCharacters`.
 pub fn same_fault(first: &ParseError, second: &ParseError) -> bool
@@ -135,6 +138,140 @@ pub fn same_duration(first: &Duration, second: &Duration) -> bool
     ensures same { IsTrue result ↔ (duration_parts first.now ≡ duration_parts second.now) }
 {
     first == second
+}
+
+/// A second fault that is the same: `TooShort` for `TooShort`.
+pub fn clone_fault(fault: &ParseError) -> Result<ParseError, AllocError>
+    ensures clone { result ≡ Ok fault.now }
+{
+    fault.clone()
+}
+
+/// A second fault of a choice that is the same.
+pub fn clone_config_error(fault: &ConfigError) -> Result<ConfigError, AllocError>
+    ensures clone { result ≡ Ok fault.now }
+{
+    fault.clone()
+}
+
+/// A second behavior that is the same: `Truncate` for `Truncate`.
+pub fn clone_behavior(
+    behavior: &MicrosecondsPrecisionOverflowBehavior,
+) -> Result<MicrosecondsPrecisionOverflowBehavior, AllocError>
+    ensures clone { result ≡ Ok behavior.now }
+{
+    behavior.clone()
+}
+
+/// A second order of components that is the same: `Strict` for `Strict`.
+pub fn clone_iso_order(order: &IsoOrder) -> Result<IsoOrder, AllocError>
+    ensures clone { result ≡ Ok order.now }
+{
+    order.clone()
+}
+
+/// A second unit that is the same: `Second` for `Second`.
+pub fn clone_timestamp_unit(unit: &TimestampUnit) -> Result<TimestampUnit, AllocError>
+    ensures clone { result ≡ Ok unit.now }
+{
+    unit.clone()
+}
+
+/// A second configuration of dates that is the same.
+pub fn clone_date_config(config: &DateConfig) -> Result<DateConfig, AllocError>
+    ensures clone { result ≡ Ok config.now }
+{
+    config.clone()
+}
+
+/// A second builder of such configurations that is the same.
+pub fn clone_date_config_builder(
+    builder: &DateConfigBuilder,
+) -> Result<DateConfigBuilder, AllocError>
+    ensures clone { result ≡ Ok builder.now }
+{
+    builder.clone()
+}
+
+/// A second configuration that is the same, with the same offset or none.
+pub fn clone_time_config(config: &TimeConfig) -> Result<TimeConfig, AllocError>
+    ensures clone { result ≡ Ok config.now }
+{
+    config.clone()
+}
+
+/// A second builder of such configurations that is the same.
+pub fn clone_time_config_builder(
+    builder: &TimeConfigBuilder,
+) -> Result<TimeConfigBuilder, AllocError>
+    ensures clone { result ≡ Ok builder.now }
+{
+    builder.clone()
+}
+
+/// A second configuration of date-times that is the same.
+pub fn clone_date_time_config(config: &DateTimeConfig) -> Result<DateTimeConfig, AllocError>
+    ensures clone { result ≡ Ok config.now }
+{
+    config.clone()
+}
+
+/// A second builder of such configurations that is the same.
+pub fn clone_date_time_config_builder(
+    builder: &DateTimeConfigBuilder,
+) -> Result<DateTimeConfigBuilder, AllocError>
+    ensures clone { result ≡ Ok builder.now }
+{
+    builder.clone()
+}
+
+/// A second date that is the same: 2020-02-29 for 2020-02-29.
+pub fn clone_date(date: &Date) -> Result<Date, AllocError>
+    ensures clone { result ≡ Ok date.now }
+{
+    date.clone()
+}
+
+/// A second time that is the same, with the same offset or none.
+pub fn clone_time(time: &Time) -> Result<Time, AllocError>
+    ensures clone { result ≡ Ok time.now }
+{
+    time.clone()
+}
+
+/// A second date-time that is the same, with the same offset or none.
+pub fn clone_date_time(value: &DateTime) -> Result<DateTime, AllocError>
+    ensures clone { result ≡ Ok value.now }
+{
+    value.clone()
+}
+
+/// A second moment that is the same.
+pub fn clone_moment(moment: &Moment) -> Result<Moment, AllocError>
+    ensures clone { result ≡ Ok moment.now }
+{
+    moment.clone()
+}
+
+/// A second duration that is the same: `-PT0S` for `-PT0S`.
+pub fn clone_duration(duration: &Duration) -> Result<Duration, AllocError>
+    ensures clone { result ≡ Ok duration.now }
+{
+    duration.clone()
+}
+
+/// A second decimal with the same sign and the same digits.
+pub fn clone_decimal<'a>(decimal: &Decimal<'a>) -> Result<Decimal<'a>, AllocError>
+    ensures clone { result ≡ Ok decimal.now }
+{
+    decimal.clone()
+}
+
+/// A second number that is the same.
+pub fn clone_int_float<'a>(number: &IntFloat<'a>) -> Result<IntFloat<'a>, AllocError>
+    ensures clone { result ≡ Ok number.now }
+{
+    number.clone()
 }
 
 /// Whether the first date is before the second, which it is if and only if its day number is smaller:

@@ -34,6 +34,8 @@ mod rows;
 #[cfg(test)]
 mod shown;
 #[cfg(test)]
+mod sizes;
+#[cfg(test)]
 mod strict;
 #[cfg(test)]
 mod surface;

@@ -11,7 +11,7 @@ ghost use Rattle.speedate_civil.specs.DateTime.{parts as date_time_parts};
 ghost use Rattle.speedate_civil.specs.DayNumber.{days_between};
 ghost use Rattle.speedate.specs.declared.duration.Duration.{Duration};
 ghost use Rattle.speedate.specs.Duration.{parts};
-ghost use Rattle.speedate.specs.DurationMove.{signed_length, duration_of_length, negated, with_positive_zero, duration_between, date_time_after, duration_between_dates, date_after_days};
+ghost use Rattle.speedate.specs.DurationMove.{signed_length, duration_of_length, negated, with_positive_zero, duration_between, date_time_after, duration_between_dates, signed_days, date_after_days};
 
 use super::Duration;
 use speedate_base::faults::ParseError;
@@ -22,7 +22,8 @@ use speedate_civil::datetime::{DateTime, of_instant};
 impl Duration {
     /// The duration from one date-time to another, by their instants in UTC: an hour from
     /// 2020-01-01T12:00:00Z to 2020-01-01T12:00:00-01:00. It is negative where `later` is the earlier
-    /// one, and has at most 3,652,426 days. A date-time without an offset is taken to be in UTC.
+    /// one, and has at most 3,652,426 days. A date-time without an offset is taken to be in UTC. If the
+    /// offsets are equal, [`Duration::after`] leads from the one exactly to the other.
     #[inline]
     pub fn between(earlier: &DateTime, later: &DateTime) -> Duration
         ensures answer { parts result ≡ duration_between (date_time_parts earlier.now) (date_time_parts later.now) }
@@ -30,6 +31,8 @@ impl Duration {
             ≡ utc_microsecond (date_time_parts later.now) -ℤ utc_microsecond (date_time_parts earlier.now) }
         ensures ends { IfOk (date_time_after (signed_length (parts result)) (date_time_parts earlier.now))
             (λ end. utc_microsecond end ≡ utc_microsecond (date_time_parts later.now)) }
+        ensures leads_back { later.now.time.tz_offset ≡ earlier.now.time.tz_offset
+            → date_time_after (signed_length (parts result)) (date_time_parts earlier.now) ≡ Ok (date_time_parts later.now) }
         ensures days { result.day ≤ 3652426 }
     {
         Self::of_microseconds(utc_microsecond(later) - utc_microsecond(earlier))
@@ -38,7 +41,7 @@ impl Duration {
     /// The date-time so long after another, or before it where the duration is negative, at the same
     /// offset: 2020-03-01T00:30:00+01:00 for an hour and 2020-02-29T23:30:00+01:00. `DateTooSmall`
     /// where the date that a clock at the offset shows is before the year 0000, `DateTooLarge` where it
-    /// is after the year 9999.
+    /// is after the year 9999. [`Duration::before`] leads back.
     #[inline]
     pub fn after(&self, start: &DateTime) -> Result<DateTime, ParseError>
         ensures answer { result_map date_time_parts result ≡ date_time_after (signed_length (parts self.now)) (date_time_parts start.now) }
@@ -50,13 +53,15 @@ impl Duration {
         ensures order { (other : Duration) → IfOk result (λ end. IfOk (date_time_after (signed_length (parts other)) (date_time_parts start.now))
             (λ next. int_cmp (utc_microsecond (date_time_parts end)) (utc_microsecond next)
             ≡ int_cmp (signed_length (parts self.now)) (signed_length (parts other)))) }
+        ensures leads_back { IfOk result (λ end. date_time_after (neg_ℤ (signed_length (parts self.now))) (date_time_parts end)
+            ≡ Ok (date_time_parts start.now)) }
     {
         of_instant(self.end(start), start.time.tz_offset)
     }
 
     /// The date-time so long before another, or after it where the duration is negative, at the same
     /// offset: 2020-02-29T23:30:00+01:00 for an hour and 2020-03-01T00:30:00+01:00. The faults are those
-    /// of [`Duration::after`].
+    /// of [`Duration::after`], which leads back.
     #[inline]
     pub fn before(&self, start: &DateTime) -> Result<DateTime, ParseError>
         ensures answer { result_map date_time_parts result
@@ -64,6 +69,14 @@ impl Duration {
         ensures ends { IfOk result (λ end. utc_microsecond (date_time_parts end)
             ≡ utc_microsecond (date_time_parts start.now) -ℤ signed_length (parts self.now)) }
         ensures offset { IfOk result (λ end. end.time.tz_offset ≡ start.now.time.tz_offset) }
+        ensures between { IfOk result (λ end. duration_between (date_time_parts end) (date_time_parts start.now)
+            ≡ with_positive_zero (parts self.now)) }
+        ensures order { (other : Duration) → IfOk result (λ end.
+            IfOk (date_time_after (neg_ℤ (signed_length (parts other))) (date_time_parts start.now))
+            (λ next. int_cmp (utc_microsecond (date_time_parts end)) (utc_microsecond next)
+            ≡ int_cmp (signed_length (parts other)) (signed_length (parts self.now)))) }
+        ensures leads_back { IfOk result (λ end. date_time_after (signed_length (parts self.now)) (date_time_parts end)
+            ≡ Ok (date_time_parts start.now)) }
     {
         self.negated().after(start)
     }
@@ -99,7 +112,7 @@ impl Duration {
     }
 
     /// The date so many days after another, or before it where the duration is negative: 2020-03-01 for
-    /// two days and 2020-02-28.
+    /// two days and 2020-02-28. [`Duration::before_date`] leads back.
     ///
     /// The faults, in the order in which they are looked for:
     ///
@@ -109,6 +122,8 @@ impl Duration {
     #[inline]
     pub fn after_date(&self, start: &Date) -> Result<Date, ParseError>
         ensures answer { result_map date_parts result ≡ date_after_days (parts self.now) (date_parts start.now) }
+        ensures days { IfOk result (λ end. days_between (date_parts start.now) (date_parts end) ≡ signed_days (parts self.now)) }
+        ensures leads_back { IfOk result (λ end. date_after_days (negated (parts self.now)) (date_parts end) ≡ Ok (date_parts start.now)) }
     {
         if self.second != 0 || self.microsecond != 0 {
             return Err(ParseError::DateNotExact);
@@ -123,10 +138,12 @@ impl Duration {
     }
 
     /// The date so many days before another, or after it where the duration is negative: 2020-02-28 for
-    /// two days and 2020-03-01. The faults are those of [`Duration::after_date`].
+    /// two days and 2020-03-01. The faults are those of [`Duration::after_date`], which leads back.
     #[inline]
     pub fn before_date(&self, start: &Date) -> Result<Date, ParseError>
         ensures answer { result_map date_parts result ≡ date_after_days (negated (parts self.now)) (date_parts start.now) }
+        ensures days { IfOk result (λ end. days_between (date_parts end) (date_parts start.now) ≡ signed_days (parts self.now)) }
+        ensures leads_back { IfOk result (λ end. date_after_days (parts self.now) (date_parts end) ≡ Ok (date_parts start.now)) }
     {
         self.negated().after_date(start)
     }

@@ -14,7 +14,7 @@ loop-end-init g c = record {
   one_line = c.requires.one_line;
   answered = ([], AppendsBut-same (AppendsBut-all _ _) refl (append-nil c.args.pending.now.bytes), refl);
   failed = refl;
-  unflushed = λ flushed. flushed;
+  unflushed = refl;
   rest = refl;
 }
 
@@ -41,7 +41,7 @@ loop-end-preserved g c =
             ∙ sym (append_assoc done new (answers (complete_lines next))),
       );
       failed = c.in_ok-make_room.ensures.failed ∙ or-false c.loop-end.output.failed ∙ before.failed;
-      unflushed = λ flushed. before.unflushed (c.in_ok-make_room.ensures.unflushed flushed);
+      unflushed = c.in_ok-make_room.ensures.unflushed ∙ before.unflushed;
       rest = before.rest ∙ ap (λ (all : Pieces). all.unfinished) here;
     }
 

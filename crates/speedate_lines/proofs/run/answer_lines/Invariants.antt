@@ -2,7 +2,6 @@ use Rattle.std.proofs.Common.{◌≡◌, ◌-◌, ◌≤◌, ◌++◌, ℕ, List
 use Rattle.speedate_lines.specs.Lines.{IsOneLine, complete_lines, unfinished_line}
 use Rattle.speedate_lines.specs.Answer.{answers}
 use Rattle.speedate_lines.specs.Sent.{AppendsBut}
-use Rattle.speedate_lines.specs.Watch.{KeepsUnflushed}
 use Rattle.speedate_lines.proofs.run.answer_lines.Given as goal
 
 -- the lines up to `start` have been answered, and no line feed stands from there up to `searched`
@@ -16,7 +15,7 @@ invariant-loop-end g l = record {
       (l.initial.pending.bytes ++ done)
       × (answers (complete_lines l.text) ≡ done ++ answers (complete_lines (drop l.start l.text)));
   failed : l.output.failed ≡ l.initial.output.failed;
-  unflushed : KeepsUnflushed l.initial.output l.output;
+  unflushed : l.output.flushes ≡ l.initial.output.flushes;
   rest : unfinished_line l.text ≡ unfinished_line (drop l.start l.text);
 }
 

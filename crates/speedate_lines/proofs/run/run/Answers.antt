@@ -34,7 +34,7 @@ loop-filled-preserved g c =
       empty = done.empty;
       input_failed = c.in-Ok.ensures.failed ∙ or-false c.loop-filled.input.failed ∙ before.input_failed;
       output_failed = done.failed ∙ or-false c.loop-filled.output.failed ∙ before.output_failed;
-      unflushed = λ flushed. before.unflushed (done.unflushed flushed);
+      unflushed = done.unflushed ∙ before.unflushed;
       short = c.carry-kept.ensures.short;
       answered = (
         read ++ filled.more,

@@ -3,7 +3,6 @@ use Rattle.std.specs.Io.KnownBytes.{Appends, Consumes}
 use Rattle.speedate_lines.specs.Lines.{longest_line, complete_lines, unfinished_line}
 use Rattle.speedate_lines.specs.Answer.{answers}
 use Rattle.speedate_lines.specs.Block.{kept_part}
-use Rattle.speedate_lines.specs.Watch.{KeepsUnflushed}
 use Rattle.speedate_lines.proofs.run.run.Given as goal
 
 -- the complete lines of what has been read are answered, and the front of the block is the kept part of its unfinished line
@@ -12,7 +11,7 @@ invariant-loop-filled g l = record {
   empty : l.pending.bytes ≡ [];
   input_failed : l.input.failed ≡ l.initial.input.failed;
   output_failed : l.output.failed ≡ l.initial.output.failed;
-  unflushed : KeepsUnflushed l.initial.output l.output;
+  unflushed : l.output.flushes ≡ l.initial.output.flushes;
   short : l.kept ≤ longest_line + 1;
   answered : (read : List ℕ)
       × Consumes (g.R.Read.remaining l.initial.input.inner) (g.R.Read.remaining l.input.inner) read

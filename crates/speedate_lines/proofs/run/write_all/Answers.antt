@@ -1,12 +1,11 @@
-use Rattle.std.proofs.Common.{◌∙◌, sym, refl}
+use Rattle.std.proofs.Common.{◌∙◌, refl}
 use Rattle.std.proofs.lemmas.List.{take_rest}
 use Rattle.std.proofs.Math.Bool.{or-false}
-use Rattle.std.proofs.lemmas.Bool.{false≢true}
 use Rattle.speedate_lines.proofs.SentLemmas.{AppendsBut-all, AppendsBut-taken, AppendsBut-kept, AppendsBut-same, on_err}
 use Rattle.speedate_lines.proofs.run.write_all.Goals as goal
 
 pub loop-rest-init : goal.loop-rest-init
-loop-rest-init g c = record { failed = refl; sent = AppendsBut-all _ _; unflushed = λ flushed. flushed }
+loop-rest-init g c = record { failed = refl; sent = AppendsBut-all _ _; unflushed = refl }
 
 pub loop-rest-preserved : goal.loop-rest-preserved
 loop-rest-preserved g c =
@@ -15,7 +14,7 @@ loop-rest-preserved g c =
     record {
       failed = c.in_ok-count.ensures.failed ∙ or-false c.loop-rest.output.failed ∙ before.failed;
       sent = AppendsBut-same (AppendsBut-taken count before.sent c.in_ok-count.ensures.bytes) (take_rest c.loop-rest.rest.now count) refl;
-      unflushed = λ flushed. absurd (false≢true (sym c.in_ok-count.ensures.flushed ∙ flushed));
+      unflushed = c.in_ok-count.ensures.flushes ∙ before.unflushed;
     }
 
 pub returns-in_err-count-clause-beginning : goal.returns-in_err-count-clause-beginning

@@ -1,6 +1,5 @@
 use Rattle.std.proofs.Common.{◌≡◌, length}
 use Rattle.speedate_lines.specs.Sent.{AppendsBut}
-use Rattle.speedate_lines.specs.Watch.{KeepsUnflushed}
 use Rattle.speedate_lines.proofs.run.write_all.Given as goal
 
 -- the bytes have been written up to the rest
@@ -8,7 +7,7 @@ abbrev pub invariant-loop-rest : goal.invariant-loop-rest
 invariant-loop-rest g l = record {
   failed : l.output.failed ≡ l.initial.output.failed;
   sent : AppendsBut l.rest (g.W.Write.contents l.initial.output.inner) (g.W.Write.contents l.output.inner) l.bytes;
-  unflushed : KeepsUnflushed l.initial.output l.output;
+  unflushed : l.output.flushes ≡ l.initial.output.flushes;
 }
 
 abbrev pub decreases-loop-rest : goal.decreases-loop-rest

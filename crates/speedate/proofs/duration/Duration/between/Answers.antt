@@ -8,7 +8,7 @@ use Rattle.speedate_civil.specs.DateTime.{parts as date_time_parts}
 use Rattle.speedate_civil.proofs.DateTimeValueLemmas.{is_date_and_time}
 use Rattle.speedate.specs.Duration.{parts}
 use Rattle.speedate.specs.DurationMove.{signed_length}
-use Rattle.speedate.proofs.DurationMoveLemmas.{length-of, between-days, between-ends}
+use Rattle.speedate.proofs.DurationMoveLemmas.{length-of, between-back, between-days, between-ends}
 use Rattle.speedate.proofs.duration.Duration.between.Goals as goal
 
 pub returns-clause-length : goal.returns-clause-length
@@ -22,6 +22,10 @@ returns-clause-length c =
 pub returns-clause-ends : goal.returns-clause-ends
 returns-clause-ends c =
     between-ends (date_time_parts c.args.earlier.now) (date_time_parts c.args.later.now) (signed_length (parts c.of_microseconds.result)) (returns-clause-length c)
+
+pub returns-clause-leads_back : goal.returns-clause-leads_back
+returns-clause-leads_back c attached =
+    between-back c.args.earlier.now c.args.later.now (signed_length (parts c.of_microseconds.result)) attached (returns-clause-length c)
 
 pub returns-clause-days : goal.returns-clause-days
 returns-clause-days c =
