@@ -195,7 +195,8 @@ typedef struct SpeedateConfig {
 /* ---- Values ---- */
 
 /* No struct below has padding, and a call writes 0 into a field that says nothing. So two values that calls have
- * written are equal if and only if their bytes are, by memcmp. */
+ * written are equal if and only if their bytes are, by memcmp. A struct that you fill in may differ: without the flag
+ * of an offset its offset is not looked at. */
 
 /* A day of the Gregorian calendar, which is carried back to the year 0. */
 typedef struct SpeedateDate {
@@ -302,9 +303,9 @@ int speedate_time_parse_strict(const char *text, size_t size, SpeedateConfig con
  * "12:13:14Z GET /". */
 int speedate_time_parse_front(const char *text, size_t size, SpeedateConfig config, SpeedateTime *out, size_t *taken);
 
-/* SPEEDATE_OK where the numbers are those of a time. Otherwise, in this order: SPEEDATE_OUT_OF_RANGE_TZ for the
- * offset or its flag, SPEEDATE_OUT_OF_RANGE_HOUR, SPEEDATE_OUT_OF_RANGE_MINUTE, SPEEDATE_OUT_OF_RANGE_SECOND, or
- * SPEEDATE_TIME_TOO_LARGE for the microsecond. */
+/* SPEEDATE_OK where the numbers are those of a time. Otherwise, in this order: SPEEDATE_OUT_OF_RANGE_HOUR,
+ * SPEEDATE_OUT_OF_RANGE_MINUTE, SPEEDATE_OUT_OF_RANGE_SECOND, SPEEDATE_TIME_TOO_LARGE for the microsecond, or
+ * SPEEDATE_OUT_OF_RANGE_TZ for the offset or its flag. */
 int speedate_time_check(SpeedateTime time);
 
 /* Prints a time: "12:13:14.500000+01:30", "12:13:14Z". It reads back as the time where the offset is absent or whole

@@ -1,5 +1,5 @@
 -- Where the order of the standard is asked for, a duration is what the lax order makes of it, or is refused for its order.
-use Rattle.std.specs.Prelude.{◌≡◌, ℕ, zero, suc, ◌<◌, Bool, true, false, not, ◌&&◌, List, [], ◌∷◌, ◌++◌, map, length, take, drop, slice_index, nat_lt, ◌==◌, if◌then◌else◌, Option, Some, None, Result, Ok, Err, refl}
+use Rattle.std.specs.Prelude.{◌≡◌, ℕ, zero, suc, ◌<◌, Bool, true, false, not, ◌&&◌, List, [], ◌∷◌, ◌++◌, length, take, drop, slice_index, nat_lt, ◌==◌, if◌then◌else◌, Option, Some, None, Result, Ok, Err, refl}
 use Rattle.std.specs.List.{flat_map}
 use Rattle.std.specs.Option.{is_some}
 use Rattle.std.proofs.Common.{arith, ap, sym, ◌∙◌, subst, inl, inr}
@@ -18,7 +18,7 @@ use Rattle.speedate.specs.DurationNumbers.{DurationNumbers, UnsignedDuration, si
 use Rattle.speedate.specs.DurationForm.{form_answer}
 use Rattle.speedate.specs.DurationAnswer.{iso_answer, iso_form, unsigned_answer, duration_answer}
 use Rattle.speedate.proofs.DurationAnswerLemmas.{iso_form-is, iso_form-only, duration_answer-iso}
-use Rattle.speedate.specs.InOrder.{IsLaxOrRefused, IsAnswerInOrder, are_in_order, are_some_of, IsMadeOf, is_iso}
+use Rattle.speedate.specs.InOrder.{IsLaxOrRefused, IsAnswerInOrder, are_in_order, IsMadeOf, is_iso}
 use Rattle.speedate.specs.IsoForm.{DurationUnit, units, unit_in, ComponentText, Item, TimeDesignator, Component, item_text, IsItem, item_at, item_length, item_table, units_after, are_counted, Sums, no_sums, with_component, with_item, with_items, AreGood, sums_length, Ends, IsAnswerFrom}
 use Rattle.speedate.proofs.IsoFormLemmas.{item_at-text, answer-with}
 use Rattle.speedate.proofs.IsoFrontLemmas.{answer-refused}
@@ -253,33 +253,6 @@ answer-items behavior text numbers iso same =
       is_text = begins ∙ ap (λ (body : List ℕ). sign ++ capital_p ∷ body) is_body;
     } in
     (from.0, is_made)
-
--- the designators of components, and of units
-abbrev pub designators : List ComponentText → List ℕ
-designators components = map (λ (component : ComponentText). component.designator) components
-
-abbrev pub unit_designators : List DurationUnit → List ℕ
-unit_designators units = map (λ (unit : DurationUnit). unit.designator) units
-
-first-designator : (test : Bool) (unit : DurationUnit) (next : List DurationUnit) (component : ComponentText) (components : List ComponentText) (rest : List Item) (last : Bool)
-    → are_in_order next (map Component components ++ rest) ≡ (are_some_of (designators components) (unit_designators next) && last)
-    → are_in_order next (map Component (component ∷ components) ++ rest) ≡ (are_some_of (designators (component ∷ components)) (unit_designators next) && last)
-    → (is_some (if test then Some unit else unit_in next component.designator)
-    && are_in_order (if test then next else units_after component.designator next) (map Component components ++ rest))
-    ≡ ((if test then are_some_of (designators components) (unit_designators next) else are_some_of (designators (component ∷ components)) (unit_designators next)) && last)
-first-designator true unit next component components rest last here later = here
-first-designator false unit next component components rest last here later = later
-
--- components of one side, before nothing or a `T`, are in order if and only if their designators are some of those of the
--- side, in the order of the table, each at most once
-pub are_in_order-designators : (next : List DurationUnit) (components : List ComponentText) (rest : List Item) (last : Bool)
-    → ((next : List DurationUnit) → are_in_order next rest ≡ last)
-    → are_in_order next (map Component components ++ rest) ≡ (are_some_of (designators components) (unit_designators next) && last)
-are_in_order-designators next [] rest last ends = ends next
-are_in_order-designators [] (component ∷ components) rest last ends = refl
-are_in_order-designators (unit ∷ next) (component ∷ components) rest last ends =
-    first-designator (component.designator == unit.designator) unit next component components rest last (are_in_order-designators next components rest last ends)
-    (are_in_order-designators next (component ∷ components) rest last ends)
 
 -- the answer in the order that is asked for
 pub duration_answer-in_order : (asked : IsoOrder) (behavior : MicrosecondsPrecisionOverflowBehavior) (text : List ℕ)

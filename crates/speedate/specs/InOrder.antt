@@ -21,13 +21,6 @@ are_in_order next (TimeDesignator ∷ items) = are_in_order (units true) items
 are_in_order next (Component component ∷ items) =
     is_some (unit_in next component.designator) && are_in_order (units_after component.designator next) items
 
--- designators are some of others, in their order, and each at most as often as there
-abbrev pub are_some_of : List ℕ → List ℕ → Bool
-are_some_of [] others = true
-are_some_of (designator ∷ designators) [] = false
-are_some_of (designator ∷ designators) (other ∷ others) =
-    if designator == other then are_some_of designators others else are_some_of (designator ∷ designators) others
-
 -- a text is a duration of good items, a component among them
 pub record IsMadeOf (text : List ℕ) (items : List Item) : Type 0 where
   pub negative : Bool

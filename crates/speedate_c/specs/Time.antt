@@ -2,16 +2,16 @@
 use Rattle.std.specs.Prelude.{ℕ, ℤ, pos, Option, Some, None, Result}
 use Rattle.speedate.specs.declared.ParseError.{ParseError}
 use Rattle.speedate.specs.FromNumbers.{new_time_answer}
-use Rattle.speedate.specs.Requirement.{result_and_then}
+use Rattle.speedate.specs.Requirement.{result_and_then, result_map}
 use Rattle.speedate.specs.TimeOfDay.{TimeOfDay}
 use Rattle.speedate_c.specs.Config.{offset_answer}
 use Rattle.speedate_c.specs.declared.time.SpeedateTime.{SpeedateTime}
 
--- the time of its numbers, or the fault of one that is out of range: the offset is looked at first
+-- the time of its numbers, or the fault of the first that is out of range; the offset is looked at last
 abbrev pub time_of : SpeedateTime → Result TimeOfDay ParseError
 time_of time =
-    result_and_then (λ offset. new_time_answer time.hour time.minute time.second time.microsecond offset)
-    (offset_answer time.has_offset time.offset)
+    result_and_then (λ clock. result_map (λ offset. record clock { offset = offset }) (offset_answer time.has_offset time.offset))
+    (new_time_answer time.hour time.minute time.second time.microsecond None)
 
 -- the flag of an offset and its seconds
 abbrev pub shown_offset : Option ℤ → ℕ × ℤ

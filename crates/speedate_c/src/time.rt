@@ -42,14 +42,15 @@ impl SpeedateTime {
     pub(crate) fn to_value(&self) -> Result<Time, ParseError>
         ensures answer { result_map parts result ≡ time_of self.now }
     {
-        let offset = offset(self.has_offset, self.offset)?;
-        Time::new(
-            self.hour,
-            self.minute,
-            self.second,
-            self.microsecond,
-            offset,
-        )
+        let clock = Time::new(self.hour, self.minute, self.second, self.microsecond, None)?;
+        let tz_offset = offset(self.has_offset, self.offset)?;
+        Ok(Time {
+            hour: clock.hour,
+            minute: clock.minute,
+            second: clock.second,
+            microsecond: clock.microsecond,
+            tz_offset,
+        })
     }
 
     /// The numbers of a time.
@@ -155,8 +156,8 @@ pub extern "C" fn speedate_time_parse_front(
     }
 }
 
-/// Whether the numbers are those of a time, as [`Time::new`] tells: `SUCCESS`, or the fault of a
-/// number that is out of range. `OutOfRangeTz`, for the offset or its flag, comes first.
+/// Whether the numbers are those of a time, as [`Time::new`] tells: `SUCCESS`, or the fault of the
+/// first number that is out of range. `OutOfRangeTz`, for the offset or its flag, comes last.
 #[unsafe(no_mangle)]
 pub extern "C" fn speedate_time_check(time: SpeedateTime) -> i32
     ensures answer { result ≡ answer_code (time_of time) }

@@ -1,7 +1,7 @@
 -- A printed offset of whole minutes is read as itself.
-use Rattle.std.specs.Prelude.{◌≡◌, ◌⊎◌, ℕ, zero, suc, ◌+◌, ◌*◌, ◌/◌, ◌%◌, ◌<◌, Bool, true, false, not, ◌||◌, List, [], ◌∷◌, ◌++◌, length, drop, nat_lt, if◌then◌else◌, ◌&&◌, ◌==◌, slice_index, Option, Some, None, ℤ, pos, negsuc, Result, Ok, Err, refl}
+use Rattle.std.specs.Prelude.{◌≡◌, ℕ, zero, suc, ◌+◌, ◌*◌, ◌/◌, ◌%◌, ◌<◌, Bool, true, false, not, ◌||◌, List, ◌∷◌, ◌++◌, length, drop, nat_lt, if◌then◌else◌, ◌&&◌, ◌==◌, slice_index, Option, Some, None, ℤ, pos, negsuc, Result, Ok, refl}
 use Rattle.std.specs.Option.{ForSome, is_some}
-use Rattle.std.proofs.Common.{arith, sym, ◌∙◌, inl, inr}
+use Rattle.std.proofs.Common.{arith, ◌∙◌}
 use Rattle.std.proofs.lemmas.Bool.{le-leb, lt-ltb, le-ltb, ne_eqb, not-true}
 use Rattle.std.proofs.lemmas.Bool.Decides.{nat_tests}
 use Rattle.speedate_base.specs.declared.faults.ParseError.{ParseError}

@@ -9,7 +9,7 @@ use Rattle.speedate_base.specs.DecimalTimestamp.{decimal_instant, decimal_row, d
 use Rattle.speedate_base.specs.Digits.{two_digit_value}
 use Rattle.speedate_base.specs.Numbers.{Number, Whole, Fractional, NoNumber, number_answer, with_sign}
 use Rattle.speedate_base.specs.Offset.{IsWholeMinutes}
-use Rattle.speedate_base.specs.Requirement.{meets, result_map, result_and_then}
+use Rattle.speedate_base.specs.Requirement.{result_map, result_and_then}
 use Rattle.speedate_base.specs.Timestamp.{Instant, instant_answer, range_answer}
 use Rattle.speedate_base.proofs.RequirementLemmas.{alone-iff, and_then-ok, map-ok, meets-ok}
 use Rattle.speedate_civil.specs.declared.datetime.DateTime.{DateTime}

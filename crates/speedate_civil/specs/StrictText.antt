@@ -1,6 +1,6 @@
 -- The texts of RFC 3339 5.6 alone: what a text that is read as a time or as a date-time has to meet besides.
 -- Departs from it: there is no second 60; if digits past the sixth are refused, a fraction has at most six.
-use Rattle.std.specs.Prelude.{ℕ, ◌+◌, Bool, not, ◌||◌, List, [], ◌∷◌, length, drop, nat_lt, ◌==◌, slice_index, if◌then◌else◌, Result, Ok}
+use Rattle.std.specs.Prelude.{ℕ, ◌+◌, not, ◌||◌, List, [], ◌∷◌, length, drop, nat_lt, ◌==◌, slice_index, if◌then◌else◌, Result, Ok}
 use Rattle.speedate_base.specs.declared.config.MicrosecondsPrecisionOverflowBehavior.{MicrosecondsPrecisionOverflowBehavior}
 use Rattle.speedate_base.specs.declared.faults.ParseError.{ParseError}
 use Rattle.speedate_base.specs.declared.faults.ParseError.TheVariants as fault

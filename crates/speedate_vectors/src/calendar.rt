@@ -108,12 +108,12 @@ fn expect_days_between<R: Abort>(rt: &R, date: &Date, other: &Date, step: u32) {
     same_at(rt, date.checked_add_days(days), Some(*other), step);
 }
 
-#[test]
-fn days_between_dates_all_over_the_calendar(rt: HostRuntime) {
+/// The days between dates all over the calendar.
+fn expect_days_between_dates<R: Abort>(rt: &R) {
     for step in 0..20_000 {
-        let date = Date::from_day_number(step * 7_919 % 3_652_425).expect(&rt, "a date");
-        let other = Date::from_day_number(step * 104_729 % 3_652_425).expect(&rt, "a date");
-        expect_days_between(&rt, &date, &other, step);
+        let date = Date::from_day_number(step * 7_919 % 3_652_425).expect(rt, "a date");
+        let other = Date::from_day_number(step * 104_729 % 3_652_425).expect(rt, "a date");
+        expect_days_between(rt, &date, &other, step);
     }
 }
 
@@ -128,18 +128,24 @@ fn expect_civil<R: Abort>(rt: &R, date: &Date, day: civil::Date, number: u32) {
     same_at(rt, found, (day.year(), day.month(), day.day()), number);
 }
 
-#[test]
-fn each_day_of_the_calendar(rt: HostRuntime) {
-    let first: Date = value(&rt, "0000-01-01");
+/// Each day of the calendar, from the first to the last.
+fn expect_each_day<R: Abort>(rt: &R) {
+    let first: Date = value(rt, "0000-01-01");
     let mut next = Some(first);
     let mut civil = civil::Date::new(0, 1, 1).ok();
     for number in 0..3_652_425 {
-        let date = next.expect(&rt, "a date");
-        let day = civil.expect(&rt, "a date");
-        expect_day(&rt, &first, &date, number, number as i32);
-        expect_civil(&rt, &date, day, number);
+        let date = next.expect(rt, "a date");
+        let day = civil.expect(rt, "a date");
+        expect_day(rt, &first, &date, number, number as i32);
+        expect_civil(rt, &date, day, number);
         next = date.next_day();
         civil = day.tomorrow().ok();
     }
     assert!(rt; next.is_none() && civil.is_none());
+}
+
+#[test]
+fn the_calendar_is_that_of_jiff(rt: HostRuntime) {
+    expect_each_day(&rt);
+    expect_days_between_dates(&rt);
 }

@@ -1,7 +1,7 @@
 //! Date-times from texts and from timestamps, and their timestamps.
 
 use crate::configs::{date_time_config, time_config};
-use crate::rows::{Row, bytes, each, expect, quoted, same, value, words};
+use crate::rows::{Row, as_text, bytes, each, expect, quoted, same, value, words};
 use speedate::{DateTime, DateTimeConfig, IntFloat, ParseError, float_parse_str};
 use std::process::Abort;
 
@@ -290,10 +290,11 @@ impl Row for ConfiguredRow {
         let (config, text, want) = quoted(rt, row);
         let config = date_time_config(rt, config);
         let bytes = bytes(rt, text);
-        let read = DateTime::parse_bytes_with_config(&bytes, &config);
+        let text = as_text(rt, &bytes);
+        let read = DateTime::parse_str_with_config(text, &config);
         expect(rt, read, want, row);
         if config == DateTimeConfig::default() {
-            expect(rt, DateTime::parse_bytes(&bytes), want, row);
+            expect(rt, DateTime::parse_str(text), want, row);
         }
     }
 }

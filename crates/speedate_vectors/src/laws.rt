@@ -13,8 +13,8 @@ ghost use Rattle.speedate_civil.specs.PureTime.{parts as clock_parts};
 use speedate::{
     ConfigError, Date, DateConfig, DateConfigBuilder, DateTime, DateTimeConfig,
     DateTimeConfigBuilder, Decimal, Duration, IntFloat, IsoOrder,
-    MicrosecondsPrecisionOverflowBehavior, Moment, ParseError, Time, TimeConfig,
-    TimeConfigBuilder, TimestampUnit,
+    MicrosecondsPrecisionOverflowBehavior, Moment, ParseError, Time, TimeConfig, TimeConfigBuilder,
+    TimestampUnit,
 };
 use speedate_base::numbers::DigitRun;
 use speedate_base::util::UnixTime;

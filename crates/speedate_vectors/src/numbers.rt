@@ -1,6 +1,6 @@
 //! Whole numbers and decimals.
 
-use crate::rows::{Row, bytes, each, quoted, same, value};
+use crate::rows::{Row, as_text, bytes, each, quoted, same, value};
 use speedate::{IntFloat, float_parse_bytes, float_parse_str, int_parse_bytes, int_parse_str};
 use std::process::Abort;
 
@@ -82,9 +82,7 @@ impl Row for WholeRow {
         let want = number(rt, want);
         let bytes = bytes(rt, text);
         same(rt, int_parse_bytes(&bytes), want, row);
-        if !text.contains('<') {
-            same(rt, int_parse_str(text), want, row);
-        }
+        same(rt, int_parse_str(as_text(rt, &bytes)), want, row);
     }
 }
 
@@ -129,6 +127,6 @@ fn one_other_byte_among_zeros(rt: HostRuntime) {
     for place in 0..24usize {
         let mut text = [b'0'; 24];
         text[place] = b'x';
-        assert_eq!(rt; int_parse_bytes(&text), None, "x at {place}");
+        assert_eq!(rt; int_parse_str(as_text(&rt, &text)), None, "x at {place}");
     }
 }

@@ -62,6 +62,11 @@ pub fn bytes<R: AllocGlobal + Abort>(rt: &R, text: &str) -> Vec<u8> {
     bytes.ok().expect(rt, text)
 }
 
+/// Bytes as the text that they are.
+pub fn as_text<'a, R: Abort>(rt: &R, bytes: &'a [u8]) -> &'a str {
+    std::str::from_utf8(bytes).ok().expect(rt, "a text")
+}
+
 /// `front`, so many times the repeated bytes, and `back`.
 pub fn joined(
     alloc: Global,

@@ -56,8 +56,7 @@ pub(crate) fn end_fault(offset: Option<i32>) -> ParseError
     }
 }
 
-/// Whether a byte is `+` or `-`, the neighbours of `,`. Both are as common, so that a branch for each
-/// would be mispredicted for half of all texts.
+/// Whether a byte is `+` or `-`, the neighbours of `,`: one test tells both.
 #[inline(always)]
 fn is_plus_or_minus(byte: u8) -> bool
     ensures value { result ≡ ((byte == plus_sign) || (byte == hyphen)) }

@@ -102,7 +102,7 @@ impl PureTime {
     {
         let rest = &bytes[place..];
         let front = eight_bytes(rest, 0);
-        let pattern = u8x8::from_array(*b"00:00.00");
+        let pattern = u8x8::from_array(*b"00:00:00");
         let fits = fitting(front, pattern);
         if fits < 2 {
             return Err(ParseError::InvalidCharMinute);
