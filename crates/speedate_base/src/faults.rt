@@ -19,7 +19,8 @@ pub enum ParseError {
     TooShort,
     /// Bytes are left over after a whole value.
     ExtraCharacters,
-    /// No separator stands between date and time: `T` or `t`, and in the relaxed form a space or `_`.
+    /// No separator stands between date and time: `T`, `t`, a space or `_`; for the strict readers `T` or
+    /// `t`.
     InvalidCharDateTimeSep,
     /// A `-` is missing between year, month and day.
     InvalidCharDateSep,
@@ -32,7 +33,7 @@ pub enum ParseError {
     InvalidCharMonth,
     /// The day is not two digits.
     InvalidCharDay,
-    /// The `:` between hour and minute is missing.
+    /// The `:` between hour and minute is missing, or for the strict readers the second.
     InvalidCharTimeSep,
     /// The hour is not two digits.
     InvalidCharHour,
@@ -42,18 +43,18 @@ pub enum ParseError {
     InvalidCharSecond,
     /// Kept for its name: no call answers it.
     InvalidCharSecondFraction,
-    /// What follows a time does not begin an offset.
+    /// What follows a time does not begin an offset, or for the strict readers one of RFC 3339.
     InvalidCharTzSign,
     /// The hour of an offset is not two digits.
     InvalidCharTzHour,
-    /// The minute of an offset is not two digits.
+    /// The minute of an offset is not two digits, or for the strict readers its `:` is missing.
     InvalidCharTzMinute,
     /// The minute of an offset is over 59.
     OutOfRangeTzMinute,
     /// An offset is 24 hours or more.
     OutOfRangeTz,
-    /// An offset is missing: of a value that is to be moved to another one, or of a text in the strict
-    /// form.
+    /// An offset is missing: of a value that is to be moved to another one, or of a text for the strict
+    /// readers.
     TzRequired,
     /// The clock has no moment to tell: it stands before 1970.
     SystemTimeError,
