@@ -64,7 +64,8 @@ mod tests {
         let fault = date_time_field("due", "2026-11-22T12:13");
         let fault = fault.err().expect(&rt, "a fault");
         same(&rt, fault.field, "due", "the field");
-        same(&rt, fault.fault, "too_short", "the fault");
-        same(&rt, fault.text, "input is too short", "its text");
+        same(&rt, fault.fault, "invalid_char_time_sep", "the fault");
+        let text = "invalid time separator, expected `:`";
+        same(&rt, fault.text, text, "its text");
     }
 }
