@@ -2,7 +2,7 @@
 
 use crate::answer::{Answer, PANIC, Value, is_fault};
 use crate::call::Call;
-use crate::exact::{Decimal, IsoFraction, split_digits, split_sign};
+use crate::exact::{Decimal, IsoFraction, split_sign};
 use crate::ffi::{
     Config, ORDER_STRICT, OVERFLOW_TRUNCATE, Time, UNIT_INFER, UNIT_MILLISECOND, UNIT_SECOND,
 };
@@ -206,6 +206,14 @@ fn is_smallest_offset(call: &Call, rust: &Answer, ours: &Answer) -> bool {
 fn is_timestamp_offset(call: &Call, _rust: &Answer, ours: &Answer) -> bool {
     let offset = call.config().and_then(Config::offset);
     offset.is_some_and(|offset| !is_offset(offset)) && is_fault(ours, "config_out_of_range")
+}
+
+/// Whether a text has a digit where the pattern has `0`, and elsewhere the pattern's byte.
+fn fits(text: &[u8], pattern: &[u8]) -> bool {
+    let fits_byte = |(byte, wanted): (&u8, &u8)| {
+        if *wanted == b'0' { byte.is_ascii_digit() } else { byte == wanted }
+    };
+    text.len() == pattern.len() && text.iter().zip(pattern).all(fits_byte)
 }
 
 /// Whether an offset is of less than a day.
