@@ -35,6 +35,14 @@ meets-and_then step [] next = refl
 meets-and_then step (row ∷ rows) next =
     row-and_then step row.holds row.fault (meets rows next) (meets rows (result_and_then step next)) (meets-and_then step rows next)
 
+-- a value that was read, if a further table lets it through
+pub meets-read : {A : Type 0} (rows : List Requirement) (value : A) (answer : Result A ParseError) (met : Result (Unit {0}) ParseError)
+    → Ok value ≡ answer → met ≡ meets rows (Ok tt)
+    → result_and_then (λ (end : Unit {0}). Ok value) met ≡ result_and_then (λ (read : A). meets rows (Ok read)) answer
+meets-read rows value answer met read is =
+    ap (result_and_then (λ (end : Unit {0}). Ok value)) is ∙ meets-and_then (λ (end : Unit {0}). Ok value) rows (Ok tt)
+    ∙ ap (result_and_then (λ (found : _). meets rows (Ok found))) read
+
 -- what is done with an answer in two steps is done in one
 pub and_then-chain : {A B C : Type 0} (first : A → Result B ParseError) (second : B → Result C ParseError) (answer : Result A ParseError)
     → result_and_then second (result_and_then first answer) ≡ result_and_then (λ value. result_and_then second (first value)) answer

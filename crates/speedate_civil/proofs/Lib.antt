@@ -8,7 +8,7 @@ pub mod DateOrderLemmas
 pub mod DateTimeInstantLemmas
 mod DateTimeLemmas
 pub mod DateTimeTimestampLemmas
-pub mod DayNumberLemmas
+mod DayNumberLemmas
 mod FrontLemmas
 pub mod InstantOrderLemmas
 mod NumberTextLemmas

@@ -1,32 +1,23 @@
-use Rattle.std.proofs.Common.{◌≡◌, ◌∙◌, ap, List, ℕ, Result, Ok, Err}
+use Rattle.std.proofs.Common.{◌∙◌, ap, Ok, Err}
 use Rattle.std.proofs.lemmas.Result.{err_from_is_err_and}
 use Rattle.speedate_base.specs.declared.config.MicrosecondsPrecisionOverflowBehavior.{MicrosecondsPrecisionOverflowBehavior}
 use Rattle.speedate_base.specs.declared.config.TimeConfig.{TimeConfig}
-use Rattle.speedate_base.specs.declared.faults.ParseError.{ParseError}
 use Rattle.speedate_base.specs.Requirement.{meets, result_and_then}
-use Rattle.speedate_base.proofs.RequirementLemmas.{meets-and_then}
+use Rattle.speedate_base.proofs.RequirementLemmas.{meets-read}
 use Rattle.speedate_civil.specs.DateTime.{parts}
 use Rattle.speedate_civil.specs.DateAndTime.{DateAndTime}
-use Rattle.speedate_civil.specs.StrictText.{standard_date_time, strict_date_time_answer}
+use Rattle.speedate_civil.specs.StrictText.{standard_date_time}
 use Rattle.speedate_civil.specs.DateTimeText.{date_time_answer}
 use Rattle.speedate_civil.proofs.Rfc3339Lemmas.{date-time-standard}
 use Rattle.speedate_civil.proofs.datetime.DateTime.parse_bytes_strict.Goals as goal
 
--- a value that was read, if its text then meets the table
-known : (behavior : MicrosecondsPrecisionOverflowBehavior) (text : List ℕ) (value : DateAndTime) (ended : Result (Unit {0}) ParseError)
-    → Ok value ≡ date_time_answer behavior text → ended ≡ meets (standard_date_time text) (Ok tt)
-    → result_and_then (λ (met : Unit {0}). Ok value) ended ≡ strict_date_time_answer behavior text
-known behavior text value ended read is =
-    ap (result_and_then (λ (met : Unit {0}). Ok value)) is ∙ meets-and_then (λ (met : Unit {0}). Ok value) (standard_date_time text) (Ok tt)
-    ∙ ap (result_and_then (λ (found : DateAndTime). meets (standard_date_time text) (Ok found))) read
-
 pub returns-in_err-require_standard_date_time-clause-answer : goal.returns-in_err-require_standard_date_time-clause-answer
 returns-in_err-require_standard_date_time-clause-answer c =
     let p = err_from_is_err_and c.from_residual-in_err-require_standard_date_time.result c.from_residual-in_err-require_standard_date_time.ensures.1 in
-    rw (p.1, p.2) (known c.args.behavior c.args.bytes.now (parts c.in_ok-value.value) _ (c.in_ok-value.ensures.answer ∙ ap (λ (behavior : MicrosecondsPrecisionOverflowBehavior). date_time_answer behavior c.args.bytes.now) (ap (λ (config : TimeConfig). config.microseconds_precision_overflow_behavior) c.build-config.ensures.built ∙ c.microseconds_precision_overflow_behavior.ensures.behavior)) c.in_err-require_standard_date_time.ensures.answer)
+    rw (p.1, p.2) (meets-read (standard_date_time c.args.bytes.now) (parts c.in_ok-value.value) _ _ (c.in_ok-value.ensures.answer ∙ ap (λ (behavior : MicrosecondsPrecisionOverflowBehavior). date_time_answer behavior c.args.bytes.now) (ap (λ (config : TimeConfig). config.microseconds_precision_overflow_behavior) c.build-config.ensures.built ∙ c.microseconds_precision_overflow_behavior.ensures.behavior)) c.in_err-require_standard_date_time.ensures.answer)
 
 pub returns-clause-answer : goal.returns-clause-answer
-returns-clause-answer c = known c.args.behavior c.args.bytes.now (parts c.in_ok-value.value) _ (c.in_ok-value.ensures.answer ∙ ap (λ (behavior : MicrosecondsPrecisionOverflowBehavior). date_time_answer behavior c.args.bytes.now) (ap (λ (config : TimeConfig). config.microseconds_precision_overflow_behavior) c.build-config.ensures.built ∙ c.microseconds_precision_overflow_behavior.ensures.behavior)) c.in_ok-require_standard_date_time.ensures.answer
+returns-clause-answer c = meets-read (standard_date_time c.args.bytes.now) (parts c.in_ok-value.value) _ _ (c.in_ok-value.ensures.answer ∙ ap (λ (behavior : MicrosecondsPrecisionOverflowBehavior). date_time_answer behavior c.args.bytes.now) (ap (λ (config : TimeConfig). config.microseconds_precision_overflow_behavior) c.build-config.ensures.built ∙ c.microseconds_precision_overflow_behavior.ensures.behavior)) c.in_ok-require_standard_date_time.ensures.answer
 
 pub returns-in_err-value-clause-standard : goal.returns-in_err-value-clause-standard
 returns-in_err-value-clause-standard c =

@@ -1,31 +1,20 @@
-use Rattle.std.proofs.Common.{◌≡◌, ◌∙◌, ap, List, ℕ, Result, Ok, Err}
+use Rattle.std.proofs.Common.{ap, Ok, Err}
 use Rattle.std.proofs.lemmas.Result.{err_from_is_err_and}
-use Rattle.speedate_base.specs.declared.config.MicrosecondsPrecisionOverflowBehavior.{MicrosecondsPrecisionOverflowBehavior}
-use Rattle.speedate_base.specs.declared.faults.ParseError.{ParseError}
 use Rattle.speedate_base.specs.Requirement.{meets, result_and_then}
-use Rattle.speedate_base.proofs.RequirementLemmas.{meets-and_then}
+use Rattle.speedate_base.proofs.RequirementLemmas.{meets-read}
 use Rattle.speedate_civil.specs.Time.{parts}
 use Rattle.speedate_civil.specs.TimeOfDay.{TimeOfDay}
-use Rattle.speedate_civil.specs.StrictText.{standard_time, strict_time_answer}
-use Rattle.speedate_civil.specs.TimeText.{time_answer}
+use Rattle.speedate_civil.specs.StrictText.{standard_time}
 use Rattle.speedate_civil.proofs.Rfc3339Lemmas.{time-standard}
 use Rattle.speedate_civil.proofs.time.Time.parse_bytes_strict.Goals as goal
-
--- a value that was read, if its text then meets the table
-known : (behavior : MicrosecondsPrecisionOverflowBehavior) (text : List ℕ) (value : TimeOfDay) (ended : Result (Unit {0}) ParseError)
-    → Ok value ≡ time_answer behavior text → ended ≡ meets (standard_time text) (Ok tt)
-    → result_and_then (λ (met : Unit {0}). Ok value) ended ≡ strict_time_answer behavior text
-known behavior text value ended read is =
-    ap (result_and_then (λ (met : Unit {0}). Ok value)) is ∙ meets-and_then (λ (met : Unit {0}). Ok value) (standard_time text) (Ok tt)
-    ∙ ap (result_and_then (λ (found : TimeOfDay). meets (standard_time text) (Ok found))) read
 
 pub returns-in_err-require_standard-clause-answer : goal.returns-in_err-require_standard-clause-answer
 returns-in_err-require_standard-clause-answer c =
     let p = err_from_is_err_and c.from_residual-in_err-require_standard.result c.from_residual-in_err-require_standard.ensures.1 in
-    rw (p.1, p.2) (known c.args.behavior c.args.bytes.now (parts c.in_ok-time.time) _ c.in_ok-time.ensures.answer c.in_err-require_standard.ensures.answer)
+    rw (p.1, p.2) (meets-read (standard_time c.args.bytes.now) (parts c.in_ok-time.time) _ _ c.in_ok-time.ensures.answer c.in_err-require_standard.ensures.answer)
 
 pub returns-clause-answer : goal.returns-clause-answer
-returns-clause-answer c = known c.args.behavior c.args.bytes.now (parts c.in_ok-time.time) _ c.in_ok-time.ensures.answer c.in_ok-require_standard.ensures.answer
+returns-clause-answer c = meets-read (standard_time c.args.bytes.now) (parts c.in_ok-time.time) _ _ c.in_ok-time.ensures.answer c.in_ok-require_standard.ensures.answer
 
 pub returns-in_err-time-clause-standard : goal.returns-in_err-time-clause-standard
 returns-in_err-time-clause-standard c =
