@@ -1,4 +1,5 @@
 pub mod Ledger
+pub mod Hours
 pub mod Log
 pub mod Schedule
 pub mod Trace

@@ -7,6 +7,7 @@ pub mod canonical;
 pub mod clock;
 pub mod deadline;
 pub mod expiry;
+pub mod hours;
 pub mod ledger;
 pub mod log;
 pub mod options;

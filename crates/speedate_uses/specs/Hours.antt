@@ -1,0 +1,27 @@
+-- The lines of a work log: the date-time at which work began, a space, and how long it lasted.
+use Rattle.std.specs.Prelude.{ℕ, List, [], ◌∷◌, drop, ◌==◌, if◌then◌else◌, ℤ, pos, ◌+ℤ◌, Result, Err}
+use Rattle.speedate.specs.declared.IsoOrder.TheVariants as order
+use Rattle.speedate.specs.declared.MicrosecondsPrecisionOverflowBehavior.TheVariants as behavior
+use Rattle.speedate.specs.declared.ParseError.{ParseError}
+use Rattle.speedate.specs.declared.ParseError.TheVariants as fault
+use Rattle.speedate.specs.Ascii.{space}
+use Rattle.speedate.specs.DateAndTime.{DateAndTime}
+use Rattle.speedate.specs.DateTimeText.{date_time_front}
+use Rattle.speedate.specs.DurationAnswer.{duration_answer}
+use Rattle.speedate.specs.DurationNumbers.{DurationNumbers, signed_seconds}
+use Rattle.speedate.specs.Requirement.{result_map, result_and_then}
+
+-- the duration after a space
+abbrev pub length_answer : List ℕ → Result DurationNumbers ParseError
+length_answer [] = Err fault.TooShort
+length_answer (byte ∷ text) = if byte == space then duration_answer order.Lax behavior.Error text else Err fault.ExtraCharacters
+
+-- when work began, and how long it lasted
+abbrev pub shift_answer : List ℕ → Result (DateAndTime × DurationNumbers) ParseError
+shift_answer line =
+    result_and_then (λ front. result_map (λ length. (front.0, length)) (length_answer (drop front.1 line))) (date_time_front behavior.Error line)
+
+-- the seconds of all durations together
+abbrev pub total_seconds : List DurationNumbers → ℤ
+total_seconds [] = pos 0
+total_seconds (length ∷ lengths) = signed_seconds length +ℤ total_seconds lengths

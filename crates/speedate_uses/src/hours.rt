@@ -1,0 +1,83 @@
+//! A log of working hours: each line has the date-time at which work began, and how long it lasted.
+
+ghost use Rattle.std.specs.Prelude.{◌≡◌, ◌*◌, ◌≤◌, length, map, unsigned_abs};
+ghost use Rattle.speedate.specs.DateTime.{parts as start_parts};
+ghost use Rattle.speedate.specs.Duration.{parts};
+ghost use Rattle.speedate.specs.Requirement.{result_map};
+ghost use Rattle.speedate_uses.specs.Hours.{length_answer, shift_answer, total_seconds};
+
+use speedate::{DateTime, Duration, ParseError, TimeConfig};
+
+/// When work began, and how long it lasted: nine in the morning, and seven and a half hours, for
+/// `2026-11-23T09:00:00Z PT7H30M`.
+pub fn shift(line: &[u8]) -> Result<(DateTime, Duration), ParseError>
+    ensures answer { result_map (λ shift. (start_parts shift.0, parts shift.1)) result ≡ shift_answer line.now }
+{
+    let (start, size) = DateTime::parse_front(line, &TimeConfig::default())?;
+    let length = length_after(&line[size..])?;
+    Ok((start, length))
+}
+
+/// The duration after a space: the bytes between two readers are matched in a function of their own.
+fn length_after(rest: &[u8]) -> Result<Duration, ParseError>
+    ensures answer { result_map parts result ≡ length_answer rest.now }
+{
+    match rest {
+        [b' ', text @ ..] => Duration::parse_bytes(text),
+        [] => Err(ParseError::TooShort),
+        _ => Err(ParseError::ExtraCharacters),
+    }
+}
+
+/// The whole seconds of all lengths together: 28,800 for `PT7H30M` and `PT30M`.
+pub fn worked_seconds(lengths: &[Duration]) -> i64
+    requires few { length lengths.now ≤ 100000 }
+    ensures total { result ≡ total_seconds (map parts lengths.now) }
+    ensures bound { unsigned_abs result ≤ 86400000000000 * length lengths.now }
+{
+    match lengths {
+        [] => 0,
+        [first, others @ ..] => first.signed_total_seconds() + worked_seconds(others),
+    }
+}
+
+#[cfg(test)]
+mod tests {
+    use super::{shift, worked_seconds};
+    use crate::checks::{same, value};
+    use speedate::{Duration, ParseError};
+    use std::process::Abort;
+
+    fn length<R: Abort>(rt: &R, line: &str) -> Duration {
+        let (_, length) = shift(line.as_bytes()).ok().expect(rt, line);
+        length
+    }
+
+    #[test]
+    fn hours_of_two_days(rt: HostRuntime) {
+        let lengths = [
+            length(&rt, "2026-11-23T09:00:00Z PT7H30M"),
+            length(&rt, "2026-11-24T09:00:00+01:00 0:30:00"),
+            value(&rt, "-PT1S"),
+        ];
+        same(&rt, worked_seconds(&lengths), 28_799, "two days");
+    }
+
+    #[test]
+    fn lines_that_are_refused(rt: HostRuntime) {
+        let line = b"2026-11-23T09:00:00Z";
+        same(
+            &rt,
+            shift(line).err(),
+            Some(ParseError::TooShort),
+            "no length",
+        );
+        let line = b"2026-11-23T09:00:00Z,PT1H";
+        same(
+            &rt,
+            shift(line).err(),
+            Some(ParseError::ExtraCharacters),
+            "comma",
+        );
+    }
+}
