@@ -29,6 +29,13 @@
 extern "C" {
 #endif
 
+/* The version of this interface. It grows if names, structs or numbers of codes change or go; calls and codes that are
+ * added leave it. */
+#define SPEEDATE_VERSION 1
+
+/* The version of the library that is called, which is SPEEDATE_VERSION of its header. */
+int speedate_version(void);
+
 /* ---- Codes ---- */
 
 /* What a call returns. A number never changes its meaning; later versions may add numbers. */

@@ -283,6 +283,10 @@ static int run_text(const char *text, size_t size) {
 /* Calls of values. */
 static int run_value(void) {
     field = 1;
+    if (is_call("version")) {
+        snprintf(answer, sizeof answer, speedate_version() == SPEEDATE_VERSION ? "ok" : "another one");
+        return 1;
+    }
     PRINT(code_name, int, (int)number)
     PRINT(code_documentation, int, (int)number)
     CHECK(date_check, SpeedateDate, date)
