@@ -6,7 +6,7 @@ use Rattle.speedate_base.specs.DigitRuns.{digits_value}
 use Rattle.speedate_base.specs.Nearest.{nearest}
 use Rattle.speedate_base.specs.Numbers.{DecimalParts, with_sign}
 use Rattle.speedate_base.specs.Requirement.{Requirement, ◌else_fault◌, ◌implies◌}
-use Rattle.speedate_base.specs.Refusal.{refuses_digits}
+use Rattle.speedate_base.specs.Config.{refuses_digits}
 use Rattle.speedate_base.specs.Timestamp.{Instant, UnitRow, unit_row, inferred_seconds_max, instant_at}
 
 -- a decimal is its digits, as one number, over ten to the number of those after the point

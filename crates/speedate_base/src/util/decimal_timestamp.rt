@@ -4,7 +4,7 @@ ghost use Rattle.std.specs.Prelude.{◌≡◌, ◌<◌, ◌≤◌, ◌^◌, ◌=
 ghost use Rattle.std.specs.Char.{is_ascii_digit};
 ghost use Rattle.std.specs.List.{list_all};
 ghost use Rattle.speedate_base.specs.DecimalTimestamp.{decimal_digits, decimal_scale, decimal_row, decimal_instant};
-ghost use Rattle.speedate_base.specs.UnixUnit.{row};
+ghost use Rattle.speedate_base.specs.UnixTime.{row};
 ghost use Rattle.speedate_base.specs.DigitRuns.{digits_value};
 ghost use Rattle.speedate_base.specs.IntFloat.{parts as decimal_parts};
 ghost use Rattle.speedate_base.specs.Nearest.{nearest};

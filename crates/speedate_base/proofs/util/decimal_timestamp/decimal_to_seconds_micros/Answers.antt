@@ -6,7 +6,7 @@ use Rattle.std.specs.Char.{is_ascii_digit}
 use Rattle.std.specs.List.{list_all}
 use Rattle.std.proofs.Math.Nat.{mul-le-mul_right, le-mul_of_pos_right}
 use Rattle.speedate_base.specs.DecimalTimestamp.{decimal_microsecond}
-use Rattle.speedate_base.specs.UnixUnit.{row}
+use Rattle.speedate_base.specs.UnixTime.{row}
 use Rattle.speedate_base.specs.DigitRuns.{digits_value}
 use Rattle.speedate_base.specs.IntFloat.{parts as decimal_parts}
 use Rattle.speedate_base.proofs.NearestLemmas.{scale-some}
