@@ -12,12 +12,12 @@ use Rattle.speedate_base.specs.declared.faults.ParseError.{ParseError}
 use Rattle.speedate_base.specs.Numbers.{with_sign}
 use Rattle.speedate_base.specs.Offset.{seconds_per_day}
 use Rattle.speedate_base.specs.Timestamp.{Instant, first_second, last_second, instant_at}
-use Rattle.speedate_base.proofs.TimestampLemmas.{instant_microsecond}
+use Rattle.speedate_base.proofs.TimestampLemmas.{instant_microsecond, instant_at-microsecond, instant_at-is}
 use Rattle.speedate_civil.specs.declared.datetime.DateTime.{DateTime}
 use Rattle.speedate_civil.specs.DateAndTime.{DateAndTime, IsDateAndTime, local_second, local_microsecond, utc_microsecond}
 use Rattle.speedate_civil.specs.DateTime.{parts as date_time_parts}
 use Rattle.speedate_civil.specs.DateTimeTimestamp.{IsShownAt, instant_date_time}
-use Rattle.speedate_civil.proofs.DateTimeInstantLemmas.{million-each, instant_date_time-shown}
+use Rattle.speedate_civil.proofs.DateTimeInstantLemmas.{instant_date_time-shown}
 use Rattle.speedate_civil.proofs.DateTimeTimestampLemmas.{instant_date_time-local}
 use Rattle.speedate_civil.proofs.DateTimeValueLemmas.{is_date_and_time, offset-small, local_second-late, local_second-early}
 use Rattle.speedate_civil.proofs.InstantOrderLemmas.{left-order}
@@ -77,14 +77,14 @@ sums-joined : (second length seconds microseconds : ℤ) (own : ℕ) → length 
 sums-joined second length seconds microseconds own same = omega (arith, ints, same)
 
 pub ended-at : (instant : Instant) (start : DateAndTime) (numbers : DurationNumbers) (second microsecond : ℤ)
-    → instant ≡ instant_at 1000000 (pos 1000000 *ℤ second +ℤ microsecond)
+    → instant ≡ instant_at (pos 1000000 *ℤ second +ℤ microsecond)
     → second ≡ local_second start +ℤ signed_seconds numbers → microsecond ≡ pos start.time.microsecond +ℤ signed_microsecond numbers
-    → instant ≡ instant_at 1000000 (local_microsecond start +ℤ signed_length numbers)
+    → instant ≡ instant_at (local_microsecond start +ℤ signed_length numbers)
 ended-at instant start numbers second microsecond is seconds microseconds =
     is
-    ∙ ap (λ (n : ℤ). instant_at 1000000 (pos 1000000 *ℤ n +ℤ microsecond)) seconds
-    ∙ ap (λ (n : ℤ). instant_at 1000000 (pos 1000000 *ℤ (local_second start +ℤ signed_seconds numbers) +ℤ n)) microseconds
-    ∙ ap (instant_at 1000000)
+    ∙ ap (λ (n : ℤ). instant_at (pos 1000000 *ℤ n +ℤ microsecond)) seconds
+    ∙ ap (λ (n : ℤ). instant_at (pos 1000000 *ℤ (local_second start +ℤ signed_seconds numbers) +ℤ n)) microseconds
+    ∙ ap (instant_at)
     (sums-joined (local_second start) (signed_length numbers) (signed_seconds numbers) (signed_microsecond numbers) start.time.microsecond (signed_length-joined numbers))
 
 -- a clock that shows an instant so much later lies so much later
@@ -93,11 +93,11 @@ moved : (second local offset length : ℤ) (microsecond own : ℕ)
     → pos 1000000 *ℤ (second -ℤ offset) +ℤ pos microsecond ≡ (pos 1000000 *ℤ (local -ℤ offset) +ℤ pos own) +ℤ length
 moved second local offset length microsecond own same = omega (arith, ints, same)
 
-shown-later : (start value : DateAndTime) (instant : Instant) (length : ℤ) → instant ≡ instant_at 1000000 (local_microsecond start +ℤ length)
+shown-later : (start value : DateAndTime) (instant : Instant) (length : ℤ) → instant ≡ instant_at (local_microsecond start +ℤ length)
     → IsShownAt start.time.offset instant value → utc_microsecond value ≡ utc_microsecond start +ℤ length
 shown-later start value instant length same shown =
     let offset = unwrap_or start.time.offset (pos 0) in
-    let joined = ap instant_microsecond same ∙ million-each (local_microsecond start +ℤ length) in
+    let joined = ap instant_microsecond same ∙ instant_at-microsecond (local_microsecond start +ℤ length) in
     ap (λ (n : ℤ). pos 1000000 *ℤ (n -ℤ unwrap_or value.time.offset (pos 0)) +ℤ pos value.time.microsecond) shown.second
     ∙ ap (λ (n : ℕ). pos 1000000 *ℤ (instant.second -ℤ unwrap_or value.time.offset (pos 0)) +ℤ pos n) shown.microsecond
     ∙ ap (λ (given : Option ℤ). pos 1000000 *ℤ (instant.second -ℤ unwrap_or given (pos 0)) +ℤ pos instant.microsecond) shown.attached
@@ -107,7 +107,7 @@ ended : (answer : Result DateAndTime ParseError) (length : ℤ) (start : DateAnd
     → ((value : DateAndTime) → answer ≡ Ok value → date_time_after length start ≡ Ok value)
     → IfOk answer (λ end. utc_microsecond end ≡ utc_microsecond start +ℤ length)
 ended (Ok value) length start same =
-    let instant = instant_at 1000000 (local_microsecond start +ℤ length) in
+    let instant = instant_at (local_microsecond start +ℤ length) in
     shown-later start value instant length refl (instant_date_time-shown start.time.offset instant value (same value refl))
 ended (Err fault) length start same = tt
 
@@ -116,7 +116,7 @@ pub date_time_after-ends : (length : ℤ) (start : DateAndTime) → IfOk (date_t
 date_time_after-ends length start = ended (date_time_after length start) length start (λ value same. same)
 
 pub shown-ends : (result : Result DateTime ParseError) (length : ℤ) (start : DateAndTime) (instant : Instant)
-    → instant ≡ instant_at 1000000 (local_microsecond start +ℤ length)
+    → instant ≡ instant_at (local_microsecond start +ℤ length)
     → IfOk result (λ value. IsShownAt start.time.offset instant (date_time_parts value))
     → IfOk result (λ end. utc_microsecond (date_time_parts end) ≡ utc_microsecond start +ℤ length)
 shown-ends result length start instant same shown =
@@ -188,23 +188,10 @@ between-days numbers length earlier later valid other is same =
     (offset-small later.time.offset other.time.offset) (offset-small earlier.time.offset valid.time.offset)
     other.time.microsecond valid.time.microsecond))
 
--- an instant of a second and a microsecond has them
-second-kept : (at second : ℤ) (microsecond : ℕ) → microsecond ≤ 999999 → at ≡ pos 1000000 *ℤ second +ℤ pos microsecond
-    → int_div_euclid at (pos 1000000) ≡ second
-second-kept (pos n) second microsecond small is = omega (arith, ints, is)
-second-kept (negsuc n) second microsecond small is = omega (arith, ints, is)
-
-microsecond-kept : (at second : ℤ) (microsecond : ℕ) → microsecond ≤ 999999 → at ≡ pos 1000000 *ℤ second +ℤ pos microsecond
-    → unsigned_abs (int_rem_euclid at (pos 1000000)) * (1000000 / 1000000) ≡ microsecond
-microsecond-kept (pos n) second microsecond small is = omega (arith, ints, is)
-microsecond-kept (negsuc n) second microsecond small is = omega (arith, ints, is)
-
+-- the instant at a date-time's microsecond, as a clock shows it
 local_instant : (value : DateAndTime) → value.time.microsecond ≤ 999999
-    → instant_at 1000000 (local_microsecond value) ≡ record { second = local_second value; microsecond = value.time.microsecond }
-local_instant value small = λ i. record {
-  second = second-kept (local_microsecond value) (local_second value) value.time.microsecond small refl i;
-  microsecond = microsecond-kept (local_microsecond value) (local_second value) value.time.microsecond small refl i;
-}
+    → instant_at (local_microsecond value) ≡ record { second = local_second value; microsecond = value.time.microsecond }
+local_instant value small = instant_at-is (local_microsecond value) (record { second = local_second value; microsecond = value.time.microsecond }) small refl
 
 -- at one offset clocks are as far apart as the instants are
 unmoved : (second local offset length : ℤ) (microsecond own : ℕ)
@@ -218,7 +205,7 @@ pub date_time_after-exact : (length : ℤ) (start end : DateAndTime) → IsDateA
 date_time_after-exact length start end valid attached same =
     let offset = unwrap_or start.time.offset (pos 0) in
     let later = ap (λ (given : Option ℤ). pos 1000000 *ℤ (local_second end -ℤ unwrap_or given (pos 0)) +ℤ pos end.time.microsecond) (sym attached) ∙ same in
-    ap (λ (n : ℤ). instant_date_time start.time.offset (instant_at 1000000 n))
+    ap (λ (n : ℤ). instant_date_time start.time.offset (instant_at n))
     (unmoved (local_second end) (local_second start) offset length end.time.microsecond start.time.microsecond later)
     ∙ ap (instant_date_time start.time.offset) (local_instant end valid.time.microsecond)
     ∙ ap (λ (given : Option ℤ). instant_date_time given (record { second = local_second end; microsecond = end.time.microsecond })) (sym attached)

@@ -35,7 +35,7 @@ duration_between earlier later = duration_of_length (utc_microsecond later -ℤ 
 -- the date-time so many microseconds after another, at its offset, or the fault of a date that is outside the years 0000 to
 -- 9999 there
 abbrev pub date_time_after : ℤ → DateAndTime → Result DateAndTime ParseError
-date_time_after length start = instant_date_time start.time.offset (instant_at 1000000 (local_microsecond start +ℤ length))
+date_time_after length start = instant_date_time start.time.offset (instant_at (local_microsecond start +ℤ length))
 
 -- the duration of so many days; zero is positive
 abbrev pub duration_of_days : ℤ → DurationNumbers

@@ -62,11 +62,11 @@ with_sign-only true first second same = grind (arith, ints, same)
 
 -- the microseconds of the whole part, and those of the fraction to the nearest, are those of the decimal to the nearest
 pub decimal_microsecond-sum : (row : UnitRow) (decimal : DecimalParts) (part : ℕ)
-    → with_sign decimal.negative part ≡ nearest (with_sign decimal.negative (digits_value decimal.fraction * (1000000 / row.per_second))) (decimal_scale decimal)
-    → decimal_microsecond row decimal ≡ with_sign decimal.negative (digits_value decimal.whole * (1000000 / row.per_second) + part)
+    → with_sign decimal.negative part ≡ nearest (with_sign decimal.negative (digits_value decimal.fraction * row.microseconds)) (decimal_scale decimal)
+    → decimal_microsecond row decimal ≡ with_sign decimal.negative (digits_value decimal.whole * row.microseconds + part)
 decimal_microsecond-sum row decimal part is =
     let negative = decimal.negative in
-    let worth = 1000000 / row.per_second in
+    let worth = row.microseconds in
     let scale = decimal_scale decimal in
     let some = scale-some (length decimal.fraction) in
     let whole = digits_value decimal.whole in
@@ -88,22 +88,22 @@ too_small : (second : ℤ) (instant : Instant) → instant.second ≡ second →
 too_small second instant is low = rw (is, low) refl
 
 pub far-range : (negative : Bool) (size : ℕ) → 2 ^ 60 < size
-    → range_answer (instant_at 1000000 (with_sign negative size)) ≡ Err (if negative then fault.DateTooSmall else fault.DateTooLarge)
+    → range_answer (instant_at (with_sign negative size)) ≡ Err (if negative then fault.DateTooSmall else fault.DateTooLarge)
 far-range false size far =
-    too_large (pos (size / 1000000)) (instant_at 1000000 (pos size)) refl refl (grind (arith, ints, nat_tests))
+    too_large (pos (size / 1000000)) (instant_at (pos size)) refl refl (grind (arith, ints, nat_tests))
 far-range true zero far = absurd (omega arith)
 far-range true (suc size) far =
-    too_small (negsuc (size / 1000000)) (instant_at 1000000 (neg_ℤ (pos (suc size)))) refl (grind (arith, ints, nat_tests))
+    too_small (negsuc (size / 1000000)) (instant_at (neg_ℤ (pos (suc size)))) refl (grind (arith, ints, nat_tests))
 
 -- so does that of a decimal whose whole part is far
-pub decimal-far : (row : UnitRow) (decimal : DecimalParts) → 2 ^ 60 < digits_value decimal.whole * (1000000 / row.per_second)
+pub decimal-far : (row : UnitRow) (decimal : DecimalParts) → 2 ^ 60 < digits_value decimal.whole * row.microseconds
     → range_answer (decimal_instant row decimal) ≡ Err (if decimal.negative then fault.DateTooSmall else fault.DateTooLarge)
 decimal-far row decimal far =
     let negative = decimal.negative in
-    let worth = 1000000 / row.per_second in
+    let worth = row.microseconds in
     let scale = decimal_scale decimal in
     let rest = digits_value decimal.fraction * worth in
     let part = halved negative (quotient negative (2 * rest) scale) in
     let sum = decimal_microsecond-sum row decimal part (sym (nearest-halved negative rest scale (scale-some (length decimal.fraction)))) in
-    ap (λ (n : ℤ). range_answer (instant_at 1000000 n)) sum
+    ap (λ (n : ℤ). range_answer (instant_at n)) sum
     ∙ far-range negative (digits_value decimal.whole * worth + part) (omega (arith, far))

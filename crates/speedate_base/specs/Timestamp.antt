@@ -1,5 +1,5 @@
 -- Timestamps in seconds, milliseconds or microseconds since 1970-01-01T00:00:00 (Unix time), and the instants that they mean.
-use Rattle.std.specs.Prelude.{◌≡◌, ℕ, ◌*◌, ◌/◌, ◌^◌, Bool, true, IsTrue, refl, nat_le, nat_lt, if◌then◌else◌, List, [], ◌∷◌, ℤ, pos, neg_ℤ, int_le, unsigned_abs, Result, Ok}
+use Rattle.std.specs.Prelude.{ℕ, ◌^◌, Bool, true, IsTrue, nat_le, nat_lt, if◌then◌else◌, List, [], ◌∷◌, ℤ, pos, neg_ℤ, ◌*ℤ◌, int_le, unsigned_abs, Result, Ok}
 use Rattle.std.specs.Int.{int_div_euclid, int_rem_euclid}
 use Rattle.speedate_base.specs.declared.config.TimestampUnit.{TimestampUnit}
 use Rattle.speedate_base.specs.declared.config.TimestampUnit.TheVariants as unit
@@ -12,22 +12,20 @@ pub record Instant : Type 0 where
   pub second : ℤ
   pub microsecond : ℕ
 
--- a unit of timestamps: how many of it make a second, how many digits after a point are whole microseconds, and the fault of a
--- text with more; a second has a million microseconds, so the one number says the other
+-- a unit of timestamps: its microseconds, how many digits after a point are whole ones, and the fault of a text with more
 pub record UnitRow : Type 0 where
-  pub per_second : ℕ
+  pub microseconds : ℕ
   pub digits : ℕ
   pub too_long : ParseError
-  pub whole : per_second * 10 ^ digits ≡ 1000000
 
 abbrev pub second_row : UnitRow
-second_row = record { per_second = 1; digits = 6; too_long = fault.SecondFractionTooLong; whole = refl }
+second_row = record { microseconds = 1000000; digits = 6; too_long = fault.SecondFractionTooLong }
 
 abbrev pub millisecond_row : UnitRow
-millisecond_row = record { per_second = 1000; digits = 3; too_long = fault.MillisecondFractionTooLong; whole = refl }
+millisecond_row = record { microseconds = 1000; digits = 3; too_long = fault.MillisecondFractionTooLong }
 
 abbrev pub microsecond_row : UnitRow
-microsecond_row = record { per_second = 1000000; digits = 0; too_long = fault.MicrosecondFractionTooLong; whole = refl }
+microsecond_row = record { microseconds = 1; digits = 0; too_long = fault.MicrosecondFractionTooLong }
 
 -- the largest timestamp, without its sign, that is in seconds if its unit is inferred
 abbrev pub inferred_seconds_max : ℕ
@@ -40,15 +38,16 @@ unit_row unit.Millisecond few = millisecond_row
 unit_row unit.Microsecond few = microsecond_row
 unit_row unit.Infer few = if few then second_row else millisecond_row
 
--- how many of its unit make a second
-abbrev pub per_second : TimestampUnit → ℤ → ℕ
-per_second unit timestamp = (unit_row unit (nat_le (unsigned_abs timestamp) inferred_seconds_max)).per_second
+-- the microseconds since 1970-01-01T00:00:00 that a timestamp means
+abbrev pub timestamp_microsecond : TimestampUnit → ℤ → ℤ
+timestamp_microsecond unit timestamp =
+    pos (unit_row unit (nat_le (unsigned_abs timestamp) inferred_seconds_max)).microseconds *ℤ timestamp
 
--- the instant of a timestamp of whose unit so many make a second
-abbrev pub instant_at : ℕ → ℤ → Instant
-instant_at count timestamp = record {
-  second = int_div_euclid timestamp (pos count);
-  microsecond = unsigned_abs (int_rem_euclid timestamp (pos count)) * (1000000 / count);
+-- the instant so many microseconds after 1970-01-01T00:00:00
+abbrev pub instant_at : ℤ → Instant
+instant_at microsecond = record {
+  second = int_div_euclid microsecond (pos 1000000);
+  microsecond = unsigned_abs (int_rem_euclid microsecond (pos 1000000));
 }
 
 -- a timestamp has a unit: one is inferred only if the timestamp without its sign is below 2^63, which `i64::MIN` is not
@@ -62,7 +61,7 @@ unit_table unit timestamp = (has_unit unit timestamp else_fault fault.DateTooSma
 
 -- the instant of a timestamp, or its fault
 abbrev pub instant_answer : TimestampUnit → ℤ → Result Instant ParseError
-instant_answer unit timestamp = meets (unit_table unit timestamp) (Ok (instant_at (per_second unit timestamp) timestamp))
+instant_answer unit timestamp = meets (unit_table unit timestamp) (Ok (instant_at (timestamp_microsecond unit timestamp)))
 
 -- the first second of the year 0000, and the last of the year 9999
 abbrev pub first_second : ℤ

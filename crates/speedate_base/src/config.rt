@@ -1,10 +1,10 @@
 //! Configurations: the unit of timestamps, how times are read, and which offset the values of
 //! timestamps get.
 
-ghost use Rattle.std.specs.Prelude.{◌≡◌, IfOk, IsTrue, Ok, nat_le};
+ghost use Rattle.std.specs.Prelude.{◌≡◌, IsTrue, Ok, nat_le};
 ghost use Rattle.std.specs.Option.{ForSome};
+ghost use Rattle.speedate_base.specs.declared.config.TimestampUnit.TheVariants as unit;
 ghost use Rattle.speedate_base.specs.Offset.{IsOffset, is_offset, offset_table};
-ghost use Rattle.speedate_base.specs.Refusal.{refuses_digits};
 ghost use Rattle.speedate_base.specs.Requirement.{◌implies◌, meets, result_map};
 
 mod choice;
@@ -60,19 +60,19 @@ pub enum IsoOrder {
     Strict,
 }
 
-/// Whether a text may have `count` digits after its decimal mark, if the first `most` of them reach the
-/// microsecond: 7 with a `most` of 6 is true for `Truncate` and false for `Error`.
-#[inline]
-pub fn takes_digits(
-    behavior: MicrosecondsPrecisionOverflowBehavior,
-    count: usize,
-    most: usize,
-) -> bool
-    ensures taken { result ≡ (refuses_digits behavior implies nat_le count most) }
-{
-    match behavior {
-        MicrosecondsPrecisionOverflowBehavior::Truncate => true,
-        MicrosecondsPrecisionOverflowBehavior::Error => count <= most,
+impl MicrosecondsPrecisionOverflowBehavior {
+    ghost use Rattle.speedate_base.specs.Config.{refuses_digits};
+
+    /// Whether a text may have `count` digits after its decimal mark, if the first `most` of them reach
+    /// the microsecond: 7 with a `most` of 6 is true for `Truncate` and false for `Error`.
+    #[inline]
+    pub fn takes_digits(self, count: usize, most: usize) -> bool
+        ensures taken { result ≡ (refuses_digits self implies nat_le count most) }
+    {
+        match self {
+            MicrosecondsPrecisionOverflowBehavior::Truncate => true,
+            MicrosecondsPrecisionOverflowBehavior::Error => count <= most,
+        }
     }
 }
 
@@ -95,20 +95,16 @@ pub struct DateConfig {
 }
 
 impl DateConfig {
-    ghost use Rattle.speedate_base.specs.DateConfig.{IsDefault};
-
     /// A builder of a configuration: `DateConfig::builder().build()` is the default one.
     pub fn builder() -> DateConfigBuilder
-        ensures default { IsDefault result }
+        ensures default { result.timestamp_unit ≡ unit.Infer }
     {
         DateConfigBuilder::new()
     }
 }
 
 impl Default for DateConfig {
-    ghost use Rattle.speedate_base.specs.DateConfig.{IsDefault};
-
-    ghost is_default = { IsDefault };
+    ghost is_default = { λ config. config.timestamp_unit ≡ unit.Infer };
 
     /// The unit of timestamps is inferred.
     fn default() -> Self {
@@ -137,11 +133,9 @@ impl Model for DateConfigBuilder {
 
 impl DateConfigBuilder {
     ghost use Rattle.std.specs.Prelude.{◌≡◌};
-    ghost use Rattle.speedate_base.specs.DateConfig.{IsDefault};
-
     /// A builder of the default configuration; `DateConfig::builder()` is the same.
     pub fn new() -> Self
-        ensures default { IsDefault result }
+        ensures default { result.timestamp_unit ≡ unit.Infer }
     {
         DateConfigBuilder {
             config: DateConfig::default(),
@@ -171,9 +165,7 @@ impl DateConfigBuilder {
 }
 
 impl Default for DateConfigBuilder {
-    ghost use Rattle.speedate_base.specs.DateConfig.{IsDefault};
-
-    ghost is_default = { IsDefault };
+    ghost is_default = { λ config. config.timestamp_unit ≡ unit.Infer };
 
     /// A builder of the default configuration.
     fn default() -> Self {
@@ -200,20 +192,20 @@ pub struct TimeConfig {
 }
 
 impl TimeConfig {
-    ghost use Rattle.speedate_base.specs.TimeConfig.{IsDefault};
+    ghost use Rattle.speedate_base.specs.Config.{default_time, time_choices};
 
     /// A builder of a configuration: `TimeConfig::builder().build()` is the default one.
     pub fn builder() -> TimeConfigBuilder
-        ensures default { IsDefault result }
+        ensures default { time_choices result ≡ default_time }
     {
         TimeConfigBuilder::new()
     }
 }
 
 impl Default for TimeConfig {
-    ghost use Rattle.speedate_base.specs.TimeConfig.{IsDefault};
+    ghost use Rattle.speedate_base.specs.Config.{default_time, time_choices};
 
-    ghost is_default = { IsDefault };
+    ghost is_default = { λ config. time_choices config ≡ default_time };
 
     /// Digits past the microsecond are refused, the value of a timestamp gets no offset, and components
     /// may come in any order.
@@ -244,12 +236,12 @@ impl Model for TimeConfigBuilder {
 }
 
 impl TimeConfigBuilder {
-    ghost use Rattle.std.specs.Prelude.{◌≡◌};
-    ghost use Rattle.speedate_base.specs.TimeConfig.{IsDefault};
+    ghost use Rattle.speedate_base.specs.Config.{default_time, time_choices, with_behavior, with_offset, with_order};
 
+    ghost use Rattle.std.specs.Prelude.{◌≡◌};
     /// A builder of the default configuration; `TimeConfig::builder()` is the same.
     pub fn new() -> Self
-        ensures default { IsDefault result }
+        ensures default { time_choices result ≡ default_time }
     {
         TimeConfigBuilder {
             config: TimeConfig::default(),
@@ -262,9 +254,7 @@ impl TimeConfigBuilder {
         self,
         behavior: MicrosecondsPrecisionOverflowBehavior,
     ) -> Self
-        ensures behavior { result.microseconds_precision_overflow_behavior ≡ behavior }
-        ensures offset { result.unix_timestamp_offset ≡ self.unix_timestamp_offset }
-        ensures order { result.iso_order ≡ self.iso_order }
+        ensures choices { time_choices result ≡ with_behavior behavior (time_choices self) }
     {
         let mut config = self.config;
         config.microseconds_precision_overflow_behavior = behavior;
@@ -275,10 +265,7 @@ impl TimeConfigBuilder {
     /// hours, which is a condition on the caller. With `Some(-3600)`, `0` is 1970-01-01T00:00:00-01:00.
     pub fn unix_timestamp_offset(self, offset: Option<i32>) -> Self
         requires { ForSome offset IsOffset }
-        ensures offset { result.unix_timestamp_offset ≡ offset }
-        ensures behavior { result.microseconds_precision_overflow_behavior
-            ≡ self.microseconds_precision_overflow_behavior }
-        ensures order { result.iso_order ≡ self.iso_order }
+        ensures choices { time_choices result ≡ with_offset offset (time_choices self) }
     {
         let mut config = self.config;
         config.unix_timestamp_offset = offset;
@@ -288,10 +275,8 @@ impl TimeConfigBuilder {
     /// Sets the offset, in seconds, that the value of a timestamp gets: none, or one of any size, which
     /// is tested. Fails with `OutOfRangeTz` if it is 24 hours or more, as `Some(86_400)` is.
     pub fn try_unix_timestamp_offset(self, offset: Option<i32>) -> Result<Self, ParseError>
-        ensures offset { result_map (λ builder. builder.unix_timestamp_offset) result ≡ meets (offset_table offset) (Ok offset) }
-        ensures behavior { IfOk result (λ builder. builder.microseconds_precision_overflow_behavior
-            ≡ self.microseconds_precision_overflow_behavior) }
-        ensures order { IfOk result (λ builder. builder.iso_order ≡ self.iso_order) }
+        ensures choices { result_map time_choices result
+            ≡ meets (offset_table offset) (Ok (with_offset offset (time_choices self))) }
     {
         match offset {
             Some(seconds) if !is_offset(seconds) => Err(ParseError::OutOfRangeTz),
@@ -302,10 +287,7 @@ impl TimeConfigBuilder {
     /// Sets whether the components of an ISO 8601 duration have to come in order: with `Strict`,
     /// `P1D1Y` fails with `DurationUnitOrder`.
     pub fn iso_order(self, order: IsoOrder) -> Self
-        ensures order { result.iso_order ≡ order }
-        ensures behavior { result.microseconds_precision_overflow_behavior
-            ≡ self.microseconds_precision_overflow_behavior }
-        ensures offset { result.unix_timestamp_offset ≡ self.unix_timestamp_offset }
+        ensures choices { time_choices result ≡ with_order order (time_choices self) }
     {
         let mut config = self.config;
         config.iso_order = order;
@@ -323,9 +305,9 @@ impl TimeConfigBuilder {
 }
 
 impl Default for TimeConfigBuilder {
-    ghost use Rattle.speedate_base.specs.TimeConfig.{IsDefault};
+    ghost use Rattle.speedate_base.specs.Config.{default_time, time_choices};
 
-    ghost is_default = { IsDefault };
+    ghost is_default = { λ config. time_choices config ≡ default_time };
 
     /// A builder of the default configuration.
     fn default() -> Self {

@@ -106,10 +106,9 @@ pub enum ParseError {
 }
 
 impl ParseError {
-    ghost use Rattle.std.specs.Prelude.{◌≤◌, length, Some};
+    ghost use Rattle.std.specs.Prelude.{◌≤◌, IfSome, length, Some};
     ghost use Rattle.std.specs.Option.{option_map};
-    ghost use Rattle.speedate_base.specs.Fault.{fault_name};
-    ghost use Rattle.speedate_base.specs.FaultDocumentation.{fault_documentation};
+    ghost use Rattle.speedate_base.specs.Fault.{fault_documentation, fault_name};
     ghost use Rattle.speedate_base.specs.declared.faults.ParseError.{ParseError};
 
     /// The snake-case name, of at most 29 bytes: `too_short` for `ParseError::TooShort`. No other fault
@@ -120,118 +119,165 @@ impl ParseError {
         ensures short { length result.now ≤ 29 }
         ensures distinct { (other : ParseError) → result.now ≡ fault_name other → self.now ≡ other }
     {
-        match self {
-            ParseError::TooShort => "too_short",
-            ParseError::ExtraCharacters => "extra_characters",
-            ParseError::InvalidCharDateTimeSep => "invalid_char_date_time_sep",
-            ParseError::InvalidCharDateSep => "invalid_char_date_sep",
-            ParseError::DateNotExact => "date_not_exact",
-            ParseError::InvalidCharYear => "invalid_char_year",
-            ParseError::InvalidCharMonth => "invalid_char_month",
-            ParseError::InvalidCharDay => "invalid_char_day",
-            ParseError::InvalidCharTimeSep => "invalid_char_time_sep",
-            ParseError::InvalidCharHour => "invalid_char_hour",
-            ParseError::InvalidCharMinute => "invalid_char_minute",
-            ParseError::InvalidCharSecond => "invalid_char_second",
-            ParseError::InvalidCharSecondFraction => "invalid_char_second_fraction",
-            ParseError::InvalidCharTzSign => "invalid_char_tz_sign",
-            ParseError::InvalidCharTzHour => "invalid_char_tz_hour",
-            ParseError::InvalidCharTzMinute => "invalid_char_tz_minute",
-            ParseError::OutOfRangeTzMinute => "out_of_range_tz_minute",
-            ParseError::OutOfRangeTz => "out_of_range_tz",
-            ParseError::TzRequired => "tz_required",
-            ParseError::SystemTimeError => "system_time_error",
-            ParseError::OutOfRangeMonth => "out_of_range_month",
-            ParseError::OutOfRangeDay => "out_of_range_day",
-            ParseError::OutOfRangeHour => "out_of_range_hour",
-            ParseError::OutOfRangeMinute => "out_of_range_minute",
-            ParseError::OutOfRangeSecond => "out_of_range_second",
-            ParseError::SecondFractionTooLong => "second_fraction_too_long",
-            ParseError::SecondFractionMissing => "second_fraction_missing",
-            ParseError::MillisecondFractionTooLong => "millisecond_fraction_too_long",
-            ParseError::DurationInvalidNumber => "duration_invalid_number",
-            ParseError::DurationTRepeated => "duration_t_repeated",
-            ParseError::DurationInvalidFraction => "duration_invalid_fraction",
-            ParseError::DurationInvalidTimeUnit => "duration_invalid_time_unit",
-            ParseError::DurationInvalidDateUnit => "duration_invalid_date_unit",
-            ParseError::DurationInvalidDays => "duration_invalid_days",
-            ParseError::DurationValueTooLarge => "duration_value_too_large",
-            ParseError::DurationHourValueTooLarge => "duration_hour_value_too_large",
-            ParseError::DurationDaysTooLarge => "duration_days_too_large",
-            ParseError::DateTooSmall => "date_too_small",
-            ParseError::DateTooLarge => "date_too_large",
-            ParseError::TimeTooLarge => "time_too_large",
-            ParseError::DurationUnitOrder => "duration_unit_order",
-            ParseError::MicrosecondFractionTooLong => "microsecond_fraction_too_long",
-        }
+        let (name, _) = self.row();
+        name
     }
 
-    /// The documentation text, which every fault has: `input is too short` for `ParseError::TooShort`.
-    /// It needs no trait in scope.
+    /// The documentation text, of at most 63 bytes, which every fault has: `input is too short` for
+    /// `ParseError::TooShort`. It needs no trait in scope.
     #[inline]
     pub fn get_documentation(&self) -> Option<&'static str>
         ensures text { option_map (λ text. text.now) result ≡ Some (fault_documentation self.now) }
+        ensures short { IfSome result (λ text. length text.now ≤ 63) }
     {
-        Some(self.documentation())
+        let (_, documentation) = self.row();
+        Some(documentation)
     }
 
-    /// The text of [`ParseError::get_documentation`].
-    fn documentation(&self) -> &'static str
-        ensures { result.now ≡ fault_documentation self.now }
+    /// The name and the documentation text: a fault's row of the table.
+    fn row(&self) -> (&'static str, &'static str)
+        ensures name { result.0.now ≡ fault_name self.now }
+        ensures short { length result.0.now ≤ 29 }
+        ensures distinct { (other : ParseError) → result.0.now ≡ fault_name other → self.now ≡ other }
+        ensures documentation { result.1.now ≡ fault_documentation self.now }
+        ensures documentation_short { length result.1.now ≤ 63 }
     {
         match self {
-            ParseError::TooShort => "input is too short",
-            ParseError::ExtraCharacters => "unexpected extra characters at the end of the input",
-            ParseError::InvalidCharDateTimeSep => {
-                "invalid datetime separator, expected `T`, `t`, `_` or space"
-            }
-            ParseError::InvalidCharDateSep => "invalid date separator, expected `-`",
-            ParseError::DateNotExact => "Timestamp is not an exact date",
-            ParseError::InvalidCharYear => "invalid character in year",
-            ParseError::InvalidCharMonth => "invalid character in month",
-            ParseError::InvalidCharDay => "invalid character in day",
-            ParseError::InvalidCharTimeSep => "invalid time separator, expected `:`",
-            ParseError::InvalidCharHour => "invalid character in hour",
-            ParseError::InvalidCharMinute => "invalid character in minute",
-            ParseError::InvalidCharSecond => "invalid character in second",
-            ParseError::InvalidCharSecondFraction => "invalid character in second fraction",
-            ParseError::InvalidCharTzSign => "invalid timezone sign",
-            ParseError::InvalidCharTzHour => "invalid timezone hour",
-            ParseError::InvalidCharTzMinute => "invalid timezone minute",
-            ParseError::OutOfRangeTzMinute => {
-                "timezone minute value is outside expected range of 0-59"
-            }
-            ParseError::OutOfRangeTz => "timezone offset must be less than 24 hours",
-            ParseError::TzRequired => "timezone is required to adjust to a new timezone",
-            ParseError::SystemTimeError => "Error getting system time",
-            ParseError::OutOfRangeMonth => "month value is outside expected range of 1-12",
-            ParseError::OutOfRangeDay => "day value is outside expected range",
-            ParseError::OutOfRangeHour => "hour value is outside expected range of 0-23",
-            ParseError::OutOfRangeMinute => "minute value is outside expected range of 0-59",
-            ParseError::OutOfRangeSecond => "second value is outside expected range of 0-59",
-            ParseError::SecondFractionTooLong => "second fraction value is more than 6 digits long",
-            ParseError::SecondFractionMissing => "second fraction digits missing after `.`",
-            ParseError::MillisecondFractionTooLong => {
-                "millisecond fraction value is more than 3 digits long"
-            }
-            ParseError::DurationInvalidNumber => "invalid digit in duration",
-            ParseError::DurationTRepeated => "`t` character repeated in duration",
-            ParseError::DurationInvalidFraction => "quantity fraction invalid in duration",
-            ParseError::DurationInvalidTimeUnit => "quantity invalid in time part of duration",
-            ParseError::DurationInvalidDateUnit => "quantity invalid in date part of duration",
-            ParseError::DurationInvalidDays => {
-                "\"day\" identifier in duration not correctly formatted"
-            }
-            ParseError::DurationValueTooLarge => "a numeric value in the duration is too large",
-            ParseError::DurationHourValueTooLarge => "durations may not exceed 999,999,999 hours",
-            ParseError::DurationDaysTooLarge => "durations may not exceed 999,999,999 days",
-            ParseError::DateTooSmall => "dates before 0000 are not supported as unix timestamps",
-            ParseError::DateTooLarge => "dates after 9999 are not supported as unix timestamps",
-            ParseError::TimeTooLarge => "numeric times may not exceed 86,399 seconds",
-            ParseError::DurationUnitOrder => "quantities out of order or repeated in duration",
-            ParseError::MicrosecondFractionTooLong => {
-                "microsecond timestamps may not have fraction digits"
-            }
+            ParseError::TooShort => ("too_short", "input is too short"),
+            ParseError::ExtraCharacters => (
+                "extra_characters",
+                "unexpected extra characters at the end of the input",
+            ),
+            ParseError::InvalidCharDateTimeSep => (
+                "invalid_char_date_time_sep",
+                "invalid datetime separator, expected `T`, `t`, `_` or space",
+            ),
+            ParseError::InvalidCharDateSep => (
+                "invalid_char_date_sep",
+                "invalid date separator, expected `-`",
+            ),
+            ParseError::DateNotExact => ("date_not_exact", "Timestamp is not an exact date"),
+            ParseError::InvalidCharYear => ("invalid_char_year", "invalid character in year"),
+            ParseError::InvalidCharMonth => ("invalid_char_month", "invalid character in month"),
+            ParseError::InvalidCharDay => ("invalid_char_day", "invalid character in day"),
+            ParseError::InvalidCharTimeSep => (
+                "invalid_char_time_sep",
+                "invalid time separator, expected `:`",
+            ),
+            ParseError::InvalidCharHour => ("invalid_char_hour", "invalid character in hour"),
+            ParseError::InvalidCharMinute => ("invalid_char_minute", "invalid character in minute"),
+            ParseError::InvalidCharSecond => ("invalid_char_second", "invalid character in second"),
+            ParseError::InvalidCharSecondFraction => (
+                "invalid_char_second_fraction",
+                "invalid character in second fraction",
+            ),
+            ParseError::InvalidCharTzSign => ("invalid_char_tz_sign", "invalid timezone sign"),
+            ParseError::InvalidCharTzHour => ("invalid_char_tz_hour", "invalid timezone hour"),
+            ParseError::InvalidCharTzMinute => (
+                "invalid_char_tz_minute",
+                "invalid timezone minute",
+            ),
+            ParseError::OutOfRangeTzMinute => (
+                "out_of_range_tz_minute",
+                "timezone minute value is outside expected range of 0-59",
+            ),
+            ParseError::OutOfRangeTz => (
+                "out_of_range_tz",
+                "timezone offset must be less than 24 hours",
+            ),
+            ParseError::TzRequired => (
+                "tz_required",
+                "timezone is required to adjust to a new timezone",
+            ),
+            ParseError::SystemTimeError => ("system_time_error", "Error getting system time"),
+            ParseError::OutOfRangeMonth => (
+                "out_of_range_month",
+                "month value is outside expected range of 1-12",
+            ),
+            ParseError::OutOfRangeDay => (
+                "out_of_range_day",
+                "day value is outside expected range",
+            ),
+            ParseError::OutOfRangeHour => (
+                "out_of_range_hour",
+                "hour value is outside expected range of 0-23",
+            ),
+            ParseError::OutOfRangeMinute => (
+                "out_of_range_minute",
+                "minute value is outside expected range of 0-59",
+            ),
+            ParseError::OutOfRangeSecond => (
+                "out_of_range_second",
+                "second value is outside expected range of 0-59",
+            ),
+            ParseError::SecondFractionTooLong => (
+                "second_fraction_too_long",
+                "second fraction value is more than 6 digits long",
+            ),
+            ParseError::SecondFractionMissing => (
+                "second_fraction_missing",
+                "second fraction digits missing after `.`",
+            ),
+            ParseError::MillisecondFractionTooLong => (
+                "millisecond_fraction_too_long",
+                "millisecond fraction value is more than 3 digits long",
+            ),
+            ParseError::DurationInvalidNumber => (
+                "duration_invalid_number",
+                "invalid digit in duration",
+            ),
+            ParseError::DurationTRepeated => (
+                "duration_t_repeated",
+                "`t` character repeated in duration",
+            ),
+            ParseError::DurationInvalidFraction => (
+                "duration_invalid_fraction",
+                "quantity fraction invalid in duration",
+            ),
+            ParseError::DurationInvalidTimeUnit => (
+                "duration_invalid_time_unit",
+                "quantity invalid in time part of duration",
+            ),
+            ParseError::DurationInvalidDateUnit => (
+                "duration_invalid_date_unit",
+                "quantity invalid in date part of duration",
+            ),
+            ParseError::DurationInvalidDays => (
+                "duration_invalid_days",
+                "\"day\" identifier in duration not correctly formatted",
+            ),
+            ParseError::DurationValueTooLarge => (
+                "duration_value_too_large",
+                "a numeric value in the duration is too large",
+            ),
+            ParseError::DurationHourValueTooLarge => (
+                "duration_hour_value_too_large",
+                "durations may not exceed 999,999,999 hours",
+            ),
+            ParseError::DurationDaysTooLarge => (
+                "duration_days_too_large",
+                "durations may not exceed 999,999,999 days",
+            ),
+            ParseError::DateTooSmall => (
+                "date_too_small",
+                "dates before 0000 are not supported as unix timestamps",
+            ),
+            ParseError::DateTooLarge => (
+                "date_too_large",
+                "dates after 9999 are not supported as unix timestamps",
+            ),
+            ParseError::TimeTooLarge => (
+                "time_too_large",
+                "numeric times may not exceed 86,399 seconds",
+            ),
+            ParseError::DurationUnitOrder => (
+                "duration_unit_order",
+                "quantities out of order or repeated in duration",
+            ),
+            ParseError::MicrosecondFractionTooLong => (
+                "microsecond_fraction_too_long",
+                "microsecond timestamps may not have fraction digits",
+            ),
         }
     }
 }

@@ -14,7 +14,7 @@ use crate::config::TimestampUnit;
 use crate::faults::ParseError;
 pub use decimal_timestamp::{decimal_to_seconds_micros, decimal_unit};
 pub use rounding::{LARGEST_UNIT, nearest_microseconds, twice_microseconds};
-pub use unit::{MICROSECOND, MILLISECOND, SECOND, UnixUnit};
+pub use unit::UnixUnit;
 pub use unix_time::{FIRST_SECOND, LAST_SECOND, UnixTime};
 
 /// The seconds of a day.
@@ -37,16 +37,16 @@ pub fn timestamp_to_seconds_micros(
     ensures answer { result_map parts result ≡ instant_answer unit timestamp }
 {
     match unit {
-        TimestampUnit::Second => Ok(UnixTime::at(timestamp, SECOND)),
-        TimestampUnit::Millisecond => Ok(UnixTime::at(timestamp, MILLISECOND)),
-        TimestampUnit::Microsecond => Ok(UnixTime::at(timestamp, MICROSECOND)),
+        TimestampUnit::Second => Ok(UnixTime::from_seconds(timestamp)),
+        TimestampUnit::Millisecond => Ok(UnixTime::from_milliseconds(timestamp)),
+        TimestampUnit::Microsecond => Ok(UnixTime::from_microseconds(timestamp)),
         TimestampUnit::Infer => {
             if timestamp.unsigned_abs() <= INFERRED_SECONDS_MAX {
-                Ok(UnixTime::at(timestamp, SECOND))
+                Ok(UnixTime::from_seconds(timestamp))
             } else if timestamp == i64::MIN {
                 Err(ParseError::DateTooSmall)
             } else {
-                Ok(UnixTime::at(timestamp, MILLISECOND))
+                Ok(UnixTime::from_milliseconds(timestamp))
             }
         }
     }

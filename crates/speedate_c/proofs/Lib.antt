@@ -1,2 +1,1 @@
-mod CodeLemmas
 mod TextLemmas

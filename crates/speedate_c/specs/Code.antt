@@ -1,13 +1,11 @@
 -- The codes that calls answer: 0, the numbers of the faults, and those of what a caller got wrong.
-use Rattle.std.specs.Prelude.{ℕ, ◌-◌, ℤ, pos, negsuc, unsigned_abs, int_le, List, [], ◌∷◌, codes, slice_get, Option, Some, None, Result, Ok, Err, if◌then◌else◌}
+use Rattle.std.specs.Prelude.{ℕ, ◌+◌, ◌-◌, ℤ, pos, negsuc, unsigned_abs, int_le, List, codes, slice_get, Option, Some, None, Result, Ok, Err, if◌then◌else◌}
 use Rattle.std.specs.Option.{option_map, option_or}
 use Rattle.std.specs.Ordering.{int_eq}
 use Rattle.std.specs.declared.cmp.Ordering.{Ordering}
 use Rattle.std.specs.declared.cmp.Ordering.TheVariants as ordering
 use Rattle.speedate.specs.declared.ParseError.{ParseError}
-use Rattle.speedate.specs.declared.ParseError.TheVariants as fault
-use Rattle.speedate.specs.Fault.{fault_name}
-use Rattle.speedate.specs.FaultDocumentation.{fault_documentation}
+use Rattle.speedate.specs.Fault.{FaultRow, fault_rows, fault_place, fault_name, fault_documentation}
 
 -- what was asked for is written
 abbrev pub success : ℤ
@@ -29,105 +27,14 @@ buffer_too_small = pos 103
 abbrev pub no_such_date : ℤ
 no_such_date = pos 104
 
--- the number of a fault
-abbrev pub fault_number : ParseError → ℕ
-fault_number fault.TooShort = 1
-fault_number fault.ExtraCharacters = 2
-fault_number fault.InvalidCharDateTimeSep = 3
-fault_number fault.InvalidCharDateSep = 4
-fault_number fault.DateNotExact = 5
-fault_number fault.InvalidCharYear = 6
-fault_number fault.InvalidCharMonth = 7
-fault_number fault.InvalidCharDay = 8
-fault_number fault.InvalidCharTimeSep = 9
-fault_number fault.InvalidCharHour = 10
-fault_number fault.InvalidCharMinute = 11
-fault_number fault.InvalidCharSecond = 12
-fault_number fault.InvalidCharSecondFraction = 13
-fault_number fault.InvalidCharTzSign = 14
-fault_number fault.InvalidCharTzHour = 15
-fault_number fault.InvalidCharTzMinute = 16
-fault_number fault.OutOfRangeTzMinute = 17
-fault_number fault.OutOfRangeTz = 18
-fault_number fault.TzRequired = 19
-fault_number fault.SystemTimeError = 20
-fault_number fault.OutOfRangeMonth = 21
-fault_number fault.OutOfRangeDay = 22
-fault_number fault.OutOfRangeHour = 23
-fault_number fault.OutOfRangeMinute = 24
-fault_number fault.OutOfRangeSecond = 25
-fault_number fault.SecondFractionTooLong = 26
-fault_number fault.SecondFractionMissing = 27
-fault_number fault.MillisecondFractionTooLong = 28
-fault_number fault.DurationInvalidNumber = 29
-fault_number fault.DurationTRepeated = 30
-fault_number fault.DurationInvalidFraction = 31
-fault_number fault.DurationInvalidTimeUnit = 32
-fault_number fault.DurationInvalidDateUnit = 33
-fault_number fault.DurationInvalidDays = 34
-fault_number fault.DurationValueTooLarge = 35
-fault_number fault.DurationHourValueTooLarge = 36
-fault_number fault.DurationDaysTooLarge = 37
-fault_number fault.DateTooSmall = 38
-fault_number fault.DateTooLarge = 39
-fault_number fault.TimeTooLarge = 40
-fault_number fault.DurationUnitOrder = 41
-fault_number fault.MicrosecondFractionTooLong = 42
-
--- the code of a fault
+-- the code of a fault: its place in the enum, counted from 1
 abbrev pub fault_code : ParseError → ℤ
-fault_code fault = pos (fault_number fault)
-
--- the faults in the order of their numbers
-abbrev pub faults : List ParseError
-faults =
-    fault.TooShort
-    ∷ fault.ExtraCharacters
-    ∷ fault.InvalidCharDateTimeSep
-    ∷ fault.InvalidCharDateSep
-    ∷ fault.DateNotExact
-    ∷ fault.InvalidCharYear
-    ∷ fault.InvalidCharMonth
-    ∷ fault.InvalidCharDay
-    ∷ fault.InvalidCharTimeSep
-    ∷ fault.InvalidCharHour
-    ∷ fault.InvalidCharMinute
-    ∷ fault.InvalidCharSecond
-    ∷ fault.InvalidCharSecondFraction
-    ∷ fault.InvalidCharTzSign
-    ∷ fault.InvalidCharTzHour
-    ∷ fault.InvalidCharTzMinute
-    ∷ fault.OutOfRangeTzMinute
-    ∷ fault.OutOfRangeTz
-    ∷ fault.TzRequired
-    ∷ fault.SystemTimeError
-    ∷ fault.OutOfRangeMonth
-    ∷ fault.OutOfRangeDay
-    ∷ fault.OutOfRangeHour
-    ∷ fault.OutOfRangeMinute
-    ∷ fault.OutOfRangeSecond
-    ∷ fault.SecondFractionTooLong
-    ∷ fault.SecondFractionMissing
-    ∷ fault.MillisecondFractionTooLong
-    ∷ fault.DurationInvalidNumber
-    ∷ fault.DurationTRepeated
-    ∷ fault.DurationInvalidFraction
-    ∷ fault.DurationInvalidTimeUnit
-    ∷ fault.DurationInvalidDateUnit
-    ∷ fault.DurationInvalidDays
-    ∷ fault.DurationValueTooLarge
-    ∷ fault.DurationHourValueTooLarge
-    ∷ fault.DurationDaysTooLarge
-    ∷ fault.DateTooSmall
-    ∷ fault.DateTooLarge
-    ∷ fault.TimeTooLarge
-    ∷ fault.DurationUnitOrder
-    ∷ fault.MicrosecondFractionTooLong
-    ∷ []
+fault_code fault = pos (fault_place fault + 1)
 
 -- the fault of a code
 abbrev pub fault_of : ℤ → Option ParseError
-fault_of code = if int_le (pos 1) code then slice_get faults (unsigned_abs code - 1) else None
+fault_of code =
+    if int_le (pos 1) code then option_map (λ (row : FaultRow). row.fault) (slice_get fault_rows (unsigned_abs code - 1)) else None
 
 -- the names of the codes that are no faults
 abbrev pub refusal_name : ℤ → Option (List ℕ)

@@ -2,7 +2,7 @@
 use Rattle.std.specs.Prelude.{ℕ, ◌==◌, nat_le, Bool, false, true, ℤ, List, [], ◌∷◌, slice_get, Option, Some, None, Result, Ok, if◌then◌else◌}
 use Rattle.std.specs.Option.{option_and_then}
 use Rattle.std.specs.Result.{result_ok}
-use Rattle.speedate.specs.declared.DateTimeConfig.{DateTimeConfig}
+use Rattle.speedate.specs.Config.{Choices}
 use Rattle.speedate.specs.declared.IsoOrder.{IsoOrder}
 use Rattle.speedate.specs.declared.IsoOrder.TheVariants as order
 use Rattle.speedate.specs.declared.MicrosecondsPrecisionOverflowBehavior.{MicrosecondsPrecisionOverflowBehavior}
@@ -38,28 +38,13 @@ abbrev pub offset_answer : ℕ → ℤ → Result (Option ℤ) ParseError
 offset_answer flag seconds =
     meets ((nat_le flag 1 else_fault fault.OutOfRangeTz) ∷ offset_table (offset_by_flag flag seconds)) (Ok (offset_by_flag flag seconds))
 
--- the values of a configuration
-pub record Choices : Type 0 where
-  pub unit : TimestampUnit
-  pub behavior : MicrosecondsPrecisionOverflowBehavior
-  pub order : IsoOrder
-  pub offset : Option ℤ
-
-abbrev pub choices : DateTimeConfig → Choices
-choices config = record {
-  unit = config.timestamp_unit;
-  behavior = config.time_config.microseconds_precision_overflow_behavior;
-  order = config.time_config.iso_order;
-  offset = config.time_config.unix_timestamp_offset;
-}
-
--- those of a configuration from outside, where each of its numbers has a value
+-- what a configuration from outside chooses, where each of its numbers has a value
 abbrev pub choices_of : SpeedateConfig → Option Choices
 choices_of config =
     option_and_then (λ unit.
     option_and_then (λ behavior.
     option_and_then (λ order.
-    option_and_then (λ offset. Some (record { unit = unit; behavior = behavior; order = order; offset = offset }))
+    option_and_then (λ offset. Some (record { unit = unit; time = record { behavior = behavior; offset = offset; order = order } }))
     (result_ok (offset_answer config.has_timestamp_offset config.timestamp_offset)))
     (slice_get orders config.iso_order))
     (slice_get behaviors config.overflow_behavior))

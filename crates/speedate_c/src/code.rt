@@ -2,7 +2,7 @@
 
 ghost use Rattle.std.specs.Option.{option_map};
 ghost use Rattle.std.specs.Prelude.{◌≡◌, ◌≤◌, IfSome, Some, length, pos, slice_get};
-ghost use Rattle.speedate_c.specs.Code.{code_documentation, code_name, fault_code, fault_number, fault_of, faults, order_number, refusal_documentation, refusal_name};
+ghost use Rattle.speedate_c.specs.Code.{code_documentation, code_name, fault_code, fault_of, order_number, refusal_documentation, refusal_name};
 
 use speedate::ParseError;
 use std::cmp::Ordering;
@@ -68,65 +68,13 @@ const FAULTS: [ParseError; 42] = [
     ParseError::MicrosecondFractionTooLong,
 ];
 
-/// The code of a fault, its number: 1 for `TooShort`.
+/// The code of a fault, its place in the enum, counted from 1: 1 for `TooShort`.
 #[inline]
 pub(crate) fn fault_code(fault: ParseError) -> i32
     ensures code { result ≡ fault_code fault }
     ensures reads_back { fault_of result ≡ Some fault }
 {
-    i32::from(fault_number(fault))
-}
-
-/// The number of a fault.
-#[inline]
-fn fault_number(fault: ParseError) -> u8
-    ensures number { result ≡ fault_number fault }
-    ensures reads_back { fault_of (pos result) ≡ Some fault }
-{
-    match fault {
-        ParseError::TooShort => 1,
-        ParseError::ExtraCharacters => 2,
-        ParseError::InvalidCharDateTimeSep => 3,
-        ParseError::InvalidCharDateSep => 4,
-        ParseError::DateNotExact => 5,
-        ParseError::InvalidCharYear => 6,
-        ParseError::InvalidCharMonth => 7,
-        ParseError::InvalidCharDay => 8,
-        ParseError::InvalidCharTimeSep => 9,
-        ParseError::InvalidCharHour => 10,
-        ParseError::InvalidCharMinute => 11,
-        ParseError::InvalidCharSecond => 12,
-        ParseError::InvalidCharSecondFraction => 13,
-        ParseError::InvalidCharTzSign => 14,
-        ParseError::InvalidCharTzHour => 15,
-        ParseError::InvalidCharTzMinute => 16,
-        ParseError::OutOfRangeTzMinute => 17,
-        ParseError::OutOfRangeTz => 18,
-        ParseError::TzRequired => 19,
-        ParseError::SystemTimeError => 20,
-        ParseError::OutOfRangeMonth => 21,
-        ParseError::OutOfRangeDay => 22,
-        ParseError::OutOfRangeHour => 23,
-        ParseError::OutOfRangeMinute => 24,
-        ParseError::OutOfRangeSecond => 25,
-        ParseError::SecondFractionTooLong => 26,
-        ParseError::SecondFractionMissing => 27,
-        ParseError::MillisecondFractionTooLong => 28,
-        ParseError::DurationInvalidNumber => 29,
-        ParseError::DurationTRepeated => 30,
-        ParseError::DurationInvalidFraction => 31,
-        ParseError::DurationInvalidTimeUnit => 32,
-        ParseError::DurationInvalidDateUnit => 33,
-        ParseError::DurationInvalidDays => 34,
-        ParseError::DurationValueTooLarge => 35,
-        ParseError::DurationHourValueTooLarge => 36,
-        ParseError::DurationDaysTooLarge => 37,
-        ParseError::DateTooSmall => 38,
-        ParseError::DateTooLarge => 39,
-        ParseError::TimeTooLarge => 40,
-        ParseError::DurationUnitOrder => 41,
-        ParseError::MicrosecondFractionTooLong => 42,
-    }
+    i32::from(fault as u8) + 1
 }
 
 /// The fault of a code.
@@ -137,15 +85,7 @@ fn fault_of(code: i32) -> Option<ParseError>
     if code < 1 {
         return None;
     }
-    fault_at(&FAULTS, (code.unsigned_abs() - 1) as usize)
-}
-
-/// The fault at a place of a list.
-#[inline]
-fn fault_at(faults: &[ParseError], place: usize) -> Option<ParseError>
-    ensures fault { result ≡ slice_get faults.now place }
-{
-    faults.get(place).copied()
+    FAULTS.get((code.unsigned_abs() - 1) as usize).copied()
 }
 
 /// The name of a code.
@@ -174,7 +114,6 @@ fn refusal_name(code: i32) -> Option<&'static str>
 }
 
 /// The documentation text of a code.
-#[tactic(auto, using(crate::proofs::CodeLemmas::documentation_length_small))]
 pub(crate) fn code_documentation(code: i32) -> Option<&'static str>
     ensures text { option_map (λ text. text.now) result ≡ code_documentation code }
     ensures short { IfSome result (λ text. length text.now ≤ 63) }

@@ -3,7 +3,8 @@
 ghost use Rattle.std.specs.Option.{ForSome, option_map};
 ghost use Rattle.std.specs.Prelude.{◌≡◌, IfOk, slice_get};
 ghost use Rattle.speedate.specs.Offset.{IsOffset};
-ghost use Rattle.speedate_c.specs.Config.{behaviors, choices, choices_of, flags, offset_answer, orders, units};
+ghost use Rattle.speedate.specs.Config.{choices};
+ghost use Rattle.speedate_c.specs.Config.{behaviors, choices_of, flags, offset_answer, orders, units};
 
 use speedate::{
     DateTimeConfig, IsoOrder, MicrosecondsPrecisionOverflowBehavior, ParseError, TimeConfig,

@@ -9,7 +9,7 @@ use Rattle.speedate_base.specs.DigitRuns.{run_length, run_digits, fraction_value
 use Rattle.speedate_base.proofs.DigitRunLemmas.{run_length-append}
 use Rattle.speedate_base.specs.Digits.{six_digit_text}
 use Rattle.speedate_base.proofs.DigitLemmas.{two_digits-printed, two_digit_value-printed, six_digits-printed, fraction_value-printed}
-use Rattle.speedate_base.specs.Refusal.{refuses_digits}
+use Rattle.speedate_base.specs.Config.{refuses_digits}
 use Rattle.speedate_base.proofs.RequirementLemmas.{implies-true}
 use Rattle.speedate_civil.specs.ClockText.{clock_answer, is_decimal_mark, minute_text}
 

@@ -12,7 +12,7 @@ use Rattle.speedate_base.specs.Numbers.{DecimalParts}
 use Rattle.speedate_base.specs.Offset.{seconds_per_day}
 use Rattle.speedate_base.specs.Requirement.{result_and_then}
 use Rattle.speedate_base.proofs.RequirementLemmas.{and_then-ok, map-ok, meets-value}
-use Rattle.speedate_base.specs.Timestamp.{Instant, instant_at, instant_answer, per_second, unit_row, unit_table, inferred_seconds_max, first_second, range_table, range_answer}
+use Rattle.speedate_base.specs.Timestamp.{Instant, timestamp_microsecond, instant_at, instant_answer, unit_table, first_second, range_table, range_answer}
 use Rattle.speedate_base.proofs.TimestampLemmas.{instant_microsecond, instant_at-microsecond}
 use Rattle.speedate_civil.specs.DateAndTime.{DateAndTime, local_second, local_microsecond}
 use Rattle.speedate_civil.specs.DateTimeTimestamp.{IsShownAt, later_instant, later_answer, sum_table, date_time_at, instant_date_time, date_time_timestamp_answer, date_time_decimal_answer, meant_microsecond}
@@ -20,11 +20,6 @@ use Rattle.speedate_civil.specs.DateTimestamp.{day_at, second_at}
 use Rattle.speedate_civil.specs.DayNumber.{epoch_day}
 use Rattle.speedate_civil.proofs.DayNumberLemmas.{day_number-date_after}
 use Rattle.speedate_civil.specs.TimeOfDay.{second_of_day, time_at}
-
--- the instant of microseconds
-pub million-each : (timestamp : ℤ) → instant_microsecond (instant_at 1000000 timestamp) ≡ timestamp
-million-each (pos n) = omega (arith, ints)
-million-each (negsuc n) = omega (arith, ints)
 
 later-is : (microseconds : ℕ) (instant : Instant) → instant_microsecond (later_instant microseconds instant) ≡ instant_microsecond instant +ℤ pos microseconds
 later-is microseconds instant = omega (arith, ints)
@@ -79,12 +74,12 @@ pub date_time_timestamp-instant : (unit : TimestampUnit) (offset : Option ℤ) (
 date_time_timestamp-instant unit offset microseconds timestamp value same =
     let third = and_then-ok (instant_date_time offset) (result_and_then (later_answer microseconds) (instant_answer unit timestamp)) value same in
     let second = and_then-ok (later_answer microseconds) (instant_answer unit timestamp) third.0 third.1 in
-    let at = meets-value (unit_table unit timestamp) (instant_at (per_second unit timestamp) timestamp) second.0 second.1 in
+    let at = meets-value (unit_table unit timestamp) (instant_at (timestamp_microsecond unit timestamp)) second.0 second.1 in
     let sum = meets-value (sum_table microseconds second.0) (later_instant microseconds second.0) third.0 second.2 in
     instant_date_time-is offset third.0 value third.2
     ∙ ap instant_microsecond (sym sum.1) ∙ later-is microseconds second.0
     ∙ ap (λ (n : ℤ). n +ℤ pos microseconds)
-    (ap instant_microsecond (sym at.1) ∙ instant_at-microsecond (unit_row unit (nat_le (unsigned_abs timestamp) inferred_seconds_max)) timestamp)
+    (ap instant_microsecond (sym at.1) ∙ instant_at-microsecond (timestamp_microsecond unit timestamp))
 
 -- that of a decimal timestamp lies at the microsecond that is nearest to it
 pub date_time_decimal-nearest : (unit : TimestampUnit) (offset : Option ℤ) (decimal : DecimalParts) (value : DateAndTime)
@@ -92,6 +87,6 @@ pub date_time_decimal-nearest : (unit : TimestampUnit) (offset : Option ℤ) (de
     → IsNearest (decimal_size (decimal_row unit decimal) decimal) (decimal_scale decimal) (local_microsecond value)
 date_time_decimal-nearest unit offset decimal value same =
     let row = decimal_row unit decimal in
-    let at = instant_date_time-is offset (decimal_instant row decimal) value same ∙ million-each (decimal_microsecond row decimal) in
+    let at = instant_date_time-is offset (decimal_instant row decimal) value same ∙ instant_at-microsecond (decimal_microsecond row decimal) in
     subst (IsNearest (decimal_size row decimal) (decimal_scale decimal)) (sym at)
     (nearest-is (decimal_size row decimal) (decimal_scale decimal) (scale-some (length decimal.fraction)))

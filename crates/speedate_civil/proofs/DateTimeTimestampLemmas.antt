@@ -8,7 +8,8 @@ use Rattle.speedate_base.specs.declared.config.TimestampUnit.TheVariants as unit
 use Rattle.speedate_base.specs.Offset.{seconds_per_day}
 use Rattle.speedate_base.specs.Requirement.{result_map, result_and_then}
 use Rattle.speedate_base.proofs.RequirementLemmas.{meets-all}
-use Rattle.speedate_base.specs.Timestamp.{Instant, instant_answer, first_second, last_second, range_table}
+use Rattle.speedate_base.specs.Timestamp.{Instant, first_second, last_second, range_table}
+use Rattle.speedate_base.proofs.TimestampLemmas.{instant_of_seconds}
 use Rattle.speedate_civil.specs.DateAndTime.{DateAndTime, IsDateAndTime, local_second}
 use Rattle.speedate_civil.proofs.DateNumberedLemmas.{date_after-day_number}
 use Rattle.speedate_civil.specs.DateTimeTimestamp.{later_answer, sum_table, date_time_at, instant_date_time, date_time_timestamp_answer}
@@ -16,19 +17,7 @@ use Rattle.speedate_civil.specs.DayNumber.{epoch_day, day_number, date_after}
 use Rattle.speedate_civil.proofs.DayNumberLemmas.{day_number-small}
 use Rattle.speedate_civil.specs.TimeOfDay.{TimeOfDay, IsTime, second_of_day, time_at}
 
-by-one : (second : ℤ) → int_div_euclid second (pos 1) ≡ second
-by-one (pos n) = let same : n / 1 ≡ n = omega arith in ap pos same
-by-one (negsuc n) = let same : n / 1 ≡ n = omega arith in ap negsuc same
-
-left-by_one : (second : ℤ) → unsigned_abs (int_rem_euclid second (pos 1)) * 1000000 ≡ 0
-left-by_one (pos n) = omega arith
-left-by_one (negsuc n) = omega arith
-
--- an instant of whole seconds
-whole-second : (second : ℤ) → instant_answer unit.Second second ≡ Ok (record { second = second; microsecond = 0 })
-whole-second second = ap Ok (λ i. record { second = by-one second i; microsecond = left-by_one second i })
-
--- and less than a second more
+-- less than a second more than an instant of whole seconds
 later-microsecond : (second : ℤ) (microsecond : ℕ) → unsigned_abs second < 300000000000 → microsecond ≤ 999999
     → later_answer microsecond (record { second = second; microsecond = 0 }) ≡ Ok (record { second = second; microsecond = microsecond })
 later-microsecond second microsecond small part =
@@ -103,6 +92,6 @@ date_time_timestamp-leads_back value valid =
     let microsecond = value.time.microsecond in
     let few = day_number-small value.date valid.date.day valid.date.year in
     let small : unsigned_abs (local_second value) < 300000000000 = omega (arith, ints, few, valid.time.hour, valid.time.minute, valid.time.second) in
-    ap (result_and_then (instant_date_time offset)) (ap (result_and_then (later_answer microsecond)) (whole-second (local_second value))
+    ap (result_and_then (instant_date_time offset)) (ap (λ (instant : Instant). later_answer microsecond instant) (instant_of_seconds (local_second value))
     ∙ later-microsecond (local_second value) microsecond small valid.time.microsecond)
     ∙ instant_date_time-local value valid

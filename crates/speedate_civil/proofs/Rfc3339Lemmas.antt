@@ -21,7 +21,7 @@ use Rattle.speedate_base.proofs.DigitLemmas.{two_digits-printed, two_digit_value
 use Rattle.speedate_base.specs.Numbers.{with_sign}
 use Rattle.speedate_base.proofs.NumberLemmas.{run-digits}
 use Rattle.speedate_base.specs.Offset.{seconds_per_day}
-use Rattle.speedate_base.specs.Refusal.{refuses_digits}
+use Rattle.speedate_base.specs.Config.{refuses_digits}
 use Rattle.speedate_base.specs.Requirement.{◌implies◌, AllHold, alone, meets, result_map, result_and_then}
 use Rattle.speedate_base.proofs.RequirementLemmas.{alone-iff, alone-whole, and_then-ok, map-ok, meets-all, meets-ok, meets-value}
 use Rattle.speedate_civil.specs.declared.datetime.DateTime.{DateTime}

@@ -7,7 +7,7 @@ use Rattle.speedate_base.specs.declared.faults.ParseError.TheVariants as fault
 use Rattle.speedate_base.specs.DecimalTimestamp.{decimal_row, decimal_instant, digits_table}
 use Rattle.speedate_base.specs.Numbers.{DecimalParts, Number, Whole, Fractional, NoNumber, number_answer}
 use Rattle.speedate_base.specs.Requirement.{Requirement, ◌else_fault◌, meets, result_map, result_and_then}
-use Rattle.speedate_base.specs.Timestamp.{Instant, per_second, instant_answer, range_answer}
+use Rattle.speedate_base.specs.Timestamp.{Instant, timestamp_microsecond, instant_answer, range_answer}
 use Rattle.speedate_civil.specs.DateAndTime.{DateAndTime, local_second}
 use Rattle.speedate_civil.specs.DateTimeText.{date_time_answer}
 use Rattle.speedate_civil.specs.DateTimestamp.{day_at, second_at}
@@ -59,7 +59,7 @@ date_time_timestamp_answer unit offset microseconds timestamp =
 
 -- the microseconds since 1970-01-01T00:00:00 that a timestamp and the additional ones mean
 abbrev pub meant_microsecond : TimestampUnit → ℕ → ℤ → ℤ
-meant_microsecond unit microseconds timestamp = pos (1000000 / per_second unit timestamp) *ℤ timestamp +ℤ pos microseconds
+meant_microsecond unit microseconds timestamp = timestamp_microsecond unit timestamp +ℤ pos microseconds
 
 -- the date-time of a decimal timestamp, or the fault
 abbrev pub date_time_decimal_answer : TimestampUnit → Option ℤ → DecimalParts → Result DateAndTime ParseError

@@ -7,7 +7,7 @@ use Rattle.std.specs.List.{list_all}
 use Rattle.speedate_base.specs.declared.config.MicrosecondsPrecisionOverflowBehavior.{MicrosecondsPrecisionOverflowBehavior}
 use Rattle.speedate_base.specs.Ascii.{plus_sign, hyphen, colon, full_stop, capital_t, capital_z, small_t, small_z}
 use Rattle.speedate_base.specs.Digits.{two_digit_text, four_digit_text}
-use Rattle.speedate_base.specs.Refusal.{refuses_digits}
+use Rattle.speedate_base.specs.Config.{refuses_digits}
 use Rattle.speedate_civil.specs.Calendar.{month_length}
 
 -- 2DIGIT, as time-hour, time-minute and time-second are: the digits of a number up to the highest

@@ -3,8 +3,7 @@
 ghost use Rattle.std.specs.Prelude.{◌≡◌, Err, MatchResult, Ok};
 ghost use Rattle.speedate.specs.declared.ParseError.{ParseError};
 ghost use Rattle.speedate.specs.DateTime.{parts};
-ghost use Rattle.speedate.specs.Fault.{fault_name};
-ghost use Rattle.speedate.specs.FaultDocumentation.{fault_documentation};
+ghost use Rattle.speedate.specs.Fault.{fault_documentation, fault_name};
 ghost use Rattle.speedate.specs.Requirement.{result_map};
 ghost use Rattle.speedate.specs.StrictText.{strict_date_time_answer};
 

@@ -7,8 +7,6 @@ ghost use Rattle.speedate.specs.DateTime.{parts as date_time_parts};
 ghost use Rattle.speedate.specs.DayNumber.{day_number};
 ghost use Rattle.speedate.specs.Duration.{parts as duration_parts};
 ghost use Rattle.speedate.specs.Time.{parts as time_parts};
-ghost use Rattle.speedate_base.specs.UnixTime.{parts as instant_parts};
-ghost use Rattle.speedate_civil.specs.PureTime.{parts as clock_parts};
 
 use speedate::{
     ConfigError, Date, DateConfig, DateConfigBuilder, DateTime, DateTimeConfig,
@@ -16,9 +14,6 @@ use speedate::{
     MicrosecondsPrecisionOverflowBehavior, Moment, ParseError, Time, TimeConfig, TimeConfigBuilder,
     TimestampUnit,
 };
-use speedate_base::numbers::DigitRun;
-use speedate_base::util::UnixTime;
-use speedate_civil::time::PureTime;
 use std::alloc::AllocError;
 
 /// Whether two faults are equal: false for `TooShort` and `ExtraCharacters`.
@@ -84,20 +79,6 @@ pub fn same_date_time_config(first: &DateTimeConfig, second: &DateTimeConfig) ->
     first == second
 }
 
-/// Whether two instants are equal: false if their microseconds differ.
-pub fn same_unix_time(first: &UnixTime, second: &UnixTime) -> bool
-    ensures same { IsTrue result ↔ (instant_parts first.now ≡ instant_parts second.now) }
-{
-    first == second
-}
-
-/// Whether two runs of digits are equal: false if they spell the same number with different lengths.
-pub fn same_digit_run(first: &DigitRun, second: &DigitRun) -> bool
-    ensures same { IsTrue result ↔ (first.now ≡ second.now) }
-{
-    first == second
-}
-
 /// Whether two dates are equal: false if their days differ.
 pub fn same_date(first: &Date, second: &Date) -> bool
     ensures same { IsTrue result ↔ (date_parts first.now ≡ date_parts second.now) }
@@ -108,13 +89,6 @@ pub fn same_date(first: &Date, second: &Date) -> bool
 /// Whether two times are equal: false if one has no offset and the other the offset 0.
 pub fn same_time(first: &Time, second: &Time) -> bool
     ensures same { IsTrue result ↔ (time_parts first.now ≡ time_parts second.now) }
-{
-    first == second
-}
-
-/// Whether two times without offsets are equal, and take as many bytes of their texts.
-pub fn same_pure_time(first: &PureTime, second: &PureTime) -> bool
-    ensures same { IsTrue result ↔ (clock_parts first.now ≡ clock_parts second.now) }
 {
     first == second
 }

@@ -8,7 +8,7 @@ ghost use Rattle.speedate_civil.specs.ClockText.{minute_front};
 ghost use Rattle.speedate.specs.ClockForm.{colon_place, from_minute, has_hours, hours_table, whole_clock, after_hours, clock_form};
 
 use super::unsigned::UnsignedDuration;
-use speedate_base::config::{MicrosecondsPrecisionOverflowBehavior, takes_digits};
+use speedate_base::config::MicrosecondsPrecisionOverflowBehavior;
 use speedate_base::faults::ParseError;
 use speedate_base::numbers::{DigitRun, byte_at};
 use speedate_civil::time::PureTime;
@@ -54,7 +54,7 @@ impl UnsignedDuration {
         if hours > HOURS_MAX {
             return Err(ParseError::DurationHourValueTooLarge);
         }
-        if !takes_digits(behavior, rest.len(), REST_LENGTH_MAX) {
+        if !behavior.takes_digits(rest.len(), REST_LENGTH_MAX) {
             return Err(ParseError::SecondFractionTooLong);
         }
         if rest.len() < 2 {

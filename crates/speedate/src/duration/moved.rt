@@ -167,7 +167,7 @@ impl Duration {
     #[inline]
     fn end(&self, start: &DateTime) -> UnixTime
         ensures instant { instant_parts result
-            ≡ instant_at 1000000 (local_microsecond (date_time_parts start.now) +ℤ signed_length (parts self.now)) }
+            ≡ instant_at (local_microsecond (date_time_parts start.now) +ℤ signed_length (parts self.now)) }
     {
         carried(
             start.timestamp() + self.signed_total_seconds(),
@@ -180,7 +180,7 @@ impl Duration {
 #[inline]
 fn carried(second: i64, microsecond: i32) -> UnixTime
     requires { unsigned_abs second < 100000000000000 }
-    ensures instant { instant_parts result ≡ instant_at 1000000 (pos 1000000 *ℤ second +ℤ microsecond) }
+    ensures instant { instant_parts result ≡ instant_at (pos 1000000 *ℤ second +ℤ microsecond) }
 {
     UnixTime {
         second: second + i64::from(microsecond.div_euclid(1_000_000)),

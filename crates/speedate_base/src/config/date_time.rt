@@ -1,5 +1,8 @@
 //! Configurations of date-times.
 
+ghost use Rattle.std.specs.Prelude.{◌≡◌};
+ghost use Rattle.speedate_base.specs.Config.{choices, default_choices, time_choices};
+
 use super::{TimeConfig, TimestampUnit};
 use std::marker::Model;
 
@@ -16,20 +19,16 @@ pub struct DateTimeConfig {
 }
 
 impl DateTimeConfig {
-    ghost use Rattle.speedate_base.specs.DateTimeConfig.{IsDefault};
-
     /// A builder of a configuration: `DateTimeConfig::builder().build()` is the default one.
     pub fn builder() -> DateTimeConfigBuilder
-        ensures default { IsDefault result }
+        ensures default { choices result ≡ default_choices }
     {
         DateTimeConfigBuilder::new()
     }
 }
 
 impl Default for DateTimeConfig {
-    ghost use Rattle.speedate_base.specs.DateTimeConfig.{IsDefault};
-
-    ghost is_default = { IsDefault };
+    ghost is_default = { λ config. choices config ≡ default_choices };
 
     /// The unit of timestamps is inferred, and the `TimeConfig` is the default one.
     fn default() -> Self {
@@ -59,11 +58,9 @@ impl Model for DateTimeConfigBuilder {
 
 impl DateTimeConfigBuilder {
     ghost use Rattle.std.specs.Prelude.{◌≡◌};
-    ghost use Rattle.speedate_base.specs.DateTimeConfig.{IsDefault};
-
     /// A builder of the default configuration; `DateTimeConfig::builder()` is the same.
     pub fn new() -> Self
-        ensures default { IsDefault result }
+        ensures default { choices result ≡ default_choices }
     {
         DateTimeConfigBuilder {
             config: DateTimeConfig::default(),
@@ -73,8 +70,7 @@ impl DateTimeConfigBuilder {
     /// Sets the unit of timestamps: with `timestamp_unit(TimestampUnit::Millisecond)`, `1` is
     /// 1970-01-01T00:00:00.001000.
     pub fn timestamp_unit(self, unit: TimestampUnit) -> Self
-        ensures unit { result.timestamp_unit ≡ unit }
-        ensures time { result.time_config ≡ self.time_config }
+        ensures choices { choices result ≡ record { unit = unit; time = time_choices self.time_config } }
     {
         DateTimeConfigBuilder {
             config: DateTimeConfig {
@@ -87,8 +83,7 @@ impl DateTimeConfigBuilder {
     /// Sets how the texts of date-times are read, and which offset the value of a timestamp gets: none
     /// with `time_config(TimeConfig::default())`.
     pub fn time_config(self, config: TimeConfig) -> Self
-        ensures time { result.time_config ≡ config }
-        ensures unit { result.timestamp_unit ≡ self.timestamp_unit }
+        ensures choices { choices result ≡ record { unit = self.timestamp_unit; time = time_choices config } }
     {
         DateTimeConfigBuilder {
             config: DateTimeConfig {
@@ -109,9 +104,7 @@ impl DateTimeConfigBuilder {
 }
 
 impl Default for DateTimeConfigBuilder {
-    ghost use Rattle.speedate_base.specs.DateTimeConfig.{IsDefault};
-
-    ghost is_default = { IsDefault };
+    ghost is_default = { λ config. choices config ≡ default_choices };
 
     /// A builder of the default configuration.
     fn default() -> Self {

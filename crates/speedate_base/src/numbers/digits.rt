@@ -10,7 +10,7 @@ use super::places::byte_at;
 use std::simd::prelude::*;
 
 /// A run of digits: how many they are, and the number that they spell. [`digit_run`] reads it.
-#[derive(Clone, Copy, Debug, PartialEq, Eq)]
+#[derive(Clone, Copy, Debug)]
 pub struct DigitRun {
     /// How many digits.
     pub length: usize,

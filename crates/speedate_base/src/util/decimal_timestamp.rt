@@ -1,10 +1,10 @@
 //! Decimal timestamps.
 
-ghost use Rattle.std.specs.Prelude.{◌≡◌, ◌<◌, ◌≤◌, ◌^◌, ◌==◌, ◌*◌, ◌/◌, length, IsTrue, IfOk, nat_le, if◌then◌else◌};
+ghost use Rattle.std.specs.Prelude.{◌≡◌, ◌<◌, ◌≤◌, ◌^◌, ◌==◌, ◌*◌, length, IsTrue, IfOk, nat_le, if◌then◌else◌};
 ghost use Rattle.std.specs.Char.{is_ascii_digit};
 ghost use Rattle.std.specs.List.{list_all};
 ghost use Rattle.speedate_base.specs.DecimalTimestamp.{decimal_digits, decimal_scale, decimal_row, decimal_instant};
-ghost use Rattle.speedate_base.specs.UnixUnit.{row, IsOfRow};
+ghost use Rattle.speedate_base.specs.UnixTime.{row};
 ghost use Rattle.speedate_base.specs.DigitRuns.{digits_value};
 ghost use Rattle.speedate_base.specs.IntFloat.{parts as decimal_parts};
 ghost use Rattle.speedate_base.specs.Nearest.{nearest};
@@ -15,7 +15,8 @@ ghost use Rattle.speedate_base.specs.Timestamp.{IsInYears, inferred_seconds_max,
 ghost use Rattle.speedate_base.specs.UnixTime.{parts};
 
 use super::rounding::{filled, nearest_microseconds};
-use super::{INFERRED_SECONDS_MAX, MICROSECOND, MILLISECOND, SECOND, UnixTime, UnixUnit};
+use super::unit::{MICROSECOND, MILLISECOND, SECOND, UnixUnit};
+use super::{INFERRED_SECONDS_MAX, UnixTime};
 use crate::config::TimestampUnit;
 use crate::faults::ParseError;
 use crate::numbers::digits::digits_number;
@@ -31,7 +32,7 @@ const FAR_MICROSECONDS: u64 = 1 << 60;
 /// 20,000,000,000, otherwise milliseconds.
 #[inline]
 pub fn decimal_unit(decimal: Decimal<'_>, unit: TimestampUnit) -> UnixUnit
-    ensures row { IsOfRow (decimal_row unit (decimal_parts decimal.entry)) result }
+    ensures row { row result ≡ decimal_row unit (decimal_parts decimal.entry) }
 {
     match unit {
         TimestampUnit::Second => SECOND,
@@ -93,13 +94,12 @@ pub fn decimal_to_seconds_micros(
     ensures answer { result_map parts result ≡ range_answer (decimal_instant (row unit) (decimal_parts decimal.entry)) }
     ensures within { IfOk result (λ time. IsInYears (parts time)) }
 {
-    let worth = unit.microseconds();
-    let whole = digits_number(decimal.whole).saturating_mul(worth);
+    let whole = digits_number(decimal.whole).saturating_mul(unit.microseconds);
     if whole > FAR_MICROSECONDS {
         return Err(far_fault(decimal.negative));
     }
     let size = whole + fraction_microseconds(decimal.fraction, unit, decimal.negative);
-    UnixTime::at(with_sign(decimal.negative, size), MICROSECOND).in_years()
+    UnixTime::from_microseconds(with_sign(decimal.negative, size)).in_years()
 }
 
 /// The microseconds of a fraction of the unit, to the nearest.
@@ -107,14 +107,14 @@ pub fn decimal_to_seconds_micros(
 fn fraction_microseconds(digits: &[u8], unit: UnixUnit, negative: bool) -> u64
     requires { IsTrue (list_all is_ascii_digit digits.now) }
     ensures nearest { with_sign negative result
-        ≡ nearest (with_sign negative (digits_value digits.now * (1000000 / (row unit).per_second))) (10 ^ length digits.now) }
+        ≡ nearest (with_sign negative (digits_value digits.now * unit.microseconds)) (10 ^ length digits.now) }
     ensures within { result ≤ 1000000 }
 {
     // So few digits are whole microseconds.
     if digits.len() <= unit.digits {
         return filled(digits, unit.digits);
     }
-    nearest_microseconds(digits, unit.microseconds(), negative)
+    nearest_microseconds(digits, unit.microseconds, negative)
 }
 
 /// The fault of a timestamp that is far from 1970: before it if it is negative.

@@ -2,7 +2,6 @@
 
 ghost use Rattle.std.specs.Prelude.{◌≡◌, ◌<◌};
 
-use super::unit::UnixUnit;
 use crate::faults::ParseError;
 
 /// The first second of the year 0000, counted from 1970-01-01T00:00:00.
@@ -22,21 +21,41 @@ pub struct UnixTime {
 }
 
 impl UnixTime {
-    ghost use Rattle.std.specs.Prelude.{IfOk};
+    ghost use Rattle.std.specs.Prelude.{IfOk, pos, ◌*ℤ◌};
     ghost use Rattle.speedate_base.specs.Requirement.{result_map};
     ghost use Rattle.speedate_base.specs.Timestamp.{IsInYears, instant_at, range_answer};
     ghost use Rattle.speedate_base.specs.UnixTime.{parts};
-    ghost use Rattle.speedate_base.specs.UnixUnit.{row};
 
-    /// The instant of a timestamp in a unit: second -1 and 999,000 microseconds for millisecond -1.
+    /// The instant of a timestamp in seconds.
     #[inline(always)]
-    pub(super) fn at(timestamp: i64, unit: UnixUnit) -> Self
-        ensures { parts result ≡ instant_at (row unit).per_second timestamp }
+    pub(super) fn from_seconds(timestamp: i64) -> Self
+        ensures { parts result ≡ instant_at (pos 1000000 *ℤ timestamp) }
     {
-        let per_second = i64::from(unit.per_second);
         UnixTime {
-            second: timestamp.div_euclid(per_second),
-            microsecond: timestamp.rem_euclid(per_second) as u32 * (1_000_000 / unit.per_second),
+            second: timestamp,
+            microsecond: 0,
+        }
+    }
+
+    /// The instant of a timestamp in milliseconds: second -1 and 999,000 microseconds for -1.
+    #[inline(always)]
+    pub(super) fn from_milliseconds(timestamp: i64) -> Self
+        ensures { parts result ≡ instant_at (pos 1000 *ℤ timestamp) }
+    {
+        UnixTime {
+            second: timestamp.div_euclid(1_000),
+            microsecond: timestamp.rem_euclid(1_000) as u32 * 1_000,
+        }
+    }
+
+    /// The instant of a timestamp in microseconds: second -1 and 999,999 microseconds for -1.
+    #[inline(always)]
+    pub(super) fn from_microseconds(timestamp: i64) -> Self
+        ensures { parts result ≡ instant_at timestamp }
+    {
+        UnixTime {
+            second: timestamp.div_euclid(1_000_000),
+            microsecond: timestamp.rem_euclid(1_000_000) as u32,
         }
     }
 

@@ -203,6 +203,7 @@ impl Date {
     /// for 1970-01-02. Each day has 86,400 seconds; the timestamp is negative before 1970.
     /// [`Date::from_timestamp`], in seconds, leads back.
     #[inline]
+    #[tactic(auto, using(speedate_base::proofs::TimestampLemmas::instant_of_seconds))]
     pub fn timestamp(&self) -> i64
         ensures second { result ≡ midnight_second (parts self.now) }
         ensures leads_back { (exact : Bool) → date_timestamp_answer unit.Second exact result ≡ Ok (parts self.now) }

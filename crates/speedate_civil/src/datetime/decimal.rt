@@ -3,7 +3,7 @@
 ghost use Rattle.std.specs.Prelude.{◌≡◌, IfOk};
 ghost use Rattle.std.specs.Option.{ForSome};
 ghost use Rattle.speedate_base.specs.DecimalTimestamp.{decimal_row, decimal_scale, decimal_size, decimal_instant};
-ghost use Rattle.speedate_base.specs.UnixUnit.{row};
+ghost use Rattle.speedate_base.specs.UnixTime.{row};
 ghost use Rattle.speedate_base.specs.IntFloat.{parts as decimal_parts};
 ghost use Rattle.speedate_base.specs.Nearest.{IsNearest};
 ghost use Rattle.speedate_base.specs.Offset.{IsOffset};
@@ -13,7 +13,7 @@ ghost use Rattle.speedate_civil.specs.DateTime.{parts};
 ghost use Rattle.speedate_civil.specs.DateTimeTimestamp.{instant_date_time, date_time_decimal_answer, date_time_decimal_text};
 
 use crate::datetime::DateTime;
-use speedate_base::config::{DateTimeConfig, takes_digits};
+use speedate_base::config::DateTimeConfig;
 use speedate_base::faults::ParseError;
 use speedate_base::numbers::Decimal;
 use speedate_base::util::{UnixUnit, decimal_to_seconds_micros, decimal_unit};
@@ -60,7 +60,7 @@ impl DateTime {
     {
         let unit = decimal_unit(decimal, config.timestamp_unit);
         let behavior = config.time_config.microseconds_precision_overflow_behavior;
-        if !takes_digits(behavior, decimal.fraction.len(), unit.digits) {
+        if !behavior.takes_digits(decimal.fraction.len(), unit.digits) {
             return Err(unit.too_long);
         }
         Self::at_decimal(decimal, unit, config.time_config.unix_timestamp_offset)

@@ -7,14 +7,14 @@ ghost use Rattle.speedate_civil.specs.ClockText.{has_point, second_there};
 
 use crate::time::Time;
 use crate::time::fraction::Fraction;
-use speedate_base::config::{MicrosecondsPrecisionOverflowBehavior, takes_digits};
+use speedate_base::config::MicrosecondsPrecisionOverflowBehavior;
 use speedate_base::faults::ParseError;
 use speedate_base::numbers::{LANES, byte_at, eight_bytes, fitting, pairs};
 use std::simd::prelude::*;
 
 /// A clock within a longer text: its time of day, without an offset, and how many bytes it takes.
 /// [`PureTime::parse`] reads it.
-#[derive(Clone, Copy, Debug, PartialEq, Eq)]
+#[derive(Clone, Copy, Debug)]
 pub struct PureTime {
     /// The hour, 0 to 23.
     pub hour: u8,
@@ -181,7 +181,7 @@ impl PureTime {
         if fraction.length == 0 {
             return Err(ParseError::SecondFractionMissing);
         }
-        if !takes_digits(behavior, fraction.length, 6) {
+        if !behavior.takes_digits(fraction.length, 6) {
             return Err(ParseError::SecondFractionTooLong);
         }
         Ok(PureTime {

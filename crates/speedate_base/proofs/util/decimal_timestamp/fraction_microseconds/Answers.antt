@@ -1,11 +1,9 @@
 use Rattle.std.proofs.Common.{◌≡◌, ◌∙◌, ap, sym, ℕ, ◌+◌, ◌-◌, ◌*◌, ◌^◌, ◌≤◌, Bool, length, arith}
 use Rattle.std.proofs.lemmas.Nat.{pow-add}
-use Rattle.speedate_base.specs.UnixUnit.{row}
 use Rattle.speedate_base.specs.DigitRuns.{digits_value}
 use Rattle.speedate_base.specs.Nearest.{nearest}
 use Rattle.speedate_base.proofs.NearestLemmas.{nearest-exact, scale-some}
 use Rattle.speedate_base.specs.Numbers.{with_sign}
-use Rattle.speedate_base.proofs.TimestampLemmas.{unit-digits}
 use Rattle.speedate_base.proofs.util.decimal_timestamp.fraction_microseconds.Goals as goal
 
 -- a fraction of no more digits, with zeros after them
@@ -22,4 +20,4 @@ returns-then-digits-unit-clause-nearest c =
     let digits = c.args.digits.now in
     let given = c.args.unit in
     let few : length digits ≤ given.digits = omega (arith, c.if-digits-unit.true) in
-    exact c.args.negative _ given.digits (length digits) (digits_value digits) c.filled.result few (unit-digits (row given)) c.filled.ensures.value
+    exact c.args.negative _ given.digits (length digits) (digits_value digits) c.filled.result few given.whole c.filled.ensures.value

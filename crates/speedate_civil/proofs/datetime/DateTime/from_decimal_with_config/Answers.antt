@@ -2,12 +2,12 @@ use Rattle.std.proofs.Common.{◌≡◌, ◌∙◌, ◌*◌, ◌/◌, ap, sym, �
 use Rattle.std.specs.Prelude.{Option, ℤ, IfOk}
 use Rattle.speedate_base.specs.declared.config.TimestampUnit.{TimestampUnit}
 use Rattle.speedate_base.specs.declared.faults.ParseError.{ParseError}
-use Rattle.speedate_base.specs.DecimalTimestamp.{decimal_digits, decimal_row, decimal_scale, decimal_size}
+use Rattle.speedate_base.specs.DecimalTimestamp.{decimal_instant, decimal_row, decimal_scale, decimal_size}
 use Rattle.speedate_base.specs.IntFloat.{parts as decimal_parts}
 use Rattle.speedate_base.specs.Nearest.{IsNearest, nearest}
 use Rattle.speedate_base.specs.Numbers.{DecimalParts, with_sign}
 use Rattle.speedate_base.specs.Requirement.{result_map}
-use Rattle.speedate_base.specs.Timestamp.{instant_at}
+use Rattle.speedate_base.specs.Timestamp.{UnitRow}
 use Rattle.speedate_civil.specs.DateAndTime.{local_microsecond}
 use Rattle.speedate_civil.specs.DateTime.{parts}
 use Rattle.speedate_civil.specs.declared.datetime.DateTime.{DateTime}
@@ -27,5 +27,5 @@ returns-clause-nearest c =
     let config = c.args.config.now in
     let decimal = decimal_parts c.args.decimal in
     let offset = config.time_config.unix_timestamp_offset in
-    let answer = c.at_decimal.ensures.answer ∙ ap (λ (count : ℕ). instant_date_time offset (instant_at 1000000 (nearest (with_sign decimal.negative (decimal_digits decimal * (1000000 / count))) (decimal_scale decimal)))) c.decimal_unit-unit.ensures.row.0 in
+    let answer = c.at_decimal.ensures.answer ∙ ap (λ (row : UnitRow). instant_date_time offset (decimal_instant row decimal)) c.decimal_unit-unit.ensures.row in
     nearest-of c.at_decimal.result config.timestamp_unit offset decimal answer

@@ -10,11 +10,10 @@ use Rattle.speedate_civil.proofs.DateTimeValueLemmas.{is_date_and_time, local_se
 use Rattle.speedate_civil.proofs.datetime.DateTime.timestamp.Goals as goal
 
 -- without an offset none is attached
-leads-back : (value : DateAndTime) (second : ℤ) → IsDateAndTime value → value.time.offset ≡ None → second ≡ local_second value
-    → date_time_timestamp_answer unit.Second None value.time.microsecond second ≡ Ok value
-leads-back value second valid none same =
-    ap (date_time_timestamp_answer unit.Second None value.time.microsecond) same
-    ∙ ap (λ (offset : Option ℤ). date_time_timestamp_answer unit.Second offset value.time.microsecond (local_second value)) (sym none)
+leads-back : (value : DateAndTime) → IsDateAndTime value → value.time.offset ≡ None
+    → date_time_timestamp_answer unit.Second None value.time.microsecond (local_second value) ≡ Ok value
+leads-back value valid none =
+    ap (λ (offset : Option ℤ). date_time_timestamp_answer unit.Second offset value.time.microsecond (local_second value)) (sym none)
     ∙ date_time_timestamp-leads_back value valid
 
 pub overflow_add-result : goal.overflow_add-result
@@ -31,7 +30,6 @@ returns-clause-second c =
 
 pub returns-clause-leads_back : goal.returns-clause-leads_back
 returns-clause-leads_back c none =
-    let value = c.args.self.now in
-    let small = local_second-small (parts value) (is_date_and_time value) in
-    leads-back (parts value) _ (is_date_and_time value) none
-    (omega (arith, ints, small, c.timestamp.ensures.second, c.total_seconds.ensures.seconds, c.from.ensures))
+    let value = parts c.args.self.now in
+    ap (date_time_timestamp_answer unit.Second None value.time.microsecond) (returns-clause-second c)
+    ∙ leads-back value (is_date_and_time c.args.self.now) none
