@@ -1,5 +1,4 @@
 mod AfterTimeLemmas
-mod CalendarFacts
 mod DaysLemmas
 mod ClockLemmas
 mod DateLemmas
@@ -15,7 +14,6 @@ mod NumberTextLemmas
 mod OffsetLemmas
 mod OffsetMoveLemmas
 mod Rfc3339Lemmas
-mod StandardFacts
 mod TimeLemmas
 pub mod DateValueLemmas
 mod TimeValueLemmas
