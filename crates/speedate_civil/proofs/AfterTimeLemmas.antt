@@ -1,49 +1,39 @@
 -- A printed time at the front of a text is read as itself if and only if what follows is no part of it. So is a printed date-time.
-use Rattle.std.specs.Prelude.{◌≡◌, ◌↔◌, ℕ, ◌+◌, ◌≤◌, ◌<◌, Bool, true, false, not, ◌&&◌, ◌||◌, ◌==◌, List, [], ◌∷◌, ◌++◌, length, drop, slice_index, if◌then◌else◌, Option, Some, None, ℤ, pos, Result, Ok, refl}
+use Rattle.std.specs.Prelude.{◌≡◌, ◌↔◌, ℕ, ◌+◌, ◌≤◌, ◌<◌, Bool, true, false, ◌==◌, List, [], ◌∷◌, ◌++◌, length, drop, slice_index, if◌then◌else◌, Option, Some, None, ℤ, IfOk, Ok, refl}
 use Rattle.std.specs.Char.{is_ascii_digit}
 use Rattle.std.specs.List.{prefix_len}
-use Rattle.std.specs.Option.{is_some}
 use Rattle.std.proofs.Common.{arith, ◌∙◌, ap, ap₂, sym}
 use Rattle.speedate_base.specs.declared.config.MicrosecondsPrecisionOverflowBehavior.{MicrosecondsPrecisionOverflowBehavior}
-use Rattle.speedate_base.specs.declared.faults.ParseError.{ParseError}
-use Rattle.speedate_base.specs.Ascii.{colon, full_stop, hyphen, plus_sign}
+use Rattle.speedate_base.specs.Ascii.{colon, full_stop, hyphen}
 use Rattle.speedate_base.specs.DigitRuns.{run_length}
 use Rattle.speedate_base.proofs.DigitRunLemmas.{run_length-append}
 use Rattle.speedate_base.specs.Digits.{six_digit_text, two_digit_text}
 use Rattle.speedate_base.proofs.DigitLemmas.{six_digits-printed}
-use Rattle.speedate_base.specs.Numbers.{with_sign}
 use Rattle.speedate_base.specs.Offset.{IsWholeMinutes}
-use Rattle.speedate_base.proofs.RequirementLemmas.{and_then-ok, map-ok}
+use Rattle.speedate_base.specs.Requirement.{meets}
 use Rattle.speedate_civil.specs.ClockText.{Clock, clock_front, is_decimal_mark, minute_text}
 use Rattle.speedate_civil.specs.DateAndTime.{DateAndTime, IsDateAndTime}
-use Rattle.speedate_civil.specs.DateTimeText.{date_and_time, date_time_front, date_time_text}
-use Rattle.speedate_civil.proofs.DateTimeLemmas.{date_time_text-front, date_time_text-parted}
+use Rattle.speedate_civil.specs.DateText.{date_front}
+use Rattle.speedate_civil.specs.DateTimeText.{date_time_front, date_time_text, separator_table}
+use Rattle.speedate_civil.proofs.DateTimeLemmas.{date_time_text-front}
 use Rattle.speedate_civil.proofs.FrontLemmas.{clock-size}
-use Rattle.speedate_civil.specs.OffsetText.{begins_offset, has_minus_sign, is_utc, offset_front, offset_size, signed_front}
-use Rattle.speedate_civil.proofs.OffsetLemmas.{signed-offset, minus_sign-front, signed-front, utc-front}
+use Rattle.speedate_civil.specs.OffsetText.{begins_offset, offset_digits, offset_front, offset_ranges, signed_front}
+use Rattle.speedate_civil.proofs.OffsetLemmas.{offset-cases}
+use Rattle.speedate_civil.proofs.ReadLemmas.{read-rows, read-then, read-value}
 use Rattle.speedate_civil.specs.TimeOfDay.{TimeOfDay, IsTime}
-use Rattle.speedate_civil.specs.TimeText.{clock_text, continues_fraction, is_after_time, joined, time_front, time_text, with_offset}
+use Rattle.speedate_civil.specs.TimeText.{clock_text, continues_fraction, is_after_time, time_front, time_text}
 use Rattle.speedate_civil.proofs.TimeLemmas.{time_text-front}
 
 -- a text after which no offset was read begins none
-signed-some : (west : Bool) (sign : ℕ) (numbers : List ℕ) (front : Option ℤ × ℕ) → signed_front west sign numbers ≡ Ok front → front.0 ≡ None → ⊥
-signed-some west sign numbers front read none =
-    let some : Some (with_sign west (offset_size numbers)) ≡ None = ap (λ (pair : Option ℤ × ℕ). pair.0) (signed-offset west sign numbers front read).is ∙ none in
-    absurd (cc)
+signed-some : (west : Bool) (sign : ℕ) (numbers rest : List ℕ) → IfOk (signed_front west sign numbers) (λ front. front.0 ≡ None → begins_offset rest ≡ false)
+signed-some west sign numbers rest =
+    read-rows _ (offset_digits numbers) _ (λ digits. read-rows _ (offset_ranges numbers) _ (λ ranges none. absurd (cc)))
 
-begins-none : (rest : List ℕ) (front : Option ℤ × ℕ) (minus signed utc : Bool) → has_minus_sign rest ≡ minus
-    → ((slice_index rest 0 == plus_sign) || (slice_index rest 0 == hyphen)) ≡ signed → is_utc rest ≡ utc
-    → offset_front rest ≡ Ok front → front.0 ≡ None → begins_offset rest ≡ false
-begins-none rest front true signed utc there some zulu read none =
-    absurd (signed-some true 3 (drop 3 rest) front (sym (minus_sign-front rest there) ∙ read) none)
-begins-none rest front false true utc no_minus some zulu read none =
-    absurd (signed-some (slice_index rest 0 == hyphen) 1 (drop 1 rest) front (sym (signed-front rest some) ∙ read) none)
-begins-none rest front false false true no_minus no_sign zulu read none =
-    let is : ◌≡◌ {A = Result (Option ℤ × ℕ) ParseError} (Ok (Some (pos 0), 1)) (Ok front) = sym (utc-front rest zulu) ∙ read in
-    let front_is : ◌≡◌ {A = Option ℤ × ℕ} (Some (pos 0), 1) front = cc in
-    let some : Some (pos 0) ≡ None = ap (λ (pair : Option ℤ × ℕ). pair.0) front_is ∙ none in
-    absurd (cc)
-begins-none rest front false false false no_minus no_sign other read none = rw (no_minus, no_sign, other) refl
+begins-none : (rest : List ℕ) → IfOk (offset_front rest) (λ front. front.0 ≡ None → begins_offset rest ≡ false)
+begins-none rest =
+    offset-cases (λ answer. IfOk answer (λ front. front.0 ≡ None → begins_offset rest ≡ false)) rest
+    (λ some. signed-some (slice_index rest 0 == hyphen) 1 (drop 1 rest) rest) (λ no_sign utc none. absurd (cc))
+    (λ no_sign no_utc there. signed-some true 3 (drop 3 rest) rest) (λ no_sign no_utc no_minus none. rw (no_sign, no_utc, no_minus) refl)
 
 -- a clock in print that takes no more bytes does not go on with a decimal mark
 no-more : (mark : Bool) (run size : ℕ) → 3 + (if mark then 6 + run else 5) ≡ size → size ≤ 8 → (mark ≡ false) × (size ≡ 8)
@@ -76,41 +66,31 @@ fraction-ends behavior hour minute second microsecond rest clock few read small 
     (no-digit rest (omega (arith, size, run, small)), omega (arith, size, run, small))
 
 -- so what follows a time without an offset, that was read as itself, is no part of it
-neither : (some first second : Bool) → first ≡ false → second ≡ false → (some || (not first && not second)) ≡ true
-neither true first second none other = refl
-neither false false false none other = refl
-neither false true second none other = absurd (cc)
-neither false false true none other = absurd (cc)
-
 ends-at : (behavior : MicrosecondsPrecisionOverflowBehavior) (time : TimeOfDay) (rest text : List ℕ) (size : ℕ) → time_text time ++ rest ≡ text
     → length (time_text time) ≡ size → drop size text ≡ rest → time.offset ≡ None
     → ((clock : Clock) → clock_front behavior text ≡ Ok clock → clock.size ≤ size → (continues_fraction time.microsecond rest ≡ false) × (clock.size ≡ size))
     → time_front behavior (time_text time ++ rest) ≡ Ok (time, length (time_text time)) → is_after_time time rest ≡ true
 ends-at behavior time rest text size text_is long left without stops read =
     let front : TimeOfDay × ℕ = (time, length (time_text time)) in
-    let clocked = and_then-ok (with_offset text) (clock_front behavior text) front (ap (time_front behavior) (sym text_is) ∙ read) in
-    let clock = clocked.0 in
-    let after = map-ok (joined clock) (offset_front (drop clock.size text)) front clocked.2 in
-    let both : clock.size + after.0.1 ≡ length (time_text time) = ap (λ (found : TimeOfDay × ℕ). found.1) after.2 in
-    let stopped = stops clock clocked.1 (omega (arith, both, long)) in
-    let offset = ap (offset_front) (sym left ∙ ap (λ (n : ℕ). drop n text) (sym stopped.1)) ∙ after.1 in
-    let none = ap (λ (found : TimeOfDay × ℕ). found.0.offset) after.2 ∙ without in
-    neither (is_some time.offset) (continues_fraction time.microsecond rest) (begins_offset rest) stopped.0 (begins-none rest after.0 _ _ _ refl refl refl offset none)
+    read-value (λ (found : TimeOfDay × ℕ). ◌≡◌ {A = TimeOfDay × ℕ} found front → is_after_time time rest ≡ true) (time_front behavior text) front
+    (ap (time_front behavior) (sym text_is) ∙ read)
+    (read-then _ _ (clock_front behavior text) (λ clock clocked. read-then _ _ (offset_front (drop clock.size text)) (λ offset after is.
+    let both : clock.size + offset.1 ≡ length (time_text time) = ap (λ (found : TimeOfDay × ℕ). found.1) is in
+    let stopped = stops clock clocked (omega (arith, both, long)) in
+    let here : offset_front rest ≡ Ok offset = ap offset_front (sym left ∙ ap (λ (n : ℕ). drop n text) (sym stopped.1)) ∙ after in
+    let begins = read-value _ (offset_front rest) offset here (begins-none rest) (ap (λ (found : TimeOfDay × ℕ). found.0.offset) is ∙ without) in
+    rw (without, stopped.0, begins) refl))) refl
 
 ends : (behavior : MicrosecondsPrecisionOverflowBehavior) (time : TimeOfDay) (rest : List ℕ) (none : Bool) → IsTime time → (time.microsecond == 0) ≡ none → time.offset ≡ None
     → time_front behavior (time_text time ++ rest) ≡ Ok (time, length (time_text time)) → is_after_time time rest ≡ true
-ends behavior time rest true valid none without read =
+ends behavior time rest true valid none without =
     ends-at behavior time rest (clock_text time ++ rest) 8 (rw (none, without) refl) (rw (none, without) refl) refl without
-    (λ clock is small. let stopped = second-ends behavior time.hour time.minute time.second rest clock is small in (
-      ap (λ (test : Bool). if test then is_decimal_mark (slice_index rest 0) else is_ascii_digit (slice_index rest 0)) none ∙ stopped.0,
-      stopped.1,
-    )) read
-ends behavior time rest false valid some without read =
+    (λ clock is small. let stopped = second-ends behavior time.hour time.minute time.second rest clock is small in (rw none stopped.0, stopped.1))
+ends behavior time rest false valid some without =
     ends-at behavior time rest (clock_text time ++ full_stop ∷ six_digit_text time.microsecond ++ rest) 15 (rw (some, without) refl) (rw (some, without) refl) refl without
-    (λ clock is small. let stopped = fraction-ends behavior time.hour time.minute time.second time.microsecond rest clock (omega (arith, valid.microsecond)) is small in (
-      ap (λ (test : Bool). if test then is_decimal_mark (slice_index rest 0) else is_ascii_digit (slice_index rest 0)) some ∙ stopped.0,
-      stopped.1,
-    )) read
+    (λ clock is small.
+    let stopped = fraction-ends behavior time.hour time.minute time.second time.microsecond rest clock (omega (arith, valid.microsecond)) is small in
+    (rw some stopped.0, stopped.1))
 
 after-read : (behavior : MicrosecondsPrecisionOverflowBehavior) (time : TimeOfDay) (rest : List ℕ) (offset : Option ℤ) → time.offset ≡ offset
     → IsTime time → time_front behavior (time_text time ++ rest) ≡ Ok (time, length (time_text time)) → is_after_time time rest ≡ true
@@ -131,13 +111,12 @@ pub date_time_text-front-iff : (behavior : MicrosecondsPrecisionOverflowBehavior
 date_time_text-front-iff behavior value rest valid whole = (
   λ after. date_time_text-front behavior value rest valid whole after,
   λ read.
-      let time = value.time in
-      let long : 11 + length (time_text time) ≡ length (date_time_text value) = omega arith in
-      let after = map-ok (date_and_time value.date) (time_front behavior (time_text time ++ rest)) (value, length (date_time_text value))
-      (sym (date_time_text-parted behavior value rest valid) ∙ read) in
-      let size : 11 + after.0.1 ≡ length (date_time_text value) = ap (λ (front : DateAndTime × ℕ). front.1) after.2 in
-      let count : after.0.1 ≡ length (time_text time) = omega (arith, size, long) in
-      let is : time_front behavior (time_text time ++ rest) ≡ Ok (time, length (time_text time)) =
-      after.1 ∙ ap₂ (λ (found : TimeOfDay) (n : ℕ). Ok (found, n)) (ap (λ (front : DateAndTime × ℕ). front.0.time) after.2) count in
-      (time_text-front-iff behavior time rest valid.time whole).1 is,
+      let text : List ℕ = date_time_text value ++ rest in
+      let front : DateAndTime × ℕ = (value, length (date_time_text value)) in
+      let Is = λ (found : DateAndTime × ℕ). ◌≡◌ {A = DateAndTime × ℕ} found front → is_after_time value.time rest ≡ true in
+      read-value Is (date_time_front behavior text) front read (read-then Is _ (date_front text)
+      (λ date dated. read-then Is _ (meets (separator_table text) (time_front behavior (drop 11 text))) (λ time timed is.
+      let count : time.1 ≡ length (time_text value.time) = omega (arith, ap (λ (found : DateAndTime × ℕ). found.1) is) in
+      (time_text-front-iff behavior value.time rest valid.time whole).1
+      (timed ∙ ap₂ (λ (found : TimeOfDay) (n : ℕ). Ok (found, n)) (ap (λ (found : DateAndTime × ℕ). found.0.time) is) count)))) refl,
 )

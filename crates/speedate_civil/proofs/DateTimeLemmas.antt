@@ -7,22 +7,16 @@ use Rattle.speedate_base.specs.declared.config.MicrosecondsPrecisionOverflowBeha
 use Rattle.speedate_base.specs.declared.config.MicrosecondsPrecisionOverflowBehavior.TheVariants as behavior
 use Rattle.speedate_base.specs.Ascii.{capital_t}
 use Rattle.speedate_base.specs.Offset.{IsWholeMinutes}
-use Rattle.speedate_base.specs.Requirement.{alone, result_map, result_and_then}
+use Rattle.speedate_base.specs.Requirement.{alone, result_and_then}
 use Rattle.speedate_base.proofs.RequirementLemmas.{alone-whole}
 use Rattle.speedate_base.proofs.TextLemmas.{text-distinct}
 use Rattle.speedate_civil.specs.DateAndTime.{DateAndTime, IsDateAndTime}
 use Rattle.speedate_civil.proofs.DateLemmas.{date_text-front}
-use Rattle.speedate_civil.specs.DateTimeText.{date_and_time, with_time, date_time_front, date_time_answer, date_time_text}
+use Rattle.speedate_civil.specs.DateTimeText.{date_time_front, date_time_answer, date_time_text}
+use Rattle.speedate_civil.proofs.FrontLemmas.{date_time_front-is}
 use Rattle.speedate_civil.specs.OffsetText.{end_fault}
-use Rattle.speedate_civil.specs.TimeText.{time_front, time_text, is_after_time}
+use Rattle.speedate_civil.specs.TimeText.{time_text, is_after_time}
 use Rattle.speedate_civil.proofs.TimeLemmas.{time_text-front, nothing-after}
-
--- the printed date is read, and then the time after it
-pub date_time_text-parted : (behavior : MicrosecondsPrecisionOverflowBehavior) (value : DateAndTime) (rest : List ℕ) → IsDateAndTime value
-    → date_time_front behavior (date_time_text value ++ rest)
-    ≡ result_map (date_and_time value.date) (time_front behavior (time_text value.time ++ rest))
-date_time_text-parted behavior value rest valid =
-    ap (result_and_then (with_time behavior (date_time_text value ++ rest))) (date_text-front value.date (capital_t ∷ time_text value.time ++ rest) valid.date)
 
 -- the text by which a date-time is printed, at the front of another that is no part of it, is read as that date-time
 pub date_time_text-front : (behavior : MicrosecondsPrecisionOverflowBehavior) (value : DateAndTime) (rest : List ℕ) → IsDateAndTime value
@@ -30,8 +24,8 @@ pub date_time_text-front : (behavior : MicrosecondsPrecisionOverflowBehavior) (v
     → date_time_front behavior (date_time_text value ++ rest) ≡ Ok (value, length (date_time_text value))
 date_time_text-front behavior value rest valid whole after =
     let long : 11 + length (time_text value.time) ≡ length (date_time_text value) = omega arith in
-    date_time_text-parted behavior value rest valid
-    ∙ ap (result_map (date_and_time value.date)) (time_text-front behavior value.time rest valid.time whole after)
+    date_time_front-is behavior (date_time_text value ++ rest) (value.date, 10) (value.time, length (time_text value.time))
+    (date_text-front value.date (capital_t ∷ time_text value.time ++ rest) valid.date) (refl, tt) (time_text-front behavior value.time rest valid.time whole after)
     ∙ ap (λ (size : ℕ). Ok (value, size)) long
 
 -- and alone it is that date-time

@@ -13,11 +13,11 @@ pub mod InstantOrderLemmas
 mod NumberTextLemmas
 mod OffsetLemmas
 mod OffsetMoveLemmas
+mod ReadLemmas
 mod Rfc3339Lemmas
 mod TimeLemmas
 pub mod DateValueLemmas
 mod TimeValueLemmas
 pub mod DateTimeValueLemmas
 mod MonthLemmas
-mod WholeMinutesLemmas
 mod YearLemmas

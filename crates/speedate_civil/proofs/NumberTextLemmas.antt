@@ -9,10 +9,9 @@ use Rattle.speedate_base.specs.Ascii.{hyphen, full_stop}
 use Rattle.speedate_base.specs.Digits.{four_digits_at}
 use Rattle.speedate_base.specs.Numbers.{Number, NoNumber, number_answer, whole_number, whole_or, decimal_answer}
 use Rattle.speedate_base.proofs.NumberLemmas.{number_answer-other}
-use Rattle.speedate_base.specs.Requirement.{alone, result_and_then}
 use Rattle.speedate_civil.specs.Calendar.{Ymd}
 use Rattle.speedate_civil.specs.DateText.{date_front, date_answer}
-use Rattle.speedate_civil.specs.NumberText.{may_be_number}
+use Rattle.speedate_civil.specs.Reader.{may_be_number}
 
 -- a text that meets the first three rows of a table meets the first and the third
 rows-met : {A : Type 0} (a b c : Bool) (first second third : ParseError) (next answer : Result A ParseError)
@@ -43,16 +42,16 @@ other-fault refused fault answer behind number one two =
     let same : refused ≡ fault = cc in
     false≢true (sym behind ∙ ap may_be_number same ∙ number)
 
--- and one that is refused by a fault after the first hyphen, whatever is asked of a date at its front
-pub number_answer-refused : {A : Type 0} (next : Ymd × ℕ → Result A ParseError) (text : List ℕ) (fault : ParseError)
-    → result_and_then next (date_front text) ≡ Err fault → may_be_number fault ≡ false → number_answer text ≡ NoNumber
-number_answer-refused next text refused read behind =
-    let front = date_front text in
+-- and one that is refused by a fault after the first hyphen, in an answer that keeps the faults of a date at its front
+pub number_answer-refused : {A : Type 0} (text : List ℕ) (answer : Result A ParseError) (fault : ParseError)
+    → ((other : ParseError) → date_front text ≡ Err other → answer ≡ Err other) → answer ≡ Err fault → may_be_number fault ≡ false
+    → number_answer text ≡ NoNumber
+number_answer-refused text answer refused keeps read behind =
     let rows = rows-met (nat_le 10 (length text)) (four_digits_at text 0) (slice_index text 4 == hyphen)
-    fault.TooShort fault.InvalidCharYear fault.InvalidCharDateSep _ front refl
-    (λ same. other-fault refused fault.TooShort _ behind refl read (ap (result_and_then next) same))
-    (λ same. other-fault refused fault.InvalidCharYear _ behind refl read (ap (result_and_then next) same))
-    (λ same. other-fault refused fault.InvalidCharDateSep _ behind refl read (ap (result_and_then next) same)) in
+    fault.TooShort fault.InvalidCharYear fault.InvalidCharDateSep _ (date_front text) refl
+    (λ same. other-fault refused fault.TooShort answer behind refl read (keeps _ same))
+    (λ same. other-fault refused fault.InvalidCharYear answer behind refl read (keeps _ same))
+    (λ same. other-fault refused fault.InvalidCharDateSep answer behind refl read (keeps _ same)) in
     hyphen-no_number text rows.0 rows.1
 
 -- a text that is no number is no whole number
@@ -65,4 +64,4 @@ whole_number-none text none = no-whole (whole_number text) (decimal_answer text)
 
 pub whole_number-refused : (text : List ℕ) (fault : ParseError) → date_answer text ≡ Err fault → may_be_number fault ≡ false → whole_number text ≡ None
 whole_number-refused text refused read behind =
-    whole_number-none text (number_answer-refused (alone (λ date. fault.ExtraCharacters) text) text refused read behind)
+    whole_number-none text (number_answer-refused text (date_answer text) refused (λ other is. rw is refl) read behind)

@@ -1,95 +1,49 @@
--- A printed offset of whole minutes is read as itself.
-use Rattle.std.specs.Prelude.{◌≡◌, ℕ, zero, suc, ◌+◌, ◌*◌, ◌/◌, ◌%◌, ◌<◌, Bool, true, false, not, ◌||◌, List, ◌∷◌, ◌++◌, length, drop, nat_lt, if◌then◌else◌, ◌&&◌, ◌==◌, slice_index, Option, Some, None, ℤ, pos, negsuc, Result, Ok, refl}
+-- Offsets at the front of a text, by what they begin with; and a printed offset of whole minutes is read as itself.
+use Rattle.std.specs.Prelude.{◌≡◌, ℕ, zero, suc, ◌+◌, ◌*◌, ◌/◌, ◌%◌, ◌<◌, Bool, true, false, not, ◌||◌, List, ◌∷◌, ◌++◌, length, drop, ◌==◌, slice_index, Option, Some, None, ℤ, pos, negsuc, unsigned_abs, Result, Ok, refl}
 use Rattle.std.specs.Option.{ForSome, is_some}
-use Rattle.std.proofs.Common.{arith, ◌∙◌}
+use Rattle.std.proofs.Common.{arith, ap, subst, ◌∙◌}
+use Rattle.std.proofs.Math.Nat.{mul-mod_right}
 use Rattle.std.proofs.lemmas.Bool.{le-leb, lt-ltb, le-ltb, ne_eqb, not-true}
 use Rattle.std.proofs.lemmas.Bool.Decides.{nat_tests}
 use Rattle.speedate_base.specs.declared.faults.ParseError.{ParseError}
-use Rattle.speedate_base.specs.Ascii.{plus_sign, hyphen, capital_z, small_z}
+use Rattle.speedate_base.specs.Ascii.{plus_sign, hyphen, capital_z}
 use Rattle.speedate_base.proofs.DigitLemmas.{two_digits-printed, two_digit_value-printed}
 use Rattle.speedate_base.specs.Numbers.{with_sign}
 use Rattle.speedate_base.specs.Offset.{IsOffset, IsWholeMinutes, seconds_per_day}
-use Rattle.speedate_base.specs.Requirement.{AllHold, meets}
-use Rattle.speedate_base.proofs.RequirementLemmas.{meets-ok, meets-value}
-use Rattle.speedate_civil.specs.OffsetText.{begins_offset, has_minus_sign, offset_digits, offset_digits_length, offset_front, offset_ranges, offset_size, offset_text, offset_size_text, signed_front, is_utc, unsigned_front}
+use Rattle.speedate_civil.specs.OffsetText.{begins_offset, has_minus_sign, is_plus_or_minus, is_utc, offset_front, offset_text, offset_size_text, signed_front}
+use Rattle.speedate_civil.proofs.ReadLemmas.{if_cases}
 
--- the offset by what a text begins with: U+2212, `+` or `-`, or no sign
-abbrev by_tests : Bool → Bool → Bool → Result (Option ℤ × ℕ) ParseError → List ℕ → Result (Option ℤ × ℕ) ParseError
-by_tests minus plus hyphen other rest =
-    let length = if minus then 3 else (if plus || hyphen then 1 else 0) in
-    if nat_lt 0 length then signed_front (hyphen || minus) length (drop length rest) else other
+-- what holds of the offset of a text by what it begins with, `+` or `-`, `Z` or `z`, U+2212 or none of them, holds of it
+pub offset-cases : (P : Result (Option ℤ × ℕ) ParseError → Type 0) (rest : List ℕ)
+    → (is_plus_or_minus (slice_index rest 0) ≡ true → P (signed_front (slice_index rest 0 == hyphen) 1 (drop 1 rest)))
+    → (is_plus_or_minus (slice_index rest 0) ≡ false → is_utc (slice_index rest 0) ≡ true → P (Ok (Some (pos 0), 1)))
+    → (is_plus_or_minus (slice_index rest 0) ≡ false → is_utc (slice_index rest 0) ≡ false → has_minus_sign rest ≡ true → P (signed_front true 3 (drop 3 rest)))
+    → (is_plus_or_minus (slice_index rest 0) ≡ false → is_utc (slice_index rest 0) ≡ false → has_minus_sign rest ≡ false → P (Ok (None, 0)))
+    → P (offset_front rest)
+offset-cases P rest signed utc minus none =
+    if_cases P (is_plus_or_minus (slice_index rest 0)) _ _ signed
+    (λ no_sign. if_cases P (is_utc (slice_index rest 0)) _ _ (utc no_sign)
+    (λ no_utc. if_cases P (has_minus_sign rest) _ _ (minus no_sign no_utc) (none no_sign no_utc)))
 
-by_one : (minus plus hyphen : Bool) (other : Result (Option ℤ × ℕ) ParseError) (rest : List ℕ) → minus ≡ false → (plus || hyphen) ≡ true
-    → by_tests minus plus hyphen other rest ≡ signed_front hyphen 1 (drop 1 rest)
-by_one false true true other rest none some = refl
-by_one false true false other rest none some = refl
-by_one false false true other rest none some = refl
-by_one false false false other rest none some = absurd (cc)
-by_one true plus hyphen other rest none some = absurd (cc)
-
-by_three : (minus plus hyphen : Bool) (other : Result (Option ℤ × ℕ) ParseError) (rest : List ℕ) → minus ≡ true
-    → by_tests minus plus hyphen other rest ≡ signed_front true 3 (drop 3 rest)
-by_three true plus true other rest there = refl
-by_three true plus false other rest there = refl
-by_three false plus hyphen other rest there = absurd (cc)
-
-by_none : (minus plus hyphen : Bool) (other : Result (Option ℤ × ℕ) ParseError) (rest : List ℕ) → minus ≡ false → (plus || hyphen) ≡ false
-    → by_tests minus plus hyphen other rest ≡ other
-by_none false false false other rest none nothing = refl
-by_none false true hyphen other rest none nothing = absurd (cc)
-by_none false false true other rest none nothing = absurd (cc)
-by_none true plus hyphen other rest none nothing = absurd (cc)
-
--- neither `+` and `-` nor `Z` and `z` begin U+2212
-no_minus : (byte : ℕ) (second third : Bool) → ((byte == plus_sign) || (byte == hyphen)) ≡ true → ((byte == 0xe2) && second && third) ≡ false
-no_minus byte second third one = grind (arith, nat_tests)
-
-no_minus-utc : (byte : ℕ) (second third : Bool) → ((byte == capital_z) || (byte == small_z)) ≡ true → ((byte == 0xe2) && second && third) ≡ false
-no_minus-utc byte second third one = grind (arith, nat_tests)
-
-pub no_sign-utc : (byte : ℕ) → ((byte == capital_z) || (byte == small_z)) ≡ true → ((byte == plus_sign) || (byte == hyphen)) ≡ false
-no_sign-utc byte one = grind (arith, nat_tests)
-
--- the offset at the front of a text, by what begins it: U+2212, `+` or `-`, no sign, `Z` or `z`
-pub minus_sign-front : (rest : List ℕ) → has_minus_sign rest ≡ true → offset_front rest ≡ signed_front true 3 (drop 3 rest)
-minus_sign-front rest there =
-    by_three (has_minus_sign rest) (slice_index rest 0 == plus_sign) (slice_index rest 0 == hyphen) (Ok (unsigned_front rest)) rest there
-
-pub signed-front : (rest : List ℕ) → ((slice_index rest 0 == plus_sign) || (slice_index rest 0 == hyphen)) ≡ true
-    → offset_front rest ≡ signed_front (slice_index rest 0 == hyphen) 1 (drop 1 rest)
-signed-front rest some =
-    let byte = slice_index rest 0 in
-    by_one (has_minus_sign rest) (byte == plus_sign) (byte == hyphen) (Ok (unsigned_front rest)) rest (no_minus byte _ _ some) some
-
-pub unsigned-front : (rest : List ℕ) → has_minus_sign rest ≡ false → ((slice_index rest 0 == plus_sign) || (slice_index rest 0 == hyphen)) ≡ false
-    → offset_front rest ≡ Ok (unsigned_front rest)
-unsigned-front rest none nothing =
-    by_none (has_minus_sign rest) (slice_index rest 0 == plus_sign) (slice_index rest 0 == hyphen) (Ok (unsigned_front rest)) rest none nothing
-
-pub utc-front : (rest : List ℕ) → is_utc rest ≡ true → offset_front rest ≡ Ok (Some (pos 0), 1)
-utc-front rest utc =
-    let byte = slice_index rest 0 in
-    unsigned-front rest (no_minus-utc byte _ _ utc) (no_sign-utc byte utc) ∙ rw (utc) refl
-
--- an offset that was read after its sign: the rows of its tables hold, and it is the one of the text
-pub record SignedOffset (west : Bool) (sign : ℕ) (numbers : List ℕ) (front : Option ℤ × ℕ) : Type 0 where
-  pub digits : AllHold (offset_digits numbers)
-  pub ranges : AllHold (offset_ranges numbers)
-  pub is : (Some (with_sign west (offset_size numbers)), sign + offset_digits_length numbers) ≡ front
-
-pub signed-offset : (west : Bool) (sign : ℕ) (numbers : List ℕ) (front : Option ℤ × ℕ) → signed_front west sign numbers ≡ Ok front
-    → SignedOffset west sign numbers front
-signed-offset west sign numbers front read =
-    let value : Option ℤ × ℕ = (Some (with_sign west (offset_size numbers)), sign + offset_digits_length numbers) in
-    let digits_met = meets-ok (offset_digits numbers) (meets (offset_ranges numbers) (Ok value)) front read in
-    let ranges_met = meets-value (offset_ranges numbers) value front digits_met.1 in
-    record { digits = digits_met.0; ranges = ranges_met.0; is = ranges_met.1 }
+-- a whole number of minutes is one with either sign
+pub minutes-signed : (west : Bool) (hour minute : ℕ) → IsWholeMinutes (Some (with_sign west (3600 * hour + 60 * minute)))
+minutes-signed west hour minute =
+    let spread : 3600 * hour + 60 * minute ≡ 60 * (60 * hour + minute) = grind arith in
+    let whole : (3600 * hour + 60 * minute) % 60 ≡ 0 = ap (λ (n : ℕ). n % 60) spread ∙ mul-mod_right 60 (60 * hour + minute) in
+    λ seconds is.
+    let same : with_sign west (3600 * hour + 60 * minute) ≡ seconds = cc in
+    subst (λ (offset : ℤ). unsigned_abs offset % 60 ≡ 0) same (sized west (3600 * hour + 60 * minute) whole)
+  where
+    sized : (negative : Bool) (size : ℕ) → size % 60 ≡ 0 → unsigned_abs (with_sign negative size) % 60 ≡ 0
+    sized false size whole = whole
+    sized true zero whole = whole
+    sized true (suc size) whole = whole
 
 -- an offset other than 0 is printed with a sign
-pub offset_text-west : (size : ℕ) → offset_text (Some (negsuc size)) ≡ hyphen ∷ offset_size_text (suc size)
+offset_text-west : (size : ℕ) → offset_text (Some (negsuc size)) ≡ hyphen ∷ offset_size_text (suc size)
 offset_text-west size = rw (ne_eqb (suc size) 0 (λ same. absurd (omega arith))) refl
 
-pub offset_text-east : (size : ℕ) → offset_text (Some (pos (suc size))) ≡ plus_sign ∷ offset_size_text (suc size)
+offset_text-east : (size : ℕ) → offset_text (Some (pos (suc size))) ≡ plus_sign ∷ offset_size_text (suc size)
 offset_text-east size = rw (ne_eqb (suc size) 0 (λ same. absurd (omega arith)), le-ltb (suc size) 0 (omega arith)) refl
 
 -- a test that neither a sign nor `Z` passes tells of what follows only where no offset is printed
@@ -118,8 +72,8 @@ pub offset_text-front : (offset : Option ℤ) (rest : List ℕ) → ForSome offs
     → (is_some offset || not (begins_offset rest)) ≡ true
     → offset_front (offset_text offset ++ rest) ≡ Ok (offset, length (offset_text offset))
 offset_text-front None rest valid whole ends = no_offset rest ends
-offset_text-front (Some (pos zero)) rest valid whole ends = utc-front (capital_z ∷ rest) refl
+offset_text-front (Some (pos zero)) rest valid whole ends = refl
 offset_text-front (Some (pos (suc size))) rest valid whole ends =
-    rw (offset_text-east size) (signed-front (plus_sign ∷ offset_size_text (suc size) ++ rest) refl ∙ signed-printed false (suc size) rest (valid (pos (suc size)) refl) (whole (pos (suc size)) refl))
+    rw (offset_text-east size) (signed-printed false (suc size) rest (valid (pos (suc size)) refl) (whole (pos (suc size)) refl))
 offset_text-front (Some (negsuc size)) rest valid whole ends =
-    rw (offset_text-west size) (signed-front (hyphen ∷ offset_size_text (suc size) ++ rest) refl ∙ signed-printed true (suc size) rest (valid (negsuc size) refl) (whole (negsuc size) refl))
+    rw (offset_text-west size) (signed-printed true (suc size) rest (valid (negsuc size) refl) (whole (negsuc size) refl))

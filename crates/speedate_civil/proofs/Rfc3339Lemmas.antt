@@ -1,18 +1,17 @@
 -- The texts of RFC 3339 by its rules are those that the strict readers take.
-use Rattle.std.specs.Prelude.{◌≡◌, ◌⊎◌, ℕ, ◌+◌, ◌*◌, ◌/◌, ◌%◌, ◌≤◌, suc, Bool, true, false, ◌&&◌, ◌||◌, ◌==◌, List, [], ◌∷◌, ◌++◌, length, take, drop, nat_le, nat_lt, slice_index, if◌then◌else◌, Option, Some, None, ℤ, pos, Result, Ok, Err, refl, ◌↔◌}
+use Rattle.std.specs.Prelude.{◌≡◌, ◌⊎◌, ℕ, ◌+◌, ◌*◌, ◌/◌, ◌%◌, ◌≤◌, zero, suc, Bool, true, false, ◌&&◌, ◌||◌, ◌==◌, List, [], ◌∷◌, ◌++◌, length, take, drop, nat_le, nat_lt, slice_index, if◌then◌else◌, Option, Some, ℤ, IfOk, Result, Ok, Err, refl, ◌↔◌}
 use Rattle.std.specs.Char.{is_ascii_digit}
 use Rattle.std.specs.Int.{is_in_range, IsInRange}
 use Rattle.std.specs.List.{list_all, prefix_len}
 use Rattle.std.specs.Result.{IsOk}
 use Rattle.std.proofs.Common.{arith, ap, ap₂, subst, sym, ◌∙◌, inl, inr}
 use Rattle.std.proofs.Math.Seq.{take-append_seam, drop-append_seam}
-use Rattle.std.proofs.lemmas.Bool.{and_parts, le-leb, lt-ltb, leb-true, ltb-true, eqb-true, not-true}
+use Rattle.std.proofs.lemmas.Bool.{and_parts, or_cases, le-leb, lt-ltb, leb-true, ltb-true, eqb-true, not-true}
 use Rattle.std.proofs.lemmas.Bool.Decides.{nat_tests}
-use Rattle.std.proofs.lemmas.List.{drop_more, length-append, length-drop, length-take-le, take-append-drop}
+use Rattle.std.proofs.lemmas.List.{drop_more, get_or-drop, length-append, length-drop, length-take-le, nil_from_length, take_all, take-append-drop}
 use Rattle.std.proofs.lemmas.List.Sums.{prefix_len-le-length}
 use Rattle.speedate_base.specs.declared.config.MicrosecondsPrecisionOverflowBehavior.{MicrosecondsPrecisionOverflowBehavior}
 use Rattle.speedate_base.specs.declared.faults.ParseError.{ParseError}
-use Rattle.speedate_base.specs.declared.faults.ParseError.TheVariants as fault
 use Rattle.speedate_base.specs.Ascii.{colon, comma, full_stop, hyphen, plus_sign, capital_t, capital_z, small_t, small_z}
 use Rattle.speedate_base.specs.DigitRuns.{fraction_value, run_length}
 use Rattle.speedate_base.proofs.DigitRunLemmas.{run_length-append, one_digit_value-le}
@@ -22,54 +21,70 @@ use Rattle.speedate_base.specs.Numbers.{with_sign}
 use Rattle.speedate_base.proofs.NumberLemmas.{run-digits}
 use Rattle.speedate_base.specs.Offset.{seconds_per_day}
 use Rattle.speedate_base.specs.Config.{refuses_digits}
-use Rattle.speedate_base.specs.Requirement.{◌implies◌, AllHold, alone, meets, result_map, result_and_then}
-use Rattle.speedate_base.proofs.RequirementLemmas.{alone-iff, alone-whole, and_then-ok, map-ok, meets-all, meets-ok, meets-value}
+use Rattle.speedate_base.specs.Requirement.{Requirement, ◌implies◌, AllHold, alone, meets, result_map, result_and_then}
+use Rattle.speedate_base.proofs.RequirementLemmas.{alone-iff, alone-whole, and_then-ok, meets-all, meets-ok, meets-value}
 use Rattle.speedate_civil.specs.declared.datetime.DateTime.{DateTime}
 use Rattle.speedate_civil.specs.declared.time.Time.{Time}
 use Rattle.speedate_civil.specs.Calendar.{Ymd, IsDate, month_length}
-use Rattle.speedate_civil.specs.ClockText.{Clock, clock_answer, clock_front, is_decimal_mark, minute_text}
+use Rattle.speedate_civil.specs.ClockText.{Clock, clock_answer, clock_front, has_point, has_second, is_decimal_mark, minute_text}
 use Rattle.speedate_civil.proofs.ClockLemmas.{run_length-none, clock-whole}
 use Rattle.speedate_civil.specs.DateAndTime.{DateAndTime}
-use Rattle.speedate_civil.specs.DateText.{date_front, date_numbers, date_table, date_text}
+use Rattle.speedate_civil.specs.DateText.{date_front, date_table, date_text}
 use Rattle.speedate_civil.proofs.DateLemmas.{date_text-front}
 use Rattle.speedate_civil.specs.DateTime.{parts as date_time_parts}
-use Rattle.speedate_civil.specs.DateTimeText.{date_and_time, date_time_answer, date_time_front, is_separator, separator_table, with_time}
-use Rattle.speedate_civil.proofs.FrontLemmas.{clock-read}
-use Rattle.speedate_civil.specs.OffsetText.{end_fault, has_minus_sign, is_utc, offset_front, signed_front, unsigned_front}
-use Rattle.speedate_civil.proofs.OffsetLemmas.{no_sign-utc, signed-offset, signed-front, unsigned-front, utc-front}
+use Rattle.speedate_civil.specs.DateTimeText.{date_time_answer, date_time_front, is_separator, separator_table}
+use Rattle.speedate_civil.proofs.FrontLemmas.{bytes_from, clock-read, clock-size, date_time_front-is, minute_size, time_front-is}
+use Rattle.speedate_civil.specs.OffsetText.{end_fault, is_plus_or_minus, is_utc, offset_digits, offset_front, offset_ranges, signed_front}
+use Rattle.speedate_civil.proofs.OffsetLemmas.{offset-cases}
+use Rattle.speedate_civil.proofs.ReadLemmas.{read-rows, read-then, read-value}
 use Rattle.speedate_civil.specs.Rfc3339Text.{IsFullDate, IsDateTime, IsTwoDigits, IsSecfrac, IsPartialTime, IsNumoffset, IsTimeOffset, IsFullTime}
 use Rattle.speedate_civil.specs.StrictText.{offset_place, standard_date_time, standard_offset, standard_time, strict_date_time_answer, strict_time_answer}
 use Rattle.speedate_civil.specs.Time.{parts as time_parts}
 use Rattle.speedate_civil.specs.TimeOfDay.{TimeOfDay}
-use Rattle.speedate_civil.specs.TimeText.{joined, with_offset, time_front, time_answer}
+use Rattle.speedate_civil.specs.TimeText.{time_of, time_front, time_answer}
 use Rattle.speedate_civil.proofs.TimeLemmas.{front-printed}
 
--- two digits are the text of the number that they spell
-digits-spelled : (first second : ℕ) → is_ascii_digit first ≡ true → is_ascii_digit second ≡ true
-    → two_digit_text (10 * one_digit_value first + one_digit_value second) ≡ first ∷ second ∷ []
-digits-spelled first second one two =
-    let low : 48 ≤ first = grind (arith, nat_tests) in
-    let high : first ≤ 57 = grind (arith, nat_tests) in
-    let low_two : 48 ≤ second = grind (arith, nat_tests) in
-    let high_two : second ≤ 57 = grind (arith, nat_tests) in
-    let tens : digit ((10 * one_digit_value first + one_digit_value second) / 10) ≡ first = omega (arith, low, high, low_two, high_two) in
-    let ones : digit ((10 * one_digit_value first + one_digit_value second) % 10) ≡ second = omega (arith, low, high, low_two, high_two) in
-    rw (tens, ones) refl
+-- so many bytes of a text, from a place on, one by one
+bytes-are : (count place : ℕ) (text : List ℕ) → place + count ≤ length text → take count (drop place text) ≡ bytes_from place count text
+bytes-are zero place text within = refl
+bytes-are (suc count) place text within =
+    ap (take (suc count)) (drop_more text place 0 (omega arith))
+    ∙ ap (λ (rest : List ℕ). slice_index text place ∷ rest) (bytes-are count (place + 1) text (omega arith))
+
+-- a text by its first bytes and the rest
+split : (P : List ℕ → Type 0) (count : ℕ) (text : List ℕ) → count ≤ length text → P (bytes_from 0 count text ++ drop count text) → P text
+split P count text within =
+    subst P (ap (λ (front : List ℕ). front ++ drop count text) (sym (bytes-are count 0 text (omega (arith, within)))) ∙ take-append-drop count text)
+
+-- two digits, each by itself
+both : (text : List ℕ) (place : ℕ) → two_digits_at text place ≡ true
+    → (is_ascii_digit (slice_index text place) ≡ true) × (is_ascii_digit (slice_index text (place + 1)) ≡ true)
+both text place digits = and_parts (is_ascii_digit (slice_index text place)) (is_ascii_digit (slice_index text (place + 1))) digits
+
+spelled-small : (text : List ℕ) (place : ℕ) → two_digits_at text place ≡ true → two_digit_value text place ≤ 99
+spelled-small text place digits =
+    let parts = both text place digits in
+    omega (arith, one_digit_value-le (slice_index text place) parts.0, one_digit_value-le (slice_index text (place + 1)) parts.1)
+
+digit-spelled : (byte : ℕ) → is_ascii_digit byte ≡ true → digit (one_digit_value byte) ≡ byte
+digit-spelled byte is = grind (arith, nat_tests)
+
+-- they are the text of the number that they spell
+spelled : (text : List ℕ) (place : ℕ) → two_digits_at text place ≡ true → two_digit_text (two_digit_value text place) ≡ bytes_from place 2 text
+spelled text place digits =
+    let first = slice_index text place in
+    let second = slice_index text (place + 1) in
+    let parts = both text place digits in
+    let low = one_digit_value-le second parts.1 in
+    let tens : two_digit_value text place / 10 ≡ one_digit_value first = omega (arith, low) in
+    let ones : two_digit_value text place % 10 ≡ one_digit_value second = omega (arith, low) in
+    rw (tens, ones, digit-spelled first parts.0, digit-spelled second parts.1) refl
 
 -- so they are two digits of the rules where the number is in its range
-two-digits : (highest first second : ℕ) → (is_ascii_digit first && is_ascii_digit second) ≡ true
-    → nat_le (10 * one_digit_value first + one_digit_value second) highest ≡ true → IsTwoDigits highest (first ∷ second ∷ [])
-two-digits highest first second digits small =
-    let parts = and_parts (is_ascii_digit first) (is_ascii_digit second) digits in
-    record {
-      number = 10 * one_digit_value first + one_digit_value second;
-      within = leb-true _ highest small;
-      together = sym (digits-spelled first second parts.0 parts.1);
-    }
-
-two-digits-le : (highest first second : ℕ) → (is_ascii_digit first && is_ascii_digit second) ≡ true
-    → 10 * one_digit_value first + one_digit_value second ≤ highest → IsTwoDigits highest (first ∷ second ∷ [])
-two-digits-le highest first second digits small = two-digits highest first second digits (le-leb _ highest small)
+two-digits : (highest : ℕ) (text : List ℕ) (place : ℕ) → two_digits_at text place ≡ true → nat_le (two_digit_value text place) highest ≡ true
+    → IsTwoDigits highest (bytes_from place 2 text)
+two-digits highest text place digits small =
+    record { number = two_digit_value text place; within = leb-true _ highest small; together = sym (spelled text place digits) }
 
 asked-true : (there asked : Bool) → there ≡ true → (there implies asked) ≡ true → asked ≡ true
 asked-true true asked is holds = holds
@@ -153,133 +168,94 @@ clock-parts behavior a b c d e f g h more clock read second_colon plain =
     let count : clock.size ≡ 8 + taken = sym size ∙ size-of (f == colon) point mark run second_colon plain in
     let eight : 8 + taken ≡ suc (suc (suc (suc (suc (suc (suc (suc taken))))))) = omega arith in (
       subst (λ (n : ℕ). IsPartialTime behavior (take n text)) (sym (count ∙ eight))
-          (clock-of behavior a b c d e f g h (take taken more) (two-digits 23 a b rows.hour.1.0 rows.range.0) rows.hour.1.1.0
-          (two-digits 59 d e rows.digits.0 rows.minute.0) second_colon
-          (two-digits 59 g h (asked-true (f == colon) _ second_colon rows.minute.1.0) (asked-true (f == colon) _ second_colon rows.minute.1.1.0))
+          (clock-of behavior a b c d e f g h (take taken more) (two-digits 23 text 0 rows.hour.1.0 rows.range.0) rows.hour.1.1.0
+          (two-digits 59 text 3 rows.digits.0 rows.minute.0) second_colon
+          (two-digits 59 text 6 (asked-true (f == colon) _ second_colon rows.minute.1.0) (asked-true (f == colon) _ second_colon rows.minute.1.1.0))
           (fraction-of behavior more point refl (some-asked (f == colon) point mark _ second_colon rows.minute.1.1.1.0)
           (few-asked (f == colon) point mark (refuses_digits behavior) _ second_colon rows.minute.1.1.1.1.0))),
       count ∙ sym (place-of point run),
     )
 
 -- one of two bytes
-one-of : (byte first second : ℕ) (one other : Bool) → (byte == first) ≡ one → (byte == second) ≡ other → (one || other) ≡ true → (byte ≡ first) ⊎ (byte ≡ second)
-one-of byte first second true other is or some = inl (eqb-true byte first is)
-one-of byte first second false true is or some = inr (eqb-true byte second or)
-one-of byte first second false false is or some = absurd (cc)
+one-of : (byte first second : ℕ) → ((byte == first) || (byte == second)) ≡ true → (byte ≡ first) ⊎ (byte ≡ second)
+one-of byte first second some = elim (or_cases (byte == first) (byte == second) some) [
+  | inl is ↦ inl (eqb-true byte first is)
+  | inr is ↦ inr (eqb-true byte second is)
+]
 
--- the rows of an offset after its sign, which takes all bytes
-numoffset : (byte : ℕ) (numbers : List ℕ) (front : Option ℤ × ℕ) → ((byte == plus_sign) || (byte == hyphen)) ≡ true
-    → signed_front (byte == hyphen) 1 numbers ≡ Ok front → (slice_index numbers 2 == colon) ≡ true → length numbers ≡ 5 → IsNumoffset (byte ∷ numbers)
-numoffset byte (a ∷ b ∷ c ∷ d ∷ e ∷ []) front some read there five =
-    let numbers : List ℕ = a ∷ b ∷ c ∷ d ∷ e ∷ [] in
-    let rows = signed-offset (byte == hyphen) 1 numbers front read in
-    let minute_digits = subst (λ (test : Bool). two_digits_at numbers (if test then 3 else 2) ≡ true) there rows.digits.1.0 in
-    let minute_small = subst (λ (test : Bool). nat_le (two_digit_value numbers (if test then 3 else 2)) 59 ≡ true) there rows.ranges.0 in
-    let small = subst (λ (test : Bool). nat_lt (3600 * two_digit_value numbers 0 + 60 * two_digit_value numbers (if test then 3 else 2)) seconds_per_day ≡ true) there rows.ranges.1.0 in
-    let hour_small : 10 * one_digit_value a + one_digit_value b ≤ 23 = omega (arith, ltb-true _ seconds_per_day small) in
-    record {
+either : (P : ℕ → Type 0) (byte first second : ℕ) → P first → P second → (byte ≡ first) ⊎ (byte ≡ second) → P byte
+either P byte first second one other (inl is) = subst P (sym is) one
+either P byte first second one other (inr is) = subst P (sym is) other
+
+-- a sign is not UTC itself
+no_utc : (byte : ℕ) (other : Bool) → is_plus_or_minus byte ≡ true → (is_utc byte || other) ≡ true → other ≡ true
+no_utc byte other sign some = grind (arith, nat_tests)
+
+-- an offset with a sign is one of the rules if it has its `:` and takes all bytes
+numoffset : (byte : ℕ) (numbers : List ℕ) → is_plus_or_minus byte ≡ true → (slice_index numbers 2 == colon) ≡ true
+    → IfOk (signed_front (byte == hyphen) 1 numbers) (λ front. front.1 ≡ length (byte ∷ numbers) → IsTimeOffset (byte ∷ numbers))
+numoffset byte numbers some there =
+    read-rows _ (offset_digits numbers) _ (λ digits. read-rows _ (offset_ranges numbers) _ (λ ranges whole.
+    let minute_digits = rw there at digits.1.0 in
+    let minute_small = rw there at ranges.0 in
+    let small = rw there at ranges.1.0 in
+    let size = rw there at whole in
+    let five : length numbers ≡ 5 = omega (arith, size) in
+    let hour_small : two_digit_value numbers 0 ≤ 23 = omega (arith, ltb-true _ seconds_per_day small) in
+    inr (inr (subst (λ (text : List ℕ). IsNumoffset (byte ∷ text)) (sym (bytes-are 5 0 numbers (omega (arith, five))) ∙ take_all 5 numbers (omega (arith, five)))
+    (record {
       sign = byte;
-      hour = a ∷ b ∷ [];
-      minute = d ∷ e ∷ [];
-      is_sign = one-of byte plus_sign hyphen _ _ refl refl some;
-      is_hour = two-digits-le 23 a b rows.digits.0 hour_small;
-      is_minute = two-digits 59 d e minute_digits minute_small;
-      together = ap (λ (x : ℕ). byte ∷ a ∷ b ∷ x ∷ d ∷ e ∷ []) (eqb-true c colon there);
-    }
-numoffset byte [] front some read there five = absurd (omega (arith, five))
-numoffset byte (a ∷ []) front some read there five = absurd (omega (arith, five))
-numoffset byte (a ∷ b ∷ []) front some read there five = absurd (omega (arith, five))
-numoffset byte (a ∷ b ∷ c ∷ []) front some read there five = absurd (omega (arith, five))
-numoffset byte (a ∷ b ∷ c ∷ d ∷ []) front some read there five = absurd (omega (arith, five))
-numoffset byte (a ∷ b ∷ c ∷ d ∷ e ∷ f ∷ more) front some read there five = absurd (omega (arith, five))
-
-numoffset-length : (numbers : List ℕ) (front : Option ℤ × ℕ) (west : Bool) → signed_front west 1 numbers ≡ Ok front → (slice_index numbers 2 == colon) ≡ true
-    → front.1 ≡ 1 + length numbers → length numbers ≡ 5
-numoffset-length numbers front west read there whole =
-    let rows = signed-offset west 1 numbers front read in
-    let five = subst (λ (test : Bool). 1 + ((if test then 3 else 2) + 2) ≡ front.1) there (ap (λ (pair : Option ℤ × ℕ). pair.1) rows.is) in
-    omega (arith, five, whole)
-
-nothing-left : (numbers : List ℕ) → length numbers ≡ 0 → numbers ≡ []
-nothing-left [] none = refl
-nothing-left (byte ∷ numbers) none = absurd (omega (arith, none))
-
-utc-of : (byte : ℕ) → (byte ≡ capital_z) ⊎ (byte ≡ small_z) → IsTimeOffset (byte ∷ [])
-utc-of byte (inl is) = inl (ap (λ (b : ℕ). b ∷ []) is)
-utc-of byte (inr is) = inr (inl (ap (λ (b : ℕ). b ∷ []) is))
-
-none-read : (rest : List ℕ) → is_utc rest ≡ false → unsigned_front rest ≡ (None, 0)
-none-read rest other = rw (other) refl
-
-other-or : (utc there : Bool) → utc ≡ false → (utc || there) ≡ true → there ≡ true
-other-or false there none some = some
-other-or true there none some = absurd (cc)
+      hour = bytes_from 0 2 numbers;
+      minute = bytes_from 3 2 numbers;
+      is_sign = one-of byte plus_sign hyphen some;
+      is_hour = two-digits 23 numbers 0 digits.0 (le-leb _ 23 hour_small);
+      is_minute = two-digits 59 numbers 3 minute_digits minute_small;
+      together = ap (λ (x : ℕ). byte ∷ slice_index numbers 0 ∷ slice_index numbers 1 ∷ x ∷ slice_index numbers 3 ∷ slice_index numbers 4 ∷ [])
+          (eqb-true (slice_index numbers 2) colon there);
+    })))))
 
 -- an offset of the rules, by what it begins with
-offset-by : (byte : ℕ) (numbers : List ℕ) (front : Option ℤ × ℕ) (signed utc : Bool) → ((byte == plus_sign) || (byte == hyphen)) ≡ signed
-    → is_utc (byte ∷ numbers) ≡ utc → offset_front (byte ∷ numbers) ≡ Ok front → AllHold (standard_offset (byte ∷ numbers))
-    → front.1 ≡ length (byte ∷ numbers) → IsTimeOffset (byte ∷ numbers)
-offset-by byte numbers front true false some other read rows whole =
-    let after = sym (signed-front (byte ∷ numbers) some) ∙ read in
-    let there = other-or (is_utc (byte ∷ numbers)) (slice_index numbers 2 == colon) other rows.1.1.0 in
-    let all : front.1 ≡ 1 + length numbers = omega (arith, whole) in
-    inr (inr (numoffset byte numbers front some after there (numoffset-length numbers front (byte == hyphen) after there all)))
-offset-by byte numbers front true true some zulu read rows whole =
-    let none = sym (no_sign-utc byte zulu) ∙ some in
-    absurd (cc)
-offset-by byte numbers front false true no_sign zulu read rows whole =
-    let is : ◌≡◌ {A = Result (Option ℤ × ℕ) ParseError} (Ok (Some (pos 0), 1)) (Ok front) = sym (utc-front (byte ∷ numbers) zulu) ∙ read in
-    let front_is : ◌≡◌ {A = Option ℤ × ℕ} (Some (pos 0), 1) front = cc in
-    let none : numbers ≡ [] = nothing-left numbers (omega (arith, ap (λ (pair : Option ℤ × ℕ). pair.1) front_is, whole)) in
-    subst (λ (left : List ℕ). IsTimeOffset (byte ∷ left)) (sym none) (utc-of byte (one-of byte capital_z small_z _ _ refl refl zulu))
-offset-by byte numbers front false false no_sign other read rows whole =
-    let unsigned = unsigned-front (byte ∷ numbers) (not-true (has_minus_sign (byte ∷ numbers)) rows.1.0) no_sign ∙ ap Ok (none-read (byte ∷ numbers) other) in
-    let is : ◌≡◌ {A = Result (Option ℤ × ℕ) ParseError} (Ok (None, 0)) (Ok front) = sym unsigned ∙ read in
-    let front_is : ◌≡◌ {A = Option ℤ × ℕ} (None, 0) front = cc in
-    absurd (omega (arith, ap (λ (pair : Option ℤ × ℕ). pair.1) front_is, whole))
+offset-all : (rest : List ℕ) → AllHold (standard_offset rest) → IfOk (offset_front rest) (λ front. front.1 ≡ length rest → IsTimeOffset rest)
+offset-all [] rows = absurd (cc)
+offset-all (byte ∷ numbers) rows =
+    offset-cases (λ answer. IfOk answer (λ front. front.1 ≡ length (byte ∷ numbers) → IsTimeOffset (byte ∷ numbers))) (byte ∷ numbers)
+    (λ some. numoffset byte numbers some (no_utc byte _ some rows.1.1.0))
+    (λ none utc one.
+    let ended : numbers ≡ [] = nil_from_length numbers (omega (arith, one)) in
+    subst (λ (left : List ℕ). IsTimeOffset (byte ∷ left)) (sym ended)
+    (either (λ (b : ℕ). IsTimeOffset (b ∷ [])) byte capital_z small_z (inl refl) (inr (inl refl)) (one-of byte capital_z small_z utc)))
+    (λ none other there. let not_there = not-true _ rows.1.0 in absurd (cc))
+    (λ none other nothing one. absurd (omega (arith, one)))
 
-offset-all : (rest : List ℕ) (front : Option ℤ × ℕ) → offset_front rest ≡ Ok front → AllHold (standard_offset rest) → front.1 ≡ length rest → IsTimeOffset rest
-offset-all [] front read rows whole = absurd (cc)
-offset-all (byte ∷ numbers) front read rows whole = offset-by byte numbers front _ _ refl refl read rows whole
-
--- a second has two digits
-second-cut : (first there : Bool) → there ≡ true → (there implies (first && false)) ≡ true → ⊥
-second-cut first there is digits =
-    let never : false ≡ true = (and_parts first false (asked-true there (first && false) is digits)).1 in
-    cc
+size-five : (point : Bool) (run : ℕ) → 5 ≤ minute_size true point run
+size-five true run = omega arith
+size-five false run = omega arith
 
 partial-time-of : (behavior : MicrosecondsPrecisionOverflowBehavior) (text : List ℕ) (clock : Clock) → clock_front behavior text ≡ Ok clock
-    → (slice_index text 5 == colon) ≡ true → (slice_index text 8 == comma) ≡ false
+    → clock.size ≤ length text → (slice_index text 5 == colon) ≡ true → (slice_index text 8 == comma) ≡ false
     → IsPartialTime behavior (take clock.size text) × (clock.size ≡ offset_place text)
-partial-time-of behavior (a ∷ b ∷ c ∷ d ∷ e ∷ f ∷ g ∷ h ∷ more) clock read second plain = clock-parts behavior a b c d e f g h more clock read second plain
-partial-time-of behavior [] clock read second plain = absurd (cc)
-partial-time-of behavior (a ∷ []) clock read second plain = absurd (cc)
-partial-time-of behavior (a ∷ b ∷ []) clock read second plain = absurd (cc)
-partial-time-of behavior (a ∷ b ∷ c ∷ []) clock read second plain = absurd (cc)
-partial-time-of behavior (a ∷ b ∷ c ∷ d ∷ []) clock read second plain = absurd (cc)
-partial-time-of behavior (a ∷ b ∷ c ∷ d ∷ e ∷ []) clock read second plain = absurd (cc)
-partial-time-of behavior (a ∷ b ∷ c ∷ d ∷ e ∷ f ∷ []) clock read second plain = absurd (second-cut false (f == colon) second (clock-read behavior (a ∷ b ∷ c ∷ d ∷ e ∷ f ∷ []) clock read).minute.1.0)
-partial-time-of behavior (a ∷ b ∷ c ∷ d ∷ e ∷ f ∷ g ∷ []) clock read second plain =
-    absurd (second-cut (is_ascii_digit g) (f == colon) second (clock-read behavior (a ∷ b ∷ c ∷ d ∷ e ∷ f ∷ g ∷ []) clock read).minute.1.0)
+partial-time-of behavior text clock read inside second plain =
+    let there : has_second (drop 3 text) ≡ true = ap (λ (byte : ℕ). byte == colon) (get_or-drop 3 text 2 0) ∙ second in
+    let size = rw there at (clock-size behavior text clock read) in
+    let five = size-five (has_point (drop 3 text)) (run_length (drop 3 text) 6) in
+    split (λ (bytes : List ℕ). clock_front behavior bytes ≡ Ok clock → (slice_index bytes 5 == colon) ≡ true → (slice_index bytes 8 == comma) ≡ false
+    → IsPartialTime behavior (take clock.size bytes) × (clock.size ≡ offset_place bytes)) 8 text (omega arith)
+    (λ same there none. clock-parts behavior _ _ _ _ _ _ _ _ (drop 8 text) clock same there none) read second plain
 
 -- what the strict reader takes as a time is one by the rules
-full-time-of : (behavior : MicrosecondsPrecisionOverflowBehavior) (text : List ℕ) (time : TimeOfDay) → time_answer behavior text ≡ Ok time
-    → AllHold (standard_time text) → IsFullTime behavior text
-full-time-of behavior text time read rows =
-    let whole = (alone-iff (λ (value : TimeOfDay). end_fault value.offset) text (time_front behavior text) time).0 read in
-    let clocked = and_then-ok (with_offset text) (clock_front behavior text) (time, length text) whole in
-    let clock = clocked.0 in
-    let after = map-ok (joined clock) (offset_front (drop clock.size text)) (time, length text) clocked.2 in
-    let size : clock.size + after.0.1 ≡ length text = ap (λ (pair : TimeOfDay × ℕ). pair.1) after.2 in
-    let parts = partial-time-of behavior text clock clocked.1 rows.0 (not-true (slice_index text 8 == comma) rows.1.0) in
-    let offset_rows = subst (λ (place : ℕ). AllHold (standard_offset (drop place text))) (sym parts.1) rows.1.1 in
+full-time-of : (behavior : MicrosecondsPrecisionOverflowBehavior) (text : List ℕ) → AllHold (standard_time text)
+    → IfOk (time_front behavior text) (λ front. front.1 ≡ length text → IsFullTime behavior text)
+full-time-of behavior text rows =
+    read-then _ _ (clock_front behavior text) (λ clock read. read-then _ _ (offset_front (drop clock.size text)) (λ offset after whole.
+    let parts = partial-time-of behavior text clock read (omega (arith, whole)) rows.0 (not-true (slice_index text 8 == comma) rows.1.0) in
+    let standard = subst (λ (place : ℕ). AllHold (standard_offset (drop place text))) (sym parts.1) rows.1.1 in
     record {
       time = take clock.size text;
       offset = drop clock.size text;
       is_time = parts.0;
-      is_offset = offset-all (drop clock.size text) after.0 after.1 offset_rows (omega (arith, size, length-drop clock.size text));
+      is_offset = read-value _ _ offset after (offset-all (drop clock.size text) standard) (omega (arith, whole, length-drop clock.size text));
       together = sym (take-append-drop clock.size text);
-    }
+    }))
 
 few-holds : (refuses : Bool) (count : ℕ) → (refuses ≡ true → count ≤ 6) → (refuses implies nat_le count 6) ≡ true
 few-holds true count few = le-leb count 6 (few refl)
@@ -304,47 +280,35 @@ record OffsetRead (text : List ℕ) : Type 0 where
   front : Option ℤ × ℕ
   read : offset_front text ≡ Ok front
   whole : front.1 ≡ length text
-  some : 1 ≤ length text
   no_digit : is_ascii_digit (slice_index text 0) ≡ false
   no_mark : is_decimal_mark (slice_index text 0) ≡ false
   standard : AllHold (standard_offset text)
 
-signed-read : (west : Bool) (hour minute : ℕ) → hour ≤ 23 → minute ≤ 59
-    → signed_front west 1 (two_digit_text hour ++ colon ∷ two_digit_text minute) ≡ Ok (Some (with_sign west (3600 * hour + 60 * minute)), 6)
-signed-read west hour minute small_hour small_minute =
+numoffset-read : (west : Bool) (hour minute : ℕ) → hour ≤ 23 → minute ≤ 59
+    → OffsetRead ((if west then hyphen else plus_sign) ∷ two_digit_text hour ++ colon ∷ two_digit_text minute)
+numoffset-read west hour minute small_hour small_minute =
     let hour_is = two_digit_value-printed hour in
     let minute_is = two_digit_value-printed minute in
-    rw (two_digits-printed hour (omega arith), two_digits-printed minute (omega arith), hour_is, minute_is, le-leb minute 59 small_minute, lt-ltb (3600 * hour + 60 * minute) seconds_per_day (omega arith)) refl
+    let is : signed_front west 1 (two_digit_text hour ++ colon ∷ two_digit_text minute) ≡ Ok (Some (with_sign west (3600 * hour + 60 * minute)), 6) =
+    rw (two_digits-printed hour (omega arith), two_digits-printed minute (omega arith), hour_is, minute_is, le-leb minute 59 small_minute, lt-ltb (3600 * hour + 60 * minute) seconds_per_day (omega arith)) refl in
+    signed west is
+  where
+    signed : (negative : Bool) → signed_front negative 1 (two_digit_text hour ++ colon ∷ two_digit_text minute) ≡ Ok (Some (with_sign negative (3600 * hour + 60 * minute)), 6)
+        → OffsetRead ((if negative then hyphen else plus_sign) ∷ two_digit_text hour ++ colon ∷ two_digit_text minute)
+    signed true is = record { front = _; read = is; whole = refl; no_digit = refl; no_mark = refl; standard = (refl, (refl, (refl, tt))) }
+    signed false is = record { front = _; read = is; whole = refl; no_digit = refl; no_mark = refl; standard = (refl, (refl, (refl, tt))) }
 
-numoffset-read : (sign hour minute : ℕ) → (sign ≡ plus_sign) ⊎ (sign ≡ hyphen) → hour ≤ 23 → minute ≤ 59
-    → OffsetRead (sign ∷ two_digit_text hour ++ colon ∷ two_digit_text minute)
-numoffset-read sign hour minute (inl is) small_hour small_minute =
-    subst (λ (byte : ℕ). OffsetRead (byte ∷ two_digit_text hour ++ colon ∷ two_digit_text minute)) (sym is) (record {
-      front = (Some (with_sign false (3600 * hour + 60 * minute)), 6);
-      read = signed-read false hour minute small_hour small_minute;
-      whole = refl;
-      some = omega arith;
-      no_digit = refl;
-      no_mark = refl;
-      standard = (refl, (refl, (refl, tt)));
-    })
-numoffset-read sign hour minute (inr is) small_hour small_minute =
-    subst (λ (byte : ℕ). OffsetRead (byte ∷ two_digit_text hour ++ colon ∷ two_digit_text minute)) (sym is) (record {
-      front = (Some (with_sign true (3600 * hour + 60 * minute)), 6);
-      read = signed-read true hour minute small_hour small_minute;
-      whole = refl;
-      some = omega arith;
-      no_digit = refl;
-      no_mark = refl;
-      standard = (refl, (refl, (refl, tt)));
-    })
+utc-read : (text : List ℕ) → (text ≡ capital_z ∷ []) ⊎ (text ≡ small_z ∷ []) → OffsetRead text
+utc-read text (inl is) = subst OffsetRead (sym is) (record { front = _; read = refl; whole = refl; no_digit = refl; no_mark = refl; standard = (refl, (refl, (refl, tt))) })
+utc-read text (inr is) = subst OffsetRead (sym is) (record { front = _; read = refl; whole = refl; no_digit = refl; no_mark = refl; standard = (refl, (refl, (refl, tt))) })
 
 offset-read : (text : List ℕ) → IsTimeOffset text → OffsetRead text
-offset-read text (inl is) = subst OffsetRead (sym is) (record { front = (Some (pos 0), 1); read = refl; whole = refl; some = omega arith; no_digit = refl; no_mark = refl; standard = (refl, (refl, (refl, tt))) })
-offset-read text (inr (inl is)) = subst OffsetRead (sym is) (record { front = (Some (pos 0), 1); read = refl; whole = refl; some = omega arith; no_digit = refl; no_mark = refl; standard = (refl, (refl, (refl, tt))) })
+offset-read text (inl is) = utc-read text (inl is)
+offset-read text (inr (inl is)) = utc-read text (inr is)
 offset-read text (inr (inr is)) =
     subst OffsetRead (sym (is.together ∙ ap₂ (λ (hour minute : List ℕ). is.sign ∷ hour ++ colon ∷ minute) is.is_hour.together is.is_minute.together))
-    (numoffset-read is.sign is.is_hour.number is.is_minute.number is.is_sign is.is_hour.within is.is_minute.within)
+    (either (λ (byte : ℕ). OffsetRead (byte ∷ two_digit_text is.is_hour.number ++ colon ∷ two_digit_text is.is_minute.number)) is.sign plus_sign hyphen
+    (numoffset-read false _ _ is.is_hour.within is.is_minute.within) (numoffset-read true _ _ is.is_hour.within is.is_minute.within) is.is_sign)
 
 -- a text that the strict reader takes
 abbrev Taken : MicrosecondsPrecisionOverflowBehavior → List ℕ → Type 0
@@ -355,10 +319,9 @@ taken-of : (behavior : MicrosecondsPrecisionOverflowBehavior) (text offset : Lis
     → drop clock.size text ≡ offset → length text ≡ clock.size + length offset → (slice_index text 5 == colon) ≡ true → (slice_index text 8 == comma) ≡ false
     → clock.size ≡ offset_place text → Taken behavior text
 taken-of behavior text offset clock after read rest long second plain place =
-    let front = joined clock after.front in
+    let front : TimeOfDay × ℕ = (time_of clock after.front.0, clock.size + after.front.1) in
     let fault = λ (value : TimeOfDay). end_fault value.offset in
-    let is : time_front behavior text ≡ Ok front =
-    ap (result_and_then (with_offset text)) read ∙ ap (result_map (joined clock)) (ap offset_front rest ∙ after.read) in
+    let is : time_front behavior text ≡ Ok front = time_front-is behavior text clock after.front read (ap offset_front rest ∙ after.read) in
     let there : drop (offset_place text) text ≡ offset = ap (λ (n : ℕ). drop n text) (sym place) ∙ rest in
     let rows = subst (λ (left : List ℕ). AllHold (standard_offset left)) (sym there) after.standard in (
       front.0,
@@ -410,83 +373,46 @@ full-time-taken behavior text is =
     time.is_fraction (offset-read is.offset is.is_offset))
 
 -- the digits of a year
-year-spelled : (a b c d : ℕ) → is_ascii_digit a ≡ true → is_ascii_digit b ≡ true → is_ascii_digit c ≡ true → is_ascii_digit d ≡ true
-    → four_digit_text (100 * (10 * one_digit_value a + one_digit_value b) + (10 * one_digit_value c + one_digit_value d)) ≡ a ∷ b ∷ c ∷ d ∷ []
-year-spelled a b c d one two three four =
-    let century = 10 * one_digit_value a + one_digit_value b in
-    let year = 10 * one_digit_value c + one_digit_value d in
-    let small : year ≤ 99 = omega (arith, one_digit_value-le c three, one_digit_value-le d four) in
-    let high : (100 * century + year) / 100 ≡ century = omega (arith, small) in
-    let low : (100 * century + year) % 100 ≡ year = omega (arith, small) in
-    rw (high, low) (ap₂ (λ (x y : List ℕ). x ++ y) (digits-spelled a b one two) (digits-spelled c d three four))
+year-spelled : (text : List ℕ) → two_digits_at text 0 ≡ true → two_digits_at text 2 ≡ true → four_digit_text (four_digit_value text 0) ≡ bytes_from 0 4 text
+year-spelled text century year =
+    let small = spelled-small text 2 year in
+    let high : four_digit_value text 0 / 100 ≡ two_digit_value text 0 = omega (arith, small) in
+    let low : four_digit_value text 0 % 100 ≡ two_digit_value text 2 = omega (arith, small) in
+    rw (high, low) (ap₂ (λ (x y : List ℕ). x ++ y) (spelled text 0 century) (spelled text 2 year))
 
 in-range : (low high n : ℕ) → is_in_range low high n ≡ true → IsInRange low high n
 in-range low high n within = grind (arith, nat_tests)
 
-date-parts : (a b c d e f g h i j : ℕ) (more : List ℕ) (date : Ymd × ℕ) → date_front (a ∷ b ∷ c ∷ d ∷ e ∷ f ∷ g ∷ h ∷ i ∷ j ∷ more) ≡ Ok date
-    → IsFullDate (a ∷ b ∷ c ∷ d ∷ e ∷ f ∷ g ∷ h ∷ i ∷ j ∷ [])
-date-parts a b c d e f g h i j more date read =
-    let text : List ℕ = a ∷ b ∷ c ∷ d ∷ e ∷ f ∷ g ∷ h ∷ i ∷ j ∷ more in
-    let met = (meets-value (date_table text) (date_numbers text, 10) date read).0 in
-    let years = and_parts (is_ascii_digit a && is_ascii_digit b) (is_ascii_digit c && is_ascii_digit d) met.1.0 in
-    let centuries = and_parts (is_ascii_digit a) (is_ascii_digit b) years.0 in
-    let rest = and_parts (is_ascii_digit c) (is_ascii_digit d) years.1 in
-    let months = and_parts (is_ascii_digit f) (is_ascii_digit g) met.1.1.1.0 in
-    let days = and_parts (is_ascii_digit i) (is_ascii_digit j) met.1.1.1.1.1.0 in
-    record {
+full-date-of : (text : List ℕ) → IfOk (date_front text) (λ front. IsFullDate (take 10 text))
+full-date-of text = read-rows (λ (front : Ymd × ℕ). IsFullDate (take 10 text)) (date_table text) _ (λ met.
+    let years = and_parts (two_digits_at text 0) (two_digits_at text 2) met.1.0 in
+    subst IsFullDate (sym (bytes-are 10 0 text (leb-true 10 (length text) met.0))) (record {
       year = four_digit_value text 0;
       month = two_digit_value text 5;
       day = two_digit_value text 8;
-      is_year = omega (arith, one_digit_value-le a centuries.0, one_digit_value-le b centuries.1, one_digit_value-le c rest.0, one_digit_value-le d rest.1);
+      is_year = omega (arith, spelled-small text 0 years.0, spelled-small text 2 years.1);
       is_month = in-range 1 12 (two_digit_value text 5) met.1.1.1.1.1.1.0;
       is_day = in-range 1 (month_length (four_digit_value text 0) (two_digit_value text 5)) (two_digit_value text 8) met.1.1.1.1.1.1.1.0;
-      together = λ k. (sym (year-spelled a b c d centuries.0 centuries.1 rest.0 rest.1)) k ++ (eqb-true e hyphen met.1.1.0) k
-          ∷ (sym (digits-spelled f g months.0 months.1)) k ++ (eqb-true h hyphen met.1.1.1.1.0) k ∷ (sym (digits-spelled i j days.0 days.1)) k;
-    }
-
-full-date-of : (text : List ℕ) (date : Ymd × ℕ) → date_front text ≡ Ok date → IsFullDate (take 10 text)
-full-date-of (a ∷ b ∷ c ∷ d ∷ e ∷ f ∷ g ∷ h ∷ i ∷ j ∷ more) date read = date-parts a b c d e f g h i j more date read
-full-date-of [] date read = absurd (cc)
-full-date-of (a ∷ []) date read = absurd (cc)
-full-date-of (a ∷ b ∷ []) date read = absurd (cc)
-full-date-of (a ∷ b ∷ c ∷ []) date read = absurd (cc)
-full-date-of (a ∷ b ∷ c ∷ d ∷ []) date read = absurd (cc)
-full-date-of (a ∷ b ∷ c ∷ d ∷ e ∷ []) date read = absurd (cc)
-full-date-of (a ∷ b ∷ c ∷ d ∷ e ∷ f ∷ []) date read = absurd (cc)
-full-date-of (a ∷ b ∷ c ∷ d ∷ e ∷ f ∷ g ∷ []) date read = absurd (cc)
-full-date-of (a ∷ b ∷ c ∷ d ∷ e ∷ f ∷ g ∷ h ∷ []) date read = absurd (cc)
-full-date-of (a ∷ b ∷ c ∷ d ∷ e ∷ f ∷ g ∷ h ∷ i ∷ []) date read = absurd (cc)
+      together = λ k. (sym (year-spelled text years.0 years.1)) k ++ (eqb-true (slice_index text 4) hyphen met.1.1.0) k
+          ∷ (sym (spelled text 5 met.1.1.1.0)) k ++ (eqb-true (slice_index text 7) hyphen met.1.1.1.1.0) k ∷ (sym (spelled text 8 met.1.1.1.1.1.0)) k;
+    }))
 
 -- what the strict reader takes as a date-time is one by the rules
-date-time-of : (behavior : MicrosecondsPrecisionOverflowBehavior) (text : List ℕ) (value : DateAndTime) → date_time_answer behavior text ≡ Ok value
-    → AllHold (standard_date_time text) → IsDateTime behavior text
-date-time-of behavior text value read rows =
+date-time-of : (behavior : MicrosecondsPrecisionOverflowBehavior) (text : List ℕ) → AllHold (standard_date_time text)
+    → IfOk (date_time_front behavior text) (λ front. front.1 ≡ length text → IsDateTime behavior text)
+date-time-of behavior text rows =
     let rest : List ℕ = drop 11 text in
-    let front : DateAndTime × ℕ = (value, length text) in
-    let whole = (alone-iff (λ (found : DateAndTime). end_fault found.time.offset) text (date_time_front behavior text) value).0 read in
-    let dated = and_then-ok (with_time behavior text) (date_front text) front whole in
-    let date = dated.0 in
-    let parted = meets-ok (separator_table text) (result_map (date_and_time date.0) (time_front behavior rest)) front dated.2 in
-    let after = map-ok (date_and_time date.0) (time_front behavior rest) front parted.1 in
-    let time = after.0 in
-    let size : 11 + time.1 ≡ length text = ap (λ (pair : DateAndTime × ℕ). pair.1) after.2 in
-    let ends : length rest ≡ time.1 = omega (arith, size, length-drop 11 text) in
-    let fault = λ (found : TimeOfDay). end_fault found.offset in
-    let alone_is = ap (result_and_then (alone fault rest)) after.1 ∙ alone-whole fault rest time.0 time.1 ends in
+    read-then _ _ (date_front text) (λ date dated. read-then _ _ (meets (separator_table text) (time_front behavior rest)) (λ time timed whole.
+    let read = (meets-ok (separator_table text) (time_front behavior rest) time timed).1 in
     record {
       date = take 10 text;
       separator = slice_index text 10;
       time = rest;
-      is_date = full-date-of text date dated.1;
-      is_separator = one-of (slice_index text 10) capital_t small_t _ _ refl refl rows.0;
-      is_time = full-time-of behavior rest time.0 alone_is rows.1;
-      together = sym (take-append-drop 10 text) ∙ ap (λ (left : List ℕ). take 10 text ++ left) (drop_more text 10 0 (omega (arith, size)));
-    }
-
-separator-taken : (byte : ℕ) (next : Result (DateAndTime × ℕ) ParseError) → (byte ≡ capital_t) ⊎ (byte ≡ small_t)
-    → ((if is_separator byte then next else Err fault.InvalidCharDateTimeSep) ≡ next) × (((byte == capital_t) || (byte == small_t)) ≡ true)
-separator-taken byte next (inl is) = (ap (λ (b : ℕ). if is_separator b then next else Err fault.InvalidCharDateTimeSep) is, ap (λ (b : ℕ). (b == capital_t) || (b == small_t)) is)
-separator-taken byte next (inr is) = (ap (λ (b : ℕ). if is_separator b then next else Err fault.InvalidCharDateTimeSep) is, ap (λ (b : ℕ). (b == capital_t) || (b == small_t)) is)
+      is_date = read-value _ (date_front text) date dated (full-date-of text);
+      is_separator = one-of (slice_index text 10) capital_t small_t rows.0;
+      is_time = read-value _ _ time read (full-time-of behavior rest rows.1) (omega (arith, whole, length-drop 11 text));
+      together = sym (take-append-drop 10 text) ∙ ap (λ (left : List ℕ). take 10 text ++ left) (drop_more text 10 0 (omega (arith, whole)));
+    }))
 
 date-time-parts : (behavior : MicrosecondsPrecisionOverflowBehavior) (date : Ymd) (separator : ℕ) (time : List ℕ) → IsDate date
     → (separator ≡ capital_t) ⊎ (separator ≡ small_t) → (value : TimeOfDay) → time_answer behavior time ≡ Ok value
@@ -497,9 +423,8 @@ date-time-parts behavior date separator time valid parted value read =
     let fault_of = λ (read_value : DateAndTime). end_fault read_value.time.offset in
     let front = (alone-iff (λ (read_time : TimeOfDay). end_fault read_time.offset) time (time_front behavior time) value).0 read in
     let long : length text ≡ 11 + length time = omega arith in
-    let is : date_time_front behavior text ≡ Ok (whole, 11 + length time) =
-    ap (result_and_then (with_time behavior text)) (date_text-front date (separator ∷ time) valid)
-    ∙ (separator-taken separator _ parted).0 ∙ ap (result_map (date_and_time date)) front in
+    let separated : is_separator separator ≡ true = either (λ (byte : ℕ). is_separator byte ≡ true) separator capital_t small_t refl refl parted in
+    let is = date_time_front-is behavior text (date, 10) (value, length time) (date_text-front date (separator ∷ time) valid) (separated, tt) front in
     ap (result_and_then (alone fault_of text)) is ∙ alone-whole fault_of text whole (11 + length time) long
 
 -- a text that the strict reader takes as a date-time
@@ -518,37 +443,40 @@ date-time-taken behavior text is =
       value,
       (
         date-time-parts behavior date is.separator is.time valid is.is_separator taken.0 taken.1.0,
-        ((separator-taken is.separator (Ok (value, 0)) is.is_separator).1, taken.1.1),
+        (either (λ (byte : ℕ). ((byte == capital_t) || (byte == small_t)) ≡ true) is.separator capital_t small_t refl refl is.is_separator, taken.1.1),
       ),
     )
+
+-- a result whose value meets further rows is a value if and only if a text is one of the rules
+strict : {A B : Type 0} (view : A → B) (result : Result A ParseError) (rows : List Requirement) (answer : Result B ParseError) (IsOne : Type 0)
+    → result_map view result ≡ result_and_then (λ (read : B). meets rows (Ok read)) answer
+    → ((value : B) → answer ≡ Ok value → AllHold rows → IsOne) → (IsOne → (value : B) × ((answer ≡ Ok value) × AllHold rows)) → IsOk result ↔ IsOne
+strict {B = B} view (Ok value) rows answer IsOne is to from =
+    let read = and_then-ok (λ (found : B). meets rows (Ok found)) answer (view value) (sym is) in
+    (λ ok. to read.0 read.1 (meets-value rows read.0 (view value) read.2).0, λ one. refl)
+strict {B = B} view (Err refused) rows answer IsOne is to from = (
+  λ ok. absurd (cc),
+  λ one.
+      let taken = from one in
+      let never = is ∙ ap (result_and_then (λ (found : B). meets rows (Ok found))) taken.1.0 ∙ meets-all rows (Ok taken.0) taken.1.1 in
+      absurd (cc),
+)
 
 -- so a text is taken if and only if it is one of the rules
 pub time-standard : (behavior : MicrosecondsPrecisionOverflowBehavior) (text : List ℕ) (result : Result Time ParseError)
     → result_map time_parts result ≡ strict_time_answer behavior text → IsOk result ↔ IsFullTime behavior text
-time-standard behavior text (Ok time) is =
-    let read = and_then-ok (λ (found : TimeOfDay). meets (standard_time text) (Ok found)) (time_answer behavior text) (time_parts time) (sym is) in
-    let rows = meets-value (standard_time text) read.0 (time_parts time) read.2 in
-    (λ ok. full-time-of behavior text read.0 read.1 rows.0, λ rules. refl)
-time-standard behavior text (Err refused) is = (
-  λ ok. absurd (cc),
-  λ rules.
-      let taken = full-time-taken behavior text rules in
-      let strict = ap (result_and_then (λ (found : TimeOfDay). meets (standard_time text) (Ok found))) taken.1.0 ∙ meets-all (standard_time text) (Ok taken.0) taken.1.1 in
-      let never = is ∙ strict in
-      absurd (cc),
-)
+time-standard behavior text result is =
+    strict time_parts result (standard_time text) (time_answer behavior text) (IsFullTime behavior text) is
+    (λ time read rows.
+    let whole = (alone-iff (λ (value : TimeOfDay). end_fault value.offset) text (time_front behavior text) time).0 read in
+    read-value _ _ (time, length text) whole (full-time-of behavior text rows) refl)
+    (full-time-taken behavior text)
 
 pub date-time-standard : (behavior : MicrosecondsPrecisionOverflowBehavior) (text : List ℕ) (result : Result DateTime ParseError)
     → result_map date_time_parts result ≡ strict_date_time_answer behavior text → IsOk result ↔ IsDateTime behavior text
-date-time-standard behavior text (Ok value) is =
-    let read = and_then-ok (λ (found : DateAndTime). meets (standard_date_time text) (Ok found)) (date_time_answer behavior text) (date_time_parts value) (sym is) in
-    let rows = meets-value (standard_date_time text) read.0 (date_time_parts value) read.2 in
-    (λ ok. date-time-of behavior text read.0 read.1 rows.0, λ rules. refl)
-date-time-standard behavior text (Err refused) is = (
-  λ ok. absurd (cc),
-  λ rules.
-      let taken = date-time-taken behavior text rules in
-      let strict = ap (result_and_then (λ (found : DateAndTime). meets (standard_date_time text) (Ok found))) taken.1.0 ∙ meets-all (standard_date_time text) (Ok taken.0) taken.1.1 in
-      let never = is ∙ strict in
-      absurd (cc),
-)
+date-time-standard behavior text result is =
+    strict date_time_parts result (standard_date_time text) (date_time_answer behavior text) (IsDateTime behavior text) is
+    (λ value read rows.
+    let whole = (alone-iff (λ (found : DateAndTime). end_fault found.time.offset) text (date_time_front behavior text) value).0 read in
+    read-value _ _ (value, length text) whole (date-time-of behavior text rows) refl)
+    (date-time-taken behavior text)

@@ -1,6 +1,6 @@
 -- The text by which a time is printed is read as the time, where its offset is absent or whole minutes, whatever follows
 -- it that is no part of it.
-use Rattle.std.specs.Prelude.{◌≡◌, ℕ, ◌+◌, ◌≤◌, Bool, true, false, not, ◌&&◌, ◌||◌, List, [], ◌∷◌, ◌++◌, length, slice_index, ◌==◌, if◌then◌else◌, Ok, refl}
+use Rattle.std.specs.Prelude.{◌≡◌, ℕ, ◌+◌, ◌≤◌, Bool, true, false, not, ◌&&◌, ◌||◌, List, [], ◌∷◌, ◌++◌, length, slice_index, drop, ◌==◌, if◌then◌else◌, Option, ℤ, Result, Ok, refl}
 use Rattle.std.specs.Char.{is_ascii_digit}
 use Rattle.std.specs.Option.{is_some}
 use Rattle.std.proofs.Common.{arith, ◌∙◌, ap, subst, sym}
@@ -8,6 +8,7 @@ use Rattle.std.proofs.lemmas.Bool.{le-leb, eqb-true}
 use Rattle.std.proofs.lemmas.List.{append-nil}
 use Rattle.speedate_base.specs.declared.config.MicrosecondsPrecisionOverflowBehavior.{MicrosecondsPrecisionOverflowBehavior}
 use Rattle.speedate_base.specs.declared.config.MicrosecondsPrecisionOverflowBehavior.TheVariants as behavior
+use Rattle.speedate_base.specs.declared.faults.ParseError.{ParseError}
 use Rattle.speedate_base.specs.Ascii.{colon, full_stop}
 use Rattle.speedate_base.specs.Digits.{two_digit_text, six_digit_text}
 use Rattle.speedate_base.proofs.DigitLemmas.{two_digits-printed, two_digit_value-printed}
@@ -17,10 +18,16 @@ use Rattle.speedate_base.proofs.RequirementLemmas.{alone-whole}
 use Rattle.speedate_base.proofs.TextLemmas.{text-distinct}
 use Rattle.speedate_civil.specs.ClockText.{Clock, at_hour, clock_answer, clock_front, is_decimal_mark, minute_text}
 use Rattle.speedate_civil.proofs.ClockLemmas.{clock-whole, clock-fraction}
-use Rattle.speedate_civil.specs.OffsetText.{begins_offset, end_fault, offset_text}
+use Rattle.speedate_civil.specs.OffsetText.{begins_offset, end_fault, offset_front, offset_text}
 use Rattle.speedate_civil.proofs.OffsetLemmas.{offset_text-first, offset_text-front}
 use Rattle.speedate_civil.specs.TimeOfDay.{TimeOfDay, IsTime}
-use Rattle.speedate_civil.specs.TimeText.{time_front, time_answer, clock_text, time_text, continues_fraction, is_after_time}
+use Rattle.speedate_civil.specs.TimeText.{time_front, time_answer, time_of, clock_text, time_text, continues_fraction, is_after_time}
+
+-- what is read after a clock decides on the time
+pub time_front-after : (behavior : MicrosecondsPrecisionOverflowBehavior) (text : List ℕ) (clock : Clock) (offset : Result (Option ℤ × ℕ) ParseError)
+    → Ok clock ≡ clock_front behavior text → offset ≡ offset_front (drop clock.size text)
+    → result_and_then (λ (after : Option ℤ × ℕ). Ok (time_of clock after.0, clock.size + after.1)) offset ≡ time_front behavior text
+time_front-after behavior text clock offset read after = rw (sym read, after) refl
 
 -- a printed hour, before a clock that is read
 pub front-printed : (behavior : MicrosecondsPrecisionOverflowBehavior) (hour minute second : ℕ) (tail : List ℕ) (clock : Clock)

@@ -2,7 +2,7 @@
 -- ranges are those of its 5.7). `text` begins with the hour, and `rest` with the minute.
 -- Departs from it: there is no second 60; a fraction has at most six digits, or further ones are dropped; the second may be
 -- left out, with its fraction; the decimal mark may be a comma, as in ISO 8601.
-use Rattle.std.specs.Prelude.{ℕ, ◌+◌, Bool, ◌&&◌, ◌||◌, List, [], ◌∷◌, ◌++◌, length, drop, nat_le, nat_lt, ◌==◌, slice_index, if◌then◌else◌, Option, Some, None, Result, Ok}
+use Rattle.std.specs.Prelude.{ℕ, ◌+◌, Bool, ◌&&◌, ◌||◌, List, [], ◌∷◌, ◌++◌, length, drop, nat_le, nat_lt, ◌==◌, slice_index, if◌then◌else◌, Result, Ok}
 use Rattle.speedate_base.specs.declared.config.MicrosecondsPrecisionOverflowBehavior.{MicrosecondsPrecisionOverflowBehavior}
 use Rattle.speedate_base.specs.declared.faults.ParseError.{ParseError}
 use Rattle.speedate_base.specs.declared.faults.ParseError.TheVariants as fault
@@ -23,11 +23,6 @@ pub record Clock : Type 0 where
 -- a second follows the minute, after `:`
 abbrev pub has_second : List ℕ → Bool
 has_second rest = slice_index rest 2 == colon
-
--- that second: the number that two digits spell, or none if they are missing
-abbrev pub second_there : List ℕ → Option (Option ℕ)
-second_there rest =
-    if has_second rest then Some (if two_digits_at rest 3 then Some (two_digit_value rest 3) else None) else None
 
 -- a byte is a decimal mark: `.` or `,`
 abbrev pub is_decimal_mark : ℕ → Bool

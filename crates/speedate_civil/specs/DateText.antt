@@ -5,9 +5,10 @@ use Rattle.speedate_base.specs.declared.faults.ParseError.{ParseError}
 use Rattle.speedate_base.specs.declared.faults.ParseError.TheVariants as fault
 use Rattle.speedate_base.specs.Ascii.{hyphen}
 use Rattle.speedate_base.specs.Digits.{four_digits_at, four_digit_value, four_digit_text, two_digits_at, two_digit_value, two_digit_text}
-use Rattle.speedate_base.specs.Requirement.{Requirement, ◌else_fault◌, meets, alone, result_and_then}
+use Rattle.speedate_base.specs.Requirement.{Requirement, ◌else_fault◌, meets, alone}
 use Rattle.speedate_civil.specs.Calendar.{Ymd}
 use Rattle.speedate_civil.specs.FromNumbers.{day_table}
+use Rattle.speedate_civil.specs.Steps.{◌>>=◌}
 
 -- the numbers at the places of a date
 abbrev pub date_numbers : List ℕ → Ymd
@@ -34,7 +35,9 @@ date_front text = meets (date_table text) (Ok (date_numbers text, 10))
 
 -- the date that a text is, or the text's fault
 abbrev pub date_answer : List ℕ → Result Ymd ParseError
-date_answer text = result_and_then (alone (λ date. fault.ExtraCharacters) text) (date_front text)
+date_answer text = do
+  date ← date_front text
+  alone (λ read. fault.ExtraCharacters) text date
 
 -- the one text by which a date is printed
 abbrev pub date_text : Ymd → List ℕ

@@ -1,16 +1,15 @@
 -- The text of a date-time: a date, a separator, and a time of day (RFC 3339 5.6, date-time).
 -- Departs from it: as times do; the separator may be a space or `_` too (the notes of 5.6 allow a space).
-use Rattle.std.specs.Prelude.{ℕ, ◌+◌, Bool, ◌||◌, ◌==◌, List, [], ◌∷◌, ◌++◌, drop, slice_index, Result}
+use Rattle.std.specs.Prelude.{ℕ, ◌+◌, Bool, ◌||◌, ◌==◌, List, [], ◌∷◌, ◌++◌, drop, slice_index, Result, Ok}
 use Rattle.speedate_base.specs.declared.config.MicrosecondsPrecisionOverflowBehavior.{MicrosecondsPrecisionOverflowBehavior}
 use Rattle.speedate_base.specs.declared.faults.ParseError.{ParseError}
 use Rattle.speedate_base.specs.declared.faults.ParseError.TheVariants as fault
 use Rattle.speedate_base.specs.Ascii.{space, capital_t, low_line, small_t}
-use Rattle.speedate_base.specs.Requirement.{Requirement, ◌else_fault◌, meets, alone, result_map, result_and_then}
-use Rattle.speedate_civil.specs.Calendar.{Ymd}
+use Rattle.speedate_base.specs.Requirement.{Requirement, ◌else_fault◌, meets, alone}
 use Rattle.speedate_civil.specs.DateAndTime.{DateAndTime}
 use Rattle.speedate_civil.specs.DateText.{date_front, date_text}
 use Rattle.speedate_civil.specs.OffsetText.{end_fault}
-use Rattle.speedate_civil.specs.TimeOfDay.{TimeOfDay}
+use Rattle.speedate_civil.specs.Steps.{◌>>=◌}
 use Rattle.speedate_civil.specs.TimeText.{time_front, time_text}
 
 -- a byte that may stand between a date and a time
@@ -21,23 +20,18 @@ is_separator byte = (byte == capital_t) || (byte == small_t) || (byte == space) 
 abbrev pub separator_table : List ℕ → List Requirement
 separator_table text = (is_separator (slice_index text 10) else_fault fault.InvalidCharDateTimeSep) ∷ []
 
--- the date-time of a date, and of the time after it with how many bytes it takes: the date and the separator take eleven
-abbrev pub date_and_time : Ymd → TimeOfDay × ℕ → DateAndTime × ℕ
-date_and_time date time = (record { date = date; time = time.0 }, 11 + time.1)
-
--- the date-time of a date at the front of a text, and of the time that follows it there after the separator
-abbrev pub with_time : MicrosecondsPrecisionOverflowBehavior → List ℕ → Ymd × ℕ → Result (DateAndTime × ℕ) ParseError
-with_time behavior text date =
-    meets (separator_table text) (result_map (date_and_time date.0) (time_front behavior (drop 11 text)))
-
--- the date-time at the front of a text, and how many bytes it takes, or the text's fault
+-- the date-time at the front of a text, a date, a separator and a time, and how many bytes it takes, or the text's fault
 abbrev pub date_time_front : MicrosecondsPrecisionOverflowBehavior → List ℕ → Result (DateAndTime × ℕ) ParseError
-date_time_front behavior text = result_and_then (with_time behavior text) (date_front text)
+date_time_front behavior text = do
+  date ← date_front text
+  time ← meets (separator_table text) (time_front behavior (drop 11 text))
+  Ok (record { date = date.0; time = time.0 }, 11 + time.1)
 
 -- the date-time that a text is, or the text's fault
 abbrev pub date_time_answer : MicrosecondsPrecisionOverflowBehavior → List ℕ → Result DateAndTime ParseError
-date_time_answer behavior text =
-    result_and_then (alone (λ value. end_fault value.time.offset) text) (date_time_front behavior text)
+date_time_answer behavior text = do
+  value ← date_time_front behavior text
+  alone (λ read. end_fault read.time.offset) text value
 
 -- the one text by which a date-time is printed
 abbrev pub date_time_text : DateAndTime → List ℕ

@@ -6,13 +6,14 @@ use Rattle.speedate_base.specs.declared.faults.ParseError.{ParseError}
 use Rattle.speedate_base.specs.declared.faults.ParseError.TheVariants as fault
 use Rattle.speedate_base.specs.DecimalTimestamp.{decimal_row, decimal_instant, digits_table}
 use Rattle.speedate_base.specs.Numbers.{DecimalParts, Number, Whole, Fractional, NoNumber, number_answer}
-use Rattle.speedate_base.specs.Requirement.{Requirement, ◌else_fault◌, meets, result_map, result_and_then}
+use Rattle.speedate_base.specs.Requirement.{Requirement, ◌else_fault◌, meets, result_map}
 use Rattle.speedate_base.specs.Timestamp.{Instant, timestamp_microsecond, instant_answer, range_answer}
 use Rattle.speedate_civil.specs.DateAndTime.{DateAndTime, local_second}
 use Rattle.speedate_civil.specs.DateTimeText.{date_time_answer}
 use Rattle.speedate_civil.specs.DateTimestamp.{day_at, second_at}
 use Rattle.speedate_civil.specs.DayNumber.{date_after}
 use Rattle.speedate_civil.specs.NumberText.{or_number}
+use Rattle.speedate_civil.specs.Steps.{◌>>=◌}
 use Rattle.speedate_civil.specs.TimeOfDay.{time_at}
 
 -- the instant so many microseconds later
@@ -54,8 +55,10 @@ instant_date_time offset instant = result_map (date_time_at offset) (range_answe
 -- the date-time of a timestamp and additional microseconds, or the fault: the unit's comes first, then those of the sums, then
 -- those of the years
 abbrev pub date_time_timestamp_answer : TimestampUnit → Option ℤ → ℕ → ℤ → Result DateAndTime ParseError
-date_time_timestamp_answer unit offset microseconds timestamp =
-    result_and_then (instant_date_time offset) (result_and_then (later_answer microseconds) (instant_answer unit timestamp))
+date_time_timestamp_answer unit offset microseconds timestamp = do
+  instant ← instant_answer unit timestamp
+  later ← later_answer microseconds instant
+  instant_date_time offset later
 
 -- the microseconds since 1970-01-01T00:00:00 that a timestamp and the additional ones mean
 abbrev pub meant_microsecond : TimestampUnit → ℕ → ℤ → ℤ

@@ -7,12 +7,13 @@ use Rattle.speedate_base.specs.declared.faults.ParseError.{ParseError}
 use Rattle.speedate_base.specs.declared.faults.ParseError.TheVariants as fault
 use Rattle.speedate_base.specs.Numbers.{whole_number}
 use Rattle.speedate_base.specs.Offset.{seconds_per_day}
-use Rattle.speedate_base.specs.Requirement.{Requirement, ◌else_fault◌, ◌implies◌, meets, result_and_then}
+use Rattle.speedate_base.specs.Requirement.{Requirement, ◌else_fault◌, ◌implies◌, meets}
 use Rattle.speedate_base.specs.Timestamp.{Instant, instant_answer, range_answer}
 use Rattle.speedate_civil.specs.Calendar.{Ymd}
 use Rattle.speedate_civil.specs.DateText.{date_answer}
 use Rattle.speedate_civil.specs.DayNumber.{epoch_day, date_after}
 use Rattle.speedate_civil.specs.NumberText.{or_number}
+use Rattle.speedate_civil.specs.Steps.{◌>>=◌}
 
 -- the number of the day on which a second since 1970-01-01T00:00:00 lies
 abbrev pub day_at : ℤ → ℕ
@@ -36,8 +37,10 @@ instant_date exact instant = meets (exact_table exact instant) (Ok (date_after (
 
 -- the date of a timestamp, or the fault: the unit's comes first, then those of the years
 abbrev pub date_timestamp_answer : TimestampUnit → Bool → ℤ → Result Ymd ParseError
-date_timestamp_answer unit exact timestamp =
-    result_and_then (instant_date exact) (result_and_then range_answer (instant_answer unit timestamp))
+date_timestamp_answer unit exact timestamp = do
+  instant ← instant_answer unit timestamp
+  within ← range_answer instant
+  instant_date exact within
 
 -- the date that a text is, as its text or as an exact timestamp, or the text's fault
 abbrev pub date_or_timestamp : TimestampUnit → List ℕ → Result Ymd ParseError

@@ -1,4 +1,5 @@
 pub mod Calendar
+pub mod Steps
 pub mod DayNumber
 pub mod DateOrder
 pub mod FromNumbers
@@ -8,6 +9,7 @@ pub mod NumberText
 pub mod DateTimestamp
 pub mod TimeOfDay
 pub mod ClockText
+pub mod Reader
 pub mod OffsetText
 pub mod TimeText
 pub mod Rfc3339Text

@@ -1,17 +1,9 @@
 -- Numbers beside texts: a text that a table refuses may still be a number.
-use Rattle.std.specs.Prelude.{Bool, true, false, Option, Some, None, Result, Ok, Err}
+use Rattle.std.specs.Prelude.{Option, Some, None, Result, Ok, Err}
 use Rattle.speedate_base.specs.declared.faults.ParseError.{ParseError}
-use Rattle.speedate_base.specs.declared.faults.ParseError.TheVariants as fault
 
 -- the answer of a table; but if that is a fault and the text is a number, the answer to that number
 abbrev pub or_number : {A : Type 0} → Option (Result A ParseError) → Result A ParseError → Result A ParseError
 or_number number (Ok value) = Ok value
 or_number (Some answer) (Err fault) = answer
 or_number None (Err fault) = Err fault
-
--- a date's table may refuse a number by this fault: it is short, or has a sign, a digit or a point where none may stand
-abbrev pub may_be_number : ParseError → Bool
-may_be_number fault.TooShort = true
-may_be_number fault.InvalidCharYear = true
-may_be_number fault.InvalidCharDateSep = true
-may_be_number other = false

@@ -2,7 +2,7 @@
 -- and `numbers` what follows the sign.
 -- Departs from it: the offset may be left out, and so may its `:`; the sign may be U+2212, as in ISO 8601; `-00:00` is the
 -- offset 0, which for RFC 3339 4.3 is an unknown one.
-use Rattle.std.specs.Prelude.{ℕ, ◌+◌, ◌*◌, ◌/◌, ◌%◌, Bool, ◌&&◌, ◌||◌, List, [], ◌∷◌, ◌++◌, drop, nat_le, nat_lt, ◌==◌, slice_index, if◌then◌else◌, Option, Some, None, ℤ, pos, unsigned_abs, Result, Ok}
+use Rattle.std.specs.Prelude.{ℕ, ◌+◌, ◌*◌, ◌/◌, ◌%◌, Bool, ◌&&◌, ◌||◌, List, [], ◌∷◌, ◌++◌, drop, true, nat_le, nat_lt, ◌==◌, slice_index, if◌then◌else◌, Option, Some, None, ℤ, pos, unsigned_abs, Result, Ok}
 use Rattle.std.specs.Int.{is_negative}
 use Rattle.std.specs.Option.{is_some}
 use Rattle.speedate_base.specs.declared.faults.ParseError.{ParseError}
@@ -13,19 +13,17 @@ use Rattle.speedate_base.specs.Numbers.{with_sign}
 use Rattle.speedate_base.specs.Offset.{seconds_per_day}
 use Rattle.speedate_base.specs.Requirement.{Requirement, ◌else_fault◌, meets}
 
+-- a byte is `+` or `-`
+abbrev pub is_plus_or_minus : ℕ → Bool
+is_plus_or_minus byte = (byte == plus_sign) || (byte == hyphen)
+
+-- a byte is UTC itself, `Z` or `z`
+abbrev pub is_utc : ℕ → Bool
+is_utc byte = (byte == capital_z) || (byte == small_z)
+
 -- the three bytes of U+2212, the minus sign
 abbrev pub has_minus_sign : List ℕ → Bool
 has_minus_sign rest = (slice_index rest 0 == 0xe2) && (slice_index rest 1 == 0x88) && (slice_index rest 2 == 0x92)
-
--- the offset is west of UTC
-abbrev pub is_west : List ℕ → Bool
-is_west rest = (slice_index rest 0 == hyphen) || has_minus_sign rest
-
--- how many bytes its sign has
-abbrev pub offset_sign_length : List ℕ → ℕ
-offset_sign_length rest =
-    if has_minus_sign rest then 3
-    else (if (slice_index rest 0 == plus_sign) || (slice_index rest 0 == hyphen) then 1 else 0)
 
 -- the place of its minute, after the hour and an optional `:`
 abbrev pub offset_minute_place : List ℕ → ℕ
@@ -57,30 +55,23 @@ offset_ranges numbers =
     ∷ (nat_lt (offset_size numbers) seconds_per_day else_fault fault.OutOfRangeTz)
     ∷ []
 
--- the offset is UTC itself, `Z` or `z`
-abbrev pub is_utc : List ℕ → Bool
-is_utc rest = (slice_index rest 0 == capital_z) || (slice_index rest 0 == small_z)
-
 -- the offset after a sign of so many bytes, and how many both take, or the fault
 abbrev pub signed_front : Bool → ℕ → List ℕ → Result (Option ℤ × ℕ) ParseError
 signed_front west sign numbers =
     meets (offset_digits numbers) (meets (offset_ranges numbers)
     (Ok (Some (with_sign west (offset_size numbers)), sign + offset_digits_length numbers)))
 
--- the offset at the front of a text without a sign, if any, and how many bytes it takes
-abbrev pub unsigned_front : List ℕ → Option ℤ × ℕ
-unsigned_front rest = if is_utc rest then (Some (pos 0), 1) else (None, 0)
-
 -- the offset that follows a time, if any, and how many bytes it takes, or the fault of what follows it
 abbrev pub offset_front : List ℕ → Result (Option ℤ × ℕ) ParseError
 offset_front rest =
-    let sign = offset_sign_length rest in
-    if nat_lt 0 sign then signed_front (is_west rest) sign (drop sign rest)
-    else Ok (unsigned_front rest)
+    if is_plus_or_minus (slice_index rest 0) then signed_front (slice_index rest 0 == hyphen) 1 (drop 1 rest)
+    else (if is_utc (slice_index rest 0) then Ok (Some (pos 0), 1)
+    else (if has_minus_sign rest then signed_front true 3 (drop 3 rest)
+    else Ok (None, 0)))
 
 -- an offset begins a text: a sign, `Z` or `z`
 abbrev pub begins_offset : List ℕ → Bool
-begins_offset rest = nat_lt 0 (offset_sign_length rest) || is_utc rest
+begins_offset rest = is_plus_or_minus (slice_index rest 0) || is_utc (slice_index rest 0) || has_minus_sign rest
 
 -- the fault of a text that goes on after a time with this offset, or after one without
 abbrev pub end_fault : Option ℤ → ParseError

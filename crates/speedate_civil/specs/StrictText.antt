@@ -6,10 +6,11 @@ use Rattle.speedate_base.specs.declared.faults.ParseError.{ParseError}
 use Rattle.speedate_base.specs.declared.faults.ParseError.TheVariants as fault
 use Rattle.speedate_base.specs.Ascii.{capital_t, colon, comma, full_stop, small_t}
 use Rattle.speedate_base.specs.DigitRuns.{run_length}
-use Rattle.speedate_base.specs.Requirement.{Requirement, ◌else_fault◌, meets, result_and_then}
+use Rattle.speedate_base.specs.Requirement.{Requirement, ◌else_fault◌, meets}
 use Rattle.speedate_civil.specs.DateAndTime.{DateAndTime}
 use Rattle.speedate_civil.specs.DateTimeText.{date_time_answer}
 use Rattle.speedate_civil.specs.OffsetText.{has_minus_sign, is_utc}
+use Rattle.speedate_civil.specs.Steps.{◌>>=◌}
 use Rattle.speedate_civil.specs.TimeOfDay.{TimeOfDay}
 use Rattle.speedate_civil.specs.TimeText.{time_answer}
 
@@ -22,7 +23,7 @@ abbrev pub standard_offset : List ℕ → List Requirement
 standard_offset rest =
     (nat_lt 0 (length rest) else_fault fault.TzRequired)
     ∷ (not (has_minus_sign rest) else_fault fault.InvalidCharTzSign)
-    ∷ ((is_utc rest || (slice_index rest 3 == colon)) else_fault fault.InvalidCharTzMinute)
+    ∷ ((is_utc (slice_index rest 0) || (slice_index rest 3 == colon)) else_fault fault.InvalidCharTzMinute)
     ∷ []
 
 -- what a text that is read as a time has to meet
@@ -40,8 +41,12 @@ standard_date_time text =
 
 -- the time that a text of RFC 3339 is, or the text's fault
 abbrev pub strict_time_answer : MicrosecondsPrecisionOverflowBehavior → List ℕ → Result TimeOfDay ParseError
-strict_time_answer behavior text = result_and_then (λ time. meets (standard_time text) (Ok time)) (time_answer behavior text)
+strict_time_answer behavior text = do
+  time ← time_answer behavior text
+  meets (standard_time text) (Ok time)
 
 -- the date-time that a text of RFC 3339 is, or the text's fault
 abbrev pub strict_date_time_answer : MicrosecondsPrecisionOverflowBehavior → List ℕ → Result DateAndTime ParseError
-strict_date_time_answer behavior text = result_and_then (λ value. meets (standard_date_time text) (Ok value)) (date_time_answer behavior text)
+strict_date_time_answer behavior text = do
+  value ← date_time_answer behavior text
+  meets (standard_date_time text) (Ok value)

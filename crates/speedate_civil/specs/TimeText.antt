@@ -1,15 +1,16 @@
 -- The text of a time of day, `HH:MM:SS` with a fraction and an offset (RFC 3339 5.6, full-time).
 -- Departs from it: as a clock and an offset do.
-use Rattle.std.specs.Prelude.{ℕ, ◌+◌, Bool, not, ◌&&◌, ◌||◌, ◌==◌, List, ◌∷◌, ◌++◌, drop, slice_index, if◌then◌else◌, Option, ℤ, Result}
+use Rattle.std.specs.Prelude.{ℕ, ◌+◌, Bool, not, ◌&&◌, ◌||◌, ◌==◌, List, ◌∷◌, ◌++◌, drop, slice_index, if◌then◌else◌, Option, ℤ, Result, Ok}
 use Rattle.std.specs.Char.{is_ascii_digit}
 use Rattle.std.specs.Option.{is_some}
 use Rattle.speedate_base.specs.declared.config.MicrosecondsPrecisionOverflowBehavior.{MicrosecondsPrecisionOverflowBehavior}
 use Rattle.speedate_base.specs.declared.faults.ParseError.{ParseError}
 use Rattle.speedate_base.specs.Ascii.{colon}
 use Rattle.speedate_base.specs.Digits.{two_digit_text}
-use Rattle.speedate_base.specs.Requirement.{alone, result_map, result_and_then}
+use Rattle.speedate_base.specs.Requirement.{alone}
 use Rattle.speedate_civil.specs.ClockText.{Clock, clock_front, is_decimal_mark, minute_text, fraction_text}
 use Rattle.speedate_civil.specs.OffsetText.{begins_offset, offset_front, end_fault, offset_text}
+use Rattle.speedate_civil.specs.Steps.{◌>>=◌}
 use Rattle.speedate_civil.specs.TimeOfDay.{TimeOfDay}
 
 -- the time of a clock and an offset
@@ -22,22 +23,18 @@ time_of clock offset = record {
   offset = offset;
 }
 
--- the time of a clock and an offset, each with how many bytes it takes
-abbrev pub joined : Clock → Option ℤ × ℕ → TimeOfDay × ℕ
-joined clock offset = (time_of clock offset.0, clock.size + offset.1)
-
--- the time of a clock at the front of a text, and of the offset that follows it there
-abbrev pub with_offset : List ℕ → Clock → Result (TimeOfDay × ℕ) ParseError
-with_offset text clock = result_map (joined clock) (offset_front (drop clock.size text))
-
--- the time at the front of a text, and how many bytes it takes, or the text's fault
+-- the time at the front of a text, a clock and the offset that follows it, and how many bytes it takes, or the text's fault
 abbrev pub time_front : MicrosecondsPrecisionOverflowBehavior → List ℕ → Result (TimeOfDay × ℕ) ParseError
-time_front behavior text = result_and_then (with_offset text) (clock_front behavior text)
+time_front behavior text = do
+  clock ← clock_front behavior text
+  offset ← offset_front (drop clock.size text)
+  Ok (time_of clock offset.0, clock.size + offset.1)
 
 -- the time that a text is, or the text's fault
 abbrev pub time_answer : MicrosecondsPrecisionOverflowBehavior → List ℕ → Result TimeOfDay ParseError
-time_answer behavior text =
-    result_and_then (alone (λ time. end_fault time.offset) text) (time_front behavior text)
+time_answer behavior text = do
+  time ← time_front behavior text
+  alone (λ read. end_fault read.offset) text time
 
 -- an hour, a minute and a second in print
 abbrev pub clock_text : TimeOfDay → List ℕ

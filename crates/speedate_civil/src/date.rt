@@ -172,8 +172,7 @@ impl Date {
         ensures reads_back_with_config { (config : DateConfig)
             → date_or_timestamp config.timestamp_unit result.bytes ≡ Ok (parts self.now) }
         ensures reads_front { (rest : List ℕ) → date_front (result.bytes ++ rest) ≡ Ok (parts self.now, length result.bytes) }
-        ensures canonical { result_map date_text (date_answer result.bytes) ≡ Ok result.bytes }
-        ensures canonical_with_config { (config : DateConfig)
+        ensures canonical { (config : DateConfig)
             → result_map date_text (date_or_timestamp config.timestamp_unit result.bytes) ≡ Ok result.bytes }
         ensures distinct { (other : Date)
             → (result.bytes ≡ date_text (parts other)) ↔ (parts self.now ≡ parts other) }

@@ -8,7 +8,6 @@ ghost use Rattle.speedate_civil.specs.DateAndTime.{DateAndTime};
 ghost use Rattle.speedate_civil.specs.DateTimeText.{is_separator, date_time_front, date_time_answer};
 
 mod decimal;
-mod instant;
 mod now;
 mod order;
 mod strict;
@@ -18,7 +17,6 @@ mod timezone;
 
 use crate::date::Date;
 use crate::time::{Time, end_fault};
-pub use instant::of_instant;
 pub use now::Moment;
 use speedate_base::config::TimeConfig;
 use speedate_base::faults::ParseError;

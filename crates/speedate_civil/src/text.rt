@@ -23,7 +23,7 @@ pub fn two_digit_text(number: u8) -> &'static str
 /// Appends the six digits of a number below 1,000,000: `000120` for 120. There must be room for
 /// them.
 #[inline(always)]
-pub fn push_six_digits<const LENGTH: usize>(number: u32, text: &mut ArrayString<LENGTH>)
+pub(crate) fn push_six_digits<const LENGTH: usize>(number: u32, text: &mut ArrayString<LENGTH>)
     requires small { number ≤ 999999 }
     requires room { array_string_len text.old + 6 ≤ LENGTH }
     ensures digits { text.new.bytes ≡ text.old.bytes ++ six_digit_text number }

@@ -223,7 +223,7 @@ impl Time {
     #[inline]
     pub(crate) fn at_second(second: u32, microsecond: u32, tz_offset: Option<i32>) -> Self
         requires second { second < seconds_per_day }
-        requires microsecond { microsecond < 1000000 }
+        requires microsecond { microsecond ≤ 999999 }
         requires offset { ForSome tz_offset IsOffset }
         ensures time { parts result ≡ time_at second microsecond tz_offset }
     {

@@ -9,7 +9,7 @@ ghost use Rattle.speedate_civil.specs.Date.{parts};
 ghost use Rattle.speedate_civil.specs.DateText.{date_answer};
 ghost use Rattle.speedate_civil.specs.DateTimestamp.{day_at, second_at, instant_date, date_timestamp_answer, date_or_timestamp};
 ghost use Rattle.speedate_civil.specs.DayNumber.{date_after};
-ghost use Rattle.speedate_civil.specs.NumberText.{may_be_number};
+ghost use Rattle.speedate_civil.specs.Reader.{may_be_number};
 
 use super::Date;
 use speedate_base::config::DateConfig;

@@ -6,7 +6,7 @@ ghost use Rattle.speedate_base.specs.DecimalTimestamp.{decimal_row, decimal_scal
 ghost use Rattle.speedate_base.specs.UnixTime.{row};
 ghost use Rattle.speedate_base.specs.IntFloat.{parts as decimal_parts};
 ghost use Rattle.speedate_base.specs.Nearest.{IsNearest};
-ghost use Rattle.speedate_base.specs.Offset.{IsOffset};
+ghost use Rattle.speedate_base.specs.Offset.{IsOffset, IsWholeMinutes};
 ghost use Rattle.speedate_base.specs.Requirement.{result_map};
 ghost use Rattle.speedate_civil.specs.DateAndTime.{local_microsecond};
 ghost use Rattle.speedate_civil.specs.DateTime.{parts};
@@ -57,6 +57,8 @@ impl DateTime {
             ≡ date_time_decimal_text config.now.timestamp_unit
             config.now.time_config.microseconds_precision_overflow_behavior
             config.now.time_config.unix_timestamp_offset (decimal_parts decimal.entry) }
+        ensures minutes { IsWholeMinutes config.now.time_config.unix_timestamp_offset
+            → IfOk result (λ value. IsWholeMinutes value.time.tz_offset) }
     {
         let unit = decimal_unit(decimal, config.timestamp_unit);
         let behavior = config.time_config.microseconds_precision_overflow_behavior;
@@ -76,6 +78,7 @@ impl DateTime {
         requires { ForSome offset IsOffset }
         ensures answer { result_map parts result
             ≡ instant_date_time offset (decimal_instant (row unit) (decimal_parts decimal.entry)) }
+        ensures minutes { IsWholeMinutes offset → IfOk result (λ value. IsWholeMinutes value.time.tz_offset) }
     {
         let time = decimal_to_seconds_micros(decimal, unit)?;
         Ok(Self::at_instant(time, offset))

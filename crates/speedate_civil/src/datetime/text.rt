@@ -43,10 +43,7 @@ impl DateTime {
             → IsTrue (is_after_time (parts self.now).time rest)
             ↔ (date_time_front config.microseconds_precision_overflow_behavior (result.bytes ++ rest)
             ≡ Ok (parts self.now, length result.bytes)) }
-        ensures canonical { IsWholeMinutes self.now.time.tz_offset → (config : TimeConfig)
-            → result_map date_time_text (date_time_answer config.microseconds_precision_overflow_behavior result.bytes)
-            ≡ Ok result.bytes }
-        ensures canonical_with_config { IsWholeMinutes self.now.time.tz_offset → (config : DateTimeConfig)
+        ensures canonical { IsWholeMinutes self.now.time.tz_offset → (config : DateTimeConfig)
             → result_map date_time_text (date_time_or_timestamp config.timestamp_unit
             config.time_config.microseconds_precision_overflow_behavior
             config.time_config.unix_timestamp_offset result.bytes) ≡ Ok result.bytes }

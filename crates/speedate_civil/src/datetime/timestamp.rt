@@ -1,6 +1,6 @@
 //! Date-times from timestamps, from texts that are a timestamp instead of a date-time, and back.
 
-ghost use Rattle.std.specs.Prelude.{◌≡◌, Ok, Err, IfOk, None};
+ghost use Rattle.std.specs.Prelude.{◌≡◌, ◌<◌, Ok, Err, IfOk, None, unsigned_abs};
 ghost use Rattle.std.specs.Option.{ForSome};
 ghost use Rattle.speedate_base.specs.declared.config.MicrosecondsPrecisionOverflowBehavior.TheVariants as behavior;
 ghost use Rattle.speedate_base.specs.declared.config.TimestampUnit.TheVariants as unit;
@@ -111,6 +111,8 @@ impl DateTime {
             ≡ date_time_or_timestamp config.now.timestamp_unit
             config.now.time_config.microseconds_precision_overflow_behavior
             config.now.time_config.unix_timestamp_offset bytes.now }
+        ensures minutes { IsWholeMinutes config.now.time_config.unix_timestamp_offset
+            → IfOk result (λ value. IsWholeMinutes value.time.tz_offset) }
     {
         if !may_be_number(fault) {
             return Err(fault);
@@ -162,16 +164,20 @@ impl DateTime {
             config.now.time_config.unix_timestamp_offset timestamp_microsecond timestamp }
         ensures instant { IfOk result (λ value. local_microsecond (parts value)
             ≡ meant_microsecond config.now.timestamp_unit timestamp_microsecond timestamp) }
+        ensures minutes { IsWholeMinutes config.now.time_config.unix_timestamp_offset
+            → IfOk result (λ value. IsWholeMinutes value.time.tz_offset) }
     {
         let time = timestamp_to_seconds_micros(timestamp, config.timestamp_unit)?;
         let later = later_instant(time, timestamp_microsecond)?;
         Self::of_instant(later, config.time_config.unix_timestamp_offset)
     }
 
-    /// The date-time at an instant, with the offset attached. Fails with `DateTooSmall` before the year
-    /// 0000, with `DateTooLarge` after the year 9999.
+    /// The date-time whose clock shows an instant, with the offset attached: 1970-01-01T00:00:01+01:00
+    /// for second 1 and the offset 3,600. Fails with `DateTooSmall` before the year 0000, with
+    /// `DateTooLarge` after the year 9999. The offset is less than 24 hours, which is a condition on the
+    /// caller.
     #[inline]
-    pub(super) fn of_instant(time: UnixTime, offset: Option<i32>) -> Result<Self, ParseError>
+    pub fn of_instant(time: UnixTime, offset: Option<i32>) -> Result<Self, ParseError>
         requires { ForSome offset IsOffset }
         ensures answer { result_map parts result ≡ instant_date_time offset (instant_parts time) }
         ensures shown { IfOk result (λ value. IsShownAt offset (instant_parts time) (parts value)) }
@@ -200,6 +206,7 @@ impl DateTime {
     #[inline]
     pub fn timestamp(&self) -> i64
         ensures second { result ≡ local_second (parts self.now) }
+        ensures small { unsigned_abs result < 300000000000 }
         ensures leads_back { self.now.time.tz_offset ≡ None
             → date_time_timestamp_answer unit.Second None self.now.time.microsecond result ≡ Ok (parts self.now) }
     {
@@ -220,6 +227,7 @@ impl DateTime {
     #[inline]
     pub fn timestamp_tz(&self) -> i64
         ensures second { result ≡ utc_second (parts self.now) }
+        ensures small { unsigned_abs result < 400000000000 }
     {
         self.timestamp() - i64::from(self.time.tz_offset.unwrap_or(0))
     }

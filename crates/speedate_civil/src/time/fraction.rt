@@ -26,7 +26,7 @@ impl Fraction {
         ensures length { result.length ≡ run_length (drop minute bytes.now) 6 }
         ensures microsecond { result.microsecond ≡ fraction_value 6 (run_digits (drop minute bytes.now) 6) }
         ensures within { minute + 6 + result.length ≤ length bytes.now }
-        ensures small { result.microsecond < 1000000 }
+        ensures small { result.microsecond ≤ 999999 }
     {
         Self::read(bytes, minute + 6)
     }
@@ -39,7 +39,7 @@ impl Fraction {
         ensures length { result.length ≡ run_length bytes.now place }
         ensures microsecond { result.microsecond ≡ fraction_value 6 (run_digits bytes.now place) }
         ensures within { place + result.length ≤ length bytes.now }
-        ensures small { result.microsecond < 1000000 }
+        ensures small { result.microsecond ≤ 999999 }
     {
         let front = eight_bytes(bytes, place);
         let count = fitting(front, u8x8::splat(b'0'));
@@ -70,7 +70,7 @@ fn six_places(front: u8x8, count: usize) -> u32
     requires some { 1 ≤ count }
     requires digits { count ≤ fit_length (replicate 8 digit_zero) front }
     ensures microsecond { result ≡ fraction_value 6 (take count front) }
-    ensures small { result < 1000000 }
+    ensures small { result ≤ 999999 }
 {
     let [a, _, b, _, c, _, _, _] = pairs(front, u8x8::splat(b'0'), count);
     10_000 * u32::from(a) + 100 * u32::from(b) + u32::from(c)

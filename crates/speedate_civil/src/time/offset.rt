@@ -4,14 +4,14 @@ ghost use Rattle.std.specs.Prelude.{◌≡◌, ◌≤◌, ◌+◌, ◌<◌, ◌�
 ghost use Rattle.std.specs.Int.{is_negative};
 ghost use Rattle.std.specs.Option.{ForSome, unwrap_or};
 ghost use Rattle.arrayvec.specs.ArrayString.{array_string_len};
-ghost use Rattle.speedate_base.specs.Ascii.{plus_sign, hyphen, capital_z, small_z};
+ghost use Rattle.speedate_base.specs.Ascii.{plus_sign, hyphen};
 ghost use Rattle.speedate_base.specs.Digits.{two_digit_value};
 ghost use Rattle.speedate_base.specs.Numbers.{with_sign};
-ghost use Rattle.speedate_base.specs.Offset.{IsOffset, seconds_per_day};
+ghost use Rattle.speedate_base.specs.Offset.{IsOffset, IsWholeMinutes, seconds_per_day};
 ghost use Rattle.speedate_base.specs.Pattern.{fit_length};
 ghost use Rattle.speedate_base.specs.Requirement.{meets};
 ghost use Rattle.speedate_civil.specs.OffsetMove.{move_table};
-ghost use Rattle.speedate_civil.specs.OffsetText.{end_fault, has_minus_sign, offset_digits, offset_front, signed_front, offset_minute, offset_digits_length, offset_size_text, offset_text};
+ghost use Rattle.speedate_civil.specs.OffsetText.{end_fault, has_minus_sign, is_plus_or_minus, is_utc, offset_digits, offset_front, signed_front, offset_minute, offset_digits_length, offset_size_text, offset_text};
 
 use crate::text::two_digit_text;
 use arrayvec::ArrayString;
@@ -29,6 +29,7 @@ pub(crate) fn read_offset(bytes: &[u8], place: usize) -> Result<(Option<i32>, us
     requires { place ≤ length bytes.now }
     ensures answer { result ≡ offset_front (drop place bytes.now) }
     ensures range { IfOk result (λ front. ForSome front.0 IsOffset) }
+    ensures minutes { IfOk result (λ front. IsWholeMinutes front.0) }
     ensures within { IfOk result (λ front. place + front.1 ≤ length bytes.now) }
 {
     let first = byte_at(bytes, place);
@@ -59,7 +60,7 @@ pub(crate) fn end_fault(offset: Option<i32>) -> ParseError
 /// Whether a byte is `+` or `-`, the neighbours of `,`: one test tells both.
 #[inline(always)]
 fn is_plus_or_minus(byte: u8) -> bool
-    ensures value { result ≡ ((byte == plus_sign) || (byte == hyphen)) }
+    ensures value { result ≡ is_plus_or_minus byte }
 {
     byte.abs_diff(b',') == 1
 }
@@ -78,7 +79,7 @@ pub(super) fn has_minus_sign(bytes: &[u8], place: usize) -> bool
 /// Whether a byte is UTC itself, `Z` or `z`.
 #[inline(always)]
 pub(super) fn is_utc(byte: u8) -> bool
-    ensures value { result ≡ ((byte == capital_z) || (byte == small_z)) }
+    ensures value { result ≡ is_utc byte }
 {
     byte == b'Z' || byte == b'z'
 }
@@ -96,6 +97,7 @@ fn signed_offset(
     requires sign { sign ≤ place }
     ensures answer { result ≡ signed_front west sign (drop place bytes.now) }
     ensures range { IfOk result (λ front. ForSome front.0 IsOffset) }
+    ensures minutes { IfOk result (λ front. IsWholeMinutes front.0) }
     ensures within { IfOk result (λ front. place + front.1 ≤ sign + length bytes.now) }
 {
     let (hour, minute, size) = hour_and_minute(eight_bytes(bytes, place))?;

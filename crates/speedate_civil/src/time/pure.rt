@@ -3,7 +3,8 @@
 ghost use Rattle.std.specs.Prelude.{◌≡◌, ◌+◌, ◌≤◌, IfOk, IsTrue, length, drop, codes};
 ghost use Rattle.speedate_base.specs.Digits.{two_digit_value};
 ghost use Rattle.speedate_base.specs.Pattern.{fit_length};
-ghost use Rattle.speedate_civil.specs.ClockText.{has_point, second_there};
+ghost use Rattle.speedate_civil.specs.ClockText.{has_point};
+ghost use Rattle.speedate_civil.specs.Reader.{second_there};
 
 use crate::time::Time;
 use crate::time::fraction::Fraction;
@@ -32,9 +33,20 @@ pub struct PureTime {
     pub ghost microsecond_in_range: { microsecond ≤ 999999 },
 }
 
+/// What follows the minute of a clock.
+#[derive(Clone, Copy)]
+enum Second {
+    /// No `:`, so there is no second.
+    Absent,
+    /// A `:`, but not two digits after it.
+    Faulty,
+    /// A `:` and the two digits of this number.
+    Number(u8),
+}
+
 impl PureTime {
     ghost use Rattle.std.specs.Option.{ForSome};
-    ghost use Rattle.speedate_base.specs.Offset.{IsOffset};
+    ghost use Rattle.speedate_base.specs.Offset.{IsOffset, IsWholeMinutes};
     ghost use Rattle.speedate_base.specs.Requirement.{result_map};
     ghost use Rattle.speedate_civil.specs.ClockText.{at_hour, clock_answer, clock_front, minute_front};
     ghost use Rattle.speedate_civil.specs.PureTime.{parts};
@@ -109,9 +121,9 @@ impl PureTime {
         }
         let [minute, _, _, second, _, _, _, _] = pairs(front, pattern, fits);
         let second = match fits {
-            2 => None,
-            3 | 4 => Some(None),
-            _ => Some(Some(second)),
+            2 => Second::Absent,
+            3 | 4 => Second::Faulty,
+            _ => Second::Number(second),
         };
         Self::after_minute(minute, second, rest, 0, behavior)
     }
@@ -121,6 +133,7 @@ impl PureTime {
     pub(super) fn at_offset(self, tz_offset: Option<i32>) -> Time
         requires { ForSome tz_offset IsOffset }
         ensures time { time_parts result ≡ time_of (parts self) tz_offset }
+        ensures minutes { IsWholeMinutes tz_offset → IsWholeMinutes result.tz_offset }
     {
         Time {
             hour: self.hour,
@@ -132,12 +145,11 @@ impl PureTime {
     }
 
     /// Tests the range of the minute that stands at `place`, and of the second, and reads the fraction
-    /// that follows. The second is there if a `:` follows the minute, and a number if two digits follow
-    /// that.
+    /// that follows.
     #[inline(always)]
     fn after_minute(
         minute: u8,
-        second: Option<Option<u8>>,
+        second: Second,
         bytes: &[u8],
         place: usize,
         behavior: MicrosecondsPrecisionOverflowBehavior,
@@ -153,17 +165,18 @@ impl PureTime {
             return Err(ParseError::OutOfRangeMinute);
         }
         let rest = &bytes[place..];
-        let Some(second) = second else {
-            return Ok(PureTime {
-                hour: 0,
-                minute,
-                second: 0,
-                microsecond: 0,
-                size: 2,
-            });
-        };
-        let Some(second) = second else {
-            return Err(ParseError::InvalidCharSecond);
+        let second = match second {
+            Second::Number(second) => second,
+            Second::Faulty => return Err(ParseError::InvalidCharSecond),
+            Second::Absent => {
+                return Ok(PureTime {
+                    hour: 0,
+                    minute,
+                    second: 0,
+                    microsecond: 0,
+                    size: 2,
+                });
+            }
         };
         if second > 59 {
             return Err(ParseError::OutOfRangeSecond);
@@ -194,19 +207,22 @@ impl PureTime {
     }
 }
 
-/// The second, as [`PureTime`] reads it, in the front of a text whose first `fits` bytes are as in
+/// The second in the front of a text whose first `fits` bytes are as in
 /// `00:00:00`.
 #[inline(always)]
-fn second_there(front: u8x8, fits: usize) -> Option<Option<u8>>
+fn second_there(front: u8x8, fits: usize) -> Second
     requires fits { fits ≡ fit_length (codes "00:00:00") front }
     requires minute { 5 ≤ fits }
     ensures second { result ≡ second_there (drop 3 front) }
 {
     if fits == LANES {
         let [_, _, _, _, _, _, second, _] = pairs(front, u8x8::from_array(*b"00:00:00"), LANES);
-        return Some(Some(second));
+        return Second::Number(second);
     }
-    if fits == 5 { None } else { Some(None) }
+    match fits {
+        5 => Second::Absent,
+        _ => Second::Faulty,
+    }
 }
 
 /// Whether a decimal mark, `.` or `,`, follows the second of a time that is given from its minute on.

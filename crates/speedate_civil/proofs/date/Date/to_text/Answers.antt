@@ -23,11 +23,7 @@ returns-clause-reads_back_with_config c config =
     ∙ ap (or_number (option_map (date_timestamp_answer config.timestamp_unit true) (whole_number (date_text (parts date))))) (date_text-reads (parts date) (is_date date))
 
 pub returns-clause-canonical : goal.returns-clause-canonical
-returns-clause-canonical c =
-    text-canonical date_text _ _ _ (text-alone _ _ _ c.new-text.ensures c.push_onto.ensures.text) (returns-clause-reads_back c)
-
-pub returns-clause-canonical_with_config : goal.returns-clause-canonical_with_config
-returns-clause-canonical_with_config c config =
+returns-clause-canonical c config =
     text-canonical date_text _ _ _ (text-alone _ _ _ c.new-text.ensures c.push_onto.ensures.text) (returns-clause-reads_back_with_config c config)
 
 pub returns-clause-distinct : goal.returns-clause-distinct

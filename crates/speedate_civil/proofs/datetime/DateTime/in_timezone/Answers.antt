@@ -1,4 +1,4 @@
-use Rattle.std.proofs.Common.{◌≡◌, ◌∙◌, ◌<◌, ap, sym, subst, rules, Result, Ok, Err, Some, IfOk, unsigned_abs}
+use Rattle.std.proofs.Common.{◌≡◌, ◌∙◌, ap, sym, rules, Result, Ok, Err, Some, IfOk}
 use Rattle.std.specs.Prelude.{ℤ, pos, ◌+ℤ◌}
 use Rattle.std.specs.Option.{unwrap_or}
 use Rattle.std.proofs.lemmas.Int.{to_z-of_z}
@@ -14,14 +14,12 @@ use Rattle.speedate_civil.specs.DateTime.{parts}
 use Rattle.speedate_civil.specs.DateTimeTimestamp.{IsShownAt, instant_date_time}
 use Rattle.speedate_civil.specs.OffsetMove.{move_table}
 use Rattle.speedate_civil.proofs.OffsetMoveLemmas.{second-moved, instant-kept}
-use Rattle.speedate_civil.proofs.DateTimeValueLemmas.{is_date_and_time, local_second-small}
 use Rattle.speedate_civil.proofs.datetime.DateTime.in_timezone.Goals as goal
 
 pub shifted-requires : goal.shifted-requires
 shifted-requires c =
-    let value = c.args.self.now in
     let fits : SFits w64 c.timestamp.result = search rules in
-    rw (to_z-of_z w64 c.timestamp.result fits) (subst (λ (second : ℤ). unsigned_abs second < 300000000000) (sym c.timestamp.ensures.second) (local_second-small (parts value) (is_date_and_time value)))
+    rw (to_z-of_z w64 c.timestamp.result fits) c.timestamp.ensures.small
 
 -- the offset can be had, and the second is the one that its clock shows
 found : (c : goal.After-of_instant)

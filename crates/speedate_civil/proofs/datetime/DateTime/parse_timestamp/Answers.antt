@@ -1,5 +1,5 @@
-use Rattle.std.proofs.Common.{◌≡◌, ◌∙◌, ap₂, sym, Result, rules}
-use Rattle.std.specs.Prelude.{ℕ, Option, ℤ}
+use Rattle.std.proofs.Common.{◌≡◌, ◌∙◌, ap₂, sym, refl, Result, rules}
+use Rattle.std.specs.Prelude.{Option, ℤ}
 use Rattle.std.proofs.lemmas.Int.{to_z-of_z}
 use mir.Syntax.{w64}
 use mir.Val.{SFits}
@@ -7,15 +7,10 @@ use Rattle.speedate_base.specs.declared.config.MicrosecondsPrecisionOverflowBeha
 use Rattle.speedate_base.specs.declared.config.TimestampUnit.{TimestampUnit}
 use Rattle.speedate_base.specs.declared.faults.ParseError.{ParseError}
 use Rattle.speedate_base.specs.Numbers.{Number}
-use Rattle.speedate_base.specs.Requirement.{alone, result_and_then}
-use Rattle.speedate_base.proofs.RequirementLemmas.{and_then-chain}
-use Rattle.speedate_civil.specs.Calendar.{Ymd}
 use Rattle.speedate_civil.specs.DateAndTime.{DateAndTime}
-use Rattle.speedate_civil.specs.DateTimeText.{with_time}
-use Rattle.speedate_civil.specs.DateText.{date_front}
+use Rattle.speedate_civil.specs.DateTimeText.{date_time_answer}
 use Rattle.speedate_civil.specs.DateTimeTimestamp.{date_time_number_answer}
 use Rattle.speedate_civil.specs.NumberText.{or_number}
-use Rattle.speedate_civil.specs.OffsetText.{end_fault}
 use Rattle.speedate_civil.proofs.NumberTextLemmas.{number_answer-refused}
 use Rattle.speedate_civil.proofs.datetime.DateTime.parse_timestamp.Goals as goal
 
@@ -26,38 +21,36 @@ known : (unit : TimestampUnit) (behavior : MicrosecondsPrecisionOverflowBehavior
 known unit behavior offset first second one two same_number same =
     ap₂ (λ number answer. or_number (date_time_number_answer unit behavior offset number) answer) same_number same
 
-pub returns-then-not-may_be_number : goal.returns-then-not-may_be_number
-returns-then-not-may_be_number c =
+pub returns-then-not-may_be_number-clause-answer : goal.returns-then-not-may_be_number-clause-answer
+returns-then-not-may_be_number-clause-answer c =
     let text = c.args.bytes.now in
     let config = c.args.config.now in
     let behavior = config.time_config.microseconds_precision_overflow_behavior in
-    let fault = λ (value : DateAndTime). end_fault value.time.offset in
-    let step = λ (date : Ymd × ℕ). result_and_then (alone fault text) (with_time behavior text date) in
-    let refused = sym (and_then-chain (with_time behavior text) (alone fault text) (date_front text)) ∙ c.requires in
-    let none = number_answer-refused step text c.args.fault refused (sym c.may_be_number.ensures ∙ c.if-not-may_be_number.true) in
-    record { answer = sym (known config.timestamp_unit behavior config.time_config.unix_timestamp_offset _ _ _ _ none c.requires) }
+    let none = number_answer-refused text (date_time_answer behavior text) c.args.fault (λ other is. rw is refl) c.requires
+    (sym c.may_be_number.ensures ∙ c.if-not-may_be_number.true) in
+    sym (known config.timestamp_unit behavior config.time_config.unix_timestamp_offset _ _ _ _ none c.requires)
 
-pub returns-in-Int : goal.returns-in-Int
-returns-in-Int c =
+pub returns-in-Int-clause-answer : goal.returns-in-Int-clause-answer
+returns-in-Int-clause-answer c =
     let config = c.args.config.now in
     let behavior = config.time_config.microseconds_precision_overflow_behavior in
     let offset = config.time_config.unix_timestamp_offset in
     let number = sym c.in-Int.ensures.answer in
     let fits : SFits w64 c.in-Int.timestamp = search rules in
-    record { answer = (simp to_z-of_z at c.from_timestamp_with_config.ensures.answer) ∙ sym (known config.timestamp_unit behavior offset _ _ _ _ number c.requires) }
+    (simp to_z-of_z at c.from_timestamp_with_config.ensures.answer) ∙ sym (known config.timestamp_unit behavior offset _ _ _ _ number c.requires)
 
-pub returns-in-Float : goal.returns-in-Float
-returns-in-Float c =
+pub returns-in-Float-clause-answer : goal.returns-in-Float-clause-answer
+returns-in-Float-clause-answer c =
     let config = c.args.config.now in
     let behavior = config.time_config.microseconds_precision_overflow_behavior in
     let offset = config.time_config.unix_timestamp_offset in
     let number = sym c.in-Float.ensures.answer in
-    record { answer = c.parse_decimal.ensures.answer ∙ sym (known config.timestamp_unit behavior offset _ _ _ _ number c.requires) }
+    c.parse_decimal.ensures.answer ∙ sym (known config.timestamp_unit behavior offset _ _ _ _ number c.requires)
 
-pub returns-in-Err : goal.returns-in-Err
-returns-in-Err c =
+pub returns-in-Err-clause-answer : goal.returns-in-Err-clause-answer
+returns-in-Err-clause-answer c =
     let config = c.args.config.now in
     let behavior = config.time_config.microseconds_precision_overflow_behavior in
     let offset = config.time_config.unix_timestamp_offset in
     let number = sym c.in-Err.ensures.answer in
-    record { answer = sym (known config.timestamp_unit behavior offset _ _ _ _ number c.requires) }
+    sym (known config.timestamp_unit behavior offset _ _ _ _ number c.requires)

@@ -1,5 +1,5 @@
-use Rattle.std.proofs.Common.{◌≡◌, ◌∙◌, ap, sym, arith, Option, None, Ok}
-use Rattle.std.specs.Prelude.{ℤ}
+use Rattle.std.proofs.Common.{◌≡◌, ◌∙◌, ◌<◌, ap, sym, subst, arith, Option, None, Ok}
+use Rattle.std.specs.Prelude.{ℤ, unsigned_abs}
 use Rattle.std.proofs.lemmas.Int.{ints}
 use Rattle.speedate_base.specs.declared.config.TimestampUnit.TheVariants as unit
 use Rattle.speedate_civil.specs.DateAndTime.{DateAndTime, IsDateAndTime, local_second}
@@ -33,3 +33,8 @@ returns-clause-leads_back c none =
     let value = parts c.args.self.now in
     ap (date_time_timestamp_answer unit.Second None value.time.microsecond) (returns-clause-second c)
     ∙ leads-back value (is_date_and_time c.args.self.now) none
+
+pub returns-clause-small : goal.returns-clause-small
+returns-clause-small c =
+    let value = c.args.self.now in
+    subst (λ (second : ℤ). unsigned_abs second < 300000000000) (sym (returns-clause-second c)) (local_second-small (parts value) (is_date_and_time value))

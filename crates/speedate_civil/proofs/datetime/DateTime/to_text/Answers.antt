@@ -38,11 +38,6 @@ returns-clause-reads_front c whole config rest =
 pub returns-clause-canonical : goal.returns-clause-canonical
 returns-clause-canonical c whole config =
     let bytes = text-alone _ _ _ c.new-text.ensures c.push_onto.ensures.text in
-    text-canonical date_time_text _ _ _ bytes (returns-clause-reads_back c whole config)
-
-pub returns-clause-canonical_with_config : goal.returns-clause-canonical_with_config
-returns-clause-canonical_with_config c whole config =
-    let bytes = text-alone _ _ _ c.new-text.ensures c.push_onto.ensures.text in
     text-canonical date_time_text _ _ _ bytes (returns-clause-reads_back_with_config c whole config)
 
 pub returns-clause-distinct : goal.returns-clause-distinct

@@ -1,0 +1,21 @@
+-- What readers decide by on their way to an answer.
+use Rattle.std.specs.Prelude.{ℕ, List, Bool, true, false, if◌then◌else◌}
+use Rattle.speedate_base.specs.declared.faults.ParseError.{ParseError}
+use Rattle.speedate_base.specs.declared.faults.ParseError.TheVariants as fault
+use Rattle.speedate_base.specs.Digits.{two_digits_at, two_digit_value}
+use Rattle.speedate_civil.specs.declared.time.pure.Second.{Second}
+use Rattle.speedate_civil.specs.declared.time.pure.Second.TheVariants as second
+use Rattle.speedate_civil.specs.ClockText.{has_second}
+
+-- the second of a clock that is given from its minute on
+abbrev pub second_there : List ℕ → Second
+second_there rest =
+    if has_second rest then (if two_digits_at rest 3 then second.Number (two_digit_value rest 3) else second.Faulty)
+    else second.Absent
+
+-- a date's table may refuse a number by this fault: it is short, or has a sign, a digit or a decimal mark where none may stand
+abbrev pub may_be_number : ParseError → Bool
+may_be_number fault.TooShort = true
+may_be_number fault.InvalidCharYear = true
+may_be_number fault.InvalidCharDateSep = true
+may_be_number other = false
