@@ -2,13 +2,12 @@
 use Rattle.std.specs.Prelude.{◌≡◌, ℕ, ◌+◌, ◌-◌, ◌*◌, ◌/◌, ◌%◌, ◌^◌, ◌<◌, ◌≤◌, Bool, true, false, not, ◌&&◌, ◌==◌, nat_lt, nat_le, if◌then◌else◌, List, [], ◌∷◌, ◌++◌, length, drop, Some, pos, unsigned_abs, Ok, codes, refl}
 use Rattle.std.specs.Char.{is_ascii_digit}
 use Rattle.std.specs.Fmt.{decimal}
-use Rattle.std.specs.List.{list_all, flat_map}
+use Rattle.std.specs.List.{list_all}
 use Rattle.std.specs.Option.{is_some}
 use Rattle.std.proofs.Common.{arith, ap, sym, ◌∙◌, subst, append_assoc, lit<}
 use Rattle.std.proofs.lemmas.Bool.{and_from, and_parts, eqb-true, lt-ltb, le-leb}
 use Rattle.std.proofs.lemmas.Bool.Decides.{nat_tests}
 use Rattle.std.proofs.lemmas.Fmt.{digits_decimal, digits_value-decimal, decimal_nonempty, decimal_digit}
-use Rattle.std.proofs.lemmas.Grind.{flat_map-append}
 use Rattle.std.proofs.lemmas.List.{append-nil}
 use Rattle.std.proofs.lemmas.Str.Parse.{IsDigitsTest, IsNumeralModel, numerals_by_weight}
 use Rattle.std.proofs.Math.Nat.{pow-succ', div-eq_of_lt}
@@ -23,15 +22,17 @@ use Rattle.speedate_base.specs.DigitRuns.{digits_value}
 use Rattle.speedate_base.proofs.DigitRunLemmas.{digits_value-lt}
 use Rattle.speedate_base.specs.Nearest.{nearest}
 use Rattle.speedate_base.proofs.NearestLemmas.{nearest-exact, scale-some}
-use Rattle.speedate_base.specs.Requirement.{result_and_then}
+use Rattle.speedate_base.specs.Requirement.{AllHold, result_and_then}
+use Rattle.speedate_base.proofs.RequirementLemmas.{meets-all}
 use Rattle.speedate_base.specs.Offset.{seconds_per_day}
 use Rattle.speedate_base.proofs.TextLemmas.{text-distinct}
-use Rattle.speedate.specs.DurationAnswer.{iso_form, unsigned_answer, duration_answer}
-use Rattle.speedate.proofs.DurationAnswerLemmas.{iso_form-only}
+use Rattle.speedate.specs.DurationAnswer.{iso_from, iso_form, unsigned_answer, duration_answer}
+use Rattle.speedate.proofs.DurationAnswerLemmas.{iso_from-item, iso_from-end}
+use Rattle.speedate.proofs.IsoItemLemmas.{item_at-amount}
 use Rattle.speedate.proofs.DurationLemmas.{normal_form-same}
 use Rattle.speedate.specs.DurationNumbers.{DurationNumbers, IsDuration, length_of, signed_form}
 use Rattle.speedate.specs.DurationText.{counted_text, kept_digit, without_last_zeros, short_fraction_text, hours_text, days_text, start_text, rest_text, is_whole_days, duration_text}
-use Rattle.speedate.specs.IsoForm.{DurationUnit, unit, units, unit_in, ComponentText, Item, TimeDesignator, Component, item_text, IsFraction, Sums, no_sums, next_units_after, unit_seconds, fraction_seconds, fraction_microseconds, with_component, with_item, with_items, AreGood, Ends, sums_length, IsIsoAnswer}
+use Rattle.speedate.specs.IsoForm.{DurationUnit, unit, units, unit_in, ComponentText, TimeDesignator, Component, IsItem, IsFraction, Sums, no_sums, next_units_after, unit_seconds, fraction_seconds, fraction_microseconds, with_component, item_table, sums_length}
 
 -- a number without leading zeros is digits that spell it
 abbrev AreDigits : List ℕ → Type 0
@@ -106,28 +107,14 @@ second-microseconds digits microsecond all same =
     ap (λ z. unsigned_abs z - 1000000 * fraction_seconds (unit capital_s 0 1) digits) exact
     ∙ ap (λ (n : ℕ). microsecond - 1000000 * n) (second-seconds digits all) ∙ omega arith
 
--- a text leads from sums to others: it is good items after the first that add up to the second
-abbrev pub Leads : Sums → List ℕ → Sums → Type 0
-Leads before text after =
-    (items : List Item) × (flat_map item_text items ≡ text) × AreGood before items × (with_items items before ≡ after)
-
-pub with_items-append : (items more : List Item) (sums : Sums) → with_items (items ++ more) sums ≡ with_items more (with_items items sums)
-with_items-append [] more sums = refl
-with_items-append (item ∷ items) more sums = with_items-append items more (with_item item sums)
-
-pub AreGood-append : (items more : List Item) (sums : Sums) → AreGood sums items → AreGood (with_items items sums) more → AreGood sums (items ++ more)
-AreGood-append [] more sums good next = next
-AreGood-append (item ∷ items) more sums good next = (good.0, good.1, AreGood-append items more (with_item item sums) good.2 next)
+-- a text leads from sums to others: it is read on from the first as what follows it from the second
+abbrev Leads : Sums → List ℕ → Sums → Type 0
+Leads before text after = (rest : List ℕ) → iso_from before (text ++ rest) ≡ iso_from after rest
 
 -- texts lead on one after the other
-pub leads-append : (before between after : Sums) (text more : List ℕ)
-    → Leads before text between → Leads between more after → Leads before (text ++ more) after
-leads-append before between after text more first second = (
-  first.0 ++ second.0,
-  flat_map-append item_text first.0 second.0 ∙ (λ i. first.1 i ++ second.1 i),
-  AreGood-append first.0 second.0 before first.2 (subst (λ (sums : Sums). AreGood sums second.0) (sym first.3) second.2),
-  with_items-append first.0 second.0 before ∙ ap (with_items second.0) first.3 ∙ second.3,
-)
+leads-append : (before between after : Sums) (text more : List ℕ) → Leads before text between → Leads between more after → Leads before (text ++ more) after
+leads-append before between after text more first second rest =
+    ap (iso_from before) (append_assoc text more rest) ∙ first (more ++ rest) ∙ second rest
 
 -- sums with no fraction so far
 abbrev whole_sums : IsoOrder → List DurationUnit → Bool → Bool → ℕ → ℕ → Sums
@@ -207,16 +194,11 @@ amount-leads order next unit is_time some number day second days seconds microse
     }) in
     let sum_fits = ap (λ (sums : Sums). nat_le sums.day 4294967295 && nat_le sums.second 4294967295) sum
     ∙ and_from _ _ (le-leb days 4294967295 adds.few_days) (le-leb seconds 4294967295 adds.few_seconds) in
-    let some_digits = lt-ltb 0 (length (decimal number)) (decimal_nonempty number small) in (
-      Component component ∷ [],
-      append-nil (item_text (Component component)),
-      (
-        (digits_decimal digits_model number small, means.0),
-        (some_digits, (le-leb _ 4294967295 fits, (refl, (ap is_some adds.found, (adds.comes, (sum_fits, tt)))))),
-        tt,
-      ),
-      sum,
-    )
+    let some_digits = lt-ltb 0 (length (decimal number)) (decimal_nonempty number small) in
+    let is_item : IsItem (Component component) = (digits_decimal digits_model number small, means.0) in
+    let all : AllHold (item_table sums (Component component)) = (some_digits, (le-leb _ 4294967295 fits, (refl, (ap is_some adds.found, (adds.comes, (sum_fits, tt)))))) in
+    λ rest. iso_from-item sums (Component component) rest (item_at-amount is_time component rest is_item some_digits (ap is_some adds.found))
+    ∙ meets-all (item_table sums (Component component)) _ all ∙ ap (λ (sums : Sums). iso_from sums rest) sum
 
 -- so do a number and its unit
 whole-leads : (order : IsoOrder) (next : List DurationUnit) (unit : DurationUnit) (is_time some : Bool) (number day second days seconds : ℕ)
@@ -237,7 +219,7 @@ counted-of order next unit is_time some true number day second days seconds none
     let zero_is = eqb-true number 0 none in
     let day_is : day ≡ days = grind (arith, zero_is, adds.day_sum) in
     let second_is : second ≡ seconds = grind (arith, zero_is, adds.second_sum) in
-    ([], refl, tt, λ i. whole_sums order next is_time some (day_is i) (second_is i))
+    λ rest i. iso_from (whole_sums order next is_time some (day_is i) (second_is i)) rest
 counted-of order next unit is_time some false number day second days seconds other adds =
     whole-leads order next unit is_time some number day second days seconds adds
 
@@ -251,7 +233,7 @@ counted-leads order next unit is_time some number day second days seconds =
 -- a `T` leads to the other side
 designator-leads : (order : IsoOrder) (next : List DurationUnit) (some : Bool) (day second : ℕ)
     → Leads (whole_sums order next false some day second) (capital_t ∷ []) (whole_sums order (units true) true some day second)
-designator-leads order next some day second = (TimeDesignator ∷ [], refl, (tt, (refl, tt), tt), refl)
+designator-leads order next some day second rest = iso_from-item (whole_sums order next false some day second) TimeDesignator rest refl
 
 -- no seconds at all
 zero-leads : (order : IsoOrder) (next : List DurationUnit) (some : Bool) (day : ℕ) → day ≤ 4294967295
@@ -292,7 +274,7 @@ seconds-of order next some true number microsecond day second seconds none small
     let tests = and_parts (number == 0) (microsecond == 0) none in
     let second_is : second ≡ seconds = omega (arith, eqb-true number 0 tests.0, adds.second_sum) in
     let microsecond_is = sym (eqb-true microsecond 0 tests.1) in
-    ([], refl, tt, λ i. clock_sums order next some day (second_is i) (microsecond_is i))
+    λ rest i. iso_from (clock_sums order next some day (second_is i) (microsecond_is i)) rest
 seconds-of order next some false number microsecond day second seconds other small adds =
     amount-leads order next (unit capital_s 0 1) true some number day second day seconds microsecond (short_fraction_text microsecond) adds
     (fraction-of microsecond (microsecond == 0) refl small)
@@ -423,14 +405,9 @@ hours-leads order numbers some valid other =
 
 -- a text that leads from no sums to those of a duration is answered by it
 leads-answer : (order : IsoOrder) (numbers : DurationNumbers) (text : List ℕ) (after : Sums) → Leads (no_sums order) text after → after.some ≡ true
-    → sums_length after ≡ length_of numbers → IsIsoAnswer order text (Ok (length_of numbers))
-leads-answer order numbers text after leads some same = (
-  leads.0,
-  [],
-  sym (append-nil (flat_map item_text leads.0) ∙ leads.1),
-  leads.2,
-  subst (λ (sums : Sums). Ends sums [] (Ok (length_of numbers))) (sym leads.3) (rw some (ap Ok (sym same))),
-)
+    → sums_length after ≡ length_of numbers → iso_form order text ≡ Ok (length_of numbers)
+leads-answer order numbers text after leads some same =
+    ap (iso_form order) (sym (append-nil text)) ∙ leads [] ∙ iso_from-end after [] refl ∙ rw some (ap Ok same)
 
 -- the sums of whole days
 whole-numbers : (order : IsoOrder) (numbers : DurationNumbers) → is_whole_days numbers ≡ true
@@ -444,7 +421,7 @@ whole-numbers order numbers whole =
 -- what is printed after the `P` is answered by the duration
 rest-answer : (order : IsoOrder) (numbers : DurationNumbers) (whole none : Bool) → IsDuration numbers → is_whole_days numbers ≡ whole
     → (numbers.day == 0) ≡ none
-    → IsIsoAnswer order (days_text numbers ++ (if whole then (if none then codes "T0S" else []) else capital_t ∷ hours_text numbers)) (Ok (length_of numbers))
+    → iso_form order (days_text numbers ++ (if whole then (if none then codes "T0S" else []) else capital_t ∷ hours_text numbers)) ≡ Ok (length_of numbers)
 rest-answer order numbers true true valid whole none =
     leads-answer order numbers _ _
     (leads-append (no_sums order) _ _ _ _ (days-leads order numbers.day valid.day)
@@ -452,7 +429,7 @@ rest-answer order numbers true true valid whole none =
     refl (whole-numbers order numbers whole)
 rest-answer order numbers true false valid whole some =
     leads-answer order numbers _ _
-    (leads-append (no_sums order) _ _ _ _ (days-leads order numbers.day valid.day) ([], refl, tt, refl))
+    (leads-append (no_sums order) _ _ _ _ (days-leads order numbers.day valid.day) (λ rest. refl))
     (ap not some) (whole-numbers order numbers whole)
 rest-answer order numbers false none valid other is =
     leads-answer order numbers _ _
@@ -472,9 +449,9 @@ pub duration_text-reads : (order : IsoOrder) (behavior : MicrosecondsPrecisionOv
     → duration_answer order behavior (duration_text numbers) ≡ Ok numbers
 duration_text-reads order behavior numbers valid =
     let text = days_text numbers ++ rest_text numbers in
-    let reads = iso_form-only order text _ (rest-answer order numbers (is_whole_days numbers) (numbers.day == 0) valid refl refl) in
+    let reads = rest-answer order numbers (is_whole_days numbers) (numbers.day == 0) valid refl refl in
     ap (duration_answer order behavior) (append_assoc (start_text numbers.positive) (days_text numbers) (rest_text numbers))
-    ∙ start-answer order behavior numbers.positive text ∙ ap (result_and_then (signed_form numbers.positive)) (sym reads)
+    ∙ start-answer order behavior numbers.positive text ∙ ap (result_and_then (signed_form numbers.positive)) reads
     ∙ normal_form-same numbers valid
 
 -- so two durations with the same text are equal
