@@ -8,10 +8,10 @@ ghost use Rattle.speedate.specs.DurationNumbers.{length_seconds, length_microsec
 ghost use Rattle.speedate.specs.Exchanged.{AreExchanged};
 ghost use Rattle.speedate.specs.InOrder.{IsAnswerInOrder};
 
+mod arithmetic;
 mod clock;
 mod days;
 mod iso;
-mod moved;
 mod order;
 mod text;
 mod unsigned;
