@@ -1,5 +1,5 @@
 -- The date so many days after another: the same days lead back.
-use Rattle.std.specs.Prelude.{◌≡◌, ℕ, Bool, true, false, not, nat_le, if◌then◌else◌, [], ◌∷◌, ℤ, pos, ◌+ℤ◌, ◌-ℤ◌, Result, Ok, Err, IfOk, refl}
+use Rattle.std.specs.Prelude.{◌≡◌, ℕ, Bool, true, false, not, [], ◌∷◌, ℤ, pos, ◌+ℤ◌, ◌-ℤ◌, Result, Ok, Err, IfOk, refl}
 use Rattle.std.proofs.Common.{arith, ◌∙◌, ap}
 use Rattle.std.proofs.lemmas.Int.{ints}
 use Rattle.speedate_base.specs.declared.faults.ParseError.{ParseError}
@@ -13,8 +13,9 @@ use Rattle.speedate_civil.specs.Date.{parts as date_parts}
 use Rattle.speedate_civil.specs.DayNumber.{day_number, date_counted, days_between}
 use Rattle.speedate_civil.proofs.DateNumberedLemmas.{date_numbered-is}
 use Rattle.speedate_civil.proofs.DateValueLemmas.{is_day}
-use Rattle.speedate.specs.DurationMove.{negated, is_whole_days, date_or_fault, signed_days, date_after_days}
+use Rattle.speedate.specs.DurationMove.{negated, date_or_fault, signed_days, date_after_days}
 use Rattle.speedate.specs.DurationNumbers.{DurationNumbers}
+use Rattle.speedate.specs.DurationText.{is_whole_days}
 
 -- the same days the other way lead back
 days-back : (positive : Bool) (day start end : ℕ) → pos end -ℤ pos start ≡ with_sign (not positive) day

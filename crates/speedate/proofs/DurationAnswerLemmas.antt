@@ -1,108 +1,80 @@
--- The answer that is read from the left is the answer.
-use Rattle.std.specs.Prelude.{◌≡◌, ℕ, zero, suc, ◌<◌, ◌≤◌, Bool, true, false, not, MatchBool, List, [], ◌∷◌, ◌++◌, length, drop, slice_index, ◌==◌, if◌then◌else◌, Result, Ok, Err, refl}
-use Rattle.std.proofs.Common.{arith, ap, sym, ◌∙◌, subst, inl, inr, lt_irrefl}
-use Rattle.std.proofs.lemmas.List.{length-append, length-drop}
+-- How the answer to an ISO 8601 duration goes on from item to item.
+use Rattle.std.specs.Prelude.{◌≡◌, ℕ, zero, suc, ◌-◌, ◌<◌, Bool, true, false, not, List, [], ◌∷◌, ◌++◌, length, drop, if◌then◌else◌, Result, Ok, Err, refl}
+use Rattle.std.proofs.Common.{arith, ap, sym, ◌∙◌, inl, inr, lt_irrefl}
+use Rattle.std.proofs.Math.Seq.{drop-append_seam}
+use Rattle.std.proofs.lemmas.List.{length-append}
 use Rattle.speedate_base.specs.declared.config.IsoOrder.{IsoOrder}
 use Rattle.speedate_base.specs.declared.config.MicrosecondsPrecisionOverflowBehavior.{MicrosecondsPrecisionOverflowBehavior}
 use Rattle.speedate_base.specs.declared.faults.ParseError.{ParseError}
-use Rattle.speedate_base.specs.Ascii.{capital_p, capital_t}
-use Rattle.speedate_base.specs.Numbers.{sign_length, IsSign}
+use Rattle.speedate_base.specs.declared.faults.ParseError.TheVariants as fault
+use Rattle.speedate_base.specs.Ascii.{capital_p}
+use Rattle.speedate_base.specs.Numbers.{IsSign}
 use Rattle.speedate_base.specs.Requirement.{meets, result_and_then}
-use Rattle.speedate_base.proofs.RequirementLemmas.{meets-all, meets-next, meets-value}
-use Rattle.speedate.specs.DurationAnswer.{iso_answer, iso_form, unsigned_answer, duration_answer}
-use Rattle.speedate.specs.DurationForm.{form_answer, IsDurationAnswer, IsGrammarAnswer}
-use Rattle.speedate.specs.DurationNumbers.{DurationNumbers, UnsignedDuration, signed_form}
-use Rattle.speedate.specs.IsoForm.{Item, TimeDesignator, Component, item_text, IsItem, Sums, no_sums, item_at, item_length, component_length, item_table, with_item, IsAnswerFrom, IsIsoAnswer}
-use Rattle.speedate.proofs.IsoFormLemmas.{answer-only, answer-with, duration_answer-only}
-use Rattle.speedate.proofs.IsoFrontLemmas.{answer-after, answer-refused}
+use Rattle.speedate_base.proofs.RequirementLemmas.{meets-and_then}
+use Rattle.speedate.specs.DurationAnswer.{iso_after, iso_from, iso_form, unsigned_answer, duration_answer}
+use Rattle.speedate.specs.DurationNumbers.{signed_form}
+use Rattle.speedate.specs.IsoForm.{Item, TimeDesignator, Component, item_text, Sums, item_at, item_table, with_item, sums_length}
+use Rattle.speedate.specs.Reader.{item_front}
+
+-- the answer after the bytes of an item
+pub iso_after-skipped : (skipped : ℕ) (sums : Sums) (text : List ℕ) → iso_after skipped sums text ≡ iso_from sums (drop skipped text)
+unfolding iso_after
+iso_after-skipped zero sums text = refl
+iso_after-skipped (suc skipped) sums [] = refl
+iso_after-skipped (suc skipped) sums (byte ∷ text) = iso_after-skipped skipped sums text
 
 -- an item has a byte
-length-some : (text : List ℕ) (is_time : Bool) → 0 < (if is_time then 1 else component_length text)
-length-some text true = omega arith
-length-some text false = omega arith
+pub item_text-some : (item : Item) → 0 < length (item_text item)
+item_text-some TimeDesignator = omega arith
+item_text-some (Component component) = omega (arith, length-append (component.number ++ component.fraction) (component.designator ∷ []))
 
-item_length-some : (text : List ℕ) → 0 < item_length text
-item_length-some text = length-some text (slice_index text 0 == capital_t)
+-- a text that is not empty has the row of the item that begins it, and then the answer to what follows
+pub iso_from-step : (sums : Sums) (text : List ℕ) → 0 < length text
+    → iso_from sums text ≡ meets (item_table sums (item_at text)) (iso_from (with_item (item_at text) sums) (drop (length (item_text (item_at text))) text))
+unfolding iso_after
+iso_from-step sums [] some = absurd (lt_irrefl 0 some)
+iso_from-step sums (byte ∷ rest) some =
+    let item = item_at (byte ∷ rest) in
+    let size = length (item_text item) in
+    let one : suc (size - 1) ≡ size = omega (arith, item_text-some item) in
+    ap (meets (item_table sums item)) (iso_after-skipped (size - 1) (with_item item sums) rest ∙ ap (λ (n : ℕ). iso_from (with_item item sums) (drop n (byte ∷ rest))) one)
 
--- one item and what follows it: read, or refused
-step : (sums : Sums) (text : List ℕ) (front : Result ℕ ParseError) (next : Result UnsignedDuration ParseError)
-    → 0 < length text → front ≡ meets (item_table sums (item_at text)) (Ok 0)
-    → IsAnswerFrom (with_item (item_at text) sums) (drop (item_length text) text) next
-    → IsAnswerFrom sums text (meets (item_table sums (item_at text)) next)
-step sums text (Ok none) next some same later =
-    let held = meets-value (item_table sums (item_at text)) 0 none (sym same) in
-    subst (IsAnswerFrom sums text) (sym (meets-all (item_table sums (item_at text)) next held.0)) (answer-after sums text next some held.0 later)
-step sums text (Err fault) next some same later =
-    subst (IsAnswerFrom sums text) (meets-next (item_table sums (item_at text)) 0 (Err fault) next same) (answer-refused sums text fault 0 some same)
+-- so its answer goes on from the sums and the place after that item, or is its fault
+from-front : (sums : Sums) (text : List ℕ) (front : Result (Sums × ℕ) ParseError) → 0 < length text → front ≡ item_front sums (item_at text)
+    → result_and_then (λ next. iso_from next.0 (drop next.1 text)) front ≡ iso_from sums text
+from-front sums text front some same =
+    let after = λ (next : Sums × ℕ). iso_from next.0 (drop next.1 text) in
+    ap (result_and_then after) same ∙ meets-and_then after (item_table sums (item_at text)) _ ∙ sym (iso_from-step sums text some)
 
-iso_answer-from : (most : ℕ) (sums : Sums) (text : List ℕ) → length text ≤ most → IsAnswerFrom sums text (iso_answer most sums text)
-unfolding iso_answer
-iso_answer-from most sums [] few = ([], [], refl, tt, refl)
-iso_answer-from zero sums (byte ∷ rest) few = absurd (lt_irrefl 0 (omega (arith, few)))
-iso_answer-from (suc most) sums (byte ∷ rest) few =
-    let text = byte ∷ rest in
-    let left : length (drop (item_length text) text) ≤ most = omega (arith, few, length-drop (item_length text) text, item_length-some text) in
-    step sums text (meets (item_table sums (item_at text)) (Ok 0)) (iso_answer most (with_item (item_at text) sums) (drop (item_length text) text))
-    (omega arith) refl (iso_answer-from most (with_item (item_at text) sums) (drop (item_length text) text) left)
+pub iso_from-after : (sums next : Sums) (text : List ℕ) (size : ℕ) → 0 < length text
+    → ◌≡◌ {A = Result (Sums × ℕ) ParseError} (Ok (next, size)) (item_front sums (item_at text))
+    → iso_from next (drop size text) ≡ iso_from sums text
+iso_from-after sums next text size some = from-front sums text (Ok (next, size)) some
 
--- an item before a text, as it is read, lets through the answer after it, or refuses
-item-front : (sums : Sums) (item : Item) (text : List ℕ) (front : Result ℕ ParseError) (next : Result UnsignedDuration ParseError) → 0 < length (item_text item ++ text)
-    → front ≡ meets (item_table sums item) (Ok 0) → IsItem item → item_at (item_text item ++ text) ≡ item → IsAnswerFrom (with_item item sums) text next
-    → IsAnswerFrom sums (item_text item ++ text) (meets (item_table sums item) next)
-item-front sums item text (Ok none) next some same is there later =
-    let held = meets-value (item_table sums item) 0 none (sym same) in
-    subst (IsAnswerFrom sums (item_text item ++ text)) (sym (meets-all (item_table sums item) next held.0)) (answer-with sums item text next is held.0 later)
-item-front sums item text (Err fault) next some same is there later =
-    let refused = same ∙ ap (λ (item : Item). meets (item_table sums item) (Ok 0)) (sym there) in
-    subst (IsAnswerFrom sums (item_text item ++ text)) (meets-next (item_table sums item) 0 (Err fault) next same)
-    (answer-refused sums (item_text item ++ text) fault 0 some refused)
+pub iso_from-refused : (sums : Sums) (text : List ℕ) (fault : ParseError) → 0 < length text → Err fault ≡ item_front sums (item_at text)
+    → Err fault ≡ iso_from sums text
+iso_from-refused sums text fault some = from-front sums text (Err fault) some
 
-item_text-some : (item : Item) (text : List ℕ) → 0 < length (item_text item ++ text)
-item_text-some TimeDesignator text = omega arith
-item_text-some (Component component) text =
-    let digits = component.number ++ component.fraction in
-    omega (arith, length-append (item_text (Component component)) text, length-append digits (component.designator ∷ []))
+-- and where nothing is left, it is what the items add up to
+pub iso_from-end : (sums : Sums) (text : List ℕ) → length text ≡ 0 → iso_from sums text ≡ (if sums.some then Ok (sums_length sums) else Err fault.TooShort)
+unfolding iso_after
+iso_from-end sums [] none = refl
+iso_from-end sums (byte ∷ rest) none = absurd (cc)
 
-pub iso_answer-item : (sums : Sums) (item : Item) (text : List ℕ) → IsItem item → item_at (item_text item ++ text) ≡ item
-    → iso_answer (length (item_text item ++ text)) sums (item_text item ++ text) ≡ meets (item_table sums item) (iso_answer (length text) (with_item item sums) text)
-iso_answer-item sums item text is there =
-    let whole = item_text item ++ text in
-    answer-only sums whole _ _ (iso_answer-from (length whole) sums whole (omega arith))
-    (item-front sums item text (meets (item_table sums item) (Ok 0)) _ (item_text-some item text) refl is there
-    (iso_answer-from (length text) (with_item item sums) text (omega arith)))
+-- an item that is read from its text has its row
+pub iso_from-item : (sums : Sums) (item : Item) (rest : List ℕ) → item_at (item_text item ++ rest) ≡ item
+    → iso_from sums (item_text item ++ rest) ≡ meets (item_table sums item) (iso_from (with_item item sums) rest)
+iso_from-item sums item rest is =
+    let text = item_text item ++ rest in
+    let some : 0 < length text = omega (arith, length-append (item_text item) rest, item_text-some item) in
+    iso_from-step sums text some
+    ∙ ap (λ (item : Item). meets (item_table sums item) (iso_from (with_item item sums) (drop (length (item_text item)) text))) is
+    ∙ ap (λ (rest : List ℕ). meets (item_table sums item) (iso_from (with_item item sums) rest)) (drop-append_seam (item_text item) rest)
 
--- so an ISO 8601 duration has one answer after its `P`
-pub iso_form-is : (order : IsoOrder) (text : List ℕ) → IsIsoAnswer order text (iso_form order text)
-iso_form-is order text = iso_answer-from (length text) (no_sums order) text (omega arith)
-
-pub iso_form-only : (order : IsoOrder) (text : List ℕ) (answer : Result UnsignedDuration ParseError) → IsIsoAnswer order text answer → answer ≡ iso_form order text
-iso_form-only order text answer there = answer-only (no_sums order) text answer _ there (iso_form-is order text)
-
-form-is : (order : IsoOrder) (behavior : MicrosecondsPrecisionOverflowBehavior) (text : List ℕ) (iso : Bool)
-    → MatchBool iso (IsIsoAnswer order (drop 1 text) (if iso then iso_form order (drop 1 text) else form_answer behavior text))
-    ((if iso then iso_form order (drop 1 text) else form_answer behavior text) ≡ form_answer behavior text)
-form-is order behavior text true = iso_form-is order (drop 1 text)
-form-is order behavior text false = refl
-
--- the answer to a text is the one that the relation allows
-duration_answer-is : (order : IsoOrder) (behavior : MicrosecondsPrecisionOverflowBehavior) (text : List ℕ)
-    → IsDurationAnswer order behavior text (duration_answer order behavior text)
-unfolding unsigned_answer
-duration_answer-is order behavior text =
-    let rest = drop (sign_length text) text in
-    (unsigned_answer order behavior rest, form-is order behavior rest (slice_index rest 0 == capital_p), refl)
-
--- after a sign and a `P` it is that of ISO 8601
+-- after a sign and a `P` the answer is that of ISO 8601
 pub duration_answer-iso : (order : IsoOrder) (behavior : MicrosecondsPrecisionOverflowBehavior) (negative : Bool) (sign body : List ℕ) → IsSign negative sign
     → duration_answer order behavior (sign ++ capital_p ∷ body) ≡ result_and_then (signed_form (not negative)) (iso_form order body)
 unfolding unsigned_answer
 duration_answer-iso order behavior true sign body is = rw is refl
 duration_answer-iso order behavior false sign body (inl none) = rw none refl
 duration_answer-iso order behavior false sign body (inr plus) = rw plus refl
-
--- so the relation allows it, and allows no other
-pub duration_answer-grammar : (order : IsoOrder) (behavior : MicrosecondsPrecisionOverflowBehavior) (text : List ℕ) (answer : Result DurationNumbers ParseError)
-    → answer ≡ duration_answer order behavior text → IsGrammarAnswer order behavior text answer
-duration_answer-grammar order behavior text answer same =
-    let is = subst (IsDurationAnswer order behavior text) (sym same) (duration_answer-is order behavior text) in
-    record { is_allowed = is; is_only = λ other there. duration_answer-only order behavior text other answer there is }

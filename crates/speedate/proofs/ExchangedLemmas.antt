@@ -1,5 +1,5 @@
 -- In the lax order the answer to a text of a duration does not depend on the order of two neighbouring components of one side.
-use Rattle.std.specs.Prelude.{◌≡◌, ℕ, ◌+◌, ◌≤◌, Bool, true, false, not, ◌&&◌, ◌||◌, List, [], ◌∷◌, ◌++◌, length, nat_le, if◌then◌else◌, Option, Some, None, Result, Err, refl}
+use Rattle.std.specs.Prelude.{◌≡◌, ℕ, ◌+◌, ◌≤◌, Bool, true, false, not, ◌&&◌, ◌||◌, List, [], ◌∷◌, ◌++◌, nat_le, if◌then◌else◌, Option, Some, None, Result, Err, refl}
 use Rattle.std.specs.Option.{is_some}
 use Rattle.std.specs.List.{flat_map}
 use Rattle.std.proofs.Common.{arith, ap, ap₂, sym, ◌∙◌, append_assoc}
@@ -14,21 +14,17 @@ use Rattle.speedate_base.specs.declared.faults.ParseError.{ParseError}
 use Rattle.speedate_base.specs.declared.faults.ParseError.TheVariants as fault
 use Rattle.speedate_base.specs.DigitRuns.{digits_value}
 use Rattle.speedate_base.specs.Requirement.{meets, result_and_then}
-use Rattle.speedate.specs.DurationAnswer.{iso_answer, duration_answer}
-use Rattle.speedate.proofs.DurationAnswerLemmas.{iso_answer-item, duration_answer-iso}
+use Rattle.speedate.specs.DurationAnswer.{iso_from, duration_answer}
+use Rattle.speedate.proofs.DurationAnswerLemmas.{iso_from-item, duration_answer-iso}
 use Rattle.speedate.specs.DurationNumbers.{UnsignedDuration, signed_form}
 use Rattle.speedate.specs.Exchanged.{has_decimal_mark, IsWhole, AreWhole, IsPlain, AreExchanged}
-use Rattle.speedate.specs.IsoForm.{DurationUnit, units, unit_in, ComponentText, Item, TimeDesignator, Component, item_text, IsItem, item_at, item_table, Sums, no_sums, next_units_after, with_component, with_item, with_items}
-use Rattle.speedate.proofs.IsoFormLemmas.{item_at-amount}
+use Rattle.speedate.specs.IsoForm.{DurationUnit, units, unit_in, ComponentText, Item, TimeDesignator, Component, item_text, item_at, item_table, Sums, no_sums, next_units_after, with_component, with_item, with_items}
+use Rattle.speedate.proofs.IsoItemLemmas.{item_at-amount}
 
 abbrev Answer : Type 0
 Answer = Result UnsignedDuration ParseError
 
 -- what is one item by its bytes is read as it, whatever follows
-whole-item : (sums : Sums) (item : Item) → IsWhole sums item → IsItem item
-whole-item sums TimeDesignator whole = tt
-whole-item sums (Component component) whole = whole.0
-
 item_at-whole : (sums : Sums) (item : Item) (rest : List ℕ) → IsWhole sums item → item_at (item_text item ++ rest) ≡ item
 item_at-whole sums TimeDesignator rest whole = refl
 item_at-whole sums (Component component) rest whole = item_at-amount sums.is_time component rest whole.0 whole.1 whole.2
@@ -162,44 +158,40 @@ fits-exchanged : (sums : Sums) (first second : ComponentText) → IsFree sums
     → (fits sums first && fits (with_item (Component first) sums) second) ≡ (fits sums second && fits (with_item (Component second) sums) first)
 fits-exchanged sums first second free = same-test _ _ (fits-both sums first second free) (fits-both sums second first free)
 
--- the answer to a text after sums
-abbrev answer_from : Sums → List ℕ → Answer
-answer_from sums text = iso_answer (length text) sums text
-
 -- the answer to two components and what follows: that after them where both fit
 pair-answer : (sums : Sums) (first second : ComponentText) (rest : List ℕ) → IsFree sums → IsPlain sums first → IsPlain sums second
-    → answer_from sums (item_text (Component first) ++ (item_text (Component second) ++ rest))
+    → iso_from sums (item_text (Component first) ++ (item_text (Component second) ++ rest))
     ≡ (if fits sums first && fits (with_item (Component first) sums) second
-    then answer_from (with_item (Component second) (with_item (Component first) sums)) rest else Err fault.DurationValueTooLarge)
+    then iso_from (with_item (Component second) (with_item (Component first) sums)) rest else Err fault.DurationValueTooLarge)
 pair-answer sums first second rest free one two =
     let next = with_item (Component first) sums in
-    let last = answer_from (with_item (Component second) next) rest in
+    let last = iso_from (with_item (Component second) next) rest in
     let plain = plain-next sums first second one two in
-    let later = iso_answer-item next (Component second) rest plain.0.0 (item_at-whole next (Component second) rest plain.0)
+    let later = iso_from-item next (Component second) rest (item_at-whole next (Component second) rest plain.0)
     ∙ plain-table next second last (item-free (Component first) sums free) plain in
-    iso_answer-item sums (Component first) (item_text (Component second) ++ rest) one.0.0 (item_at-whole sums (Component first) (item_text (Component second) ++ rest) one.0)
+    iso_from-item sums (Component first) (item_text (Component second) ++ rest) (item_at-whole sums (Component first) (item_text (Component second) ++ rest) one.0)
     ∙ plain-table sums first _ free one ∙ ap (λ (next : Answer). if fits sums first then next else Err fault.DurationValueTooLarge) later
     ∙ two-rows (fits sums first) (fits next second) fault.DurationValueTooLarge last
 
 -- it does not depend on their order
 pair-exchanged : (sums : Sums) (first second : ComponentText) (rest : List ℕ) → IsFree sums → IsPlain sums first → IsPlain sums second
-    → answer_from sums (item_text (Component first) ++ (item_text (Component second) ++ rest))
-    ≡ answer_from sums (item_text (Component second) ++ (item_text (Component first) ++ rest))
+    → iso_from sums (item_text (Component first) ++ (item_text (Component second) ++ rest))
+    ≡ iso_from sums (item_text (Component second) ++ (item_text (Component first) ++ rest))
 pair-exchanged sums first second rest free one two =
     pair-answer sums first second rest free one two
-    ∙ ap₂ (λ (test : Bool) (sums : Sums). if test then answer_from sums rest else Err fault.DurationValueTooLarge)
+    ∙ ap₂ (λ (test : Bool) (sums : Sums). if test then iso_from sums rest else Err fault.DurationValueTooLarge)
     (fits-exchanged sums first second free) (amounts-exchanged first second sums free)
     ∙ sym (pair-answer sums second first rest free two one)
 
 -- nor where they stand after items, whether these are refused or not
 after-exchanged : (sums : Sums) (items : List Item) (first second : ComponentText) (rest : List ℕ) → IsFree sums → AreWhole sums items
     → IsPlain (with_items items sums) first → IsPlain (with_items items sums) second
-    → answer_from sums (flat_map item_text items ++ (item_text (Component first) ++ (item_text (Component second) ++ rest)))
-    ≡ answer_from sums (flat_map item_text items ++ (item_text (Component second) ++ (item_text (Component first) ++ rest)))
+    → iso_from sums (flat_map item_text items ++ (item_text (Component first) ++ (item_text (Component second) ++ rest)))
+    ≡ iso_from sums (flat_map item_text items ++ (item_text (Component second) ++ (item_text (Component first) ++ rest)))
 after-exchanged sums [] first second rest free whole one two = pair-exchanged sums first second rest free one two
 after-exchanged sums (item ∷ items) first second rest free whole one two =
-    let read = λ (text : List ℕ). ap (answer_from sums) (append_assoc (item_text item) (flat_map item_text items) text)
-    ∙ iso_answer-item sums item (flat_map item_text items ++ text) (whole-item sums item whole.0) (item_at-whole sums item (flat_map item_text items ++ text) whole.0) in
+    let read = λ (text : List ℕ). ap (iso_from sums) (append_assoc (item_text item) (flat_map item_text items) text)
+    ∙ iso_from-item sums item (flat_map item_text items ++ text) (item_at-whole sums item (flat_map item_text items ++ text) whole.0) in
     read (item_text (Component first) ++ (item_text (Component second) ++ rest))
     ∙ ap (meets (item_table sums item)) (after-exchanged (with_item item sums) items first second rest (item-free item sums free) whole.1 one two)
     ∙ sym (read (item_text (Component second) ++ (item_text (Component first) ++ rest)))

@@ -1,10 +1,10 @@
 -- Where the order of the standard is asked for, a duration is what the lax order makes of it, or is refused for its order.
-use Rattle.std.specs.Prelude.{◌≡◌, ℕ, zero, suc, ◌<◌, Bool, true, false, not, ◌&&◌, List, [], ◌∷◌, ◌++◌, length, take, drop, slice_index, nat_lt, ◌==◌, if◌then◌else◌, Option, Some, None, Result, Ok, Err, refl}
+use Rattle.std.specs.Prelude.{◌≡◌, ℕ, zero, suc, ◌-◌, Bool, true, false, not, ◌&&◌, List, [], ◌∷◌, ◌++◌, length, take, drop, slice_index, nat_lt, ◌==◌, if◌then◌else◌, Option, Some, None, Result, Ok, Err, refl}
 use Rattle.std.specs.List.{flat_map}
 use Rattle.std.specs.Option.{is_some}
-use Rattle.std.proofs.Common.{arith, ap, sym, ◌∙◌, subst, inl, inr}
+use Rattle.std.proofs.Common.{ap, sym, ◌∙◌, subst, inl, inr}
 use Rattle.std.proofs.lemmas.Bool.{eqb-true, false≢true}
-use Rattle.std.proofs.lemmas.List.{append-nil, length-append, take-append-drop}
+use Rattle.std.proofs.lemmas.List.{append-nil, take-append-drop}
 use Rattle.speedate_base.specs.declared.config.IsoOrder.{IsoOrder}
 use Rattle.speedate_base.specs.declared.config.IsoOrder.TheVariants as order
 use Rattle.speedate_base.specs.declared.config.MicrosecondsPrecisionOverflowBehavior.{MicrosecondsPrecisionOverflowBehavior}
@@ -14,14 +14,15 @@ use Rattle.speedate_base.specs.Ascii.{capital_p}
 use Rattle.speedate_base.specs.Numbers.{has_minus, sign_length}
 use Rattle.speedate_base.proofs.NumberLemmas.{sign-of_text}
 use Rattle.speedate_base.specs.Requirement.{meets, AllHold, result_and_then}
+use Rattle.speedate_base.proofs.RequirementLemmas.{meets-all}
 use Rattle.speedate.specs.DurationNumbers.{DurationNumbers, UnsignedDuration, signed_form}
 use Rattle.speedate.specs.DurationForm.{form_answer}
-use Rattle.speedate.specs.DurationAnswer.{iso_answer, iso_form, unsigned_answer, duration_answer}
-use Rattle.speedate.proofs.DurationAnswerLemmas.{iso_form-is, iso_form-only, duration_answer-iso}
+use Rattle.speedate.specs.DurationAnswer.{iso_after, iso_from, iso_form, unsigned_answer, duration_answer}
+use Rattle.speedate.proofs.DurationAnswerLemmas.{iso_from-item, duration_answer-iso}
 use Rattle.speedate.specs.InOrder.{IsLaxOrRefused, IsAnswerInOrder, are_in_order, IsMadeOf, is_iso}
-use Rattle.speedate.specs.IsoForm.{DurationUnit, units, unit_in, ComponentText, Item, TimeDesignator, Component, item_text, IsItem, item_at, item_length, item_table, units_after, are_counted, Sums, no_sums, with_component, with_item, with_items, AreGood, sums_length, Ends, IsAnswerFrom}
-use Rattle.speedate.proofs.IsoFormLemmas.{item_at-text, answer-with}
-use Rattle.speedate.proofs.IsoFrontLemmas.{answer-refused}
+use Rattle.speedate.specs.IsoForm.{DurationUnit, units, unit_in, ComponentText, Item, TimeDesignator, Component, item_text, item_at, item_table, units_after, are_counted, Sums, no_sums, with_component, with_item, with_items, AreGood, sums_length, Ends}
+use Rattle.speedate.proofs.IsoFormLemmas.{iso_form-is}
+use Rattle.speedate.proofs.IsoItemLemmas.{item_at-text}
 
 abbrev Answer : Type 0
 Answer = Result UnsignedDuration ParseError
@@ -70,18 +71,16 @@ table-both sums (Component component) lax answer both =
     (row-both (are_counted (with_item (Component component) sums)) _ lax answer both)))))
 
 -- after any items
-iso-both : (most : ℕ) (sums : Sums) (text : List ℕ)
-    → IsLaxOrRefused (iso_answer most (as_lax sums) text) (iso_answer most sums text)
-unfolding iso_answer
-iso-both most sums [] = inl refl
-iso-both zero sums (byte ∷ rest) = inl refl
-iso-both (suc most) sums (byte ∷ rest) =
-    let text = byte ∷ rest in
-    let item = item_at text in
-    let later = drop (item_length text) text in
+iso-both : (skipped : ℕ) (sums : Sums) (text : List ℕ) → IsLaxOrRefused (iso_after skipped (as_lax sums) text) (iso_after skipped sums text)
+unfolding iso_after
+iso-both skipped sums [] = inl refl
+iso-both zero sums (byte ∷ rest) =
+    let item = item_at (byte ∷ rest) in
+    let size = length (item_text item) - 1 in
     table-both sums item _ _
-    (subst (λ (next : Sums). IsLaxOrRefused (iso_answer most next later) (iso_answer most (with_item item sums) later))
-    (item-lax item sums) (iso-both most (with_item item sums) later))
+    (subst (λ (next : Sums). IsLaxOrRefused (iso_after size next rest) (iso_after size (with_item item sums) rest))
+    (item-lax item sums) (iso-both size (with_item item sums) rest))
+iso-both (suc skipped) sums (byte ∷ rest) = iso-both skipped sums rest
 
 both-signed : (positive : Bool) (lax answer : Answer) → IsLaxOrRefused lax answer
     → IsLaxOrRefused (result_and_then (signed_form positive) lax) (result_and_then (signed_form positive) answer)
@@ -91,7 +90,7 @@ both-signed positive lax answer (inr refused) = inr (ap (result_and_then (signed
 unsigned-both : (asked : IsoOrder) (behavior : MicrosecondsPrecisionOverflowBehavior) (text : List ℕ) (iso : Bool)
     → IsLaxOrRefused (if iso then iso_form order.Lax (drop 1 text) else form_answer behavior text)
     (if iso then iso_form asked (drop 1 text) else form_answer behavior text)
-unsigned-both asked behavior text true = iso-both (length (drop 1 text)) (no_sums asked) (drop 1 text)
+unsigned-both asked behavior text true = iso-both 0 (no_sums asked) (drop 1 text)
 unsigned-both asked behavior text false = inl refl
 
 -- so the answer in any order is the lax one, or the text is refused for its order
@@ -131,60 +130,43 @@ lax_end sums = if sums.some then Ok (sums_length sums) else Err fault.TooShort
 abbrev strict_end : Bool → Sums → Answer
 strict_end in_order sums = if in_order then lax_end sums else Err fault.DurationUnitOrder
 
--- an item out of order refuses the text
-out_of_order : (next : List DurationUnit) (sums : Sums) (component : ComponentText) (rest : List ℕ) → IsItem (Component component)
-    → AllHold (item_table sums (Component component)) → is_some (unit_in next component.designator) ≡ false
-    → IsAnswerFrom (as_strict next sums) (item_text (Component component) ++ rest) (Err fault.DurationUnitOrder)
-out_of_order next sums component rest is all late =
-    let text = item_text (Component component) ++ rest in
-    let there = item_at-text sums (Component component) rest is all in
-    let read : Result ℕ ParseError = Ok 0 in
-    let refused : Err fault.DurationUnitOrder ≡ meets (item_table (as_strict next sums) (Component component)) read =
-    rw (all.0, all.1.0, all.1.1.0, all.1.1.1.0, late) refl in
-    let digits = component.number ++ component.fraction in
-    let some : 0 < length text = rw (length-append (item_text (Component component)) rest, length-append digits (component.designator ∷ [])) (omega arith) in
-    answer-refused (as_strict next sums) text fault.DurationUnitOrder 0 some
-    (subst (λ (item : Item). Err fault.DurationUnitOrder ≡ meets (item_table (as_strict next sums) item) read) (sym there) refused)
-
--- one in order goes on
-amount-strict : (next : List DurationUnit) (sums : Sums) (component : ComponentText) (rest : List ℕ) (in_order comes : Bool) (after : Sums)
-    → IsItem (Component component) → AllHold (item_table sums (Component component))
-    → is_some (unit_in next component.designator) ≡ comes
-    → IsAnswerFrom (as_strict (units_after component.designator next) (with_item (Component component) sums)) rest
-    (strict_end in_order after)
-    → IsAnswerFrom (as_strict next sums) (item_text (Component component) ++ rest) (strict_end (comes && in_order) after)
-amount-strict next sums component rest in_order false after is all late later = out_of_order next sums component rest is all late
-amount-strict next sums component rest in_order true after is all comes later =
-    let unit = unit_in (units sums.is_time) component.designator in
-    let same = component-strict unit component next sums refl all.1.1.1.0 in
+-- the strict table of a component that meets the lax one asks for its order alone
+table-strict : (next : List DurationUnit) (sums : Sums) (component : ComponentText) (answer : Answer) → AllHold (item_table sums (Component component))
+    → meets (item_table (as_strict next sums) (Component component)) answer ≡ (if is_some (unit_in next component.designator) then answer else Err fault.DurationUnitOrder)
+table-strict next sums component answer all =
+    let same = component-strict (unit_in (units sums.is_time) component.designator) component next sums refl all.1.1.1.0 in
     let counted = sym (ap are_counted same) ∙ all.1.1.1.1.1.0 in
-    let hold : AllHold (item_table (as_strict next sums) (Component component)) =
-    (all.0, (all.1.0, (all.1.1.0, (all.1.1.1.0, (comes, (counted, tt)))))) in
-    answer-with (as_strict next sums) (Component component) rest (strict_end in_order after) is hold
-    (subst (λ (next : Sums). IsAnswerFrom next rest (strict_end in_order after)) same later)
+    rw (all.0, all.1.0, all.1.1.0, all.1.1.1.0, counted) refl
+
+strict-end : (comes in_order : Bool) (sums : Sums) → (if comes then strict_end in_order sums else Err fault.DurationUnitOrder) ≡ strict_end (comes && in_order) sums
+strict-end true in_order sums = refl
+strict-end false in_order sums = refl
 
 -- so good items are refused if and only if they are not in order
 items-strict : (next : List DurationUnit) (sums : Sums) (items : List Item) → AreGood sums items
-    → IsAnswerFrom (as_strict next sums) (flat_map item_text items)
-    (strict_end (are_in_order next items) (with_items items sums))
-items-strict next sums [] good = ([], [], refl, tt, refl)
+    → iso_from (as_strict next sums) (flat_map item_text items) ≡ strict_end (are_in_order next items) (with_items items sums)
+unfolding iso_after
+items-strict next sums [] good = refl
 items-strict next sums (TimeDesignator ∷ items) good =
-    answer-with (as_strict next sums) TimeDesignator (flat_map item_text items) _ tt good.1 (items-strict (units true) (with_item TimeDesignator sums) items good.2)
+    iso_from-item (as_strict next sums) TimeDesignator (flat_map item_text items) refl ∙ meets-all (item_table sums TimeDesignator) _ good.1
+    ∙ items-strict (units true) (with_item TimeDesignator sums) items good.2
 items-strict next sums (Component component ∷ items) good =
+    let item = Component component in
+    let rest = flat_map item_text items in
     let after = units_after component.designator next in
-    amount-strict next sums component (flat_map item_text items) (are_in_order after items) _ (with_items items (with_item (Component component) sums))
-    good.0 good.1 refl (items-strict after (with_item (Component component) sums) items good.2)
+    let comes = is_some (unit_in next component.designator) in
+    let same = component-strict (unit_in (units sums.is_time) component.designator) component next sums refl good.1.1.1.1.0 in
+    iso_from-item (as_strict next sums) item rest (item_at-text sums item rest good.0 good.1) ∙ table-strict next sums component _ good.1
+    ∙ ap (λ (answer : Answer). if comes then answer else Err fault.DurationUnitOrder) (ap (λ (sums : Sums). iso_from sums rest) (sym same) ∙ items-strict after (with_item item sums) items good.2)
+    ∙ strict-end comes (are_in_order after items) (with_items items (with_item item sums))
 
--- after a `P`, in each order
-items-in_strict : (items : List Item) → AreGood (no_sums order.Lax) items
-    → iso_form order.Strict (flat_map item_text items) ≡ strict_end (are_in_order (units false) items) (with_items items (no_sums order.Lax))
-items-in_strict items good =
-    sym (iso_form-only order.Strict (flat_map item_text items) _ (items-strict (units false) (no_sums order.Lax) items good))
-
-items-in_lax : (items : List Item) → AreGood (no_sums order.Lax) items
-    → iso_form order.Lax (flat_map item_text items) ≡ lax_end (with_items items (no_sums order.Lax))
-items-in_lax items good =
-    sym (iso_form-only order.Lax (flat_map item_text items) _ (items, [], sym (append-nil (flat_map item_text items)), good, refl))
+-- and without the order they are what they add up to
+items-lax : (sums : Sums) (items : List Item) → AreGood sums items → iso_from sums (flat_map item_text items) ≡ lax_end (with_items items sums)
+unfolding iso_after
+items-lax sums [] good = refl
+items-lax sums (item ∷ items) good =
+    let rest = flat_map item_text items in
+    iso_from-item sums item rest (item_at-text sums item rest good.0 good.1) ∙ meets-all (item_table sums item) _ good.1 ∙ items-lax (with_item item sums) items good.2
 
 chosen : (positive in_order : Bool) (lax : Answer)
     → result_and_then (signed_form positive) (if in_order then lax else Err fault.DurationUnitOrder)
@@ -201,8 +183,8 @@ answer-strict asked behavior text items strict is =
     let body = flat_map item_text items in
     let step = result_and_then (signed_form (not is.negative)) in
     let read = λ (order : IsoOrder). ap (duration_answer order behavior) is.is_text ∙ duration_answer-iso order behavior is.negative is.sign body is.is_sign in
-    let lax = read order.Lax ∙ ap step (items-in_lax items is.are_good) in
-    ap (λ (asked : IsoOrder). duration_answer asked behavior text) strict ∙ read order.Strict ∙ ap step (items-in_strict items is.are_good)
+    let lax = read order.Lax ∙ ap step (items-lax (no_sums order.Lax) items is.are_good) in
+    ap (λ (asked : IsoOrder). duration_answer asked behavior text) strict ∙ read order.Strict ∙ ap step (items-strict (units false) (no_sums order.Lax) items is.are_good)
     ∙ chosen (not is.negative) in_order (lax_end (with_items items (no_sums order.Lax)))
     ∙ ap (λ (lax : Result DurationNumbers ParseError). if in_order then lax else Err fault.DurationUnitOrder) (sym lax)
 

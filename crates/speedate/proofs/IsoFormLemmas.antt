@@ -1,90 +1,25 @@
--- A text has one answer as a duration, and in an ISO 8601 duration components of one side can be exchanged.
-use Rattle.std.specs.Prelude.{◌≡◌, MatchBool, ℕ, Bool, true, false, not, List, [], ◌∷◌, ◌++◌, length, drop, slice_index, nat_lt, ◌==◌, Result, Ok, refl}
-use Rattle.std.specs.Char.{is_ascii_digit}
-use Rattle.std.specs.List.{list_all, prefix_len, flat_map}
-use Rattle.std.specs.Option.{is_some}
-use Rattle.std.proofs.Common.{arith, ap, ap₂, sym, ◌∙◌, append_assoc, subst}
-use Rattle.std.proofs.Math.Seq.{take-append_seam, drop-append_seam, get_or-append_seam}
-use Rattle.std.proofs.lemmas.Bool.{and_parts, false≢true}
-use Rattle.std.proofs.lemmas.Bool.Decides.{nat_tests}
+-- The good fronts of an ISO 8601 duration: only one of them is followed by an end, and that end is the answer.
+use Rattle.std.specs.Prelude.{◌≡◌, MatchBool, ℕ, zero, suc, ◌-◌, Bool, true, false, not, List, [], ◌∷◌, ◌++◌, length, drop, slice_index, ◌==◌, if◌then◌else◌, Result, Ok, Err, refl}
+use Rattle.std.specs.List.{flat_map}
+use Rattle.std.proofs.Common.{ap, ap₂, sym, ◌∙◌, append_assoc, subst}
+use Rattle.std.proofs.lemmas.Bool.{false≢true}
 use Rattle.std.proofs.lemmas.List.{append_cancel_left}
+use Rattle.std.proofs.Math.Seq.{drop-nil}
 use Rattle.speedate_base.specs.declared.config.IsoOrder.{IsoOrder}
 use Rattle.speedate_base.specs.declared.config.MicrosecondsPrecisionOverflowBehavior.{MicrosecondsPrecisionOverflowBehavior}
 use Rattle.speedate_base.specs.declared.faults.ParseError.{ParseError}
-use Rattle.speedate_base.specs.Ascii.{capital_p, capital_t}
-use Rattle.speedate_base.proofs.DigitRunLemmas.{run_length-append}
+use Rattle.speedate_base.specs.Ascii.{capital_p}
 use Rattle.speedate_base.specs.Numbers.{has_minus, sign_length}
-use Rattle.speedate_base.specs.Requirement.{AllHold, result_and_then}
-use Rattle.speedate_base.proofs.RequirementLemmas.{meets-all}
-use Rattle.speedate.specs.DurationNumbers.{DurationNumbers, UnsignedDuration, signed_form}
-use Rattle.speedate.specs.IsoForm.{units, unit_in, ComponentText, Item, TimeDesignator, Component, item_text, is_decimal_mark, IsFraction, IsItem, fraction_length, component_at, item_at, Sums, with_item, with_items, item_table, AreGood, sums_length, Ends, IsAnswerFrom, IsIsoAnswer, no_sums}
-use Rattle.speedate.specs.DurationForm.{form_answer, IsDurationAnswer}
+use Rattle.speedate_base.specs.Requirement.{meets, AllHold, result_and_then}
+use Rattle.speedate_base.proofs.RequirementLemmas.{meets-all, meets-next, meets-value}
+use Rattle.speedate.specs.DurationAnswer.{iso_after, iso_form, unsigned_answer, duration_answer}
+use Rattle.speedate.specs.DurationForm.{form_answer, IsGrammarAnswer}
+use Rattle.speedate.specs.DurationNumbers.{UnsignedDuration, signed_form}
+use Rattle.speedate.specs.IsoForm.{Item, item_text, IsItem, item_at, Sums, no_sums, with_item, with_items, item_table, AreGood, sums_length, Ends, IsAnswerFrom, IsIsoAnswer}
+use Rattle.speedate.proofs.IsoItemLemmas.{item_at-text, item-front}
 
 abbrev Answer : Type 0
 Answer = Result UnsignedDuration ParseError
-
--- the designator of a unit is no digit and no decimal mark
-unit-designator : (is_time : Bool) (designator : ℕ) → is_some (unit_in (units is_time) designator) ≡ true → (is_ascii_digit designator ≡ false) × (is_decimal_mark designator ≡ false)
-unit-designator true designator has = (grind (arith, nat_tests, has), grind (arith, nat_tests, has))
-unit-designator false designator has = (grind (arith, nat_tests, has), grind (arith, nat_tests, has))
-
--- no digit is a decimal mark
-mark-no_digit : (byte : ℕ) → is_decimal_mark byte ≡ true → is_ascii_digit byte ≡ false
-mark-no_digit byte is = grind (arith, nat_tests, is)
-
--- digits end before a byte that is none
-run-end : (digits : List ℕ) (byte : ℕ) (rest : List ℕ) → list_all is_ascii_digit digits ≡ true → is_ascii_digit byte ≡ false
-    → prefix_len is_ascii_digit (digits ++ byte ∷ rest) ≡ length digits
-run-end digits byte rest all other = run_length-append digits (byte ∷ rest) all ∙ rw other (omega arith)
-
--- a fraction ends before a designator
-fraction-end : (fraction : List ℕ) (designator : ℕ) (rest : List ℕ) → IsFraction fraction → is_ascii_digit designator ≡ false → is_decimal_mark designator ≡ false
-    → fraction_length (fraction ++ designator ∷ rest) ≡ length fraction
-fraction-end [] designator rest is digit point = rw point refl
-fraction-end (mark ∷ digits) designator rest is digit point = rw (is.0, run-end digits designator rest is.1 digit) (omega arith)
-
--- nor does it begin with a digit
-number-end : (number fraction : List ℕ) (designator : ℕ) (rest : List ℕ) → list_all is_ascii_digit number ≡ true → IsFraction fraction → is_ascii_digit designator ≡ false
-    → prefix_len is_ascii_digit (number ++ (fraction ++ designator ∷ rest)) ≡ length number
-number-end number [] designator rest all is digit = run-end number designator rest all digit
-number-end number (mark ∷ digits) designator rest all is digit = run-end number mark (digits ++ designator ∷ rest) all (mark-no_digit mark is.0)
-
--- digits begin with no `T`
-pub number-no_designator : (number rest : List ℕ) → nat_lt 0 (length number) ≡ true → list_all is_ascii_digit number ≡ true
-    → (slice_index (number ++ rest) 0 == capital_t) ≡ false
-number-no_designator [] rest some all = absurd (cc)
-number-no_designator (digit ∷ number) rest some all = grind (arith, nat_tests, (and_parts (is_ascii_digit digit) _ all).0)
-
--- the beginning of a component's text is the component
-component_at-text : (component : ComponentText) (rest : List ℕ) → IsItem (Component component) → is_ascii_digit component.designator ≡ false → is_decimal_mark component.designator ≡ false
-    → component_at (component.number ++ (component.fraction ++ component.designator ∷ rest)) ≡ component
-component_at-text component rest is digit point =
-    let later = component.fraction ++ component.designator ∷ rest in
-    rw (
-      number-end component.number component.fraction component.designator rest is.0 is.1 digit,
-      take-append_seam component.number later,
-      drop-append_seam component.number later,
-      fraction-end component.fraction component.designator rest is.1 digit point,
-      take-append_seam component.fraction (component.designator ∷ rest),
-      get_or-append_seam component.fraction component.designator rest 0,
-    ) refl
-
--- its text is its parts before what follows
-amount-joined : (component : ComponentText) (rest : List ℕ) → item_text (Component component) ++ rest ≡ component.number ++ (component.fraction ++ component.designator ∷ rest)
-amount-joined component rest = simp append_assoc
-
--- so what begins with a number and ends with the designator of a unit is one item, whatever follows
-pub item_at-amount : (is_time : Bool) (component : ComponentText) (rest : List ℕ) → IsItem (Component component) → nat_lt 0 (length component.number) ≡ true
-    → is_some (unit_in (units is_time) component.designator) ≡ true → item_at (item_text (Component component) ++ rest) ≡ Component component
-item_at-amount is_time component rest is some has =
-    let unit = unit-designator is_time component.designator has in
-    rw (amount-joined component rest, number-no_designator component.number (component.fraction ++ component.designator ∷ rest) some is.0)
-    (ap Component (component_at-text component rest is unit.0 unit.1))
-
--- and a good item is read back from its text
-pub item_at-text : (sums : Sums) (item : Item) (rest : List ℕ) → IsItem item → AllHold (item_table sums item) → item_at (item_text item ++ rest) ≡ item
-item_at-text sums TimeDesignator rest is all = refl
-item_at-text sums (Component component) rest is all = item_at-amount sums.is_time component rest is all.0 all.1.1.1.0
 
 -- an end has one answer
 ends-only : (sums : Sums) (rest : List ℕ) (first second : Answer) → Ends sums rest first → Ends sums rest second → first ≡ second
@@ -133,24 +68,59 @@ answer-only sums text first second one two =
     let moved = subst (λ (items : List Item). Ends (with_items items sums) one.1 first) front.0 one.4 in
     ends-only (with_items two.0 sums) two.1 first second (subst (λ (rest : List ℕ). Ends (with_items two.0 sums) rest first) front.1 moved) two.4
 
--- and so has one after a `P`, and one in the other forms
-form-only : (order : IsoOrder) (begins : Bool) (text : List ℕ) (form first second : Answer)
-    → MatchBool begins (IsIsoAnswer order text first) (first ≡ form) → MatchBool begins (IsIsoAnswer order text second) (second ≡ form)
-    → first ≡ second
-form-only order true text form first second one two = answer-only (no_sums order) text first second one two
-form-only order false text form first second one two = one ∙ sym two
-
--- also after a sign, and in its normal form
-pub duration_answer-only : (order : IsoOrder) (behavior : MicrosecondsPrecisionOverflowBehavior) (text : List ℕ) (first second : Result DurationNumbers ParseError)
-    → IsDurationAnswer order behavior text first → IsDurationAnswer order behavior text second → first ≡ second
-duration_answer-only order behavior text first second one two =
-    let body = drop (sign_length text) text in
-    let same = form-only order (slice_index body 0 == capital_p) (drop 1 body) (form_answer behavior body) one.0 two.0 one.1 two.1 in
-    one.2 ∙ ap (result_and_then (signed_form (not (has_minus text)))) same ∙ sym two.2
-
 -- a good item before a text leaves the text's answer
-pub answer-with : (sums : Sums) (item : Item) (text : List ℕ) (answer : Answer) → IsItem item → AllHold (item_table sums item)
+answer-with : (sums : Sums) (item : Item) (text : List ℕ) (answer : Answer) → IsItem item → AllHold (item_table sums item)
     → IsAnswerFrom (with_item item sums) text answer → IsAnswerFrom sums (item_text item ++ text) answer
 answer-with sums item text answer is all from =
     let joined = ap (λ (text : List ℕ). item_text item ++ text) from.2 ∙ sym (append_assoc (item_text item) (flat_map item_text from.0) from.1) in
     (item ∷ from.0, from.1, joined, (is, all, from.3), from.4)
+
+-- and what follows a text's first item leads to the answer of the text, if the item meets its table; otherwise its fault is the answer
+from-step : (sums : Sums) (byte : ℕ) (rest : List ℕ) (met : Answer) (next : Answer) → meets (item_table sums (item_at (byte ∷ rest))) (Ok (sums_length sums)) ≡ met
+    → IsAnswerFrom (with_item (item_at (byte ∷ rest)) sums) (drop (length (item_text (item_at (byte ∷ rest))) - 1) rest) next
+    → IsAnswerFrom sums (byte ∷ rest) (meets (item_table sums (item_at (byte ∷ rest))) next)
+from-step sums byte rest (Ok length) next met from =
+    let item = item_at (byte ∷ rest) in
+    let all = (meets-value (item_table sums item) (sums_length sums) length met).0 in
+    let front = item-front sums byte rest all in
+    subst (λ (text : List ℕ). IsAnswerFrom sums text (meets (item_table sums item) next)) (sym front.1)
+    (subst (IsAnswerFrom sums _) (sym (meets-all (item_table sums item) next all)) (answer-with sums item _ next front.0 all from))
+from-step sums byte rest (Err fault) next met from =
+    ([], byte ∷ rest, refl, tt, (fault, met, sym (meets-next (item_table sums (item_at (byte ∷ rest))) (sums_length sums) (Err fault) next (sym met))))
+
+-- so every text has an answer, which the function gives
+iso_after-is : (skipped : ℕ) (sums : Sums) (text : List ℕ) → IsAnswerFrom sums (drop skipped text) (iso_after skipped sums text)
+unfolding iso_after
+iso_after-is skipped sums [] = rw (drop-nil {A = ℕ} skipped) ([], [], refl, tt, refl)
+iso_after-is zero sums (byte ∷ rest) =
+    let item = item_at (byte ∷ rest) in
+    from-step sums byte rest _ _ refl (iso_after-is (length (item_text item) - 1) (with_item item sums) rest)
+iso_after-is (suc skipped) sums (byte ∷ rest) = iso_after-is skipped sums rest
+
+pub iso_form-is : (order : IsoOrder) (text : List ℕ) → IsIsoAnswer order text (iso_form order text)
+iso_form-is order text = iso_after-is 0 (no_sums order) text
+
+form-is : (order : IsoOrder) (behavior : MicrosecondsPrecisionOverflowBehavior) (text : List ℕ) (iso : Bool)
+    → MatchBool iso (IsIsoAnswer order (drop 1 text) (if iso then iso_form order (drop 1 text) else form_answer behavior text))
+    ((if iso then iso_form order (drop 1 text) else form_answer behavior text) ≡ form_answer behavior text)
+form-is order behavior text true = iso_form-is order (drop 1 text)
+form-is order behavior text false = refl
+
+form-only : (order : IsoOrder) (text : List ℕ) (iso : Bool) (form first second : Answer)
+    → MatchBool iso (IsIsoAnswer order text first) (first ≡ form) → MatchBool iso (IsIsoAnswer order text second) (second ≡ form) → first ≡ second
+form-only order text true form first second one two = answer-only (no_sums order) text first second one two
+form-only order text false form first second one two = one ∙ sym two
+
+-- so the grammar allows the answer to a text of a duration, and no other
+pub duration_answer-grammar : (order : IsoOrder) (behavior : MicrosecondsPrecisionOverflowBehavior) (text : List ℕ)
+    → IsGrammarAnswer order behavior text (duration_answer order behavior text)
+unfolding unsigned_answer
+duration_answer-grammar order behavior text =
+    let rest = drop (sign_length text) text in
+    let iso = slice_index rest 0 == capital_p in
+    let is = form-is order behavior rest iso in
+    record {
+      is_allowed = (unsigned_answer order behavior rest, is, refl);
+      is_only = λ other there. there.2
+          ∙ ap (result_and_then (signed_form (not (has_minus text)))) (form-only order (drop 1 rest) iso (form_answer behavior rest) there.0 _ there.1 is);
+    }

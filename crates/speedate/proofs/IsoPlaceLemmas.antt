@@ -6,7 +6,7 @@ use Rattle.std.proofs.lemmas.Bool.{le-leb}
 use Rattle.std.proofs.lemmas.Bool.Decides.{nat_tests}
 use Rattle.std.proofs.Math.Seq.{drop-nil}
 use Rattle.speedate.specs.IsoForm.{DurationUnit, units, unit_in}
-use Rattle.speedate.specs.IsoSums.{unit_place}
+use Rattle.speedate.specs.Reader.{unit_place}
 
 -- a unit is among those from a place on if and only if its own place is none before that
 pub unit-from : (is_time : Bool) (passed designator : ℕ) → is_some (unit_in (units is_time) designator) ≡ true

@@ -1,14 +1,13 @@
 -- The text by which a duration is printed is read as the duration.
-use Rattle.std.specs.Prelude.{◌≡◌, ℕ, ◌+◌, ◌-◌, ◌*◌, ◌/◌, ◌%◌, ◌^◌, ◌<◌, ◌≤◌, Bool, true, false, not, ◌&&◌, ◌==◌, nat_lt, nat_le, if◌then◌else◌, List, [], ◌∷◌, ◌++◌, length, drop, Some, pos, unsigned_abs, Ok, codes, refl}
+use Rattle.std.specs.Prelude.{◌≡◌, ℕ, ◌+◌, ◌-◌, ◌*◌, ◌/◌, ◌%◌, ◌^◌, ◌<◌, ◌≤◌, Bool, true, false, not, ◌&&◌, ◌||◌, ◌==◌, nat_lt, nat_le, if◌then◌else◌, List, [], ◌∷◌, ◌++◌, length, drop, Some, pos, unsigned_abs, Ok, codes, refl}
 use Rattle.std.specs.Char.{is_ascii_digit}
 use Rattle.std.specs.Fmt.{decimal}
-use Rattle.std.specs.List.{list_all, flat_map}
+use Rattle.std.specs.List.{list_all}
 use Rattle.std.specs.Option.{is_some}
 use Rattle.std.proofs.Common.{arith, ap, sym, ◌∙◌, subst, append_assoc, lit<}
 use Rattle.std.proofs.lemmas.Bool.{and_from, and_parts, eqb-true, lt-ltb, le-leb}
 use Rattle.std.proofs.lemmas.Bool.Decides.{nat_tests}
 use Rattle.std.proofs.lemmas.Fmt.{digits_decimal, digits_value-decimal, decimal_nonempty, decimal_digit}
-use Rattle.std.proofs.lemmas.Grind.{flat_map-append}
 use Rattle.std.proofs.lemmas.List.{append-nil}
 use Rattle.std.proofs.lemmas.Str.Parse.{IsDigitsTest, IsNumeralModel, numerals_by_weight}
 use Rattle.std.proofs.Math.Nat.{pow-succ', div-eq_of_lt}
@@ -23,15 +22,17 @@ use Rattle.speedate_base.specs.DigitRuns.{digits_value}
 use Rattle.speedate_base.proofs.DigitRunLemmas.{digits_value-lt}
 use Rattle.speedate_base.specs.Nearest.{nearest}
 use Rattle.speedate_base.proofs.NearestLemmas.{nearest-exact, scale-some}
-use Rattle.speedate_base.specs.Requirement.{result_and_then}
+use Rattle.speedate_base.specs.Requirement.{AllHold, result_and_then}
+use Rattle.speedate_base.proofs.RequirementLemmas.{meets-all}
 use Rattle.speedate_base.specs.Offset.{seconds_per_day}
 use Rattle.speedate_base.proofs.TextLemmas.{text-distinct}
-use Rattle.speedate.specs.DurationAnswer.{iso_form, unsigned_answer, duration_answer}
-use Rattle.speedate.proofs.DurationAnswerLemmas.{iso_form-only}
+use Rattle.speedate.specs.DurationAnswer.{iso_from, iso_form, unsigned_answer, duration_answer}
+use Rattle.speedate.proofs.DurationAnswerLemmas.{iso_from-item, iso_from-end}
+use Rattle.speedate.proofs.IsoItemLemmas.{item_at-amount}
 use Rattle.speedate.proofs.DurationLemmas.{normal_form-same}
 use Rattle.speedate.specs.DurationNumbers.{DurationNumbers, IsDuration, length_of, signed_form}
-use Rattle.speedate.specs.DurationText.{counted_text, kept_digit, without_last_zeros, short_fraction_text, hours_text, days_text, start_text, rest_text, is_whole_days, duration_text}
-use Rattle.speedate.specs.IsoForm.{DurationUnit, unit, units, unit_in, ComponentText, Item, TimeDesignator, Component, item_text, IsFraction, Sums, no_sums, next_units_after, unit_seconds, fraction_seconds, fraction_microseconds, with_component, with_item, with_items, AreGood, Ends, sums_length, IsIsoAnswer}
+use Rattle.speedate.specs.DurationText.{counted_text, kept_digit, without_last_zeros, short_fraction_text, seconds_text, hours_text, days_text, start_text, rest_text, is_whole_days, duration_text}
+use Rattle.speedate.specs.IsoForm.{DurationUnit, unit, units, unit_in, ComponentText, TimeDesignator, Component, IsItem, IsFraction, Sums, no_sums, next_units_after, unit_seconds, fraction_seconds, fraction_microseconds, with_amount, with_component, with_item, are_counted, item_table, sums_length}
 
 -- a number without leading zeros is digits that spell it
 abbrev AreDigits : List ℕ → Type 0
@@ -106,176 +107,134 @@ second-microseconds digits microsecond all same =
     ap (λ z. unsigned_abs z - 1000000 * fraction_seconds (unit capital_s 0 1) digits) exact
     ∙ ap (λ (n : ℕ). microsecond - 1000000 * n) (second-seconds digits all) ∙ omega arith
 
--- a text leads from sums to others: it is good items after the first that add up to the second
-abbrev pub Leads : Sums → List ℕ → Sums → Type 0
-Leads before text after =
-    (items : List Item) × (flat_map item_text items ≡ text) × AreGood before items × (with_items items before ≡ after)
+-- these designators may come one after the other, each of them or not
+abbrev Come : IsoOrder → Bool → List DurationUnit → List ℕ → Type 0
+Come order is_time next [] = Unit {0}
+Come order is_time next (designator ∷ later) =
+    (is_some (unit_in next designator) ≡ true) × Come order is_time (next_units_after order is_time designator next) later × Come order is_time next later
 
-pub with_items-append : (items more : List Item) (sums : Sums) → with_items (items ++ more) sums ≡ with_items more (with_items items sums)
-with_items-append [] more sums = refl
-with_items-append (item ∷ items) more sums = with_items-append items more (with_item item sums)
+days-come : (order : IsoOrder) → Come order false (units false) (capital_y ∷ capital_d ∷ [])
+days-come order.Lax = (refl, (refl, tt, tt), (refl, tt, tt))
+days-come order.Strict = (refl, (refl, tt, tt), (refl, tt, tt))
 
-pub AreGood-append : (items more : List Item) (sums : Sums) → AreGood sums items → AreGood (with_items items sums) more → AreGood sums (items ++ more)
-AreGood-append [] more sums good next = next
-AreGood-append (item ∷ items) more sums good next = (good.0, good.1, AreGood-append items more (with_item item sums) good.2 next)
+time-come : (order : IsoOrder) → Come order true (units true) (capital_h ∷ capital_m ∷ capital_s ∷ [])
+time-come order.Lax = (refl, (refl, (refl, tt, tt), (refl, tt, tt)), (refl, (refl, tt, tt), (refl, tt, tt)))
+time-come order.Strict = (refl, (refl, (refl, tt, tt), (refl, tt, tt)), (refl, (refl, tt, tt), (refl, tt, tt)))
 
--- texts lead on one after the other
-pub leads-append : (before between after : Sums) (text more : List ℕ)
-    → Leads before text between → Leads between more after → Leads before (text ++ more) after
-leads-append before between after text more first second = (
-  first.0 ++ second.0,
-  flat_map-append item_text first.0 second.0 ∙ (λ i. first.1 i ++ second.1 i),
-  AreGood-append first.0 second.0 before first.2 (subst (λ (sums : Sums). AreGood sums second.0) (sym first.3) second.2),
-  with_items-append first.0 second.0 before ∙ ap (with_items second.0) first.3 ∙ second.3,
-)
+-- sums with no fraction so far, after which these designators may come
+record IsAt (sums : Sums) (is_time : Bool) (later : List ℕ) (some : Bool) (day second : ℕ) : Type 0 where
+  side : sums.is_time ≡ is_time
+  come : Come sums.order sums.is_time sums.next_units later
+  whole : sums.fraction ≡ false
+  has : sums.some ≡ some
+  days : sums.day ≡ day
+  seconds : sums.second ≡ second
+  microseconds : sums.microsecond ≡ 0
 
--- sums with no fraction so far
-abbrev whole_sums : IsoOrder → List DurationUnit → Bool → Bool → ℕ → ℕ → Sums
-whole_sums order next is_time some day second =
-    record { order = order; next_units = next; is_time = is_time; fraction = false; some = some; day = day; second = second; microsecond = 0 }
-
--- sums whose last item is printed seconds
-abbrev clock_sums : IsoOrder → List DurationUnit → Bool → ℕ → ℕ → ℕ → Sums
-clock_sums order next some day second microsecond = record {
-  order = order;
-  next_units = next;
-  is_time = true;
-  fraction = nat_lt 0 (length (short_fraction_text microsecond));
-  some = some;
-  day = day;
-  second = second;
-  microsecond = microsecond;
-}
-
--- the units that may come after so many of a unit, of which nothing is printed for none
-abbrev units_left : IsoOrder → Bool → ℕ → Bool → List DurationUnit → List DurationUnit
-units_left order is_time designator none next = if none then next else next_units_after order is_time designator next
-
--- so many of a unit of one side, which may come next, bring days and seconds to others, all of which fit
-record Adds (unit : DurationUnit) (next : List DurationUnit) (is_time : Bool) (number day second days seconds : ℕ) : Type 0 where
-  found : unit_in (units is_time) unit.designator ≡ Some unit
-  comes : is_some (unit_in next unit.designator) ≡ true
-  day_sum : day + number * unit.day ≡ days
-  second_sum : second + number * unit.second ≡ seconds
-  few : number ≤ 4294967295
-  few_days : days ≤ 4294967295
-  few_seconds : seconds ≤ 4294967295
-
--- a fraction of a unit is less than a second, and is so many microseconds
-abbrev IsMicroseconds : DurationUnit → List ℕ → ℕ → Type 0
-IsMicroseconds unit fraction microsecond =
-    IsFraction fraction × (fraction_seconds unit (drop 1 fraction) ≡ 0) × (fraction_microseconds unit (drop 1 fraction) ≡ microsecond)
-
-no-fraction : (unit : DurationUnit) → IsMicroseconds unit [] 0
-no-fraction unit = (tt, no-seconds unit, no-microseconds unit)
+-- a text leads from sums to others: it is read on from the first as what follows it from the second
+abbrev Leads : Sums → List ℕ → (Sums → Type 0) → Type 0
+Leads before text IsAfter = (after : Sums) × IsAfter after × ((rest : List ℕ) → iso_from before (text ++ rest) ≡ iso_from after rest)
 
 -- a number, its fraction and its unit lead to the sums with so many of the unit
-amount-leads : (order : IsoOrder) (next : List DurationUnit) (unit : DurationUnit) (is_time some : Bool) (number day second days seconds microsecond : ℕ) (fraction : List ℕ)
-    → Adds unit next is_time number day second days seconds → IsMicroseconds unit fraction microsecond
-    → Leads (whole_sums order next is_time some day second) (decimal number ++ fraction ++ unit.designator ∷ [])
-    (record {
-      order = order;
-      next_units = next_units_after order is_time unit.designator next;
-      is_time = is_time;
-      fraction = nat_lt 0 (length fraction);
-      some = true;
-      day = days;
-      second = seconds;
-      microsecond = microsecond;
-    })
-amount-leads order next unit is_time some number day second days seconds microsecond fraction adds means =
-    let sums = whole_sums order next is_time some day second in
+amount-leads : (sums : Sums) (unit : DurationUnit) (number : ℕ) (fraction rest : List ℕ) → unit_in (units sums.is_time) unit.designator ≡ Some unit
+    → is_some (unit_in sums.next_units unit.designator) ≡ true → sums.fraction ≡ false → IsFraction fraction → number ≤ 4294967295
+    → (with_amount unit number fraction sums).day ≤ 4294967295 → (with_amount unit number fraction sums).second ≤ 4294967295
+    → iso_from sums (decimal number ++ fraction ++ unit.designator ∷ [] ++ rest) ≡ iso_from (with_amount unit number fraction sums) rest
+amount-leads sums unit number fraction rest found comes whole is few few_days few_seconds =
     let component : ComponentText = record { number = decimal number; fraction = fraction; designator = unit.designator } in
-    let small : number < 2 ^ 64 = omega (arith, adds.few) in
+    let small : number < 2 ^ 64 = omega (arith, few) in
     let spelled = digits_value-decimal digits_model number small in
-    let fits : digits_value (decimal number) ≤ 4294967295 = omega (arith, spelled, adds.few) in
-    let day_is : day + digits_value (decimal number) * unit.day + fraction_seconds unit (drop 1 fraction) / seconds_per_day ≡ days =
-    rw (spelled, means.1, adds.day_sum) (omega arith) in
-    let second_is : second + digits_value (decimal number) * unit.second + fraction_seconds unit (drop 1 fraction) % seconds_per_day ≡ seconds =
-    rw (spelled, means.1, adds.second_sum) (omega arith) in
-    let microsecond_is : 0 + fraction_microseconds unit (drop 1 fraction) ≡ microsecond = omega (arith, means.2) in
-    let sum = ap (λ one. with_component one component sums) adds.found
-    ∙ (λ i. record {
-      order = order;
-      next_units = next_units_after order is_time unit.designator next;
-      is_time = is_time;
-      fraction = nat_lt 0 (length fraction);
-      some = true;
-      day = day_is i;
-      second = second_is i;
-      microsecond = microsecond_is i;
-    }) in
-    let sum_fits = ap (λ (sums : Sums). nat_le sums.day 4294967295 && nat_le sums.second 4294967295) sum
-    ∙ and_from _ _ (le-leb days 4294967295 adds.few_days) (le-leb seconds 4294967295 adds.few_seconds) in
-    let some_digits = lt-ltb 0 (length (decimal number)) (decimal_nonempty number small) in (
-      Component component ∷ [],
-      append-nil (item_text (Component component)),
-      (
-        (digits_decimal digits_model number small, means.0),
-        (some_digits, (le-leb _ 4294967295 fits, (refl, (ap is_some adds.found, (adds.comes, (sum_fits, tt)))))),
-        tt,
-      ),
-      sum,
-    )
+    let fits : digits_value (decimal number) ≤ 4294967295 = omega (arith, spelled, few) in
+    let sum : with_item (Component component) sums ≡ with_amount unit number fraction sums =
+    ap (λ one. with_component one component sums) found ∙ ap (λ (n : ℕ). with_amount unit n fraction sums) spelled in
+    let counted = and_from _ _ (le-leb _ 4294967295 few_days) (le-leb _ 4294967295 few_seconds) in
+    let digits = lt-ltb 0 (length (decimal number)) (decimal_nonempty number small) in
+    let is_item : IsItem (Component component) = (digits_decimal digits_model number small, is) in
+    let all : AllHold (item_table sums (Component component)) =
+    (digits, (le-leb _ 4294967295 fits, (ap not whole, (ap is_some found, (comes, (ap are_counted sum ∙ counted, tt)))))) in
+    iso_from-item sums (Component component) rest (item_at-amount sums.is_time component rest is_item digits (ap is_some found))
+    ∙ meets-all (item_table sums (Component component)) _ all ∙ ap (λ (sums : Sums). iso_from sums rest) sum
 
--- so do a number and its unit
-whole-leads : (order : IsoOrder) (next : List DurationUnit) (unit : DurationUnit) (is_time some : Bool) (number day second days seconds : ℕ)
-    → Adds unit next is_time number day second days seconds
-    → Leads (whole_sums order next is_time some day second) (decimal number ++ unit.designator ∷ [])
-    (whole_sums order (next_units_after order is_time unit.designator next) is_time true days seconds)
-whole-leads order next unit is_time some number day second days seconds adds =
-    let after = whole_sums order (next_units_after order is_time unit.designator next) is_time true days seconds in
-    subst (λ (digits : List ℕ). Leads (whole_sums order next is_time some day second) (digits ++ unit.designator ∷ []) after) (append-nil (decimal number))
-    (amount-leads order next unit is_time some number day second days seconds 0 [] adds (no-fraction unit))
+-- without a fraction
+whole-leads : (sums : Sums) (unit : DurationUnit) (number : ℕ) (rest : List ℕ) → unit_in (units sums.is_time) unit.designator ≡ Some unit
+    → is_some (unit_in sums.next_units unit.designator) ≡ true → sums.fraction ≡ false → number ≤ 4294967295
+    → sums.day + number * unit.day ≤ 4294967295 → sums.second + number * unit.second ≤ 4294967295
+    → iso_from sums (decimal number ++ unit.designator ∷ [] ++ rest) ≡ iso_from (with_amount unit number [] sums) rest
+whole-leads sums unit number rest found comes whole few few_days few_seconds =
+    ap (λ (digits : List ℕ). iso_from sums (digits ++ unit.designator ∷ [] ++ rest)) (sym (append-nil (decimal number)))
+    ∙ amount-leads sums unit number [] rest found comes whole tt few (omega (arith, few_days, no-seconds unit)) (omega (arith, few_seconds, no-seconds unit))
 
--- and where there is nothing for none
-counted-of : (order : IsoOrder) (next : List DurationUnit) (unit : DurationUnit) (is_time some none : Bool) (number day second days seconds : ℕ)
-    → (number == 0) ≡ none → Adds unit next is_time number day second days seconds
-    → Leads (whole_sums order next is_time some day second) (if none then [] else decimal number ++ unit.designator ∷ [])
-    (whole_sums order (units_left order is_time unit.designator none next) is_time (if none then some else true) days seconds)
-counted-of order next unit is_time some true number day second days seconds none adds =
+-- and where nothing is printed for none
+counted-of : (sums : Sums) (is_time : Bool) (unit : DurationUnit) (later : List ℕ) (some none : Bool) (number day second : ℕ) → (number == 0) ≡ none
+    → unit_in (units is_time) unit.designator ≡ Some unit → number ≤ 4294967295
+    → day + number * unit.day ≤ 4294967295 → second + number * unit.second ≤ 4294967295 → IsAt sums is_time (unit.designator ∷ later) some day second
+    → Leads sums (if none then [] else decimal number ++ unit.designator ∷ [])
+    (λ after. IsAt after is_time later (if none then some else true) (day + number * unit.day) (second + number * unit.second))
+counted-of sums is_time unit later some true number day second none found few few_days few_seconds at =
     let zero_is = eqb-true number 0 none in
-    let day_is : day ≡ days = grind (arith, zero_is, adds.day_sum) in
-    let second_is : second ≡ seconds = grind (arith, zero_is, adds.second_sum) in
-    ([], refl, tt, λ i. whole_sums order next is_time some (day_is i) (second_is i))
-counted-of order next unit is_time some false number day second days seconds other adds =
-    whole-leads order next unit is_time some number day second days seconds adds
+    let at_later : IsAt sums is_time later some (day + number * unit.day) (second + number * unit.second) = record {
+      side = at.side;
+      come = at.come.2;
+      whole = at.whole;
+      has = at.has;
+      days = at.days ∙ grind (arith, zero_is);
+      seconds = at.seconds ∙ grind (arith, zero_is);
+      microseconds = at.microseconds;
+    } in
+    (sums, at_later, λ rest. refl)
+counted-of sums is_time unit later some false number day second other found few few_days few_seconds at =
+    let after = with_amount unit number [] sums in
+    let at_later : IsAt after is_time later true (day + number * unit.day) (second + number * unit.second) = record {
+      side = at.side;
+      come = at.come.1;
+      whole = ap (λ (fraction : Bool). fraction || false) at.whole;
+      has = refl;
+      days = omega (arith, at.days, no-seconds unit);
+      seconds = omega (arith, at.seconds, no-seconds unit);
+      microseconds = omega (arith, at.microseconds, no-microseconds unit);
+    } in
+    let unit_is = ap (λ (is_time : Bool). unit_in (units is_time) unit.designator) at.side ∙ found in
+    (after, at_later, λ rest. whole-leads sums unit number rest unit_is at.come.0 at.whole few (omega (arith, few_days, at.days)) (omega (arith, few_seconds, at.seconds)))
 
-counted-leads : (order : IsoOrder) (next : List DurationUnit) (unit : DurationUnit) (is_time some : Bool) (number day second days seconds : ℕ)
-    → Adds unit next is_time number day second days seconds
-    → Leads (whole_sums order next is_time some day second) (counted_text number unit.designator)
-    (whole_sums order (units_left order is_time unit.designator (number == 0) next) is_time (if number == 0 then some else true) days seconds)
-counted-leads order next unit is_time some number day second days seconds =
-    counted-of order next unit is_time some (number == 0) number day second days seconds refl
+counted-leads : (sums : Sums) (is_time : Bool) (unit : DurationUnit) (later : List ℕ) (some : Bool) (number day second : ℕ)
+    → unit_in (units is_time) unit.designator ≡ Some unit → number ≤ 4294967295
+    → day + number * unit.day ≤ 4294967295 → second + number * unit.second ≤ 4294967295 → IsAt sums is_time (unit.designator ∷ later) some day second
+    → Leads sums (counted_text number unit.designator)
+    (λ after. IsAt after is_time later (if number == 0 then some else true) (day + number * unit.day) (second + number * unit.second))
+counted-leads sums is_time unit later some number day second = counted-of sums is_time unit later some (number == 0) number day second refl
 
 -- a `T` leads to the other side
-designator-leads : (order : IsoOrder) (next : List DurationUnit) (some : Bool) (day second : ℕ)
-    → Leads (whole_sums order next false some day second) (capital_t ∷ []) (whole_sums order (units true) true some day second)
-designator-leads order next some day second = (TimeDesignator ∷ [], refl, (tt, (refl, tt), tt), refl)
-
--- no seconds at all
-zero-leads : (order : IsoOrder) (next : List DurationUnit) (some : Bool) (day : ℕ) → day ≤ 4294967295
-    → Leads (whole_sums order next false some day 0) (codes "T0S") (whole_sums order (next_units_after order true capital_s (units true)) true true day 0)
-zero-leads order next some day few =
-    let after = whole_sums order (next_units_after order true capital_s (units true)) true true day 0 in
-    let adds : Adds (unit capital_s 0 1) (units true) true 0 day 0 day 0 = record {
-      found = refl;
-      comes = refl;
-      day_sum = omega arith;
-      second_sum = refl;
-      few = omega arith;
-      few_days = few;
-      few_seconds = omega arith;
+time-leads : (sums : Sums) (later : List ℕ) (some : Bool) (day : ℕ) → IsAt sums false later some day 0
+    → Leads sums (capital_t ∷ []) (λ after. IsAt after true (capital_h ∷ capital_m ∷ capital_s ∷ []) some day 0)
+time-leads sums later some day at =
+    let at_later : IsAt (with_item TimeDesignator sums) true (capital_h ∷ capital_m ∷ capital_s ∷ []) some day 0 = record {
+      side = refl;
+      come = time-come sums.order;
+      whole = at.whole;
+      has = at.has;
+      days = at.days;
+      seconds = at.seconds;
+      microseconds = at.microseconds;
     } in
-    subst (λ (digits : List ℕ). Leads (whole_sums order next false some day 0) (capital_t ∷ digits ++ capital_s ∷ []) after) (decimal_digit 0 (lit< tt))
-    (leads-append _ _ _ (capital_t ∷ []) _ (designator-leads order next some day 0)
-    (whole-leads order (units true) (unit capital_s 0 1) true some 0 day 0 day 0 adds))
+    (with_item TimeDesignator sums, at_later, λ rest. iso_from-item sums TimeDesignator rest refl ∙ meets-all (item_table sums TimeDesignator) _ (ap not at.side, tt))
 
--- the printed fraction of a second is its microseconds
+-- where nothing is left, the answer is the sums
+ends : (sums : Sums) (day second microsecond : ℕ) → sums.some ≡ true → sums.day ≡ day → sums.second ≡ second → sums.microsecond ≡ microsecond
+    → iso_from sums [] ≡ Ok (record { day = day; second = second; microsecond = microsecond })
+ends sums day second microsecond some days seconds microseconds =
+    let same : sums_length sums ≡ record { day = day; second = second; microsecond = microsecond } =
+    λ i. record { day = days i; second = seconds i; microsecond = microseconds i } in
+    iso_from-end sums [] refl ∙ rw some (ap Ok same)
+
+-- a fraction of a second that is printed is its microseconds
+abbrev IsMicroseconds : List ℕ → ℕ → Type 0
+IsMicroseconds fraction microsecond =
+    IsFraction fraction × (fraction_seconds (unit capital_s 0 1) (drop 1 fraction) ≡ 0)
+    × (fraction_microseconds (unit capital_s 0 1) (drop 1 fraction) ≡ microsecond)
+
 fraction-of : (microsecond : ℕ) (none : Bool) → (microsecond == 0) ≡ none → microsecond < 1000000
-    → IsMicroseconds (unit capital_s 0 1) (if none then [] else full_stop ∷ without_last_zeros (six_digit_text microsecond)) microsecond
-fraction-of microsecond true none small =
-    subst (IsMicroseconds (unit capital_s 0 1) []) (sym (eqb-true microsecond 0 none)) (no-fraction (unit capital_s 0 1))
+    → IsMicroseconds (if none then [] else full_stop ∷ without_last_zeros (six_digit_text microsecond)) microsecond
+fraction-of microsecond true none small = subst (IsMicroseconds []) (sym (eqb-true microsecond 0 none)) (tt, no-seconds (unit capital_s 0 1), no-microseconds (unit capital_s 0 1))
 fraction-of microsecond false other small =
     let digits = without_last_zeros (six_digit_text microsecond) in
     let all = without-digits (six_digit_text microsecond) (six_digits-printed microsecond small) in
@@ -283,182 +242,98 @@ fraction-of microsecond false other small =
     let worth = without-worth (six_digit_text microsecond) ∙ ap (λ (n : ℕ). n * 10 ^ length digits) spelled in
     ((refl, all), second-seconds digits all, second-microseconds digits microsecond all worth)
 
--- seconds with their fraction lead to what they add up to
-seconds-of : (order : IsoOrder) (next : List DurationUnit) (some none : Bool) (number microsecond day second seconds : ℕ) → ((number == 0) && (microsecond == 0)) ≡ none
-    → microsecond < 1000000 → Adds (unit capital_s 0 1) next true number day second day seconds
-    → Leads (whole_sums order next true some day second) (if none then [] else decimal number ++ short_fraction_text microsecond ++ capital_s ∷ [])
-    (clock_sums order (units_left order true capital_s none next) (if none then some else true) day seconds microsecond)
-seconds-of order next some true number microsecond day second seconds none small adds =
+-- seconds with their fraction are read as the end of a text
+seconds-of : (sums : Sums) (some none : Bool) (number microsecond day second : ℕ) → ((number == 0) && (microsecond == 0)) ≡ none
+    → number ≤ 4294967295 → microsecond < 1000000 → day ≤ 4294967295 → second + number ≤ 4294967295
+    → IsAt sums true (capital_s ∷ []) some day second → (if none then some else true) ≡ true
+    → iso_from sums (if none then [] else decimal number ++ short_fraction_text microsecond ++ capital_s ∷ [])
+    ≡ Ok (record { day = day; second = second + number; microsecond = microsecond })
+seconds-of sums some true number microsecond day second none few small few_days few_seconds at has =
     let tests = and_parts (number == 0) (microsecond == 0) none in
-    let second_is : second ≡ seconds = omega (arith, eqb-true number 0 tests.0, adds.second_sum) in
-    let microsecond_is = sym (eqb-true microsecond 0 tests.1) in
-    ([], refl, tt, λ i. clock_sums order next some day (second_is i) (microsecond_is i))
-seconds-of order next some false number microsecond day second seconds other small adds =
-    amount-leads order next (unit capital_s 0 1) true some number day second day seconds microsecond (short_fraction_text microsecond) adds
-    (fraction-of microsecond (microsecond == 0) refl small)
+    ends sums day (second + number) microsecond (at.has ∙ has) at.days (omega (arith, at.seconds, eqb-true number 0 tests.0)) (at.microseconds ∙ sym (eqb-true microsecond 0 tests.1))
+seconds-of sums some false number microsecond day second other few small few_days few_seconds at has =
+    let one = unit capital_s 0 1 in
+    let fraction = short_fraction_text microsecond in
+    let means = fraction-of microsecond (microsecond == 0) refl small in
+    let text : List ℕ = decimal number ++ fraction ++ capital_s ∷ [] in
+    let days : (with_amount one number fraction sums).day ≡ day = omega (arith, at.days, means.1) in
+    let seconds : (with_amount one number fraction sums).second ≡ second + number = omega (arith, at.seconds, means.1) in
+    ap (iso_from sums) (sym (append-nil text))
+    ∙ amount-leads sums one number fraction [] (ap (λ (is_time : Bool). unit_in (units is_time) capital_s) at.side) at.come.0 at.whole means.0 few
+    (omega (arith, days, few_days)) (omega (arith, seconds, few_seconds))
+    ∙ ends (with_amount one number fraction sums) day (second + number) microsecond refl days seconds (omega (arith, at.microseconds, means.2))
 
--- there are years or days if and only if there are days
+-- years and days lead to the days, and there are some if and only if there are days
 days-some : (day : ℕ) → (if day % 365 == 0 then (if day / 365 == 0 then false else true) else true) ≡ not (day == 0)
 days-some day = grind (arith, nat_tests)
 
--- what may come after years, and after years and days
-abbrev years_left : IsoOrder → ℕ → List DurationUnit
-years_left order day = units_left order false capital_y (day / 365 == 0) (units false)
-
-abbrev days_left : IsoOrder → ℕ → List DurationUnit
-days_left order day = units_left order false capital_d (day % 365 == 0) (years_left order day)
-
-days-come : (order : IsoOrder) (none : Bool) → is_some (unit_in (units_left order false capital_y none (units false)) capital_d) ≡ true
-days-come order true = refl
-days-come order.Lax false = refl
-days-come order.Strict false = refl
-
--- years and days lead to the days
 days-leads : (order : IsoOrder) (day : ℕ) → day ≤ 999999999
-    → Leads (no_sums order) (counted_text (day / 365) capital_y ++ counted_text (day % 365) capital_d)
-    (whole_sums order (days_left order day) false (not (day == 0)) day 0)
+    → Leads (no_sums order) (counted_text (day / 365) capital_y ++ counted_text (day % 365) capital_d) (λ after. IsAt after false [] (not (day == 0)) day 0)
 days-leads order day few =
-    let text = counted_text (day / 365) capital_y ++ counted_text (day % 365) capital_d in
-    let years = day / 365 * 365 in
-    let few_years : day / 365 ≤ 4294967295 = omega (arith, few) in
-    let years_add : Adds (unit capital_y 365 0) (units false) false (day / 365) 0 0 years 0 = record {
-      found = refl;
-      comes = refl;
-      day_sum = omega arith;
-      second_sum = omega arith;
-      few = few_years;
-      few_days = omega (arith, few);
-      few_seconds = omega arith;
+    let start : IsAt (no_sums order) false (capital_y ∷ capital_d ∷ []) false 0 0 =
+    record { side = refl; come = days-come order; whole = refl; has = refl; days = refl; seconds = refl; microseconds = refl } in
+    let years = counted-leads (no_sums order) false (unit capital_y 365 0) (capital_d ∷ []) false (day / 365) 0 0 refl (omega (arith, few)) (omega (arith, few)) (omega arith) start in
+    let days = counted-leads years.0 false (unit capital_d 1 0) [] _ (day % 365) _ _ refl (omega arith) (omega (arith, few)) (omega arith) years.1 in
+    let at : IsAt days.0 false [] (not (day == 0)) day 0 = record {
+      side = days.1.side;
+      come = tt;
+      whole = days.1.whole;
+      has = days.1.has ∙ days-some day;
+      days = omega (arith, days.1.days);
+      seconds = omega (arith, days.1.seconds);
+      microseconds = days.1.microseconds;
     } in
-    let days_add : Adds (unit capital_d 1 0) (years_left order day) false (day % 365) years 0 day 0 = record {
-      found = refl;
-      comes = days-come order (day / 365 == 0);
-      day_sum = omega arith;
-      second_sum = omega arith;
-      few = omega arith;
-      few_days = omega (arith, few);
-      few_seconds = omega arith;
-    } in
-    subst (λ (some : Bool). Leads (no_sums order) text (whole_sums order (days_left order day) false some day 0)) (days-some day)
-    (leads-append (no_sums order) _ _ _ _
-    (counted-leads order (units false) (unit capital_y 365 0) false false (day / 365) 0 0 years 0 years_add)
-    (counted-leads order (years_left order day) (unit capital_d 1 0) false _ (day % 365) years 0 day 0 days_add))
+    let last = counted_text (day % 365) capital_d in
+    (days.0, at, λ rest. ap (iso_from (no_sums order)) (append_assoc (counted_text (day / 365) capital_y) last rest) ∙ years.2 (last ++ rest) ∙ days.2 rest)
 
--- there are hours, minutes or seconds where there is something after the days
+-- hours, minutes and seconds are read as the end of a text, where there is something after the days
 hours-some : (second microsecond : ℕ) (some : Bool) → ((second == 0) && (microsecond == 0)) ≡ false
     → (if (second % 60 == 0) && (microsecond == 0) then (if second / 60 % 60 == 0 then (if second / 3600 == 0 then some else true) else true) else true) ≡ true
 hours-some second microsecond some other = grind (arith, nat_tests)
 
--- what may come after hours, after minutes, and after seconds
-abbrev hours_left : IsoOrder → Bool → List DurationUnit
-hours_left order none = units_left order true capital_h none (units true)
-
-abbrev minutes_left : IsoOrder → Bool → Bool → List DurationUnit
-minutes_left order none no_minutes = units_left order true capital_m no_minutes (hours_left order none)
-
-abbrev seconds_left : IsoOrder → ℕ → ℕ → List DurationUnit
-seconds_left order second microsecond =
-    units_left order true capital_s ((second % 60 == 0) && (microsecond == 0)) (minutes_left order (second / 3600 == 0) (second / 60 % 60 == 0))
-
-minutes-come : (order : IsoOrder) (none : Bool) → is_some (unit_in (hours_left order none) capital_m) ≡ true
-minutes-come order true = refl
-minutes-come order.Lax false = refl
-minutes-come order.Strict false = refl
-
-seconds-come : (order : IsoOrder) (none no_minutes : Bool) → is_some (unit_in (minutes_left order none no_minutes) capital_s) ≡ true
-seconds-come order true true = refl
-seconds-come order.Lax none false = refl
-seconds-come order.Lax false true = refl
-seconds-come order.Strict true false = refl
-seconds-come order.Strict false true = refl
-seconds-come order.Strict false false = refl
-
--- hours, minutes and seconds lead to the seconds and microseconds
-hours-leads : (order : IsoOrder) (numbers : DurationNumbers) (some : Bool) → IsDuration numbers → is_whole_days numbers ≡ false
-    → Leads (whole_sums order (units true) true some numbers.day 0) (hours_text numbers)
-    (clock_sums order (seconds_left order numbers.second numbers.microsecond) true numbers.day numbers.second numbers.microsecond)
-hours-leads order numbers some valid other =
-    let day = numbers.day in
-    let hours = numbers.second / 3600 * 3600 in
-    let minutes = hours + numbers.second / 60 % 60 * 60 in
-    let few : day ≤ 4294967295 = omega (arith, valid.day) in
-    let few_hours : numbers.second / 3600 ≤ 4294967295 = omega (arith, valid.second) in
-    let under_hours = hours_left order (numbers.second / 3600 == 0) in
-    let under_minutes = minutes_left order (numbers.second / 3600 == 0) (numbers.second / 60 % 60 == 0) in
-    let hours_add : Adds (unit capital_h 0 3600) (units true) true (numbers.second / 3600) day 0 day hours = record {
-      found = refl;
-      comes = refl;
-      day_sum = omega arith;
-      second_sum = omega arith;
-      few = few_hours;
-      few_days = few;
-      few_seconds = omega (arith, valid.second);
-    } in
-    let minutes_add : Adds (unit capital_m 0 60) under_hours true (numbers.second / 60 % 60) day hours day minutes = record {
-      found = refl;
-      comes = minutes-come order (numbers.second / 3600 == 0);
-      day_sum = omega arith;
-      second_sum = omega arith;
-      few = omega arith;
-      few_days = few;
-      few_seconds = omega (arith, valid.second);
-    } in
-    let seconds_add : Adds (unit capital_s 0 1) under_minutes true (numbers.second % 60) day minutes day numbers.second = record {
-      found = refl;
-      comes = seconds-come order (numbers.second / 3600 == 0) (numbers.second / 60 % 60 == 0);
-      day_sum = omega arith;
-      second_sum = omega arith;
-      few = omega arith;
-      few_days = few;
-      few_seconds = omega (arith, valid.second);
-    } in
-    let after = λ (last : Bool). clock_sums order (seconds_left order numbers.second numbers.microsecond) last day numbers.second numbers.microsecond in
-    subst (λ (last : Bool). Leads (whole_sums order (units true) true some day 0) (hours_text numbers) (after last))
+hours-read : (sums : Sums) (numbers : DurationNumbers) (some : Bool) → IsDuration numbers → is_whole_days numbers ≡ false
+    → IsAt sums true (capital_h ∷ capital_m ∷ capital_s ∷ []) some numbers.day 0 → iso_from sums (hours_text numbers) ≡ Ok (length_of numbers)
+hours-read sums numbers some valid other at =
+    let hour = numbers.second / 3600 in
+    let minute = numbers.second / 60 % 60 in
+    let few : numbers.day ≤ 4294967295 = omega (arith, valid.day) in
+    let hours = counted-leads sums true (unit capital_h 0 3600) (capital_m ∷ capital_s ∷ []) some hour _ _ refl (omega (arith, valid.second)) (omega (arith, few)) (omega (arith, valid.second)) at in
+    let minutes = counted-leads hours.0 true (unit capital_m 0 60) (capital_s ∷ []) _ minute _ _ refl (omega arith) (omega (arith, few)) (omega (arith, valid.second)) hours.1 in
+    let last = seconds_text (numbers.second % 60) numbers.microsecond in
+    let day_is : numbers.day + hour * 0 + minute * 0 ≡ numbers.day = omega arith in
+    let second_is : 0 + hour * 3600 + minute * 60 + numbers.second % 60 ≡ numbers.second = omega arith in
+    ap (iso_from sums) (append_assoc (counted_text hour capital_h) (counted_text minute capital_m) last) ∙ hours.2 (counted_text minute capital_m ++ last) ∙ minutes.2 last
+    ∙ seconds-of minutes.0 _ _ (numbers.second % 60) numbers.microsecond _ _ refl (omega arith) valid.microsecond (omega (arith, few)) (omega (arith, valid.second)) minutes.1
     (hours-some numbers.second numbers.microsecond some other)
-    (leads-append _ _ _ _ _
-    (leads-append _ _ _ _ _
-    (counted-leads order (units true) (unit capital_h 0 3600) true some (numbers.second / 3600) day 0 day hours hours_add)
-    (counted-leads order under_hours (unit capital_m 0 60) true _ (numbers.second / 60 % 60) day hours day minutes minutes_add))
-    (seconds-of order under_minutes _ _ (numbers.second % 60) numbers.microsecond day minutes numbers.second refl valid.microsecond seconds_add))
+    ∙ (λ i. Ok (record { day = day_is i; second = second_is i; microsecond = numbers.microsecond }))
 
--- a text that leads from no sums to those of a duration is answered by it
-leads-answer : (order : IsoOrder) (numbers : DurationNumbers) (text : List ℕ) (after : Sums) → Leads (no_sums order) text after → after.some ≡ true
-    → sums_length after ≡ length_of numbers → IsIsoAnswer order text (Ok (length_of numbers))
-leads-answer order numbers text after leads some same = (
-  leads.0,
-  [],
-  sym (append-nil (flat_map item_text leads.0) ∙ leads.1),
-  leads.2,
-  subst (λ (sums : Sums). Ends sums [] (Ok (length_of numbers))) (sym leads.3) (rw some (ap Ok (sym same))),
-)
-
--- the sums of whole days
-whole-numbers : (order : IsoOrder) (numbers : DurationNumbers) → is_whole_days numbers ≡ true
-    → sums_length (whole_sums order [] true true numbers.day 0) ≡ length_of numbers
-whole-numbers order numbers whole =
+-- so what is printed after the `P` is read as the duration
+whole-ends : (sums : Sums) (numbers : DurationNumbers) → is_whole_days numbers ≡ true → sums.some ≡ true → sums.day ≡ numbers.day → sums.second ≡ 0 → sums.microsecond ≡ 0
+    → iso_from sums [] ≡ Ok (length_of numbers)
+whole-ends sums numbers whole some day second microsecond =
     let tests = and_parts (numbers.second == 0) (numbers.microsecond == 0) whole in
-    let second_is = sym (eqb-true numbers.second 0 tests.0) in
-    let microsecond_is = sym (eqb-true numbers.microsecond 0 tests.1) in
-    λ i. record { day = numbers.day; second = second_is i; microsecond = microsecond_is i }
+    ends sums numbers.day numbers.second numbers.microsecond some day (second ∙ sym (eqb-true numbers.second 0 tests.0)) (microsecond ∙ sym (eqb-true numbers.microsecond 0 tests.1))
 
--- what is printed after the `P` is answered by the duration
-rest-answer : (order : IsoOrder) (numbers : DurationNumbers) (whole none : Bool) → IsDuration numbers → is_whole_days numbers ≡ whole
-    → (numbers.day == 0) ≡ none
-    → IsIsoAnswer order (days_text numbers ++ (if whole then (if none then codes "T0S" else []) else capital_t ∷ hours_text numbers)) (Ok (length_of numbers))
-rest-answer order numbers true true valid whole none =
-    leads-answer order numbers _ _
-    (leads-append (no_sums order) _ _ _ _ (days-leads order numbers.day valid.day)
-    (zero-leads order (days_left order numbers.day) _ numbers.day (omega (arith, valid.day))))
-    refl (whole-numbers order numbers whole)
-rest-answer order numbers true false valid whole some =
-    leads-answer order numbers _ _
-    (leads-append (no_sums order) _ _ _ _ (days-leads order numbers.day valid.day) ([], refl, tt, refl))
-    (ap not some) (whole-numbers order numbers whole)
-rest-answer order numbers false none valid other is =
-    leads-answer order numbers _ _
-    (leads-append (no_sums order) _ _ _ _ (days-leads order numbers.day valid.day)
-    (leads-append _ _ _ (capital_t ∷ []) _ (designator-leads order (days_left order numbers.day) _ numbers.day 0) (hours-leads order numbers _ valid other)))
-    refl refl
+rest-read : (sums : Sums) (numbers : DurationNumbers) (whole none : Bool) → IsDuration numbers → is_whole_days numbers ≡ whole → IsAt sums false [] (not none) numbers.day 0
+    → iso_from sums (if whole then (if none then codes "T0S" else []) else capital_t ∷ hours_text numbers) ≡ Ok (length_of numbers)
+rest-read sums numbers true true valid whole at =
+    let one = unit capital_s 0 1 in
+    let time = time-leads sums [] false numbers.day at in
+    let few : numbers.day ≤ 4294967295 = omega (arith, valid.day) in
+    time.2 (codes "0S") ∙ ap (λ (digits : List ℕ). iso_from time.0 (digits ++ capital_s ∷ [] ++ [])) (sym (decimal_digit 0 (lit< tt)))
+    ∙ whole-leads time.0 one 0 [] (ap (λ (is_time : Bool). unit_in (units is_time) capital_s) time.1.side) time.1.come.2.2.0 time.1.whole (omega arith)
+    (omega (arith, time.1.days, few)) (omega (arith, time.1.seconds))
+    ∙ whole-ends (with_amount one 0 [] time.0) numbers whole refl (omega (arith, time.1.days, no-seconds one)) (omega (arith, time.1.seconds, no-seconds one))
+    (omega (arith, time.1.microseconds, no-microseconds one))
+rest-read sums numbers true false valid whole at = whole-ends sums numbers whole at.has at.days at.seconds at.microseconds
+rest-read sums numbers false none valid other at =
+    let time = time-leads sums [] (not none) numbers.day at in
+    time.2 (hours_text numbers) ∙ hours-read time.0 numbers (not none) valid other time.1
+
+text-read : (order : IsoOrder) (numbers : DurationNumbers) → IsDuration numbers → iso_form order (days_text numbers ++ rest_text numbers) ≡ Ok (length_of numbers)
+text-read order numbers valid =
+    let days = days-leads order numbers.day valid.day in
+    days.2 (rest_text numbers) ∙ rest-read days.0 numbers (is_whole_days numbers) (numbers.day == 0) valid refl days.1
 
 -- a `P` with a sign or without one stands for what is after it
 start-answer : (order : IsoOrder) (behavior : MicrosecondsPrecisionOverflowBehavior) (positive : Bool) (text : List ℕ)
@@ -472,9 +347,8 @@ pub duration_text-reads : (order : IsoOrder) (behavior : MicrosecondsPrecisionOv
     → duration_answer order behavior (duration_text numbers) ≡ Ok numbers
 duration_text-reads order behavior numbers valid =
     let text = days_text numbers ++ rest_text numbers in
-    let reads = iso_form-only order text _ (rest-answer order numbers (is_whole_days numbers) (numbers.day == 0) valid refl refl) in
     ap (duration_answer order behavior) (append_assoc (start_text numbers.positive) (days_text numbers) (rest_text numbers))
-    ∙ start-answer order behavior numbers.positive text ∙ ap (result_and_then (signed_form numbers.positive)) (sym reads)
+    ∙ start-answer order behavior numbers.positive text ∙ ap (result_and_then (signed_form numbers.positive)) (text-read order numbers valid)
     ∙ normal_form-same numbers valid
 
 -- so two durations with the same text are equal

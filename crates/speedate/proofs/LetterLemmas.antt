@@ -9,15 +9,16 @@ use Rattle.std.proofs.lemmas.List.{take-append-drop, drop_more}
 use Rattle.std.proofs.lemmas.List.Folds.{list_any-append}
 use Rattle.std.proofs.lemmas.List.Sums.{passes_at_first}
 use Rattle.speedate_base.specs.declared.config.MicrosecondsPrecisionOverflowBehavior.{MicrosecondsPrecisionOverflowBehavior}
+use Rattle.speedate_base.specs.declared.faults.ParseError.TheVariants as fault
 use Rattle.speedate_base.specs.Ascii.{colon}
 use Rattle.speedate_base.specs.DigitRuns.{run_length, digits_value}
 use Rattle.speedate_base.proofs.DigitRunLemmas.{run-whole}
 use Rattle.speedate_base.specs.Digits.{two_digits_at}
 use Rattle.speedate_base.proofs.NumberLemmas.{run-digits}
-use Rattle.speedate_base.specs.Requirement.{◌implies◌, result_and_then}
+use Rattle.speedate_base.specs.Requirement.{◌else_fault◌, ◌implies◌, meets}
 use Rattle.speedate_base.proofs.RequirementLemmas.{and_then-ok, meets-ok, meets-value}
 use Rattle.speedate_civil.specs.ClockText.{Clock, has_point, has_second, minute_clock, minute_digits, minute_table, minute_front, clock_answer}
-use Rattle.speedate.specs.ClockForm.{hours, colon_place, from_minute, hours_table, hours_range, end_table, clock_numbers, whole_clock, after_hours, clock_form}
+use Rattle.speedate.specs.ClockForm.{hours, colon_place, from_minute, hours_table, hours_range, clock_numbers, whole_clock, after_hours, clock_form}
 use Rattle.speedate.proofs.ClockFormLemmas.{hours-run}
 use Rattle.speedate.specs.DayForm.{is_day_letter}
 use Rattle.speedate.specs.DurationForm.{has_days}
@@ -91,12 +92,14 @@ unfolding clock_form
 clock-no_letter behavior text value same =
     let first = colon_place text in
     let rest : List ℕ = from_minute text in
-    let front = meets-ok (hours_table text) (after_hours behavior (digits_value (hours text)) rest) value same in
-    let ranges = meets-ok (hours_range behavior (digits_value (hours text)) rest) (result_and_then (whole_clock (digits_value (hours text)) rest) (minute_front behavior rest)) value front.1 in
-    let read = and_then-ok (whole_clock (digits_value (hours text)) rest) (minute_front behavior rest) value ranges.1 in
+    let count = digits_value (hours text) in
+    let ends = λ (clock : Clock). (clock.size == length rest else_fault fault.ExtraCharacters) ∷ [] in
+    let front = meets-ok (hours_table text) (after_hours behavior count rest) value same in
+    let ranges = meets-ok (hours_range behavior count rest) (whole_clock behavior count rest) value front.1 in
+    let read = and_then-ok (λ (clock : Clock). meets (ends clock) (Ok (clock_numbers count clock))) (minute_front behavior rest) value ranges.1 in
     let minute = meets-ok (minute_digits rest) (clock_answer behavior rest) read.0 read.1 in
     let clock = meets-value (minute_table behavior rest) (minute_clock rest) read.0 minute.1 in
-    let whole = meets-ok (end_table rest read.0) (Ok (clock_numbers (digits_value (hours text)) read.0)) value read.2 in
+    let whole = meets-ok (ends read.0) (Ok (clock_numbers count read.0)) value read.2 in
     let sized = ap (λ (clock : Clock). clock.size == length rest) clock.1 ∙ whole.0.0 in
     let none = minute-no_letter rest minute.0.0 clock.0.1.0 sized in
     let within : first < length text = grind (arith, nat_tests, front.0.1.0) in

@@ -8,7 +8,7 @@ pub mod DurationTextLemmas
 mod ExchangedLemmas
 mod InOrderLemmas
 mod IsoFormLemmas
-mod IsoFrontLemmas
+mod IsoItemLemmas
 mod IsoPlaceLemmas
 mod IsoTextLemmas
 mod DecimalTextLemmas

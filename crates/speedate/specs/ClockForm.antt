@@ -46,10 +46,6 @@ hours_range behavior hours rest =
     ∷ (nat_le 2 (length rest) else_fault fault.TooShort)
     ∷ []
 
--- and then: the clock takes all that follows the hours
-abbrev pub end_table : List ℕ → Clock → List Requirement
-end_table rest clock = ((clock.size == length rest) else_fault fault.ExtraCharacters) ∷ []
-
 -- so many hours, and the minute, second and microsecond of a clock
 abbrev pub clock_numbers : ℕ → Clock → UnsignedDuration
 clock_numbers hours clock = record {
@@ -58,14 +54,16 @@ clock_numbers hours clock = record {
   microsecond = clock.microsecond;
 }
 
--- the duration of so many hours and of a clock that takes the whole rest
-abbrev pub whole_clock : ℕ → List ℕ → Clock → Result UnsignedDuration ParseError
-whole_clock hours rest clock = meets (end_table rest clock) (Ok (clock_numbers hours clock))
+-- the duration of so many hours and of a clock that takes all that follows them
+abbrev pub whole_clock : MicrosecondsPrecisionOverflowBehavior → ℕ → List ℕ → Result UnsignedDuration ParseError
+whole_clock behavior hours rest =
+    result_and_then (λ clock. meets ((clock.size == length rest else_fault fault.ExtraCharacters) ∷ []) (Ok (clock_numbers hours clock)))
+    (minute_front behavior rest)
 
--- the duration of so many hours and of the clock that follows them
+-- the same, where the hours and what follows them are in range
 abbrev pub after_hours : MicrosecondsPrecisionOverflowBehavior → ℕ → List ℕ → Result UnsignedDuration ParseError
 after_hours behavior hours rest =
-    meets (hours_range behavior hours rest) (result_and_then (whole_clock hours rest) (minute_front behavior rest))
+    meets (hours_range behavior hours rest) (whole_clock behavior hours rest)
 
 -- the duration that a text is in this form, or the text's fault
 unfoldable pub clock_form : MicrosecondsPrecisionOverflowBehavior → List ℕ → Result UnsignedDuration ParseError

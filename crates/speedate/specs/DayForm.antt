@@ -66,27 +66,15 @@ days_table text =
     ∷ (has_whole_ending (after_letter text) else_fault fault.DurationInvalidDays)
     ∷ []
 
--- what the clock after them has to meet: it has fewer than 24 hours
-abbrev pub day_limit : UnsignedDuration → List Requirement
-day_limit clock = ((clock.day == 0) else_fault fault.DurationHourValueTooLarge) ∷ []
-
--- the duration of a clock of fewer than 24 hours
-abbrev pub under_a_day : UnsignedDuration → Result UnsignedDuration ParseError
-under_a_day clock = meets (day_limit clock) (Ok clock)
-
--- the duration of what follows the days: of nothing, or of such a clock
+-- the duration of what follows the days: of nothing, or of a clock of fewer than 24 hours
 abbrev pub rest_answer : MicrosecondsPrecisionOverflowBehavior → List ℕ → Result UnsignedDuration ParseError
 rest_answer behavior rest =
     if length rest == 0 then Ok (record { day = 0; second = 0; microsecond = 0 })
-    else result_and_then under_a_day (clock_form behavior rest)
-
--- the numbers of days and of a clock after them
-abbrev pub with_days : ℕ → UnsignedDuration → UnsignedDuration
-with_days days clock = record clock { day = days }
+    else result_and_then (λ clock. meets ((clock.day == 0 else_fault fault.DurationHourValueTooLarge) ∷ []) (Ok clock)) (clock_form behavior rest)
 
 -- the numbers of so many days and of what follows them
 abbrev pub after_days : MicrosecondsPrecisionOverflowBehavior → ℕ → List ℕ → Result UnsignedDuration ParseError
-after_days behavior days rest = result_map (with_days days) (rest_answer behavior rest)
+after_days behavior days rest = result_map (λ (clock : UnsignedDuration). record clock { day = days }) (rest_answer behavior rest)
 
 -- the numbers that a text says in this form, the days of any size, or the text's fault
 unfoldable pub day_form : MicrosecondsPrecisionOverflowBehavior → List ℕ → Result UnsignedDuration ParseError

@@ -1,5 +1,5 @@
 -- The duration between two values, and the value so long after another, by microseconds of any size.
-use Rattle.std.specs.Prelude.{suc, Bool, true, false, not, ◌&&◌, ◌||◌, ◌==◌, if◌then◌else◌, [], ◌∷◌, Option, Some, None, ℤ, pos, negsuc, ◌+ℤ◌, ◌-ℤ◌, int_le, unsigned_abs, Result, Ok, Err}
+use Rattle.std.specs.Prelude.{suc, Bool, true, false, not, ◌||◌, ◌==◌, if◌then◌else◌, [], ◌∷◌, Option, Some, None, ℤ, pos, negsuc, ◌+ℤ◌, ◌-ℤ◌, int_le, unsigned_abs, Result, Ok, Err}
 use Rattle.speedate_base.specs.declared.faults.ParseError.{ParseError}
 use Rattle.speedate_base.specs.declared.faults.ParseError.TheVariants as fault
 use Rattle.speedate_base.specs.Numbers.{with_sign}
@@ -10,6 +10,7 @@ use Rattle.speedate_civil.specs.DateAndTime.{DateAndTime, local_microsecond, utc
 use Rattle.speedate_civil.specs.DateTimeTimestamp.{instant_date_time}
 use Rattle.speedate_civil.specs.DayNumber.{date_added, days_between}
 use Rattle.speedate.specs.DurationNumbers.{DurationNumbers, length_microseconds, of_length}
+use Rattle.speedate.specs.DurationText.{is_whole_days}
 
 -- the length of a duration in microseconds, with its sign
 abbrev pub signed_length : DurationNumbers → ℤ
@@ -44,10 +45,6 @@ duration_of_days days = record { positive = int_le (pos 0) days; day = unsigned_
 -- the duration from one date to another
 abbrev pub duration_between_dates : Ymd → Ymd → DurationNumbers
 duration_between_dates earlier later = duration_of_days (days_between earlier later)
-
--- a duration is whole days
-abbrev pub is_whole_days : DurationNumbers → Bool
-is_whole_days numbers = (numbers.second == 0) && (numbers.microsecond == 0)
 
 -- a date, or the fault of one outside the years 0000 to 9999: after them if it is counted onward, before them if back
 abbrev pub date_or_fault : Bool → Option Ymd → Result Ymd ParseError

@@ -24,7 +24,7 @@ without_last_zeros (digit ∷ digits) = kept_digit digit (without_last_zeros dig
 abbrev pub short_fraction_text : ℕ → List ℕ
 short_fraction_text microsecond = if microsecond == 0 then [] else full_stop ∷ without_last_zeros (six_digit_text microsecond)
 
--- there is nothing after the days
+-- a duration is whole days
 abbrev pub is_whole_days : DurationNumbers → Bool
 is_whole_days numbers = (numbers.second == 0) && (numbers.microsecond == 0)
 

@@ -90,13 +90,6 @@ component_at text =
 abbrev pub item_at : List ℕ → Item
 item_at text = if slice_index text 0 == capital_t then TimeDesignator else Component (component_at text)
 
--- how many bytes such an item has
-abbrev pub component_length : List ℕ → ℕ
-component_length text = run_length text 0 + fraction_length (drop (run_length text 0) text) + 1
-
-abbrev pub item_length : List ℕ → ℕ
-item_length text = if slice_index text 0 == capital_t then 1 else component_length text
-
 -- what the items so far add up to: whether there was a `T`, a fraction, a component; days, seconds and microseconds. And the
 -- order in which components have to come, with the units that may still come on this side
 pub record Sums : Type 0 where

@@ -8,10 +8,10 @@ ghost use Rattle.speedate.specs.DurationNumbers.{length_seconds, length_microsec
 ghost use Rattle.speedate.specs.Exchanged.{AreExchanged};
 ghost use Rattle.speedate.specs.InOrder.{IsAnswerInOrder};
 
+mod arithmetic;
 mod clock;
 mod days;
 mod iso;
-mod moved;
 mod order;
 mod text;
 mod unsigned;
@@ -137,7 +137,6 @@ impl Duration {
     #[inline(always)]
     pub fn parse_str(text: &str) -> Result<Self, ParseError>
         ensures answer { result_map parts result ≡ duration_answer order.Lax behavior.Error text.now }
-        ensures grammar { IsGrammarAnswer order.Lax behavior.Error text.now (result_map parts result) }
     {
         Self::parse_bytes(text.as_bytes())
     }
@@ -147,7 +146,6 @@ impl Duration {
     #[inline(always)]
     pub fn parse_bytes(bytes: &[u8]) -> Result<Self, ParseError>
         ensures answer { result_map parts result ≡ duration_answer order.Lax behavior.Error bytes.now }
-        ensures grammar { IsGrammarAnswer order.Lax behavior.Error bytes.now (result_map parts result) }
     {
         Self::parse(
             bytes,
@@ -195,7 +193,6 @@ impl Duration {
         behavior: MicrosecondsPrecisionOverflowBehavior,
     ) -> Result<Self, ParseError>
         ensures answer { result_map parts result ≡ duration_answer order behavior bytes.now }
-        ensures grammar { IsGrammarAnswer order behavior bytes.now (result_map parts result) }
     {
         let (negative, length) = sign(bytes);
         let size = UnsignedDuration::parse(&bytes[length..], order, behavior)?;
@@ -272,7 +269,6 @@ impl FromStr for Duration {
     #[inline]
     fn from_str(text: &str) -> Result<Self, ParseError>
         ensures answer { result_map parts result ≡ duration_answer order.Lax behavior.Error text.now }
-        ensures grammar { IsGrammarAnswer order.Lax behavior.Error text.now (result_map parts result) }
     {
         Self::parse_str(text)
     }

@@ -234,6 +234,7 @@ const ORDERED: &str = "\
 'P1Y1.5M'             P1Y45D                         P1Y45D
 'P1Y2M3W4DT5H6M7.5S'  P1Y85DT5H6M7.5S                P1Y85DT5H6M7.5S
 'P3D2M1YT6S5M4H'      P1Y63DT4H5M6S                  duration_unit_order
+'-P3DT6S5M'           -P3DT5M6S                      duration_unit_order
 'P1Y2Y'               P3Y                            duration_unit_order
 'P1M1Y'               P1Y30D                         duration_unit_order
 'P1W1M'               P37D                           duration_unit_order
@@ -262,10 +263,11 @@ const ORDERED: &str = "\
 
 /// Two texts with two components exchanged.
 const EXCHANGED: &str = "\
-P1Y2M           P2M1Y
-P1Y2M3D         P3D2M1Y
-PT1H2S          PT2S1H
-P4294967295D1Y  P1Y4294967295D";
+P1Y2M              P2M1Y
+P1Y2M3D            P3D2M1Y
+PT1H2S             PT2S1H
+P99999999999Y1M2D  P99999999999Y2D1M
+P4294967295D1Y     P1Y4294967295D";
 
 /// A sign, days, seconds and microseconds, and the duration that they are.
 const NUMBERS: &str = "\

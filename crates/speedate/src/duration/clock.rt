@@ -3,8 +3,7 @@
 ghost use Rattle.std.specs.Prelude.{◌≡◌, ◌+◌, ◌-◌, ◌^◌, ◌<◌, ◌≤◌, length, min, position, ◌==◌, false, Ok, Err, IfOk, IsTrue};
 ghost use Rattle.speedate_base.specs.Ascii.{colon};
 ghost use Rattle.speedate_base.specs.DigitRuns.{run_length, run_value};
-ghost use Rattle.speedate_base.specs.Requirement.{meets, result_map, result_and_then};
-ghost use Rattle.speedate_civil.specs.ClockText.{minute_front};
+ghost use Rattle.speedate_base.specs.Requirement.{meets, result_map};
 ghost use Rattle.speedate.specs.ClockForm.{colon_place, from_minute, has_hours, hours_table, whole_clock, after_hours, clock_form};
 
 use super::unsigned::UnsignedDuration;
@@ -71,8 +70,7 @@ impl UnsignedDuration {
         behavior: MicrosecondsPrecisionOverflowBehavior,
     ) -> Result<Self, ParseError>
         requires { hours ≤ 2400000000 }
-        ensures answer { result_map unsigned_parts result
-            ≡ result_and_then (whole_clock hours rest.now) (minute_front behavior rest.now) }
+        ensures answer { result_map unsigned_parts result ≡ whole_clock behavior hours rest.now }
     {
         let clock = PureTime::parse_from_minute(rest, 0, behavior)?;
         if clock.size != rest.len() {

@@ -7,9 +7,8 @@ ghost use Rattle.speedate_base.specs.DigitRuns.{run_length, run_value, digits_va
 ghost use Rattle.std.specs.Option.{ForSome, option_map, is_some};
 ghost use Rattle.speedate_base.specs.declared.faults.ParseError.TheVariants as fault;
 ghost use Rattle.speedate_base.specs.Ascii.{capital_t};
-ghost use Rattle.speedate_base.specs.Requirement.{meets, result_map};
-ghost use Rattle.speedate.specs.ShortNumber.{IsShortNumber};
-ghost use Rattle.speedate.specs.IsoForm.{Component, TimeDesignator, units, unit_in, is_decimal_mark, fraction_length, unit_seconds, next_units_after, fraction_seconds, fraction_microseconds, component_at, component_length, item_at, item_length, are_counted, with_amount, with_item, item_table, sums_length, unit_fault, no_sums, IsAnswerFrom};
+ghost use Rattle.speedate_base.specs.Requirement.{result_map, with_size};
+ghost use Rattle.speedate.specs.IsoForm.{Component, TimeDesignator, units, unit_in, is_decimal_mark, fraction_length, unit_seconds, next_units_after, fraction_seconds, fraction_microseconds, component_at, item_at, are_counted, with_amount, with_item, item_table, sums_length, unit_fault, no_sums};
 
 use super::unsigned::UnsignedDuration;
 use speedate_base::config::IsoOrder;
@@ -36,7 +35,7 @@ struct DurationUnit {
 }
 
 impl DurationUnit {
-    ghost use Rattle.speedate.specs.IsoSums.{unit_parts, IsUnitOf};
+    ghost use Rattle.speedate.specs.Reader.{unit_parts, IsUnitOf};
 
     /// The unit of a designator, before the `T` or after it.
     #[inline(always)]
@@ -132,34 +131,35 @@ pub(super) struct Sums {
 
 impl Sums {
     ghost use Rattle.speedate.specs.Duration.{unsigned_parts};
-    ghost use Rattle.speedate.specs.DurationAnswer.{iso_form};
-    ghost use Rattle.speedate.specs.IsoSums.{unit_parts, IsUnitOf, sums_parts, is_plain, GoesOn};
+    ghost use Rattle.speedate.specs.DurationAnswer.{iso_from, iso_form};
+    ghost use Rattle.speedate.specs.Reader.{unit_parts, IsUnitOf, sums_parts, item_front};
 
     /// Reads all items of a duration, and adds them up.
     ///
-    /// Most texts are plain components, a `T`, and plain components again. These are read straight on;
-    /// what is left where they end is read item by item, with all that may be wrong in it, and a number
-    /// that stands there is not read again.
+    /// Most texts are whole numbers of few digits with their designators, and a `T`. These are read
+    /// straight on, and from the first item that is anything else the text is read item by item.
     #[inline(always)]
     pub(super) fn read(body: &[u8], order: IsoOrder) -> Result<UnsignedDuration, ParseError>
         ensures answer { result_map unsigned_parts result ≡ iso_form order body.now }
     {
-        let (sums, end, number) = Self::of_plain(body, order);
-        let (sums, end) = sums.with_component(body, end, number)?;
-        sums.with_rest(body, end)
+        let mut sums = Self::none(order);
+        let mut rest = body;
+        while !rest.is_empty() {
+            let Some((next, size)) = sums.with_short_item(rest) else {
+                return sums.with_items(rest);
+            };
+            sums = next;
+            rest = &rest[size..];
+        }
+        sums.length()
     }
 
-    /// The sums of the plain components at the front of a text, of those after a `T` that follows
-    /// them, where these end, and the number of few digits that stands there, if one does.
+    /// The sums of no items.
     #[inline(always)]
-    fn of_plain(body: &[u8], order: IsoOrder) -> (Self, usize, Option<DigitRun>)
-        ensures goes_on { GoesOn (no_sums order) body.now (sums_parts result.0) (drop result.1 body.now) }
-        ensures all { is_plain (sums_parts result.0) body.now result.1 ≡ false }
-        ensures designator { slice_index body.now result.1 ≡ capital_t → result.0.is_time ≡ true }
-        ensures number { ForSome result.2 (IsShortNumber body.now result.1) }
-        ensures within { result.1 ≤ length body.now }
+    fn none(order: IsoOrder) -> Self
+        ensures sums { sums_parts result ≡ no_sums order }
     {
-        let none = Sums {
+        Sums {
             order,
             passed: 0,
             is_time: false,
@@ -168,12 +168,30 @@ impl Sums {
             day: 0,
             second: 0,
             microsecond: 0,
-        };
-        let (days, end, number) = none.with_plain(body, 0);
-        if byte_at(body, end) != b'T' {
-            return (days, end, number);
         }
-        days.begin_time().with_plain(body, end + 1)
+    }
+
+    /// The sums with the item that begins a text, and how many bytes it has, if it is a first `T` or a
+    /// whole number of one to six digits with its designator, and nothing is wrong in it.
+    #[inline(always)]
+    fn with_short_item(self, text: &[u8]) -> Option<(Self, usize)>
+        ensures item { IfSome result (λ next. Ok (sums_parts next.0, next.1) ≡ item_front (sums_parts self) (item_at text.now)) }
+        ensures some { IfSome result (λ next. 0 < next.1) }
+        ensures within { IfSome result (λ next. next.1 ≤ length text.now) }
+    {
+        let (number, end) = few_digits(text, 0)?;
+        let designator = byte_at(text, end);
+        if end == 0 {
+            if designator != b'T' || self.is_time {
+                return None;
+            }
+            return Some((self.begin_time(), 1));
+        }
+        let unit = DurationUnit::of_designator(designator, self.is_time)?;
+        if self.fraction || !self.takes(&unit) {
+            return None;
+        }
+        Some((self.with_whole(number, &unit)?, end + 1))
     }
 
     /// The sums after the `T`.
@@ -185,55 +203,6 @@ impl Sums {
         sums.is_time = true;
         sums.passed = 0;
         sums
-    }
-
-    /// The sums with the plain components from a place on, as many as there are, where they end, and
-    /// the number of few digits that stands there, if one does.
-    #[inline(always)]
-    fn with_plain(self, body: &[u8], start: usize) -> (Self, usize, Option<DigitRun>)
-        requires none { self.fraction ≡ false }
-        requires start { start ≤ length body.now }
-        ensures goes_on { GoesOn (sums_parts self) (drop start body.now) (sums_parts result.0) (drop result.1 body.now) }
-        ensures side { result.0.is_time ≡ self.is_time }
-        ensures all { is_plain (sums_parts result.0) body.now result.1 ≡ false }
-        ensures none { result.0.fraction ≡ false }
-        ensures number { ForSome result.2 (IsShortNumber body.now result.1) }
-        ensures within { result.1 ≤ length body.now }
-    {
-        let mut sums = self;
-        let mut place = start;
-        while let Some(number) = short_number(body, place) {
-            let Some((next, end)) = sums.with_next(body, place, number) else {
-                return (sums, place, Some(number));
-            };
-            sums = next;
-            place = end;
-        }
-        (sums, place, None)
-    }
-
-    /// The sums with the plain component at a place, whose number this is, and where it ends. `None` if
-    /// no designator of a unit follows the number, if the unit is out of order, or if the sums grow too
-    /// large.
-    #[inline(always)]
-    fn with_next(self, body: &[u8], place: usize, number: DigitRun) -> Option<(Self, usize)>
-        requires none { self.fraction ≡ false }
-        requires place { place ≤ length body.now }
-        requires number { IsShortNumber body.now place number }
-        ensures plain { is_some result ≡ is_plain (sums_parts self) body.now place }
-        ensures goes_on { IfSome result (λ next. GoesOn (sums_parts self) (drop place body.now) (sums_parts next.0) (drop next.1 body.now)) }
-        ensures side { IfSome result (λ next. next.0.is_time ≡ self.is_time) }
-        ensures none { IfSome result (λ next. next.0.fraction ≡ false) }
-        ensures some { IfSome result (λ next. place < next.1) }
-        ensures within { IfSome result (λ next. next.1 ≤ length body.now) }
-    {
-        let end = place + number.length;
-        let unit = DurationUnit::of_designator(byte_at(body, end), self.is_time)?;
-        if !self.takes(&unit) {
-            return None;
-        }
-        let sums = self.with_whole(number.value as u32, &unit)?;
-        Some((sums, end + 1))
     }
 
     /// Whether a unit of this side may still come.
@@ -282,43 +251,6 @@ impl Sums {
         })
     }
 
-    /// The sums with the component at a place, and where it ends, if there is a number that it begins
-    /// with; otherwise the sums as they are.
-    #[inline(always)]
-    fn with_component(
-        self,
-        body: &[u8],
-        place: usize,
-        number: Option<DigitRun>,
-    ) -> Result<(Self, usize), ParseError>
-        requires place { place ≤ length body.now }
-        requires number { ForSome number (IsShortNumber body.now place) }
-        ensures goes_on { IfOk result (λ next. GoesOn (sums_parts self) (drop place body.now) (sums_parts next.0) (drop next.1 body.now)) }
-        ensures refused { IfErr result (λ fault. IsAnswerFrom (sums_parts self) (drop place body.now) (Err fault)) }
-        ensures within { IfOk result (λ next. next.1 ≤ length body.now) }
-    {
-        let Some(number) = number else {
-            return Ok((self, place));
-        };
-        let mut sums = self;
-        let size = sums.take_component(&body[place..], number)?;
-        Ok((sums, place + size))
-    }
-
-    /// Reads the items from a place on one by one, and adds them.
-    #[inline(always)]
-    fn with_rest(self, body: &[u8], start: usize) -> Result<UnsignedDuration, ParseError>
-        requires start { start ≤ length body.now }
-        ensures answer { IsAnswerFrom (sums_parts self) (drop start body.now) (result_map unsigned_parts result) }
-    {
-        let mut sums = self;
-        let mut place = start;
-        while place < body.len() {
-            place += sums.take_item(&body[place..])?;
-        }
-        sums.length()
-    }
-
     /// The length that all items add up to, if a component is among them.
     #[inline(always)]
     fn length(self) -> Result<UnsignedDuration, ParseError>
@@ -335,36 +267,46 @@ impl Sums {
         }
     }
 
-    /// Reads the item that begins a text, and adds it. Answers how many bytes it has.
-    #[inline(always)]
-    fn take_item(&mut self, text: &[u8]) -> Result<usize, ParseError>
-        requires { 0 < length text.now }
-        ensures answer { result ≡ meets (item_table (sums_parts self.old) (item_at text.now)) (Ok (item_length text.now)) }
-        ensures sums { IfOk result (λ _. sums_parts self.new ≡ with_item (item_at text.now) (sums_parts self.old)) }
-        ensures some { IfOk result (λ size. 0 < size) }
-        ensures within { IfOk result (λ size. size ≤ length text.now) }
+    /// Reads the items of a text one by one, with all that may be wrong in them, and adds them.
+    #[inline(never)]
+    fn with_items(self, text: &[u8]) -> Result<UnsignedDuration, ParseError>
+        ensures answer { result_map unsigned_parts result ≡ iso_from (sums_parts self) text.now }
     {
-        if text[0] == b'T' {
-            if self.is_time {
-                return Err(ParseError::DurationTRepeated);
-            }
-            *self = self.begin_time();
-            return Ok(1);
+        let mut sums = self;
+        let mut rest = text;
+        while !rest.is_empty() {
+            let (next, size) = sums.with_item(rest)?;
+            sums = next;
+            rest = &rest[size..];
         }
-        self.take_component(text, digit_run(text))
+        sums.length()
     }
 
-    /// Reads the component that begins a text, with this number, and adds it. Answers how many bytes it
-    /// has.
+    /// The sums with the item that begins a text, and how many bytes it has.
     #[inline(always)]
-    fn take_component(&mut self, text: &[u8], number: DigitRun) -> Result<usize, ParseError>
-        requires length { number.length ≡ run_length text.now 0 }
-        requires value { number.value ≡ min (run_value text.now 0) (2 ^ 64 - 1) }
-        ensures answer { result ≡ meets (item_table (sums_parts self.old) (Component (component_at text.now))) (Ok (component_length text.now)) }
-        ensures sums { IfOk result (λ _. sums_parts self.new ≡ with_item (Component (component_at text.now)) (sums_parts self.old)) }
-        ensures some { IfOk result (λ size. 0 < size) }
-        ensures within { IfOk result (λ size. size ≤ length text.now) }
+    fn with_item(self, text: &[u8]) -> Result<(Self, usize), ParseError>
+        requires { 0 < length text.now }
+        ensures item { result_map (with_size sums_parts) result ≡ item_front (sums_parts self) (item_at text.now) }
+        ensures some { IfOk result (λ next. 0 < next.1) }
+        ensures within { IfOk result (λ next. next.1 ≤ length text.now) }
     {
+        if text[0] != b'T' {
+            return self.with_component(text);
+        }
+        if self.is_time {
+            return Err(ParseError::DurationTRepeated);
+        }
+        Ok((self.begin_time(), 1))
+    }
+
+    /// The sums with the component that begins a text, and how many bytes it has.
+    #[inline(always)]
+    fn with_component(self, text: &[u8]) -> Result<(Self, usize), ParseError>
+        ensures item { result_map (with_size sums_parts) result ≡ item_front (sums_parts self) (Component (component_at text.now)) }
+        ensures some { IfOk result (λ next. 0 < next.1) }
+        ensures within { IfOk result (λ next. next.1 ≤ length text.now) }
+    {
+        let number = digit_run(text);
         if number.length == 0 {
             return Err(ParseError::DurationInvalidNumber);
         }
@@ -376,36 +318,34 @@ impl Sums {
         }
         let rest = &text[number.length..];
         let (size, microseconds) = fraction_at_front(rest);
-        let designator = byte_at(rest, size);
-        let unit = DurationUnit::of_designator(designator, self.is_time).ok_or(unit_fault(
+        let unit = DurationUnit::of_designator(byte_at(rest, size), self.is_time).ok_or(unit_fault(
             self.is_time,
         ))?;
         if !self.takes(&unit) {
             return Err(ParseError::DurationUnitOrder);
         }
-        self.add(number.value as u32, &unit, &rest[..size], microseconds)?;
-        Ok(number.length + size + 1)
+        let sums = self.with_amount(number.value as u32, &unit, &rest[..size], microseconds)?;
+        Ok((sums, number.length + size + 1))
     }
 
-    /// Adds so many of a unit, and a fraction of it, which is nothing or a decimal mark and digits, and
-    /// by these so many microseconds of a second.
+    /// The sums with so many of a unit, and a fraction of it, which is nothing or a decimal mark and
+    /// digits, and by these so many microseconds of a second.
     #[inline(always)]
-    fn add(
-        &mut self,
+    fn with_amount(
+        self,
         number: u32,
         unit: &DurationUnit,
         fraction: &[u8],
         microseconds: u32,
-    ) -> Result<(), ParseError>
-        requires none { self.old.fraction ≡ false }
-        requires unit { IsUnitOf self.old.is_time unit.now }
-        requires place { self.old.passed ≤ unit.now.place }
+    ) -> Result<Self, ParseError>
+        requires none { self.fraction ≡ false }
+        requires unit { IsUnitOf self.is_time unit.now }
+        requires place { self.passed ≤ unit.now.place }
         requires digits { IsTrue (list_all is_ascii_digit (drop 1 fraction.now)) }
         requires microseconds { microseconds ≡ fraction_value 6 (drop 1 fraction.now) }
         requires small { microseconds < 1000000 }
-        ensures counted { result ≡ (if are_counted (with_amount (unit_parts unit.now) number fraction.now (sums_parts self.old))
-            then Ok tt else Err fault.DurationValueTooLarge) }
-        ensures sums { IfOk result (λ _. sums_parts self.new ≡ with_amount (unit_parts unit.now) number fraction.now (sums_parts self.old)) }
+        ensures sums { result_map sums_parts result ≡ (if are_counted (with_amount (unit_parts unit.now) number fraction.now (sums_parts self))
+            then Ok (with_amount (unit_parts unit.now) number fraction.now (sums_parts self)) else Err fault.DurationValueTooLarge) }
     {
         let (whole, microsecond) = match fraction {
             [] => (0, 0),
@@ -421,7 +361,7 @@ impl Sums {
         if day > u64::from(u32::MAX) || second > u64::from(u32::MAX) {
             return Err(ParseError::DurationValueTooLarge);
         }
-        *self = Sums {
+        Ok(Sums {
             order: self.order,
             passed: self.passed_by(unit),
             is_time: self.is_time,
@@ -430,26 +370,8 @@ impl Sums {
             day: day as u32,
             second: second as u32,
             microsecond,
-        };
-        Ok(())
+        })
     }
-}
-
-/// The number at a place that has one to six digits, if there is one.
-#[inline(always)]
-fn short_number(text: &[u8], place: usize) -> Option<DigitRun>
-    requires { place ≤ length text.now }
-    ensures number { IfSome result (IsShortNumber text.now place) }
-    ensures some { is_some result ≡ (nat_lt 0 (run_length text.now place) && nat_le (run_length text.now place) 6) }
-{
-    let (value, end) = few_digits(text, place)?;
-    if end == place {
-        return None;
-    }
-    Some(DigitRun {
-        length: end - place,
-        value: u64::from(value),
-    })
 }
 
 /// How many bytes the fraction has that stands at the front of a text, its decimal mark and digits,

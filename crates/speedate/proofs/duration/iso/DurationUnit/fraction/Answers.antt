@@ -6,7 +6,7 @@ use Rattle.speedate_base.proofs.DigitRunLemmas.{fraction_value-filled}
 use Rattle.speedate_base.specs.Nearest.{nearest}
 use Rattle.speedate_base.proofs.NearestLemmas.{nearest-exact, scale-some}
 use Rattle.speedate.specs.IsoForm.{unit_seconds}
-use Rattle.speedate.specs.IsoSums.{unit_parts}
+use Rattle.speedate.specs.Reader.{unit_parts}
 use Rattle.speedate.proofs.duration.iso.DurationUnit.fraction.Goals as goal
 
 -- a million, by the digits that there are and those that are missing

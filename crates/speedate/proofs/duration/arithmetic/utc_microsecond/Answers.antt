@@ -2,7 +2,7 @@ use Rattle.std.proofs.Common.{arith}
 use Rattle.std.proofs.lemmas.Int.{ints}
 use Rattle.speedate_civil.specs.DateTime.{parts as date_time_parts}
 use Rattle.speedate_civil.proofs.DateTimeValueLemmas.{is_date_and_time, utc_second-small}
-use Rattle.speedate.proofs.duration.moved.utc_microsecond.Goals as goal
+use Rattle.speedate.proofs.duration.arithmetic.utc_microsecond.Goals as goal
 
 pub overflow_mul-result : goal.overflow_mul-result
 overflow_mul-result c =

@@ -1,0 +1,199 @@
+-- Items of ISO 8601 durations and the texts that begin with them.
+use Rattle.std.specs.Prelude.{◌≡◌, ℕ, suc, ◌+◌, ◌-◌, ◌<◌, ◌≤◌, Bool, true, false, not, List, [], ◌∷◌, ◌++◌, length, take, drop, slice_index, nat_lt, ◌==◌, if◌then◌else◌, Option, Some, None, Result, Ok, refl}
+use Rattle.std.specs.Char.{is_ascii_digit}
+use Rattle.std.specs.List.{list_all, prefix_len}
+use Rattle.std.specs.Option.{is_some}
+use Rattle.std.proofs.Common.{arith, ap, ap₂, sym, ◌∙◌, append_assoc, get_or, inl, inr, subst}
+use Rattle.std.proofs.Math.Seq.{take-append_seam, drop-append_seam, get_or-append_seam}
+use Rattle.std.proofs.lemmas.Bool.{and_parts, cases_lt, eqb-true, false≢true}
+use Rattle.std.proofs.lemmas.Bool.Decides.{nat_tests}
+use Rattle.std.proofs.lemmas.List.{drop-take, drop-drop, drop_more, take-append-drop, get_or_past, get_or-drop, length-append, length-take-le}
+use Rattle.std.proofs.lemmas.List.Sums.{prefix_len-le-length}
+use Rattle.speedate_base.specs.declared.faults.ParseError.{ParseError}
+use Rattle.speedate_base.specs.Ascii.{capital_t}
+use Rattle.speedate_base.specs.DigitRuns.{run_length, run_value}
+use Rattle.speedate_base.proofs.DigitRunLemmas.{run_length-append}
+use Rattle.speedate_base.proofs.NumberLemmas.{run-digits}
+use Rattle.speedate_base.specs.Requirement.{AllHold}
+use Rattle.speedate_base.proofs.RequirementLemmas.{meets-all}
+use Rattle.speedate.specs.IsoForm.{DurationUnit, units, unit_in, ComponentText, Item, TimeDesignator, Component, item_text, is_decimal_mark, IsFraction, IsItem, fraction_length, component_at, item_at, Sums, with_amount, with_component, with_item, item_table, are_counted}
+use Rattle.speedate.specs.Reader.{item_front}
+
+-- the designator of a unit is no digit and no decimal mark
+unit-designator : (is_time : Bool) (designator : ℕ) → is_some (unit_in (units is_time) designator) ≡ true → (is_ascii_digit designator ≡ false) × (is_decimal_mark designator ≡ false)
+unit-designator true designator has = (grind (arith, nat_tests, has), grind (arith, nat_tests, has))
+unit-designator false designator has = (grind (arith, nat_tests, has), grind (arith, nat_tests, has))
+
+-- no digit is a decimal mark
+mark-no_digit : (byte : ℕ) → is_decimal_mark byte ≡ true → is_ascii_digit byte ≡ false
+mark-no_digit byte is = grind (arith, nat_tests, is)
+
+-- digits end before a byte that is none
+run-end : (digits : List ℕ) (byte : ℕ) (rest : List ℕ) → list_all is_ascii_digit digits ≡ true → is_ascii_digit byte ≡ false
+    → prefix_len is_ascii_digit (digits ++ byte ∷ rest) ≡ length digits
+run-end digits byte rest all other = run_length-append digits (byte ∷ rest) all ∙ rw other (omega arith)
+
+-- a fraction ends before a designator
+fraction-end : (fraction : List ℕ) (designator : ℕ) (rest : List ℕ) → IsFraction fraction → is_ascii_digit designator ≡ false → is_decimal_mark designator ≡ false
+    → fraction_length (fraction ++ designator ∷ rest) ≡ length fraction
+fraction-end [] designator rest is digit point = rw point refl
+fraction-end (mark ∷ digits) designator rest is digit point = rw (is.0, run-end digits designator rest is.1 digit) (omega arith)
+
+-- nor does it begin with a digit
+number-end : (number fraction : List ℕ) (designator : ℕ) (rest : List ℕ) → list_all is_ascii_digit number ≡ true → IsFraction fraction → is_ascii_digit designator ≡ false
+    → prefix_len is_ascii_digit (number ++ (fraction ++ designator ∷ rest)) ≡ length number
+number-end number [] designator rest all is digit = run-end number designator rest all digit
+number-end number (mark ∷ digits) designator rest all is digit = run-end number mark (digits ++ designator ∷ rest) all (mark-no_digit mark is.0)
+
+-- digits begin with no `T`
+pub number-no_designator : (number rest : List ℕ) → nat_lt 0 (length number) ≡ true → list_all is_ascii_digit number ≡ true
+    → (slice_index (number ++ rest) 0 == capital_t) ≡ false
+number-no_designator [] rest some all = absurd (cc)
+number-no_designator (digit ∷ number) rest some all = grind (arith, nat_tests, (and_parts (is_ascii_digit digit) _ all).0)
+
+-- the beginning of a component's text is the component
+component_at-text : (component : ComponentText) (rest : List ℕ) → IsItem (Component component) → is_ascii_digit component.designator ≡ false → is_decimal_mark component.designator ≡ false
+    → component_at (component.number ++ (component.fraction ++ component.designator ∷ rest)) ≡ component
+component_at-text component rest is digit point =
+    let later = component.fraction ++ component.designator ∷ rest in
+    rw (
+      number-end component.number component.fraction component.designator rest is.0 is.1 digit,
+      take-append_seam component.number later,
+      drop-append_seam component.number later,
+      fraction-end component.fraction component.designator rest is.1 digit point,
+      take-append_seam component.fraction (component.designator ∷ rest),
+      get_or-append_seam component.fraction component.designator rest 0,
+    ) refl
+
+-- its text is its parts before what follows
+amount-joined : (component : ComponentText) (rest : List ℕ) → item_text (Component component) ++ rest ≡ component.number ++ (component.fraction ++ component.designator ∷ rest)
+amount-joined component rest = simp append_assoc
+
+-- so what begins with a number and ends with the designator of a unit is one item, whatever follows
+pub item_at-amount : (is_time : Bool) (component : ComponentText) (rest : List ℕ) → IsItem (Component component) → nat_lt 0 (length component.number) ≡ true
+    → is_some (unit_in (units is_time) component.designator) ≡ true → item_at (item_text (Component component) ++ rest) ≡ Component component
+item_at-amount is_time component rest is some has =
+    let unit = unit-designator is_time component.designator has in
+    rw (amount-joined component rest, number-no_designator component.number (component.fraction ++ component.designator ∷ rest) some is.0)
+    (ap Component (component_at-text component rest is unit.0 unit.1))
+
+-- and a good item is read back from its text
+pub item_at-text : (sums : Sums) (item : Item) (rest : List ℕ) → IsItem item → AllHold (item_table sums item) → item_at (item_text item ++ rest) ≡ item
+item_at-text sums TimeDesignator rest is all = refl
+item_at-text sums (Component component) rest is all = item_at-amount sums.is_time component rest is all.0 all.1.1.1.0
+
+-- after a decimal mark stand digits
+digits-after : (text : List ℕ) (has_mark : Bool) → list_all is_ascii_digit (drop 1 (take (if has_mark then 1 + run_length text 1 else 0) text)) ≡ true
+digits-after text true = ap (list_all is_ascii_digit) (drop-take 1 (run_length text 1) text) ∙ run-digits (drop 1 text)
+digits-after text false = refl
+
+pub fraction-digits : (text : List ℕ) → list_all is_ascii_digit (drop 1 (take (fraction_length text) text)) ≡ true
+fraction-digits text = digits-after text (is_decimal_mark (slice_index text 0))
+
+-- what has the length of a fraction is one
+fraction-front : (text : List ℕ) (has_mark : Bool) → is_decimal_mark (slice_index text 0) ≡ has_mark → IsFraction (take (if has_mark then 1 + run_length text 1 else 0) text)
+fraction-front text false same = tt
+fraction-front [] true same = absurd (false≢true same)
+fraction-front (mark ∷ text) true same =
+    let more : 1 + run_length (mark ∷ text) 1 ≡ suc (run_length text 0) = omega arith in
+    subst (λ (n : ℕ). IsFraction (take n (mark ∷ text))) (sym more) (same, run-digits text)
+
+-- how many bytes a component has, from the lengths of its parts
+pub component-size : (text : List ℕ) → fraction_length (drop (run_length text 0) text) ≤ length (drop (run_length text 0) text)
+    → length (item_text (Component (component_at text))) ≡ run_length text 0 + fraction_length (drop (run_length text 0) text) + 1
+component-size text within =
+    let count = run_length text 0 in
+    let rest : List ℕ = drop count text in
+    let size = fraction_length rest in
+    let number = length-take-le count text (prefix_len-le-length is_ascii_digit text) in
+    let fraction = length-take-le size rest within in
+    omega (arith, number, fraction, length-append (take count text ++ take size rest) (slice_index rest size ∷ []), length-append (take count text) (take size rest))
+
+no-unit : (is_time : Bool) → is_some (unit_in (units is_time) 0) ≡ false
+no-unit true = refl
+no-unit false = refl
+
+-- a designator with a unit stands within its text
+designator-within : (is_time : Bool) (text : List ℕ) (place : ℕ) → is_some (unit_in (units is_time) (slice_index text place)) ≡ true → place < length text
+designator-within is_time text place some = elim (cases_lt place (length text)) [
+  | inl within ↦ within
+  | inr past ↦ absurd (false≢true (sym (no-unit is_time) ∙ sym (ap (λ (designator : ℕ). is_some (unit_in (units is_time) designator)) (get_or_past text place 0 past)) ∙ some))
+]
+
+-- a text by its parts
+parted : (text : List ℕ) (n m : ℕ) → m < length (drop n text)
+    → text ≡ (take n text ++ take m (drop n text) ++ slice_index (drop n text) m ∷ []) ++ drop (n + m + 1) text
+parted text n m within =
+    let rest = drop n text in
+    let last = drop_more rest m 0 within in
+    let places : n + (m + 1) ≡ n + m + 1 = omega arith in
+    let later = drop-drop (m + 1) n text ∙ ap (λ (k : ℕ). drop k text) places in
+    let cut = ap (λ (end : List ℕ). take m rest ++ end) (last ∙ ap (λ (end : List ℕ). get_or rest m 0 ∷ end) later) in
+    simp append_assoc (sym (take-append-drop n text) ∙ ap (λ (end : List ℕ). take n text ++ end) (sym (take-append-drop m rest) ∙ cut))
+
+-- what begins a text as an item and meets the table is an item, and the text is its text and the rest
+front-of : (sums : Sums) (byte : ℕ) (rest : List ℕ) (is_time : Bool) → (byte == capital_t) ≡ is_time
+    → AllHold (item_table sums (if is_time then TimeDesignator else Component (component_at (byte ∷ rest))))
+    → IsItem (if is_time then TimeDesignator else Component (component_at (byte ∷ rest)))
+    × (byte ∷ rest ≡ item_text (if is_time then TimeDesignator else Component (component_at (byte ∷ rest)))
+    ++ drop (length (item_text (if is_time then TimeDesignator else Component (component_at (byte ∷ rest)))) - 1) rest)
+front-of sums byte rest true same hold = (tt, ap (λ (byte : ℕ). byte ∷ rest) (eqb-true byte capital_t same))
+front-of sums byte rest false same hold =
+    let text : List ℕ = byte ∷ rest in
+    let count = run_length text 0 in
+    let later = drop count text in
+    let size = fraction_length later in
+    let within = designator-within sums.is_time later size hold.1.1.1.0 in
+    let sized : count + size + 1 ≡ suc (length (item_text (Component (component_at text))) - 1) = omega (arith, component-size text (omega (arith, within))) in (
+      (run-digits text, fraction-front later (is_decimal_mark (slice_index later 0)) refl),
+      parted text count size within ∙ ap (λ (n : ℕ). item_text (Component (component_at text)) ++ drop n text) sized,
+    )
+
+pub item-front : (sums : Sums) (byte : ℕ) (rest : List ℕ) → AllHold (item_table sums (item_at (byte ∷ rest)))
+    → IsItem (item_at (byte ∷ rest)) × (byte ∷ rest ≡ item_text (item_at (byte ∷ rest)) ++ drop (length (item_text (item_at (byte ∷ rest))) - 1) rest)
+item-front sums byte rest = front-of sums byte rest (byte == capital_t) refl
+
+-- a text that begins with digits begins with no `T`
+number-first : (text : List ℕ) → 0 < run_length text 0 → (slice_index text 0 == capital_t) ≡ false
+number-first text some =
+    let count = run_length text 0 in
+    let long : length (take count text) ≡ count = length-take-le count text (prefix_len-le-length is_ascii_digit text) in
+    subst (λ (text : List ℕ). (slice_index text 0 == capital_t) ≡ false) (take-append-drop count text)
+    (number-no_designator (take count text) (drop count text) (grind (arith, nat_tests, some, long)) (run-digits text))
+
+-- a number of few digits, as it was read
+few-parts : (number value end count : ℕ) (few : Bool)
+    → ◌≡◌ {A = Option (ℕ × ℕ)} (Some (number, end)) (if few then Some (value, count) else None) → (number ≡ value) × (end ≡ count)
+few-parts number value end count true same =
+    let parts : ◌≡◌ {A = ℕ × ℕ} (number, end) (value, count) = cc in
+    (ap (λ (part : ℕ × ℕ). part.0) parts, ap (λ (part : ℕ × ℕ). part.1) parts)
+few-parts number value end count false same = absurd (cc)
+
+-- with the designator of a unit after it, it is a component, which adds so many of the unit
+pub short-front : (sums next : Sums) (text : List ℕ) (number end designator : ℕ) (few : Bool) (unit : DurationUnit)
+    → ◌≡◌ {A = Option (ℕ × ℕ)} (Some (number, end)) (if few then Some (run_value text 0, 0 + run_length text 0) else None) → 0 < end → number ≤ 4294967295 → designator ≡ slice_index text end
+    → sums.fraction ≡ false → Some unit ≡ unit_in (units sums.is_time) designator → is_some (unit_in sums.next_units designator) ≡ true
+    → next ≡ with_amount unit number [] sums → are_counted (with_amount unit number [] sums) ≡ true
+    → ◌≡◌ {A = Result (Sums × ℕ) ParseError} (Ok (next, end + 1)) (item_front sums (item_at text))
+short-front sums next text number end designator few unit read some small there none is comes added counted =
+    let parts = few-parts number (run_value text 0) end (0 + run_length text 0) few read in
+    let count = run_length text 0 in
+    let rest : List ℕ = drop count text in
+    let component : ComponentText = record { number = take count text; fraction = []; designator = designator } in
+    let first : slice_index rest 0 ≡ designator = get_or-drop count text 0 0 ∙ ap (slice_index text) (omega (arith, parts.1)) ∙ sym there in
+    let mark = ap is_decimal_mark first ∙ (unit-designator sums.is_time designator (ap is_some (sym is))).1 in
+    let whole : component_at text ≡ component =
+    ap (λ (mark : Bool). let size = if mark then 1 + run_length rest 1 else 0 in record { number = take count text; fraction = take size rest; designator = slice_index rest size }) mark
+    ∙ ap (λ (byte : ℕ). record component { designator = byte }) first in
+    let item : item_at text ≡ Component component = ap (λ (is_time : Bool). if is_time then TimeDesignator else Component (component_at text)) (number-first text (omega (arith, some, parts.1)))
+    ∙ ap Component whole in
+    let same : with_item (Component component) sums ≡ next = ap (λ (unit : Option DurationUnit). with_component unit component sums) (sym is)
+    ∙ ap (λ (n : ℕ). with_amount unit n [] sums) (sym parts.0) ∙ sym added in
+    let long : length (take count text) ≡ count = length-take-le count text (prefix_len-le-length is_ascii_digit text) in
+    let all : AllHold (item_table sums (Component component)) = (
+      grind (arith, nat_tests, some, parts.1, long),
+      (grind (arith, nat_tests, small, parts.0), (ap not none, (ap is_some (sym is), (comes, (ap are_counted (same ∙ added) ∙ counted, tt))))),
+    ) in
+    let sized : length (item_text (Component component)) ≡ end + 1 =
+    omega (arith, parts.1, long, length-append (take count text ++ []) (designator ∷ []), length-append (take count text) []) in
+    sym (ap (item_front sums) item ∙ meets-all (item_table sums (Component component)) _ all ∙ ap₂ (λ (sums : Sums) (size : ℕ). Ok (sums, size)) same sized)

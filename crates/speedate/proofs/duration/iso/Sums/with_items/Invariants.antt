@@ -1,0 +1,10 @@
+use Rattle.std.proofs.Common.{◌≡◌, length}
+use Rattle.speedate.specs.DurationAnswer.{iso_from}
+use Rattle.speedate.specs.Reader.{sums_parts}
+use Rattle.speedate.proofs.duration.iso.Sums.with_items.Given as goal
+
+abbrev pub invariant-loop-rest : goal.invariant-loop-rest
+invariant-loop-rest l = iso_from (sums_parts l.sums) l.rest ≡ iso_from (sums_parts l.fn.self) l.text
+
+abbrev pub decreases-loop-rest : goal.decreases-loop-rest
+decreases-loop-rest l = length l.rest
