@@ -52,17 +52,6 @@ fraction-length microsecond =
 pub second-length : (second : ℕ) → second < 60 → length (decimal second) ≤ 2
 second-length second small = length-decimal-le 2 second (lit< tt) (omega (arith, small)) (omega (arith, small))
 
-pub seconds-length : (second microsecond : ℕ) → second < 60 → length (seconds_text second microsecond) ≤ 10
-seconds-length second microsecond small =
-    chosen-length ((second == 0) && (microsecond == 0)) (decimal second ++ short_fraction_text microsecond ++ capital_s ∷ []) 10
-    (omega (
-      arith,
-      length-append (decimal second ++ short_fraction_text microsecond) (capital_s ∷ []),
-      length-append (decimal second) (short_fraction_text microsecond),
-      fraction-length microsecond,
-      second-length second small,
-    ))
-
 pub start-length : (positive : Bool) → length (start_text positive) ≤ 2
 start-length true = omega arith
 start-length false = omega arith
