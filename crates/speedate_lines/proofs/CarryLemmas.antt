@@ -1,7 +1,7 @@
 -- Of a line that is too long, its first 4,097 bytes tell that it is.
-use Rattle.std.proofs.Common.{◌≡◌, ◌∙◌, ap, sym, refl, ℕ, List, [], ◌∷◌, ◌++◌, length, take, append-nil, arith, inl, inr}
+use Rattle.std.proofs.Common.{◌≡◌, ◌∙◌, ap, sym, refl, ℕ, zero, suc, List, [], ◌∷◌, ◌++◌, length, take, arith, inl, inr}
 use Rattle.std.proofs.lemmas.Bool.{cases_lt, ne_eqb}
-use Rattle.std.proofs.lemmas.List.{take_all, length-take, length-append, take-append-le}
+use Rattle.std.proofs.lemmas.List.{take_all, length-take}
 use Rattle.std.proofs.lemmas.List.Elements.{All-head, All-tail, All-take}
 use Rattle.std.proofs.lemmas.Grind.{flat_map-append}
 use Rattle.speedate.specs.Ascii.{line_feed}
@@ -12,24 +12,17 @@ use Rattle.speedate_lines.proofs.AnswerLemmas.{line_answer-long}
 use Rattle.speedate_lines.proofs.LineLemmas.{EndsNoLine, IsFree, unfinished-free, pieces-append}
 
 -- a line answers as its kept part does
-line_answer-kept : (line more : List ℕ) → line_answer (kept_part line ++ more) ≡ line_answer (line ++ more)
-line_answer-kept line more = elim (cases_lt 4097 (length line)) [
-  | inr short ↦ ap (λ (front : List ℕ). line_answer (front ++ more)) (take_all 4097 line short)
-  | inl long ↦
-      let kept : length (kept_part line) ≡ 4097 = omega (arith, length-take 4097 line) in
-      line_answer-long (kept_part line ++ more) (omega (arith, length-append (kept_part line) more))
-      ∙ sym (line_answer-long (line ++ more) (omega (arith, length-append line more)))
+line_answer-kept : (line : List ℕ) → line_answer (kept_part line) ≡ line_answer line
+line_answer-kept line = elim (cases_lt 4096 (length line)) [
+  | inr short ↦ ap line_answer (take_all 4097 line (omega arith))
+  | inl long ↦ line_answer-long (kept_part line) (omega (arith, length-take 4097 line)) ∙ sym (line_answer-long line long)
 ]
 
-take-kept : (line more : List ℕ) → take 4097 (kept_part line ++ more) ≡ take 4097 (line ++ more)
-take-kept line more = elim (cases_lt 4097 (length line)) [
-  | inr short ↦ ap (λ (front : List ℕ). take 4097 (front ++ more)) (take_all 4097 line short)
-  | inl long ↦
-      let kept : length (kept_part line) ≡ 4097 = omega (arith, length-take 4097 line) in
-      take-append-le 4097 (kept_part line) more (omega arith)
-      ∙ take_all 4097 (kept_part line) (omega arith)
-      ∙ sym (take-append-le 4097 line more (omega arith))
-]
+-- and it is kept so far too, whatever follows
+take-kept : (n : ℕ) (line more : List ℕ) → take n (take n line ++ more) ≡ take n (line ++ more)
+take-kept zero line more = refl
+take-kept (suc n) [] more = refl
+take-kept (suc n) (byte ∷ bytes) more = ap (λ (rest : List ℕ). byte ∷ rest) (take-kept n bytes more)
 
 answers-append : (xs ys : List (List ℕ)) → answers (xs ++ ys) ≡ answers xs ++ answers ys
 answers-append xs ys = flat_map-append (λ (line : List ℕ). line_answer line ++ line_feed ∷ []) xs ys
@@ -59,9 +52,10 @@ abbrev done : Pieces → List ℕ × List ℕ
 done all = (answers all.complete, kept_part all.unfinished)
 
 before-kept : (line : List ℕ) (lines : List (List ℕ)) (last : List ℕ) → done (before (kept_part line) lines last) ≡ done (before line lines last)
-before-kept line [] last = ap (λ (kept : List ℕ). (answers [], kept)) (take-kept line last)
+before-kept line [] last = ap (λ (kept : List ℕ). (answers [], kept)) (take-kept 4097 line last)
 before-kept line (first ∷ lines) last =
-    ap (λ (text : List ℕ). ((text ++ line_feed ∷ []) ++ answers lines, kept_part last)) (line_answer-kept line first)
+    ap (λ (answer : List ℕ). ((answer ++ line_feed ∷ []) ++ answers lines, kept_part last))
+    (sym (line_answer-kept (kept_part line ++ first)) ∙ ap line_answer (take-kept 4097 line first) ∙ line_answer-kept (line ++ first))
 
 -- the unfinished line may be cut to what is kept of it before the text goes on
 pieces-kept : (line more : List ℕ) → IsFree line → done (pieces (kept_part line ++ more)) ≡ done (pieces (line ++ more))
@@ -91,10 +85,7 @@ kept-more text more kept block cut joined = ap (λ (all : List ℕ × List ℕ).
 
 answers-last : (last : List ℕ) → answers (last_line (kept_part last)) ≡ answers (last_line last)
 answers-last [] = refl
-answers-last (byte ∷ bytes) =
-    let line : List ℕ = byte ∷ bytes in
-    let same = ap line_answer (sym (append-nil (kept_part line))) ∙ line_answer-kept line [] ∙ ap line_answer (append-nil line) in
-    ap (λ (text : List ℕ). (text ++ line_feed ∷ []) ++ []) same
+answers-last (byte ∷ bytes) = ap (λ (answer : List ℕ). (answer ++ line_feed ∷ []) ++ []) (line_answer-kept (byte ∷ bytes))
 
 -- at the end of a text its unfinished line is answered too, from what was kept of it
 pub answers-all : (text last : List ℕ) → last ≡ kept_part (unfinished_line text) → answers (complete_lines text) ++ answers (last_line last) ≡ answers (lines text)
