@@ -1,13 +1,13 @@
 -- What is printed of a duration is short.
-use Rattle.std.specs.Prelude.{◌≡◌, ℕ, suc, ◌+◌, ◌/◌, ◌%◌, ◌^◌, ◌<◌, ◌≤◌, Bool, true, false, ◌&&◌, ◌==◌, List, [], ◌∷◌, ◌++◌, length, if◌then◌else◌, refl}
+use Rattle.std.specs.Prelude.{◌≡◌, ℕ, suc, ◌+◌, ◌/◌, ◌%◌, ◌^◌, ◌<◌, ◌≤◌, Bool, true, false, ◌==◌, List, [], ◌∷◌, ◌++◌, length, if◌then◌else◌, refl}
 use Rattle.std.specs.Fmt.{decimal}
 use Rattle.std.proofs.Common.{arith, lit<}
 use Rattle.std.proofs.lemmas.List.{length-append}
 use Rattle.std.proofs.lemmas.Fmt.{length-decimal-le}
 use Rattle.std.proofs.lemmas.Str.{encode_ascii}
-use Rattle.speedate_base.specs.Ascii.{digit_zero, full_stop, capital_d, capital_h, capital_m, capital_s, capital_y}
+use Rattle.speedate_base.specs.Ascii.{digit_zero, full_stop, capital_d, capital_h, capital_m, capital_y}
 use Rattle.speedate_base.specs.Digits.{six_digit_text}
-use Rattle.speedate.specs.DurationText.{counted_text, kept_digit, without_last_zeros, short_fraction_text, seconds_text, start_text}
+use Rattle.speedate.specs.DurationText.{counted_text, kept_digit, without_last_zeros, short_fraction_text, start_text}
 
 -- what stays is no more than there was
 kept-length : (digit : ℕ) (test : Bool) (rest : List ℕ) → (digit == digit_zero) ≡ test → length (kept_digit digit rest) ≤ suc (length rest)
@@ -51,17 +51,6 @@ fraction-length microsecond =
 -- seconds
 pub second-length : (second : ℕ) → second < 60 → length (decimal second) ≤ 2
 second-length second small = length-decimal-le 2 second (lit< tt) (omega (arith, small)) (omega (arith, small))
-
-pub seconds-length : (second microsecond : ℕ) → second < 60 → length (seconds_text second microsecond) ≤ 10
-seconds-length second microsecond small =
-    chosen-length ((second == 0) && (microsecond == 0)) (decimal second ++ short_fraction_text microsecond ++ capital_s ∷ []) 10
-    (omega (
-      arith,
-      length-append (decimal second ++ short_fraction_text microsecond) (capital_s ∷ []),
-      length-append (decimal second) (short_fraction_text microsecond),
-      fraction-length microsecond,
-      second-length second small,
-    ))
 
 pub start-length : (positive : Bool) → length (start_text positive) ≤ 2
 start-length true = omega arith

@@ -13,9 +13,7 @@ ghost use Rattle.speedate_c.specs.Code.{answer_code, buffer_too_small, config_ou
 ghost use Rattle.speedate_c.specs.Config.{choices_of, flags};
 ghost use Rattle.speedate_c.specs.Date.{date_of, shown_date};
 
-use crate::code::{
-    CONFIG_OUT_OF_RANGE, NO_SUCH_DATE, SUCCESS, VALUE_OUT_OF_RANGE, fault_code, order_number,
-};
+use crate::code::{NO_SUCH_DATE, SUCCESS, VALUE_OUT_OF_RANGE, order_number};
 use crate::config::{SpeedateConfig, flag};
 use crate::text::write_text;
 use speedate::{Date, DateConfig, ParseError};
@@ -60,13 +58,9 @@ impl SpeedateDate {
 pub(crate) fn write_date(answer: Result<Date, ParseError>, out: &mut SpeedateDate) -> i32
     ensures after { (result, out.new) ≡ after_answer shown_date out.old (result_map parts answer) }
 {
-    match answer {
-        Ok(date) => {
-            *out = SpeedateDate::from_value(&date);
-            SUCCESS
-        }
-        Err(fault) => fault_code(fault),
-    }
+    let date = answer_or_return!(answer);
+    *out = SpeedateDate::from_value(&date);
+    SUCCESS
 }
 
 /// Writes a date, if there is one, and gives the code.
@@ -105,9 +99,7 @@ pub extern "C" fn speedate_date_parse(
     ensures answer { (result, out.new) ≡ with_option (choices_of config) (config_out_of_range, out.old)
         (λ config. after_answer shown_date out.old (date_or_timestamp config.unit text.now)) }
 {
-    let Some(config) = config.to_config() else {
-        return CONFIG_OUT_OF_RANGE;
-    };
+    let config = config_or_return!(config);
     let config = DateConfig {
         timestamp_unit: config.timestamp_unit,
     };
@@ -133,14 +125,10 @@ pub extern "C" fn speedate_date_parse_front(
 ) -> i32
     ensures answer { (result, out.new, size.new) ≡ after_front shown_date out.old size.old (date_front text.now) }
 {
-    match Date::parse_front(text) {
-        Ok((date, count)) => {
-            *out = SpeedateDate::from_value(&date);
-            *size = count;
-            SUCCESS
-        }
-        Err(fault) => fault_code(fault),
-    }
+    let (date, count) = answer_or_return!(Date::parse_front(text));
+    *out = SpeedateDate::from_value(&date);
+    *size = count;
+    SUCCESS
 }
 
 /// Whether the numbers are those of a date, as [`Date::new`] tells: `SUCCESS`, or the fault of the
@@ -149,10 +137,8 @@ pub extern "C" fn speedate_date_parse_front(
 pub extern "C" fn speedate_date_check(date: SpeedateDate) -> i32
     ensures answer { result ≡ answer_code (date_of date) }
 {
-    match date.to_value() {
-        Ok(_) => SUCCESS,
-        Err(fault) => fault_code(fault),
-    }
+    let _ = answer_or_return!(date.to_value());
+    SUCCESS
 }
 
 /// Prints a date into a buffer, with a zero byte after it, as [`Date::to_text`] gives it:
@@ -167,9 +153,7 @@ pub extern "C" fn speedate_date_to_text(
         (λ date. after_text (date_text date) buffer.old text_length.old) }
     ensures room { 11 ≤ length buffer.old → result ≢ buffer_too_small }
 {
-    let Ok(date) = date.to_value() else {
-        return VALUE_OUT_OF_RANGE;
-    };
+    let date = value_or_return!(date);
     print_date(&date, buffer, text_length)
 }
 
@@ -185,12 +169,8 @@ pub extern "C" fn speedate_date_compare(
         (λ first. with_value (date_of second) (value_out_of_range, out.old)
         (λ second. after_value (order_number (date_order first second)))) }
 {
-    let Ok(first) = first.to_value() else {
-        return VALUE_OUT_OF_RANGE;
-    };
-    let Ok(second) = second.to_value() else {
-        return VALUE_OUT_OF_RANGE;
-    };
+    let first = value_or_return!(first);
+    let second = value_or_return!(second);
     *out = order_number(first.cmp(&second));
     SUCCESS
 }
@@ -211,9 +191,7 @@ pub extern "C" fn speedate_date_from_timestamp(
         (λ config. with_option (slice_get flags require_exact) (value_out_of_range, out.old)
         (λ exact. after_answer shown_date out.old (date_timestamp_answer config.unit exact timestamp))) }
 {
-    let Some(config) = config.to_config() else {
-        return CONFIG_OUT_OF_RANGE;
-    };
+    let config = config_or_return!(config);
     let Some(exact) = flag(require_exact) else {
         return VALUE_OUT_OF_RANGE;
     };
@@ -229,9 +207,7 @@ pub extern "C" fn speedate_date_timestamp(date: SpeedateDate, out: &mut i64) -> 
     ensures answer { (result, out.new) ≡ with_value (date_of date) (value_out_of_range, out.old)
         (λ date. after_value (midnight_second date)) }
 {
-    let Ok(date) = date.to_value() else {
-        return VALUE_OUT_OF_RANGE;
-    };
+    let date = value_or_return!(date);
     *out = date.timestamp();
     SUCCESS
 }
@@ -243,9 +219,7 @@ pub extern "C" fn speedate_date_timestamp_ms(date: SpeedateDate, out: &mut i64) 
     ensures answer { (result, out.new) ≡ with_value (date_of date) (value_out_of_range, out.old)
         (λ date. after_value (midnight_millisecond date)) }
 {
-    let Ok(date) = date.to_value() else {
-        return VALUE_OUT_OF_RANGE;
-    };
+    let date = value_or_return!(date);
     *out = date.timestamp_ms();
     SUCCESS
 }
@@ -257,9 +231,7 @@ pub extern "C" fn speedate_date_day_number(date: SpeedateDate, out: &mut u32) ->
     ensures answer { (result, out.new) ≡ with_value (date_of date) (value_out_of_range, out.old)
         (λ date. after_value (day_number date)) }
 {
-    let Ok(date) = date.to_value() else {
-        return VALUE_OUT_OF_RANGE;
-    };
+    let date = value_or_return!(date);
     *out = date.day_number();
     SUCCESS
 }
@@ -279,9 +251,7 @@ pub extern "C" fn speedate_date_ordinal_day(date: SpeedateDate, out: &mut u16) -
     ensures answer { (result, out.new) ≡ with_value (date_of date) (value_out_of_range, out.old)
         (λ date. after_value (ordinal_day date)) }
 {
-    let Ok(date) = date.to_value() else {
-        return VALUE_OUT_OF_RANGE;
-    };
+    let date = value_or_return!(date);
     *out = date.ordinal_day();
     SUCCESS
 }
@@ -298,9 +268,7 @@ pub extern "C" fn speedate_date_add_days(
     ensures answer { (result, out.new) ≡ with_value (date_of date) (value_out_of_range, out.old)
         (λ date. after_optional_date shown_date out.old (date_added days date)) }
 {
-    let Ok(date) = date.to_value() else {
-        return VALUE_OUT_OF_RANGE;
-    };
+    let date = value_or_return!(date);
     write_some(date.checked_add_days(days), out)
 }
 
@@ -316,12 +284,8 @@ pub extern "C" fn speedate_date_days_since(
         (λ date. with_value (date_of earlier) (value_out_of_range, out.old)
         (λ earlier. after_value (days_between earlier date))) }
 {
-    let Ok(date) = date.to_value() else {
-        return VALUE_OUT_OF_RANGE;
-    };
-    let Ok(earlier) = earlier.to_value() else {
-        return VALUE_OUT_OF_RANGE;
-    };
+    let date = value_or_return!(date);
+    let earlier = value_or_return!(earlier);
     *out = date.days_since(&earlier);
     SUCCESS
 }

@@ -14,7 +14,7 @@ ghost use Rattle.speedate_c.specs.Code.{answer_code, buffer_too_small, config_ou
 ghost use Rattle.speedate_c.specs.Config.{choices_of};
 ghost use Rattle.speedate_c.specs.DateTime.{date_time_of, shown_date_time};
 
-use crate::code::{CONFIG_OUT_OF_RANGE, SUCCESS, VALUE_OUT_OF_RANGE, fault_code, order_number};
+use crate::code::{SUCCESS, order_number};
 use crate::config::SpeedateConfig;
 use crate::date::SpeedateDate;
 use crate::text::write_text;
@@ -64,13 +64,9 @@ pub(crate) fn write_date_time(
 ) -> i32
     ensures after { (result, out.new) ≡ after_answer shown_date_time out.old (result_map parts answer) }
 {
-    match answer {
-        Ok(value) => {
-            *out = SpeedateDateTime::from_value(&value);
-            SUCCESS
-        }
-        Err(fault) => fault_code(fault),
-    }
+    let value = answer_or_return!(answer);
+    *out = SpeedateDateTime::from_value(&value);
+    SUCCESS
 }
 
 /// Reads a date-time from a text, or from a timestamp that stands there instead, as
@@ -88,9 +84,7 @@ pub extern "C" fn speedate_datetime_parse(
         (λ config. after_answer shown_date_time out.old
         (date_time_or_timestamp config.unit config.behavior config.offset text.now)) }
 {
-    let Some(config) = config.to_config() else {
-        return CONFIG_OUT_OF_RANGE;
-    };
+    let config = config_or_return!(config);
     write_date_time(DateTime::parse_bytes_with_config(text, &config), out)
 }
 
@@ -106,9 +100,7 @@ pub extern "C" fn speedate_datetime_parse_rfc3339(
     ensures answer { (result, out.new) ≡ with_option (choices_of config) (config_out_of_range, out.old)
         (λ config. after_answer shown_date_time out.old (date_time_answer config.behavior text.now)) }
 {
-    let Some(config) = config.to_config() else {
-        return CONFIG_OUT_OF_RANGE;
-    };
+    let config = config_or_return!(config);
     let answer = DateTime::parse_bytes_rfc3339_with_config(text, &config.time_config);
     write_date_time(answer, out)
 }
@@ -125,9 +117,7 @@ pub extern "C" fn speedate_datetime_parse_strict(
     ensures answer { (result, out.new) ≡ with_option (choices_of config) (config_out_of_range, out.old)
         (λ config. after_answer shown_date_time out.old (strict_date_time_answer config.behavior text.now)) }
 {
-    let Some(config) = config.to_config() else {
-        return CONFIG_OUT_OF_RANGE;
-    };
+    let config = config_or_return!(config);
     let behavior = config.time_config.microseconds_precision_overflow_behavior;
     write_date_time(DateTime::parse_bytes_strict(text, behavior), out)
 }
@@ -145,17 +135,11 @@ pub extern "C" fn speedate_datetime_parse_front(
     ensures answer { (result, out.new, size.new) ≡ with_option (choices_of config) (config_out_of_range, out.old, size.old)
         (λ config. after_front shown_date_time out.old size.old (date_time_front config.behavior text.now)) }
 {
-    let Some(config) = config.to_config() else {
-        return CONFIG_OUT_OF_RANGE;
-    };
-    match DateTime::parse_front(text, &config.time_config) {
-        Ok((value, count)) => {
-            *out = SpeedateDateTime::from_value(&value);
-            *size = count;
-            SUCCESS
-        }
-        Err(fault) => fault_code(fault),
-    }
+    let config = config_or_return!(config);
+    let (value, count) = answer_or_return!(DateTime::parse_front(text, &config.time_config));
+    *out = SpeedateDateTime::from_value(&value);
+    *size = count;
+    SUCCESS
 }
 
 /// Whether the numbers are those of a date-time: `SUCCESS`, or the fault of a number that is out of
@@ -164,10 +148,8 @@ pub extern "C" fn speedate_datetime_parse_front(
 pub extern "C" fn speedate_datetime_check(value: SpeedateDateTime) -> i32
     ensures answer { result ≡ answer_code (date_time_of value) }
 {
-    match value.to_value() {
-        Ok(_) => SUCCESS,
-        Err(fault) => fault_code(fault),
-    }
+    let _ = answer_or_return!(value.to_value());
+    SUCCESS
 }
 
 /// Prints a date-time into a buffer, with a zero byte after it, as [`DateTime::to_text`] gives it:
@@ -182,9 +164,7 @@ pub extern "C" fn speedate_datetime_to_text(
         (λ value. after_text (date_time_text value) buffer.old text_length.old) }
     ensures room { 33 ≤ length buffer.old → result ≢ buffer_too_small }
 {
-    let Ok(value) = value.to_value() else {
-        return VALUE_OUT_OF_RANGE;
-    };
+    let value = value_or_return!(value);
     write_text(value.to_text().as_str(), buffer, text_length)
 }
 
@@ -200,12 +180,8 @@ pub extern "C" fn speedate_datetime_compare(
         (λ first. with_value (date_time_of second) (value_out_of_range, out.old)
         (λ second. after_value (order_number (date_time_instant_order first second)))) }
 {
-    let Ok(first) = first.to_value() else {
-        return VALUE_OUT_OF_RANGE;
-    };
-    let Ok(second) = second.to_value() else {
-        return VALUE_OUT_OF_RANGE;
-    };
+    let first = value_or_return!(first);
+    let second = value_or_return!(second);
     *out = order_number(first.cmp_instant(&second));
     SUCCESS
 }
@@ -227,9 +203,7 @@ pub extern "C" fn speedate_datetime_from_timestamp(
         (λ config. after_answer shown_date_time out.old
         (date_time_timestamp_answer config.unit config.offset microsecond timestamp)) }
 {
-    let Some(config) = config.to_config() else {
-        return CONFIG_OUT_OF_RANGE;
-    };
+    let config = config_or_return!(config);
     let answer = DateTime::from_timestamp_with_config(timestamp, microsecond, &config);
     write_date_time(answer, out)
 }
@@ -241,9 +215,7 @@ pub extern "C" fn speedate_datetime_timestamp(value: SpeedateDateTime, out: &mut
     ensures answer { (result, out.new) ≡ with_value (date_time_of value) (value_out_of_range, out.old)
         (λ value. after_value (local_second value)) }
 {
-    let Ok(value) = value.to_value() else {
-        return VALUE_OUT_OF_RANGE;
-    };
+    let value = value_or_return!(value);
     *out = value.timestamp();
     SUCCESS
 }
@@ -255,9 +227,7 @@ pub extern "C" fn speedate_datetime_timestamp_ms(value: SpeedateDateTime, out: &
     ensures answer { (result, out.new) ≡ with_value (date_time_of value) (value_out_of_range, out.old)
         (λ value. after_value (local_millisecond value)) }
 {
-    let Ok(value) = value.to_value() else {
-        return VALUE_OUT_OF_RANGE;
-    };
+    let value = value_or_return!(value);
     *out = value.timestamp_ms();
     SUCCESS
 }
@@ -269,9 +239,7 @@ pub extern "C" fn speedate_datetime_timestamp_tz(value: SpeedateDateTime, out: &
     ensures answer { (result, out.new) ≡ with_value (date_time_of value) (value_out_of_range, out.old)
         (λ value. after_value (utc_second value)) }
 {
-    let Ok(value) = value.to_value() else {
-        return VALUE_OUT_OF_RANGE;
-    };
+    let value = value_or_return!(value);
     *out = value.timestamp_tz();
     SUCCESS
 }
@@ -283,9 +251,7 @@ pub extern "C" fn speedate_datetime_timestamp_tz_ms(value: SpeedateDateTime, out
     ensures answer { (result, out.new) ≡ with_value (date_time_of value) (value_out_of_range, out.old)
         (λ value. after_value (utc_millisecond value)) }
 {
-    let Ok(value) = value.to_value() else {
-        return VALUE_OUT_OF_RANGE;
-    };
+    let value = value_or_return!(value);
     *out = value.timestamp_tz_ms();
     SUCCESS
 }
@@ -305,8 +271,6 @@ pub extern "C" fn speedate_datetime_in_timezone(
     ensures answer { (result, out.new) ≡ with_value (date_time_of value) (value_out_of_range, out.old)
         (λ value. after_answer shown_date_time out.old (date_time_in_timezone offset value)) }
 {
-    let Ok(value) = value.to_value() else {
-        return VALUE_OUT_OF_RANGE;
-    };
+    let value = value_or_return!(value);
     write_date_time(value.in_timezone(offset), out)
 }

@@ -12,7 +12,7 @@ ghost use Rattle.speedate_c.specs.Code.{answer_code, buffer_too_small, config_ou
 ghost use Rattle.speedate_c.specs.Config.{choices_of};
 ghost use Rattle.speedate_c.specs.Duration.{duration_of, numbers_of, shown_duration};
 
-use crate::code::{CONFIG_OUT_OF_RANGE, SUCCESS, VALUE_OUT_OF_RANGE, fault_code, order_number};
+use crate::code::{SUCCESS, VALUE_OUT_OF_RANGE, order_number};
 use crate::config::SpeedateConfig;
 use crate::text::write_text;
 use speedate::{Duration, ParseError};
@@ -78,13 +78,9 @@ impl SpeedateDuration {
 fn write_duration(answer: Result<Duration, ParseError>, out: &mut SpeedateDuration) -> i32
     ensures after { (result, out.new) ≡ after_answer shown_duration out.old (result_map parts answer) }
 {
-    match answer {
-        Ok(duration) => {
-            *out = SpeedateDuration::from_value(&duration);
-            SUCCESS
-        }
-        Err(fault) => fault_code(fault),
-    }
+    let duration = answer_or_return!(answer);
+    *out = SpeedateDuration::from_value(&duration);
+    SUCCESS
 }
 
 /// Reads a duration from a text under a configuration, as [`Duration::parse_bytes_with_config`]
@@ -100,9 +96,7 @@ pub extern "C" fn speedate_duration_parse(
     ensures answer { (result, out.new) ≡ with_option (choices_of config) (config_out_of_range, out.old)
         (λ config. after_answer shown_duration out.old (duration_answer config.order config.behavior text.now)) }
 {
-    let Some(config) = config.to_config() else {
-        return CONFIG_OUT_OF_RANGE;
-    };
+    let config = config_or_return!(config);
     let answer = Duration::parse_bytes_with_config(text, &config.time_config);
     write_duration(answer, out)
 }
@@ -134,10 +128,8 @@ pub extern "C" fn speedate_duration_normalize(
 pub extern "C" fn speedate_duration_check(duration: SpeedateDuration) -> i32
     ensures answer { result ≡ answer_code (duration_of duration) }
 {
-    match duration.to_value() {
-        Ok(_) => SUCCESS,
-        Err(fault) => fault_code(fault),
-    }
+    let _ = answer_or_return!(duration.to_value());
+    SUCCESS
 }
 
 /// Prints a duration into a buffer, with a zero byte after it, as [`Duration::to_text`] gives it:
@@ -152,9 +144,7 @@ pub extern "C" fn speedate_duration_to_text(
         (λ duration. after_text (duration_text duration) buffer.old text_length.old) }
     ensures room { 32 ≤ length buffer.old → result ≢ buffer_too_small }
 {
-    let Ok(duration) = duration.to_value() else {
-        return VALUE_OUT_OF_RANGE;
-    };
+    let duration = value_or_return!(duration);
     write_text(duration.to_text().as_str(), buffer, text_length)
 }
 
@@ -170,12 +160,8 @@ pub extern "C" fn speedate_duration_compare(
         (λ first. with_value (duration_of second) (value_out_of_range, out.old)
         (λ second. after_value (order_number (duration_order first second)))) }
 {
-    let Ok(first) = first.to_value() else {
-        return VALUE_OUT_OF_RANGE;
-    };
-    let Ok(second) = second.to_value() else {
-        return VALUE_OUT_OF_RANGE;
-    };
+    let first = value_or_return!(first);
+    let second = value_or_return!(second);
     *out = order_number(first.cmp(&second));
     SUCCESS
 }
@@ -190,9 +176,7 @@ pub extern "C" fn speedate_duration_signed_total_seconds(
     ensures answer { (result, out.new) ≡ with_value (duration_of duration) (value_out_of_range, out.old)
         (λ duration. after_value (signed_seconds duration)) }
 {
-    let Ok(duration) = duration.to_value() else {
-        return VALUE_OUT_OF_RANGE;
-    };
+    let duration = value_or_return!(duration);
     *out = duration.signed_total_seconds();
     SUCCESS
 }
@@ -207,9 +191,7 @@ pub extern "C" fn speedate_duration_signed_total_ms(
     ensures answer { (result, out.new) ≡ with_value (duration_of duration) (value_out_of_range, out.old)
         (λ duration. after_value (signed_milliseconds duration)) }
 {
-    let Ok(duration) = duration.to_value() else {
-        return VALUE_OUT_OF_RANGE;
-    };
+    let duration = value_or_return!(duration);
     *out = duration.signed_total_ms();
     SUCCESS
 }
@@ -224,9 +206,7 @@ pub extern "C" fn speedate_duration_signed_microseconds(
     ensures answer { (result, out.new) ≡ with_value (duration_of duration) (value_out_of_range, out.old)
         (λ duration. after_value (signed_microsecond duration)) }
 {
-    let Ok(duration) = duration.to_value() else {
-        return VALUE_OUT_OF_RANGE;
-    };
+    let duration = value_or_return!(duration);
     *out = duration.signed_microseconds();
     SUCCESS
 }

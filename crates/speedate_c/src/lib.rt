@@ -4,6 +4,36 @@
 
 ghost use Rattle.std.specs.Prelude.{◌≡◌, pos};
 
+/// The value of a struct of the caller's. The call ends with `VALUE_OUT_OF_RANGE` if there is none.
+macro_rules! value_or_return {
+    ($given:expr) => {
+        match $given.to_value() {
+            Ok(value) => value,
+            Err(_) => return $crate::code::VALUE_OUT_OF_RANGE,
+        }
+    };
+}
+
+/// The configuration of the caller's numbers. The call ends with `CONFIG_OUT_OF_RANGE` if there is none.
+macro_rules! config_or_return {
+    ($given:expr) => {
+        match $given.to_config() {
+            Some(config) => config,
+            None => return $crate::code::CONFIG_OUT_OF_RANGE,
+        }
+    };
+}
+
+/// The value of an answer. The call ends with the code of the fault if there is none.
+macro_rules! answer_or_return {
+    ($answer:expr) => {
+        match $answer {
+            Ok(value) => value,
+            Err(fault) => return $crate::code::fault_code(fault),
+        }
+    };
+}
+
 mod code;
 mod config;
 mod date;

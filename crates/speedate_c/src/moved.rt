@@ -8,7 +8,7 @@ ghost use Rattle.speedate_c.specs.Date.{date_of, shown_date};
 ghost use Rattle.speedate_c.specs.DateTime.{date_time_of, shown_date_time};
 ghost use Rattle.speedate_c.specs.Duration.{duration_of, shown_duration};
 
-use crate::code::{SUCCESS, VALUE_OUT_OF_RANGE};
+use crate::code::SUCCESS;
 use crate::date::{SpeedateDate, write_date};
 use crate::datetime::{SpeedateDateTime, write_date_time};
 use crate::duration::SpeedateDuration;
@@ -26,12 +26,8 @@ pub extern "C" fn speedate_duration_between(
         (λ earlier. with_value (date_time_of later) (value_out_of_range, out.old)
         (λ later. after_value (shown_duration (duration_between earlier later)))) }
 {
-    let Ok(earlier) = earlier.to_value() else {
-        return VALUE_OUT_OF_RANGE;
-    };
-    let Ok(later) = later.to_value() else {
-        return VALUE_OUT_OF_RANGE;
-    };
+    let earlier = value_or_return!(earlier);
+    let later = value_or_return!(later);
     *out = SpeedateDuration::from_value(&Duration::between(&earlier, &later));
     SUCCESS
 }
@@ -49,12 +45,8 @@ pub extern "C" fn speedate_duration_after(
         (λ duration. with_value (date_time_of start) (value_out_of_range, out.old)
         (λ start. after_answer shown_date_time out.old (date_time_after (signed_length duration) start))) }
 {
-    let Ok(duration) = duration.to_value() else {
-        return VALUE_OUT_OF_RANGE;
-    };
-    let Ok(start) = start.to_value() else {
-        return VALUE_OUT_OF_RANGE;
-    };
+    let duration = value_or_return!(duration);
+    let start = value_or_return!(start);
     write_date_time(duration.after(&start), out)
 }
 
@@ -71,12 +63,8 @@ pub extern "C" fn speedate_duration_before(
         (λ duration. with_value (date_time_of start) (value_out_of_range, out.old)
         (λ start. after_answer shown_date_time out.old (date_time_after (neg_ℤ (signed_length duration)) start))) }
 {
-    let Ok(duration) = duration.to_value() else {
-        return VALUE_OUT_OF_RANGE;
-    };
-    let Ok(start) = start.to_value() else {
-        return VALUE_OUT_OF_RANGE;
-    };
+    let duration = value_or_return!(duration);
+    let start = value_or_return!(start);
     write_date_time(duration.before(&start), out)
 }
 
@@ -92,12 +80,8 @@ pub extern "C" fn speedate_duration_between_dates(
         (λ earlier. with_value (date_of later) (value_out_of_range, out.old)
         (λ later. after_value (shown_duration (duration_between_dates earlier later)))) }
 {
-    let Ok(earlier) = earlier.to_value() else {
-        return VALUE_OUT_OF_RANGE;
-    };
-    let Ok(later) = later.to_value() else {
-        return VALUE_OUT_OF_RANGE;
-    };
+    let earlier = value_or_return!(earlier);
+    let later = value_or_return!(later);
     *out = SpeedateDuration::from_value(&Duration::between_dates(&earlier, &later));
     SUCCESS
 }
@@ -115,12 +99,8 @@ pub extern "C" fn speedate_duration_after_date(
         (λ duration. with_value (date_of start) (value_out_of_range, out.old)
         (λ start. after_answer shown_date out.old (date_after_days duration start))) }
 {
-    let Ok(duration) = duration.to_value() else {
-        return VALUE_OUT_OF_RANGE;
-    };
-    let Ok(start) = start.to_value() else {
-        return VALUE_OUT_OF_RANGE;
-    };
+    let duration = value_or_return!(duration);
+    let start = value_or_return!(start);
     write_date(duration.after_date(&start), out)
 }
 
@@ -137,12 +117,8 @@ pub extern "C" fn speedate_duration_before_date(
         (λ duration. with_value (date_of start) (value_out_of_range, out.old)
         (λ start. after_answer shown_date out.old (date_after_days (negated duration) start))) }
 {
-    let Ok(duration) = duration.to_value() else {
-        return VALUE_OUT_OF_RANGE;
-    };
-    let Ok(start) = start.to_value() else {
-        return VALUE_OUT_OF_RANGE;
-    };
+    let duration = value_or_return!(duration);
+    let start = value_or_return!(start);
     write_date(duration.before_date(&start), out)
 }
 
@@ -155,9 +131,7 @@ pub extern "C" fn speedate_duration_negate(
     ensures answer { (result, out.new) ≡ with_value (duration_of duration) (value_out_of_range, out.old)
         (λ duration. after_value (shown_duration (negated duration))) }
 {
-    let Ok(duration) = duration.to_value() else {
-        return VALUE_OUT_OF_RANGE;
-    };
+    let duration = value_or_return!(duration);
     *out = SpeedateDuration::from_value(&duration.negated());
     SUCCESS
 }

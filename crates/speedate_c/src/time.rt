@@ -13,7 +13,7 @@ ghost use Rattle.speedate_c.specs.Code.{answer_code, buffer_too_small, config_ou
 ghost use Rattle.speedate_c.specs.Config.{choices_of};
 ghost use Rattle.speedate_c.specs.Time.{shown_time, time_of};
 
-use crate::code::{CONFIG_OUT_OF_RANGE, SUCCESS, VALUE_OUT_OF_RANGE, fault_code, order_number};
+use crate::code::{SUCCESS, order_number};
 use crate::config::{SpeedateConfig, offset};
 use crate::text::write_text;
 use speedate::{ParseError, Time};
@@ -79,13 +79,9 @@ impl SpeedateTime {
 fn write_time(answer: Result<Time, ParseError>, out: &mut SpeedateTime) -> i32
     ensures after { (result, out.new) ≡ after_answer shown_time out.old (result_map parts answer) }
 {
-    match answer {
-        Ok(time) => {
-            *out = SpeedateTime::from_value(&time);
-            SUCCESS
-        }
-        Err(fault) => fault_code(fault),
-    }
+    let time = answer_or_return!(answer);
+    *out = SpeedateTime::from_value(&time);
+    SUCCESS
 }
 
 /// Reads a time from a text under a configuration, as [`Time::parse_bytes_with_config`] does:
@@ -101,9 +97,7 @@ pub extern "C" fn speedate_time_parse(
     ensures answer { (result, out.new) ≡ with_option (choices_of config) (config_out_of_range, out.old)
         (λ config. after_answer shown_time out.old (time_answer config.behavior text.now)) }
 {
-    let Some(config) = config.to_config() else {
-        return CONFIG_OUT_OF_RANGE;
-    };
+    let config = config_or_return!(config);
     write_time(
         Time::parse_bytes_with_config(text, &config.time_config),
         out,
@@ -123,9 +117,7 @@ pub extern "C" fn speedate_time_parse_strict(
     ensures answer { (result, out.new) ≡ with_option (choices_of config) (config_out_of_range, out.old)
         (λ config. after_answer shown_time out.old (strict_time_answer config.behavior text.now)) }
 {
-    let Some(config) = config.to_config() else {
-        return CONFIG_OUT_OF_RANGE;
-    };
+    let config = config_or_return!(config);
     let behavior = config.time_config.microseconds_precision_overflow_behavior;
     write_time(Time::parse_bytes_strict(text, behavior), out)
 }
@@ -143,17 +135,11 @@ pub extern "C" fn speedate_time_parse_front(
     ensures answer { (result, out.new, size.new) ≡ with_option (choices_of config) (config_out_of_range, out.old, size.old)
         (λ config. after_front shown_time out.old size.old (time_front config.behavior text.now)) }
 {
-    let Some(config) = config.to_config() else {
-        return CONFIG_OUT_OF_RANGE;
-    };
-    match Time::parse_front(text, &config.time_config) {
-        Ok((time, count)) => {
-            *out = SpeedateTime::from_value(&time);
-            *size = count;
-            SUCCESS
-        }
-        Err(fault) => fault_code(fault),
-    }
+    let config = config_or_return!(config);
+    let (time, count) = answer_or_return!(Time::parse_front(text, &config.time_config));
+    *out = SpeedateTime::from_value(&time);
+    *size = count;
+    SUCCESS
 }
 
 /// Whether the numbers are those of a time, as [`Time::new`] tells: `SUCCESS`, or the fault of the
@@ -162,10 +148,8 @@ pub extern "C" fn speedate_time_parse_front(
 pub extern "C" fn speedate_time_check(time: SpeedateTime) -> i32
     ensures answer { result ≡ answer_code (time_of time) }
 {
-    match time.to_value() {
-        Ok(_) => SUCCESS,
-        Err(fault) => fault_code(fault),
-    }
+    let _ = answer_or_return!(time.to_value());
+    SUCCESS
 }
 
 /// Prints a time into a buffer, with a zero byte after it, as [`Time::to_text`] gives it:
@@ -180,9 +164,7 @@ pub extern "C" fn speedate_time_to_text(
         (λ time. after_text (time_text time) buffer.old text_length.old) }
     ensures room { 22 ≤ length buffer.old → result ≢ buffer_too_small }
 {
-    let Ok(time) = time.to_value() else {
-        return VALUE_OUT_OF_RANGE;
-    };
+    let time = value_or_return!(time);
     write_text(time.to_text().as_str(), buffer, text_length)
 }
 
@@ -198,12 +180,8 @@ pub extern "C" fn speedate_time_compare(
         (λ first. with_value (time_of second) (value_out_of_range, out.old)
         (λ second. after_value (order_number (time_instant_order first second)))) }
 {
-    let Ok(first) = first.to_value() else {
-        return VALUE_OUT_OF_RANGE;
-    };
-    let Ok(second) = second.to_value() else {
-        return VALUE_OUT_OF_RANGE;
-    };
+    let first = value_or_return!(first);
+    let second = value_or_return!(second);
     *out = order_number(first.cmp_instant(&second));
     SUCCESS
 }
@@ -222,9 +200,7 @@ pub extern "C" fn speedate_time_from_timestamp(
     ensures answer { (result, out.new) ≡ with_option (choices_of config) (config_out_of_range, out.old)
         (λ config. after_answer shown_time out.old (timestamp_answer second microsecond config.offset)) }
 {
-    let Some(config) = config.to_config() else {
-        return CONFIG_OUT_OF_RANGE;
-    };
+    let config = config_or_return!(config);
     let time = Time::from_timestamp_with_config(second, microsecond, &config.time_config);
     write_time(time, out)
 }
@@ -235,9 +211,7 @@ pub extern "C" fn speedate_time_total_seconds(time: SpeedateTime, out: &mut u32)
     ensures answer { (result, out.new) ≡ with_value (time_of time) (value_out_of_range, out.old)
         (λ time. after_value (second_of_day time)) }
 {
-    let Ok(time) = time.to_value() else {
-        return VALUE_OUT_OF_RANGE;
-    };
+    let time = value_or_return!(time);
     *out = time.total_seconds();
     SUCCESS
 }
@@ -249,9 +223,7 @@ pub extern "C" fn speedate_time_total_ms(time: SpeedateTime, out: &mut u32) -> i
     ensures answer { (result, out.new) ≡ with_value (time_of time) (value_out_of_range, out.old)
         (λ time. after_value (millisecond_of_day time)) }
 {
-    let Ok(time) = time.to_value() else {
-        return VALUE_OUT_OF_RANGE;
-    };
+    let time = value_or_return!(time);
     *out = time.total_ms();
     SUCCESS
 }
@@ -270,8 +242,6 @@ pub extern "C" fn speedate_time_in_timezone(
     ensures answer { (result, out.new) ≡ with_value (time_of time) (value_out_of_range, out.old)
         (λ time. after_answer shown_time out.old (time_in_timezone offset time)) }
 {
-    let Ok(time) = time.to_value() else {
-        return VALUE_OUT_OF_RANGE;
-    };
+    let time = value_or_return!(time);
     write_time(time.in_timezone(offset), out)
 }

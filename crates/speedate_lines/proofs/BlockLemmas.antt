@@ -1,7 +1,6 @@
 -- What stands in a block of which a part was written.
-use Rattle.std.proofs.Common.{◌≡◌, ◌∙◌, ap, sym, ℕ, ◌+◌, ◌-◌, ◌≤◌, List, ◌++◌, length, take, drop, min, arith, inl, inr}
-use Rattle.std.proofs.lemmas.List.{length-take, length-take-le, length-drop, length-append, take-append-le, take-take, take_all, take_at}
-use Rattle.std.proofs.lemmas.Bool.{cases_lt}
+use Rattle.std.proofs.Common.{◌≡◌, ◌∙◌, ap, sym, ℕ, ◌+◌, ◌-◌, ◌≤◌, List, ◌++◌, length, take, drop, min, arith}
+use Rattle.std.proofs.lemmas.List.{length-take-le, length-drop, length-append, take-append-le, take-take, take_at, take_min}
 use Rattle.std.proofs.lemmas.Slice.{between_is}
 use Rattle.speedate_lines.specs.Block.{kept_part}
 use Rattle.std.proofs.Math.Seq.{take-append-add}
@@ -23,23 +22,14 @@ length-filled kept count old buffer post first second =
     let long = length-take-le kept old first in
     omega (arith, length-append (take kept old) (buffer ++ post), length-append buffer post)
 
-take-min : (n m : ℕ) (rest : List ℕ) → n ≡ min m 4097 → take n rest ≡ kept_part (take m rest)
-take-min n m rest is = elim (cases_lt 4097 m) [
-  | inl long ↦
-      let same : n ≡ 4097 = omega (arith, is) in
-      ap (λ (k : ℕ). take k rest) same ∙ sym (take-take 4097 m rest (omega arith))
-  | inr short ↦
-      let same : n ≡ m = omega (arith, is) in
-      let fits : length (take m rest) ≤ 4097 = omega (arith, length-take m rest) in
-      ap (λ (k : ℕ). take k rest) same ∙ sym (take_all 4097 (take m rest) fits)
-]
-
 -- what was moved to the front of a block is the kept part of its unfinished line
 pub take-moved : (old after : List ℕ) (start filled n : ℕ) → start ≤ filled → filled ≤ length old → n ≡ min (filled - start) 4097
     → take n (take n (drop start old) ++ after) ≡ kept_part (drop start (take filled old))
 take-moved old after start filled n ordered within is =
-    let long : length (take n (drop start old)) ≡ n =
-    length-take-le n (drop start old) (omega (arith, length-drop start old, is)) in
-    take_at (take n (drop start old)) after n long
-    ∙ take-min n (filled - start) (drop start old) is
-    ∙ ap kept_part (between_is old start filled)
+    let line = drop start (take filled old) in
+    let size : n ≡ min 4097 (length line) = omega (arith, is, length-drop start (take filled old), length-take-le filled old within) in
+    take_at (take n (drop start old)) after n (length-take-le n (drop start old) (omega (arith, length-drop start old, is)))
+    ∙ sym (take-take n (filled - start) (drop start old) (omega (arith, is)))
+    ∙ ap (take n) (between_is old start filled)
+    ∙ ap (λ (k : ℕ). take k line) size
+    ∙ take_min 4097 line

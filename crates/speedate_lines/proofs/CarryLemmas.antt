@@ -1,34 +1,28 @@
 -- Of a line that is too long, its first 4,097 bytes tell that it is.
-use Rattle.std.proofs.Common.{◌≡◌, ◌∙◌, ap, sym, refl, ℕ, zero, suc, List, [], ◌∷◌, ◌++◌, length, take, append-nil, arith, inl, inr}
+use Rattle.std.proofs.Common.{◌≡◌, ◌∙◌, ap, sym, refl, ℕ, zero, suc, List, [], ◌∷◌, ◌++◌, length, take, arith, inl, inr}
 use Rattle.std.proofs.lemmas.Bool.{cases_lt, ne_eqb}
-use Rattle.std.proofs.lemmas.List.{take_all, length-take, length-append, take-append-le}
+use Rattle.std.proofs.lemmas.List.{take_all, length-take}
+use Rattle.std.proofs.lemmas.List.Elements.{All-head, All-tail, All-take}
 use Rattle.std.proofs.lemmas.Grind.{flat_map-append}
 use Rattle.speedate.specs.Ascii.{line_feed}
 use Rattle.speedate_lines.specs.Lines.{Pieces, pieces, with_byte, complete_lines, unfinished_line, last_line, lines}
 use Rattle.speedate_lines.specs.Block.{kept_part}
 use Rattle.speedate_lines.specs.Answer.{line_answer, answers}
 use Rattle.speedate_lines.proofs.AnswerLemmas.{line_answer-long}
-use Rattle.speedate_lines.proofs.LineLemmas.{IsFree, unfinished-free, pieces-append}
+use Rattle.speedate_lines.proofs.LineLemmas.{EndsNoLine, IsFree, unfinished-free, pieces-append}
 
 -- a line answers as its kept part does
-line_answer-kept : (line more : List ℕ) → line_answer (kept_part line ++ more) ≡ line_answer (line ++ more)
-line_answer-kept line more = elim (cases_lt 4097 (length line)) [
-  | inr short ↦ ap (λ (front : List ℕ). line_answer (front ++ more)) (take_all 4097 line short)
-  | inl long ↦
-      let kept : length (kept_part line) ≡ 4097 = omega (arith, length-take 4097 line) in
-      line_answer-long (kept_part line ++ more) (omega (arith, length-append (kept_part line) more))
-      ∙ sym (line_answer-long (line ++ more) (omega (arith, length-append line more)))
+line_answer-kept : (line : List ℕ) → line_answer (kept_part line) ≡ line_answer line
+line_answer-kept line = elim (cases_lt 4096 (length line)) [
+  | inr short ↦ ap line_answer (take_all 4097 line (omega arith))
+  | inl long ↦ line_answer-long (kept_part line) (omega (arith, length-take 4097 line)) ∙ sym (line_answer-long line long)
 ]
 
-take-kept : (line more : List ℕ) → take 4097 (kept_part line ++ more) ≡ take 4097 (line ++ more)
-take-kept line more = elim (cases_lt 4097 (length line)) [
-  | inr short ↦ ap (λ (front : List ℕ). take 4097 (front ++ more)) (take_all 4097 line short)
-  | inl long ↦
-      let kept : length (kept_part line) ≡ 4097 = omega (arith, length-take 4097 line) in
-      take-append-le 4097 (kept_part line) more (omega arith)
-      ∙ take_all 4097 (kept_part line) (omega arith)
-      ∙ sym (take-append-le 4097 line more (omega arith))
-]
+-- and it is kept so far too, whatever follows
+take-kept : (n : ℕ) (line more : List ℕ) → take n (take n line ++ more) ≡ take n (line ++ more)
+take-kept zero line more = refl
+take-kept (suc n) [] more = refl
+take-kept (suc n) (byte ∷ bytes) more = ap (λ (rest : List ℕ). byte ∷ rest) (take-kept n bytes more)
 
 answers-append : (xs ys : List (List ℕ)) → answers (xs ++ ys) ≡ answers xs ++ answers ys
 answers-append xs ys = flat_map-append (λ (line : List ℕ). line_answer line ++ line_feed ∷ []) xs ys
@@ -50,56 +44,52 @@ before-cons byte front (line ∷ lines) last = refl
 pieces-before : (front more : List ℕ) → IsFree front → pieces (front ++ more) ≡ before front (complete_lines more) (unfinished_line more)
 pieces-before [] more free = sym (before-nil (complete_lines more) (unfinished_line more))
 pieces-before (byte ∷ bytes) more free =
-    rw (ne_eqb byte line_feed free.0, pieces-before bytes more free.1) (before-cons byte bytes (complete_lines more) (unfinished_line more))
+    rw (ne_eqb byte line_feed (All-head EndsNoLine byte bytes free), pieces-before bytes more (All-tail EndsNoLine byte bytes free))
+    (before-cons byte bytes (complete_lines more) (unfinished_line more))
 
-pub kept_part-free : (n : ℕ) (line : List ℕ) → IsFree line → IsFree (take n line)
-kept_part-free zero line free = tt
-kept_part-free (suc n) [] free = tt
-kept_part-free (suc n) (byte ∷ bytes) free = (free.0, kept_part-free n bytes free.1)
+-- what is answered of some pieces, and what is then kept
+abbrev done : Pieces → List ℕ × List ℕ
+done all = (answers all.complete, kept_part all.unfinished)
 
-before-kept : (line : List ℕ) (lines : List (List ℕ)) (last : List ℕ)
-    → (answers (before (kept_part line) lines last).complete ≡ answers (before line lines last).complete)
-    × (kept_part (before (kept_part line) lines last).unfinished ≡ kept_part (before line lines last).unfinished)
-before-kept line [] last = (refl, take-kept line last)
+before-kept : (line : List ℕ) (lines : List (List ℕ)) (last : List ℕ) → done (before (kept_part line) lines last) ≡ done (before line lines last)
+before-kept line [] last = ap (λ (kept : List ℕ). (answers [], kept)) (take-kept 4097 line last)
 before-kept line (first ∷ lines) last =
-    (ap (λ (text : List ℕ). (text ++ line_feed ∷ []) ++ answers lines) (line_answer-kept line first), refl)
+    ap (λ (answer : List ℕ). ((answer ++ line_feed ∷ []) ++ answers lines, kept_part last))
+    (sym (line_answer-kept (kept_part line ++ first)) ∙ ap line_answer (take-kept 4097 line first) ∙ line_answer-kept (line ++ first))
 
 -- the unfinished line may be cut to what is kept of it before the text goes on
-pieces-kept : (line more : List ℕ) → IsFree line
-    → (answers (complete_lines (kept_part line ++ more)) ≡ answers (complete_lines (line ++ more)))
-    × (kept_part (unfinished_line (kept_part line ++ more)) ≡ kept_part (unfinished_line (line ++ more)))
+pieces-kept : (line more : List ℕ) → IsFree line → done (pieces (kept_part line ++ more)) ≡ done (pieces (line ++ more))
 pieces-kept line more free =
-    let cut = pieces-before (kept_part line) more (kept_part-free 4097 line free) in
-    let whole = pieces-before line more free in
-    let same = before-kept line (complete_lines more) (unfinished_line more) in (
-      ap (λ (all : Pieces). answers all.complete) cut ∙ same.0 ∙ sym (ap (λ (all : Pieces). answers all.complete) whole),
-      ap (λ (all : Pieces). kept_part all.unfinished) cut ∙ same.1 ∙ sym (ap (λ (all : Pieces). kept_part all.unfinished) whole),
-    )
+    ap done (pieces-before (kept_part line) more (All-take EndsNoLine 4097 line free))
+    ∙ before-kept line (complete_lines more) (unfinished_line more)
+    ∙ sym (ap done (pieces-before line more free))
 
--- what is answered when more of a text has come
-pub answers-more : (text more : List ℕ)
-    → answers (complete_lines (text ++ more)) ≡ answers (complete_lines text) ++ answers (complete_lines (kept_part (unfinished_line text) ++ more))
-answers-more text more =
-    ap (λ (all : Pieces). answers all.complete) (pieces-append text more)
-    ∙ answers-append (complete_lines text) (complete_lines (unfinished_line text ++ more))
-    ∙ ap (λ (new : List ℕ). answers (complete_lines text) ++ new) (sym (pieces-kept (unfinished_line text) more (unfinished-free text)).0)
+-- what is answered when more of a text has come after what was kept of it, and what is then kept
+done-more : (text more kept block : List ℕ) → kept ≡ kept_part (unfinished_line text) → block ≡ kept ++ more
+    → done (pieces (text ++ more)) ≡ (answers (complete_lines text) ++ answers (complete_lines block), kept_part (unfinished_line block))
+done-more text more kept block cut joined =
+    let rest = unfinished_line text in
+    let same = joined ∙ ap (λ (front : List ℕ). front ++ more) cut in
+    ap done (pieces-append text more)
+    ∙ ap (λ (all : List ℕ). (all, kept_part (unfinished_line (rest ++ more)))) (answers-append (complete_lines text) (complete_lines (rest ++ more)))
+    ∙ ap (λ (after : List ℕ × List ℕ). (answers (complete_lines text) ++ after.0, after.1))
+    (sym (pieces-kept rest more (unfinished-free text)) ∙ ap (λ (bytes : List ℕ). done (pieces bytes)) (sym same))
 
--- and what is then kept
-pub kept-more : (text more : List ℕ)
-    → kept_part (unfinished_line (text ++ more)) ≡ kept_part (unfinished_line (kept_part (unfinished_line text) ++ more))
-kept-more text more =
-    ap (λ (all : Pieces). kept_part all.unfinished) (pieces-append text more)
-    ∙ sym (pieces-kept (unfinished_line text) more (unfinished-free text)).1
+pub answers-more : (text more kept block : List ℕ) → kept ≡ kept_part (unfinished_line text) → block ≡ kept ++ more
+    → answers (complete_lines (text ++ more)) ≡ answers (complete_lines text) ++ answers (complete_lines block)
+answers-more text more kept block cut joined = ap (λ (all : List ℕ × List ℕ). all.0) (done-more text more kept block cut joined)
+
+pub kept-more : (text more kept block : List ℕ) → kept ≡ kept_part (unfinished_line text) → block ≡ kept ++ more
+    → kept_part (unfinished_line (text ++ more)) ≡ kept_part (unfinished_line block)
+kept-more text more kept block cut joined = ap (λ (all : List ℕ × List ℕ). all.1) (done-more text more kept block cut joined)
 
 answers-last : (last : List ℕ) → answers (last_line (kept_part last)) ≡ answers (last_line last)
 answers-last [] = refl
-answers-last (byte ∷ bytes) =
-    let line : List ℕ = byte ∷ bytes in
-    let same = ap line_answer (sym (append-nil (kept_part line))) ∙ line_answer-kept line [] ∙ ap line_answer (append-nil line) in
-    ap (λ (text : List ℕ). (text ++ line_feed ∷ []) ++ []) same
+answers-last (byte ∷ bytes) = ap (λ (answer : List ℕ). (answer ++ line_feed ∷ []) ++ []) (line_answer-kept (byte ∷ bytes))
 
--- at the end of a text its unfinished line is answered too
-pub answers-all : (text : List ℕ) → answers (complete_lines text) ++ answers (last_line (kept_part (unfinished_line text))) ≡ answers (lines text)
-answers-all text =
-    ap (λ (new : List ℕ). answers (complete_lines text) ++ new) (answers-last (unfinished_line text))
+-- at the end of a text its unfinished line is answered too, from what was kept of it
+pub answers-all : (text last : List ℕ) → last ≡ kept_part (unfinished_line text) → answers (complete_lines text) ++ answers (last_line last) ≡ answers (lines text)
+answers-all text last cut =
+    ap (λ (line : List ℕ). answers (complete_lines text) ++ answers (last_line line)) cut
+    ∙ ap (λ (new : List ℕ). answers (complete_lines text) ++ new) (answers-last (unfinished_line text))
     ∙ sym (answers-append (complete_lines text) (last_line (unfinished_line text)))

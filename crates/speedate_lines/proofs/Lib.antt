@@ -4,4 +4,3 @@ mod CarryLemmas
 mod BlockLemmas
 mod SentLemmas
 mod MarkLemmas
-mod TextLengthLemmas

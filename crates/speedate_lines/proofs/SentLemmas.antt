@@ -36,13 +36,9 @@ AppendsBut-more {left = left} more sent = record {
   whole = ap (λ (front : List ℕ). front ++ more) sent.whole ∙ append_assoc sent.written left more;
 }
 
--- the same of the same bytes
-pub AppendsBut-same : {a b : Option (List ℕ)} {left rest bytes all : List ℕ} → AppendsBut left a b bytes → rest ≡ left → all ≡ bytes → AppendsBut rest a b all
-AppendsBut-same sent same whole = record {
-  written = sent.written;
-  sent = sent.sent;
-  whole = whole ∙ sent.whole ∙ ap (λ (end : List ℕ). sent.written ++ end) (sym same);
-}
+-- the same of what is left
+pub AppendsBut-same : {a b : Option (List ℕ)} {left rest bytes : List ℕ} → AppendsBut left a b bytes → left ≡ rest → AppendsBut rest a b bytes
+AppendsBut-same {a = a} {b = b} {bytes = bytes} sent same = subst (λ (end : List ℕ). AppendsBut end a b bytes) same sent
 
 -- what was left has been written
 pub Appends-left : (a b c : Option (List ℕ)) {left bytes : List ℕ} → AppendsBut left a b bytes → Appends b c left → Appends a c bytes
@@ -56,10 +52,6 @@ AppendsBeginning-left sent part = record { left = part.left; sent = AppendsBut-t
 -- of more bytes it is a beginning too
 pub AppendsBeginning-more : {a b : Option (List ℕ)} {bytes : List ℕ} (more : List ℕ) → AppendsBeginning a b bytes → AppendsBeginning a b (bytes ++ more)
 AppendsBeginning-more more part = record { left = part.left ++ more; sent = AppendsBut-more more part.sent }
-
--- the same of the same bytes
-pub AppendsBeginning-same : {a b : Option (List ℕ)} {bytes all : List ℕ} → AppendsBeginning a b bytes → all ≡ bytes → AppendsBeginning a b all
-AppendsBeginning-same part whole = record { left = part.left; sent = AppendsBut-same part.sent refl whole }
 
 -- after the first bytes a beginning of the others has been written
 pub AppendsFrom-beginning : {a b c : Option (List ℕ)} {others bytes : List ℕ} (first : List ℕ) → Appends a b first → AppendsBeginning b c others → bytes ≡ first ++ others

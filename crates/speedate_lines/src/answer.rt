@@ -1,12 +1,10 @@
 //! The answer to a line.
 
+ghost use Rattle.std.specs.Option.{option_map};
 ghost use Rattle.std.specs.Prelude.{◌≡◌, ◌+◌, ◌≤◌, true, false, length, take, drop, bytes_eq, MatchOption, [], ◌∷◌, ◌++◌};
 ghost use Rattle.arrayvec.specs.ArrayString.{array_string_len};
-ghost use Rattle.speedate.specs.declared.MicrosecondsPrecisionOverflowBehavior.TheVariants as behavior;
 ghost use Rattle.speedate.specs.Ascii.{line_feed};
-ghost use Rattle.speedate.specs.DurationAnswer.{duration_answer};
-ghost use Rattle.speedate.specs.DurationText.{duration_text};
-ghost use Rattle.speedate_lines.specs.Answer.{line_answer, reply, err_answer, date_kind, time_kind, date_time_kind};
+ghost use Rattle.speedate_lines.specs.Answer.{err_answer, kind_and_text, kinds, line_answer, reply_to};
 
 use arrayvec::ArrayString;
 use speedate::{Date, DateTime, Duration, IsoOrder, Time, TimeConfig};
@@ -23,33 +21,54 @@ pub const ANSWER_MAX: usize = 4 + TEXT_MAX + 1;
 /// How many bytes of answers are gathered before they are written.
 pub const PENDING_MAX: usize = 65536;
 
-/// What the answer to a text that was read begins with.
-const ACCEPTED: &str = "ok ";
-
 /// Answers that wait to be written.
 pub type Pending = ArrayString<PENDING_MAX>;
 
+/// The kinds of lines.
+#[derive(Clone, Copy)]
+enum Kind {
+    Date,
+    Time,
+    DateTime,
+    Duration,
+    StrictDuration,
+}
+
 /// Appends the answer to a line, which is given without its line feed, and a line feed: for
 /// `date 2020-02-29`, `ok 2020-02-29`.
+#[tactic(auto, using(crate::proofs::AnswerLemmas::line_answers))]
 #[inline(always)]
 pub fn answer_line(line: &[u8], pending: &mut Pending)
     requires { array_string_len pending.old + ANSWER_MAX ≤ PENDING_MAX }
     ensures answered { pending.new.bytes ≡ pending.old.bytes ++ (line_answer line.now ++ line_feed ∷ []) }
 {
     if line.len() > LINE_MAX {
-        refuse("line_too_long", pending)
-    } else if let Some(text) = text_after(line, b"date ") {
-        answer_date(text, pending)
+        return refuse("line_too_long", pending);
+    }
+    match kind_of(line) {
+        Some((kind, text)) => answer_text(kind, text, pending),
+        None => refuse("unknown_kind", pending),
+    }
+}
+
+/// The kind whose word and a space begin a line, and the text after those.
+#[tactic(auto, unfolding(crate::specs::Answer::kind_and_text))]
+#[inline(always)]
+fn kind_of(line: &[u8]) -> Option<(Kind, &[u8])>
+    ensures kind { option_map (λ found. (found.0, found.1.now)) result ≡ kind_and_text kinds line.now }
+{
+    if let Some(text) = text_after(line, b"date ") {
+        Some((Kind::Date, text))
     } else if let Some(text) = text_after(line, b"time ") {
-        answer_time(text, pending)
+        Some((Kind::Time, text))
     } else if let Some(text) = text_after(line, b"datetime ") {
-        answer_date_time(text, pending)
+        Some((Kind::DateTime, text))
     } else if let Some(text) = text_after(line, b"duration ") {
-        answer_duration(text, IsoOrder::Lax, pending)
+        Some((Kind::Duration, text))
     } else if let Some(text) = text_after(line, b"duration-strict ") {
-        answer_duration(text, IsoOrder::Strict, pending)
+        Some((Kind::StrictDuration, text))
     } else {
-        refuse("unknown_kind", pending)
+        None
     }
 }
 
@@ -66,81 +85,36 @@ fn text_after<'a, const LENGTH: usize>(line: &'a [u8], front: &[u8; LENGTH]) -> 
     }
 }
 
-/// Appends the answer to the text of a date or of a timestamp.
-#[inline]
-fn answer_date(text: &[u8], pending: &mut Pending)
-    requires { array_string_len pending.old + ANSWER_MAX ≤ PENDING_MAX }
-    ensures answered { pending.new.bytes ≡ pending.old.bytes
-        ++ (date_kind.reply_to text.now ++ line_feed ∷ []) }
-{
-    match Date::parse_bytes(text) {
-        Ok(date) => {
-            pending.push_str(ACCEPTED);
-            date.push_onto(pending);
-            pending.push('\n');
+/// Appends the canonical text of the value that a text was read as, or the name of the text's fault.
+macro_rules! answer {
+    ($read:expr, $pending:ident) => {
+        match $read {
+            Ok(value) => {
+                $pending.push_str("ok ");
+                value.push_onto($pending);
+                $pending.push('\n');
+            }
+            Err(fault) => refuse(fault.name(), $pending),
         }
-        Err(fault) => refuse(fault.name(), pending),
-    }
+    };
 }
 
-/// Appends the answer to the text of a time.
-#[inline]
-fn answer_time(text: &[u8], pending: &mut Pending)
+/// Appends the answer to a text of a kind.
+#[inline(always)]
+fn answer_text(kind: Kind, text: &[u8], pending: &mut Pending)
     requires { array_string_len pending.old + ANSWER_MAX ≤ PENDING_MAX }
-    ensures answered { pending.new.bytes ≡ pending.old.bytes
-        ++ (time_kind.reply_to text.now ++ line_feed ∷ []) }
+    ensures answered { pending.new.bytes ≡ pending.old.bytes ++ (reply_to kind text.now ++ line_feed ∷ []) }
 {
-    match Time::parse_bytes(text) {
-        Ok(time) => {
-            pending.push_str(ACCEPTED);
-            time.push_onto(pending);
-            pending.push('\n');
+    match kind {
+        Kind::Date => answer!(Date::parse_bytes(text), pending),
+        Kind::Time => answer!(Time::parse_bytes(text), pending),
+        Kind::DateTime => answer!(DateTime::parse_bytes(text), pending),
+        Kind::Duration => answer!(Duration::parse_bytes(text), pending),
+        Kind::StrictDuration => {
+            let config = TimeConfig::builder().iso_order(IsoOrder::Strict).build();
+            answer!(Duration::parse_bytes_with_config(text, &config), pending)
         }
-        Err(fault) => refuse(fault.name(), pending),
     }
-}
-
-/// Appends the answer to the text of a date-time or of a timestamp.
-#[inline]
-fn answer_date_time(text: &[u8], pending: &mut Pending)
-    requires { array_string_len pending.old + ANSWER_MAX ≤ PENDING_MAX }
-    ensures answered { pending.new.bytes ≡ pending.old.bytes
-        ++ (date_time_kind.reply_to text.now ++ line_feed ∷ []) }
-{
-    match DateTime::parse_bytes(text) {
-        Ok(value) => {
-            pending.push_str(ACCEPTED);
-            value.push_onto(pending);
-            pending.push('\n');
-        }
-        Err(fault) => refuse(fault.name(), pending),
-    }
-}
-
-/// Appends the answer to the text of a duration whose components have to come in this order.
-#[inline]
-fn answer_duration(text: &[u8], order: IsoOrder, pending: &mut Pending)
-    requires { array_string_len pending.old + ANSWER_MAX ≤ PENDING_MAX }
-    ensures answered { pending.new.bytes ≡ pending.old.bytes
-        ++ (reply duration_text (duration_answer order behavior.Error text.now) ++ line_feed ∷ []) }
-{
-    match Duration::parse_bytes_with_config(text, &order_config(order)) {
-        Ok(duration) => {
-            pending.push_str(ACCEPTED);
-            duration.push_onto(pending);
-            pending.push('\n');
-        }
-        Err(fault) => refuse(fault.name(), pending),
-    }
-}
-
-/// The default configuration, except for the order of components.
-#[inline]
-fn order_config(order: IsoOrder) -> TimeConfig
-    ensures order { result.iso_order ≡ order }
-    ensures behavior { result.microseconds_precision_overflow_behavior ≡ behavior.Error }
-{
-    TimeConfig::builder().iso_order(order).build()
 }
 
 /// Appends the answer to a line that was refused: the name of the reason.

@@ -141,6 +141,7 @@ fn push_seconds<const LENGTH: usize>(second: u32, microsecond: u32, text: &mut A
     requires small { microsecond ≤ 999999 }
     requires room { array_string_len text.old + 10 ≤ LENGTH }
     ensures text { text.new.bytes ≡ text.old.bytes ++ seconds_text second microsecond }
+    ensures short { array_string_len text.new ≤ array_string_len text.old + 10 }
 {
     if second != 0 || microsecond != 0 {
         push_up_to_two_digits(second as u8, text);
@@ -193,6 +194,7 @@ impl Duration {
     pub fn push_onto<const LENGTH: usize>(&self, text: &mut ArrayString<LENGTH>)
         requires room { array_string_len text.old + TEXT_MAX ≤ LENGTH }
         ensures text { text.new.bytes ≡ text.old.bytes ++ duration_text (parts self.now) }
+        ensures short { array_string_len text.new ≤ array_string_len text.old + TEXT_MAX }
     {
         text.push_str(start_text(self.positive));
         push_counted(self.day / DAYS_PER_YEAR, 'Y', text);
@@ -206,6 +208,7 @@ impl Duration {
     fn push_rest<const LENGTH: usize>(&self, text: &mut ArrayString<LENGTH>)
         requires room { array_string_len text.old + 17 ≤ LENGTH }
         ensures text { text.new.bytes ≡ text.old.bytes ++ rest_text (parts self.now) }
+        ensures short { array_string_len text.new ≤ array_string_len text.old + 17 }
     {
         if self.second == 0 && self.microsecond == 0 {
             if self.day == 0 {

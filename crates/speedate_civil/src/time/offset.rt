@@ -195,6 +195,7 @@ pub(crate) fn push_offset<const LENGTH: usize>(offset: Option<i32>, text: &mut A
     requires range { ForSome offset IsOffset }
     requires room { array_string_len text.old + 6 ≤ LENGTH }
     ensures text { text.new.bytes ≡ text.old.bytes ++ offset_text offset }
+    ensures short { array_string_len text.new ≤ array_string_len text.old + 6 }
 {
     match offset {
         None => {}

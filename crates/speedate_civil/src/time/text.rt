@@ -55,6 +55,7 @@ impl Time {
     pub fn push_onto<const LENGTH: usize>(&self, text: &mut ArrayString<LENGTH>)
         requires room { array_string_len text.old + TEXT_MAX ≤ LENGTH }
         ensures text { text.new.bytes ≡ text.old.bytes ++ time_text (parts self.now) }
+        ensures short { array_string_len text.new ≤ array_string_len text.old + TEXT_MAX }
     {
         self.push_clock(text);
         if self.microsecond != 0 {

@@ -1,19 +1,18 @@
-use Rattle.std.proofs.Common.{◌≡◌, ◌-◌, ◌≤◌, ◌++◌, ℕ, List, length, drop}
+use Rattle.std.proofs.Common.{◌≡◌, ◌-◌, ◌≤◌, ◌++◌, length, drop}
 use Rattle.speedate_lines.specs.Lines.{IsOneLine, complete_lines, unfinished_line}
 use Rattle.speedate_lines.specs.Answer.{answers}
 use Rattle.speedate_lines.specs.Sent.{AppendsBut}
 use Rattle.speedate_lines.proofs.run.answer_lines.Given as goal
 
--- the lines up to `start` have been answered, and no line feed stands from there up to `searched`
+-- what waits and the answers to the lines from `start` on are left to be written, and no line feed stands from there up to `searched`
 abbrev pub invariant-loop-end : goal.invariant-loop-end
 invariant-loop-end g l = record {
   ordered : l.start ≤ l.searched;
   within : l.searched ≤ length l.text;
   one_line : IsOneLine l.text l.start l.searched;
-  answered : (done : List ℕ)
-      × AppendsBut l.pending.bytes (g.W.Write.contents l.initial.output.inner) (g.W.Write.contents l.output.inner)
-      (l.initial.pending.bytes ++ done)
-      × (answers (complete_lines l.text) ≡ done ++ answers (complete_lines (drop l.start l.text)));
+  answered : AppendsBut (l.pending.bytes ++ answers (complete_lines (drop l.start l.text)))
+      (g.W.Write.contents l.initial.output.inner) (g.W.Write.contents l.output.inner)
+      (l.initial.pending.bytes ++ answers (complete_lines l.text));
   failed : l.output.failed ≡ l.initial.output.failed;
   unflushed : l.output.flushes ≡ l.initial.output.flushes;
   rest : unfinished_line l.text ≡ unfinished_line (drop l.start l.text);

@@ -1,4 +1,4 @@
-use Rattle.std.proofs.Common.{◌∙◌, refl}
+use Rattle.std.proofs.Common.{◌∙◌, refl, sym}
 use Rattle.std.proofs.lemmas.List.{take_rest}
 use Rattle.std.proofs.Math.Bool.{or-false}
 use Rattle.speedate_lines.proofs.SentLemmas.{AppendsBut-all, AppendsBut-taken, AppendsBut-kept, AppendsBut-same, on_err}
@@ -13,7 +13,7 @@ loop-rest-preserved g c =
     let count = c.in_ok-count.count in
     record {
       failed = c.in_ok-count.ensures.failed ∙ or-false c.loop-rest.output.failed ∙ before.failed;
-      sent = AppendsBut-same (AppendsBut-taken count before.sent c.in_ok-count.ensures.bytes) (take_rest c.loop-rest.rest.now count) refl;
+      sent = AppendsBut-same (AppendsBut-taken count before.sent c.in_ok-count.ensures.bytes) (sym (take_rest c.loop-rest.rest.now count));
       unflushed = c.in_ok-count.ensures.flushes ∙ before.unflushed;
     }
 
