@@ -1,11 +1,11 @@
-use Rattle.std.proofs.Common.{◌≡◌, ◌∙◌, ◌*◌, ◌/◌, ap, sym, ℕ, Result, Ok, Err}
+use Rattle.std.proofs.Common.{◌≡◌, ◌∙◌, ap, sym, Result, Ok, Err}
 use Rattle.std.specs.Prelude.{Option, ℤ, IfOk}
 use Rattle.speedate_base.specs.declared.config.TimestampUnit.{TimestampUnit}
 use Rattle.speedate_base.specs.declared.faults.ParseError.{ParseError}
 use Rattle.speedate_base.specs.DecimalTimestamp.{decimal_instant, decimal_row, decimal_scale, decimal_size}
 use Rattle.speedate_base.specs.IntFloat.{parts as decimal_parts}
-use Rattle.speedate_base.specs.Nearest.{IsNearest, nearest}
-use Rattle.speedate_base.specs.Numbers.{DecimalParts, with_sign}
+use Rattle.speedate_base.specs.Nearest.{IsNearest}
+use Rattle.speedate_base.specs.Numbers.{DecimalParts}
 use Rattle.speedate_base.specs.Requirement.{result_map}
 use Rattle.speedate_base.specs.Timestamp.{UnitRow}
 use Rattle.speedate_civil.specs.DateAndTime.{local_microsecond}
