@@ -1,5 +1,5 @@
 -- A decimal timestamp by its whole part and its fraction.
-use Rattle.std.specs.Prelude.{◌≡◌, ◌≢◌, ℕ, zero, suc, ◌+◌, ◌*◌, ◌/◌, ◌^◌, ◌<◌, ◌≤◌, ◌==◌, Bool, true, false, nat_le, if◌then◌else◌, List, [], ◌∷◌, length, get_or, ℤ, pos, negsuc, neg_ℤ, int_le, Err, refl}
+use Rattle.std.specs.Prelude.{◌≡◌, ◌≢◌, ℕ, zero, suc, ◌+◌, ◌*◌, ◌/◌, ◌^◌, ◌<◌, ◌≤◌, ◌==◌, Bool, true, false, nat_le, if◌then◌else◌, List, [], ◌∷◌, ◌++◌, length, get_or, ℤ, pos, negsuc, int_le, Err, refl}
 use Rattle.std.specs.Char.{is_ascii_digit}
 use Rattle.std.specs.List.{list_all}
 use Rattle.std.proofs.Common.{arith, ap, sym, ◌∙◌, lit<}
@@ -11,24 +11,12 @@ use Rattle.speedate_base.specs.declared.faults.ParseError.TheVariants as fault
 use Rattle.speedate_base.specs.DecimalTimestamp.{decimal_digits, decimal_scale, decimal_microsecond, decimal_instant}
 use Rattle.speedate_base.specs.Digits.{one_digit_value}
 use Rattle.speedate_base.specs.DigitRuns.{digits_value}
-use Rattle.speedate_base.proofs.DigitRunLemmas.{digits_value-append}
+use Rattle.speedate_base.proofs.DigitRunLemmas.{digits_value-append, digits_value-lt}
 use Rattle.speedate_base.specs.Nearest.{nearest, quotient}
 use Rattle.speedate_base.proofs.NearestLemmas.{halved, nearest-halved, quotient-whole, halved-whole}
 use Rattle.speedate_base.specs.Numbers.{DecimalParts, with_sign}
-use Rattle.speedate_base.specs.Timestamp.{Instant, UnitRow, instant_at, first_second, last_second, range_answer}
+use Rattle.speedate_base.specs.Timestamp.{UnitRow, inferred_seconds_max, instant_at, first_second, last_second, range_answer}
 use Rattle.speedate_base.proofs.NearestLemmas.{scale-some}
-
--- digits of which one is not 0 do not spell 0
-pub digits_value-some : (digits : List ℕ) (place : ℕ) → list_all is_ascii_digit digits ≡ true → place < length digits → get_or digits place 0 ≢ 48
-    → 0 < digits_value digits
-digits_value-some [] place all within other = absurd (omega arith)
-digits_value-some (digit ∷ digits) zero all within other =
-    let parts = and_parts (is_ascii_digit digit) _ all in
-    let more : 1 ≤ one_digit_value digit = grind (arith, nat_tests, other) in
-    omega (arith, mul-le-mul_right (10 ^ length digits) more, scale-some (length digits))
-digits_value-some (digit ∷ digits) (suc place) all within other =
-    let parts = and_parts (is_ascii_digit digit) _ all in
-    omega (arith, digits_value-some digits place parts.1 (omega arith) other)
 
 -- many digits of which the first is not 0 spell a large number
 pub digits_value-large : (digits : List ℕ) → list_all is_ascii_digit digits ≡ true → 12 ≤ length digits → get_or digits 0 0 ≢ 48
@@ -41,19 +29,24 @@ digits_value-large (digit ∷ digits) all many other =
     let power : 10 ^ 11 ≤ 10 ^ length digits = pow-le-pow_right {n = 10} (lit< tt) rest in
     omega (arith, mul-le-mul_right (10 ^ length digits) more, power)
 
--- how a decimal compares with a whole number
-pub same-whole : (bound scale rest : ℕ) → nat_le (bound * scale + rest) (bound * scale) ≡ (rest == 0)
-same-whole bound scale rest = grind (arith, nat_tests)
+-- how a decimal compares with the largest timestamp in seconds
+pub same-whole : (whole fraction : List ℕ) → digits_value whole ≡ inferred_seconds_max
+    → nat_le (digits_value (whole ++ fraction)) (inferred_seconds_max * 10 ^ length fraction) ≡ (digits_value fraction == 0)
+same-whole whole fraction same =
+    let sum = digits_value-append whole fraction ∙ ap (λ (n : ℕ). n * 10 ^ length fraction + digits_value fraction) same in
+    grind (arith, nat_tests, sum)
 
-pub less-whole : (whole bound scale rest : ℕ) → whole < bound → rest < scale → nat_le (whole * scale + rest) (bound * scale) ≡ true
-less-whole whole bound scale rest less part =
-    let product = mul-le-mul_right scale less in
-    grind (arith, nat_tests, product)
+pub less-whole : (whole fraction : List ℕ) → list_all is_ascii_digit fraction ≡ true → digits_value whole < inferred_seconds_max
+    → nat_le (digits_value (whole ++ fraction)) (inferred_seconds_max * 10 ^ length fraction) ≡ true
+less-whole whole fraction all less =
+    let product = mul-le-mul_right (10 ^ length fraction) less in
+    grind (arith, nat_tests, digits_value-append whole fraction, digits_value-lt fraction all, product)
 
-pub more-whole : (whole bound scale rest : ℕ) → bound < whole → 0 < scale → nat_le (whole * scale + rest) (bound * scale) ≡ false
-more-whole whole bound scale rest more some =
-    let product = mul-le-mul_right scale more in
-    grind (arith, nat_tests, product)
+pub more-whole : (whole fraction : List ℕ) → inferred_seconds_max < digits_value whole
+    → nat_le (digits_value (whole ++ fraction)) (inferred_seconds_max * 10 ^ length fraction) ≡ false
+more-whole whole fraction more =
+    let product = mul-le-mul_right (10 ^ length fraction) more in
+    grind (arith, nat_tests, digits_value-append whole fraction, scale-some (length fraction), product)
 
 -- a size with its sign is one size
 with_sign-only : (negative : Bool) (first second : ℕ) → with_sign negative first ≡ with_sign negative second → first ≡ second
@@ -79,21 +72,15 @@ decimal_microsecond-sum row decimal part is =
     ∙ ap (with_sign negative) (halved-whole negative (quotient negative (2 * (rest * worth)) scale) (whole * worth) ∙ omega (arith, half))
 
 -- an instant far from 1970 lies outside the years
-too_large : (second : ℤ) (instant : Instant) → instant.second ≡ second → int_le first_second second ≡ true → int_le second last_second ≡ false
-    → range_answer instant ≡ Err fault.DateTooLarge
-too_large second instant is low high = rw (is, low, high) refl
-
-too_small : (second : ℤ) (instant : Instant) → instant.second ≡ second → int_le first_second second ≡ false
-    → range_answer instant ≡ Err fault.DateTooSmall
-too_small second instant is low = rw (is, low) refl
-
-pub far-range : (negative : Bool) (size : ℕ) → 2 ^ 60 < size
+far-range : (negative : Bool) (size : ℕ) → 2 ^ 60 < size
     → range_answer (instant_at (with_sign negative size)) ≡ Err (if negative then fault.DateTooSmall else fault.DateTooLarge)
 far-range false size far =
-    too_large (pos (size / 1000000)) (instant_at (pos size)) refl refl (grind (arith, ints, nat_tests))
+    let late : int_le (pos (size / 1000000)) last_second ≡ false = grind (arith, ints, nat_tests) in
+    rw late refl
 far-range true zero far = absurd (omega arith)
 far-range true (suc size) far =
-    too_small (negsuc (size / 1000000)) (instant_at (neg_ℤ (pos (suc size)))) refl (grind (arith, ints, nat_tests))
+    let early : int_le first_second (negsuc (size / 1000000)) ≡ false = grind (arith, ints, nat_tests) in
+    rw early refl
 
 -- so does that of a decimal whose whole part is far
 pub decimal-far : (row : UnitRow) (decimal : DecimalParts) → 2 ^ 60 < digits_value decimal.whole * row.microseconds

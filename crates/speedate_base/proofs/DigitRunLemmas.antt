@@ -2,18 +2,18 @@
 use Rattle.std.specs.Prelude.{◌≡◌, ℕ, zero, suc, ◌+◌, ◌-◌, ◌*◌, ◌^◌, ◌<◌, ◌≤◌, ◌==◌, ◌&&◌, Bool, true, false, if◌then◌else◌, List, [], ◌∷◌, ◌++◌, length, take, drop, refl}
 use Rattle.std.specs.Char.{is_ascii_digit}
 use Rattle.std.specs.List.{prefix_len, list_all}
-use Rattle.std.proofs.Common.{arith, lit<, ap, sym, ◌∙◌, get_or, inl, inr, subst}
+use Rattle.std.proofs.Common.{arith, lit<, ap, sym, ◌∙◌, get_or, inl, inr}
 use Rattle.std.proofs.lemmas.List.{length-append, length-take-le, take_more, get_or-take, get_or_past}
-use Rattle.std.proofs.lemmas.List.Sums.{prefix_len_is, AllPass-from_list_all}
-use Rattle.std.proofs.lemmas.List.Folds.{list_all-append, list_all_more, prefix_len-append}
+use Rattle.std.proofs.lemmas.List.Sums.{prefix_len_is, prefix_len-drop_no, prefix_len-drop_all, AllPass-from_list_all}
+use Rattle.std.proofs.lemmas.List.Folds.{list_all-append, prefix_len-append}
 use Rattle.std.proofs.lemmas.List.Elements.{All-get_or}
-use Rattle.std.proofs.lemmas.Bool.{and_from, and_parts, eqb-true, eqb-false, eq-eqb, ne_eqb, cases_lt, false≢true}
+use Rattle.std.proofs.lemmas.Bool.{and_from, and_parts, cases_lt, false≢true}
 use Rattle.std.proofs.lemmas.Bool.Decides.{nat_tests}
 use Rattle.std.proofs.lemmas.Nat.{pow-add}
 use Rattle.std.proofs.Math.Seq.{take-add}
 use Rattle.std.proofs.Math.Nat.{mul-le-mul_right, pow-succ', pow-le-pow_right}
 use Rattle.speedate_base.specs.Digits.{one_digit_value}
-use Rattle.speedate_base.specs.DigitRuns.{digits_value, fraction_value}
+use Rattle.speedate_base.specs.DigitRuns.{run_length, digits_value, fraction_value}
 
 -- a digit stands within its text
 pub digit-within : (bytes : List ℕ) (place : ℕ) → is_ascii_digit (get_or bytes place 0) ≡ true → place < length bytes
@@ -34,25 +34,15 @@ digits_value-lt (digit ∷ digits) all =
     let first = one_digit_value-le digit tests.0 in
     omega (arith, digits_value-lt digits tests.1, pow-succ' 10 (length digits), mul-le-mul_right (10 ^ length digits) first)
 
+-- what is below a power of ten is below a larger one
+pub below-power : (most count value : ℕ) → count ≤ most → value < 10 ^ count → value < 10 ^ most
+below-power most count value few small =
+    let power : 10 ^ count ≤ 10 ^ most = pow-le-pow_right {n = 10} (lit< tt) few in
+    omega (arith, power, small)
+
 -- few digits fit 64 bits
 pub digits_value-fits : (digits : List ℕ) → length digits ≤ 19 → list_all is_ascii_digit digits ≡ true → digits_value digits < 2 ^ 64
-digits_value-fits digits few all =
-    let power : 10 ^ length digits ≤ 10 ^ 19 = pow-le-pow_right {n = 10} (lit< tt) few in
-    omega (arith, power, digits_value-lt digits all)
-
--- the first bytes of a text, where they are digits, spell less than the power of ten
-pub digits_value-front-lt : (bytes : List ℕ) (count : ℕ) → count ≤ length bytes → list_all is_ascii_digit (take count bytes) ≡ true
-    → digits_value (take count bytes) < 10 ^ count
-digits_value-front-lt bytes count within all =
-    subst (λ (n : ℕ). digits_value (take count bytes) < 10 ^ n) (length-take-le count bytes within) (digits_value-lt (take count bytes) all)
-
--- and leave room for one more in 64 bits as long as they are few
-pub digits_value-front-fits : (bytes : List ℕ) (count : ℕ) → count ≤ length bytes → count < 19 → list_all is_ascii_digit (take count bytes) ≡ true
-    → 10 * digits_value (take count bytes) + 9 < 2 ^ 64
-digits_value-front-fits bytes count within few all =
-    let few_more : count ≤ 18 = omega arith in
-    let power : 10 ^ count ≤ 10 ^ 18 = pow-le-pow_right {n = 10} (lit< tt) few_more in
-    omega (arith, digits_value-front-lt bytes count within all)
+digits_value-fits digits few all = omega (arith, below-power 19 (length digits) _ few (digits_value-lt digits all))
 
 -- digits after others
 pub digits_value-append : (digits more : List ℕ) → digits_value (digits ++ more) ≡ digits_value digits * 10 ^ length more + digits_value more
@@ -69,11 +59,6 @@ digits_value-front-more bytes count within =
     let digit = get_or bytes count 0 in
     ap digits_value (take_more bytes count 0 within) ∙ omega (arith, digits_value-append (take count bytes) (digit ∷ []))
 
-pub all_digits-more : (bytes : List ℕ) (count : ℕ) → list_all is_ascii_digit (take count bytes) ≡ true
-    → is_ascii_digit (get_or bytes count 0) ≡ true → list_all is_ascii_digit (take (count + 1) bytes) ≡ true
-all_digits-more bytes count all last =
-    list_all_more is_ascii_digit bytes count 0 (digit-within bytes count last) ∙ and_from _ _ all last
-
 -- a run ends at the first byte that is no digit, or with the bytes
 pub run_length-ended : (bytes : List ℕ) (count : ℕ) → count ≤ length bytes → list_all is_ascii_digit (take count bytes) ≡ true
     → (count < length bytes → is_ascii_digit (get_or bytes count 0) ≡ false) → prefix_len is_ascii_digit bytes ≡ count
@@ -86,21 +71,20 @@ run_length-ended bytes count within all ended =
     ∙ All-get_or (λ (byte : ℕ). is_ascii_digit byte ≡ true) (take count bytes) k 0 inside (AllPass-from_list_all is_ascii_digit (take count bytes) all))
     ended
 
-one_more : (m n : ℕ) (test : Bool) → (m == n) ≡ test → (suc m == suc n) ≡ test
-one_more m n true same = let equal = eqb-true m n same in eq-eqb (suc m) (suc n) (omega arith)
-one_more m n false other = ne_eqb (suc m) (suc n) (λ same. eqb-false m n other (omega arith))
+-- where no digit stands there is no run
+pub run-none : (text : List ℕ) (place : ℕ) → is_ascii_digit (get_or text place 0) ≡ false → run_length text place ≡ 0
+run-none text place other = elim (cases_lt place (length text)) [
+  | inl within ↦ prefix_len-drop_no is_ascii_digit text place 0 within other
+  | inr past ↦ prefix_len-drop_all is_ascii_digit text place past
+]
 
-whole-first : (bytes : List ℕ) (test : Bool) → (prefix_len is_ascii_digit bytes == length bytes) ≡ list_all is_ascii_digit bytes
-    → ((if test then 1 + prefix_len is_ascii_digit bytes else 0) == suc (length bytes)) ≡ (test && list_all is_ascii_digit bytes)
-whole-first bytes true same =
-    let next : 1 + prefix_len is_ascii_digit bytes ≡ suc (prefix_len is_ascii_digit bytes) = omega arith in
-    ap (λ (n : ℕ). n == suc (length bytes)) next ∙ one_more (prefix_len is_ascii_digit bytes) (length bytes) _ same
-whole-first bytes false same = ne_eqb 0 (suc (length bytes)) (λ none. absurd (omega arith))
+whole-first : (count long : ℕ) (test all : Bool) → (count == long) ≡ all → ((if test then 1 + count else 0) == suc long) ≡ (test && all)
+whole-first count long test all same = grind (arith, nat_tests)
 
 -- a run ends with the bytes if and only if all of them are digits
 pub run-whole : (bytes : List ℕ) → (prefix_len is_ascii_digit bytes == length bytes) ≡ list_all is_ascii_digit bytes
 run-whole [] = refl
-run-whole (byte ∷ bytes) = whole-first bytes (is_ascii_digit byte) (run-whole bytes)
+run-whole (byte ∷ bytes) = whole-first _ _ (is_ascii_digit byte) _ (run-whole bytes)
 
 -- digits before a run belong to it
 pub run_length-append : (digits rest : List ℕ) → list_all is_ascii_digit digits ≡ true

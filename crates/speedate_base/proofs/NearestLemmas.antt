@@ -1,11 +1,11 @@
--- Exactly one whole number is nearest to a fraction, and it is found by rounding down what is twice the fraction.
-use Rattle.std.specs.Prelude.{◌≡◌, ℕ, suc, ◌+◌, ◌-◌, ◌*◌, ◌/◌, ◌^◌, ◌<◌, ◌≤◌, Bool, true, false, if◌then◌else◌, ℤ, pos, negsuc, neg_ℤ, ◌+ℤ◌, ◌-ℤ◌, ◌*ℤ◌, int_le, int_lt}
+-- The whole number that is nearest to a fraction is found by rounding down what is twice the fraction.
+use Rattle.std.specs.Prelude.{◌≡◌, ℕ, ◌+◌, ◌-◌, ◌*◌, ◌/◌, ◌^◌, ◌<◌, ◌≤◌, Bool, true, false, if◌then◌else◌, ℤ, pos, negsuc, neg_ℤ, ◌+ℤ◌, ◌-ℤ◌, ◌*ℤ◌, int_le, int_lt}
 use Rattle.std.specs.Int.{int_div_euclid}
 use Rattle.std.proofs.Common.{arith, ◌∙◌, ap, sym, inl, inr, lit<}
 use Rattle.std.proofs.lemmas.Bool.{cases_lt}
 use Rattle.std.proofs.lemmas.Bool.Decides.{nat_tests}
 use Rattle.std.proofs.lemmas.Int.{ints}
-use Rattle.std.proofs.Math.Nat.{mul-div-le, lt-div-mul-add, add-mul-div_right, div-div-eq-div-mul, mul_comm, mul-le-mul_left, div-eq_of_lt, pow-le-pow_right}
+use Rattle.std.proofs.Math.Nat.{mul-div-le, lt-div-mul-add, add-mul-div_right, div-div-eq-div-mul, mul_comm, div-eq_of_lt, pow-le-pow_right}
 use Rattle.speedate_base.specs.Numbers.{with_sign}
 use Rattle.speedate_base.specs.Nearest.{IsNearest, nearest, quotient}
 
@@ -42,44 +42,6 @@ nearest-is n d some =
     let product = pos (2 * d) *ℤ nearest n d in
     (below-moved product (pos 2 *ℤ n) d found.0, above-moved product (pos 2 *ℤ n) d found.1)
 
--- and no other number is
-one-between : (b a m : ℕ) → b * m < b * a + b → m ≤ a
-one-between b a m below = elim (cases_lt a m) [
-  | inl more ↦ absurd (omega (arith, below, mul-le-mul_left b more))
-  | inr few ↦ few
-]
-
-same-multiple : (b : ℕ) (x m k : ℤ) → 0 < b → int_le (pos b *ℤ m) x ≡ true → int_lt x (pos b *ℤ m +ℤ pos b) ≡ true
-    → int_le (pos b *ℤ k) x ≡ true → int_lt x (pos b *ℤ k +ℤ pos b) ≡ true → m ≡ k
-same-multiple b x (pos m) (pos k) some m_low m_high k_low k_high =
-    let less : m ≤ k = one-between b k m (grind (arith, ints, nat_tests)) in
-    let more : k ≤ m = one-between b m k (grind (arith, ints, nat_tests)) in
-    ap pos (omega arith)
-same-multiple b x (pos m) (negsuc k) some m_low m_high k_low k_high =
-    let least : 1 ≤ suc k = omega arith in
-    absurd (grind (arith, ints, nat_tests, mul-le-mul_left b least))
-same-multiple b x (negsuc m) (pos k) some m_low m_high k_low k_high =
-    let least : 1 ≤ suc m = omega arith in
-    absurd (grind (arith, ints, nat_tests, mul-le-mul_left b least))
-same-multiple b x (negsuc m) (negsuc k) some m_low m_high k_low k_high =
-    let less : m ≤ k = one-between b k m (grind (arith, ints, nat_tests)) in
-    let more : k ≤ m = one-between b m k (grind (arith, ints, nat_tests)) in
-    ap negsuc (omega arith)
-
-back-below : (x y : ℤ) (d : ℕ) → int_le (x -ℤ pos d) y ≡ true → int_le x (y +ℤ pos d) ≡ true
-back-below x y d below = grind (arith, ints, nat_tests)
-
-back-above : (x y : ℤ) (d : ℕ) → int_lt y (x +ℤ pos d) ≡ true → int_lt (y +ℤ pos d) (x +ℤ pos (2 * d)) ≡ true
-back-above x y d above = grind (arith, ints, nat_tests)
-
-pub nearest-only : (n : ℤ) (d : ℕ) (m : ℤ) → 0 < d → IsNearest n d m → m ≡ nearest n d
-nearest-only n d m some is =
-    let twice = pos 2 *ℤ n in
-    let sum = twice +ℤ pos d in
-    let product = pos (2 * d) *ℤ m in
-    let found = multiple sum (2 * d) (omega arith) in
-    same-multiple (2 * d) sum m (nearest n d) (omega arith) (back-below product twice d is.0) (back-above product twice d is.1) found.0 found.1
-
 -- what is left of rounding where twice the size was rounded first: down, or up for a negative number
 abbrev pub halved : Bool → ℕ → ℕ
 halved negative twice = if negative then twice / 2 else (twice + 1) / 2
@@ -96,22 +58,27 @@ half_up n d some = swapped (2 * n + d) d ∙ ap (λ (k : ℕ). k / 2) (one-more 
 half_down : (n d : ℕ) → (2 * n + (d - 1)) / (2 * d) ≡ halved true (quotient true (2 * n) d)
 half_down n d = swapped (2 * n + (d - 1)) d
 
-negative-nearest : (n d m : ℕ) → 0 < d → 2 * d * m ≤ 2 * n + (d - 1) → 2 * n + (d - 1) < m * (2 * d) + 2 * d
-    → IsNearest (neg_ℤ (pos n)) d (neg_ℤ (pos m))
-negative-nearest n d m some low high =
-    (grind (arith, ints, nat_tests, high), grind (arith, ints, nat_tests, low))
+-- a number below zero is rounded up by its size
+down : (n d : ℕ) → 0 < d → nearest (neg_ℤ (pos n)) d ≡ neg_ℤ (pos ((2 * n + (d - 1)) / (2 * d)))
+down n d some = elim (cases_lt d (2 * n)) [
+  | inl more ↦
+      let rest = 2 * n - d - 1 in
+      let sum : pos 2 *ℤ neg_ℤ (pos n) +ℤ pos d ≡ negsuc rest = omega (arith, ints) in
+      let size : 2 * n + (d - 1) ≡ rest + 1 * (2 * d) = omega arith in
+      let next = ap (λ (k : ℕ). k / (2 * d)) size ∙ add-mul-div_right rest 1 (omega arith) in
+      ap (λ (k : ℤ). int_div_euclid k (pos (2 * d))) sum ∙ omega (arith, ints, next)
+  | inr few ↦
+      let sum : pos 2 *ℤ neg_ℤ (pos n) +ℤ pos d ≡ pos (d - 2 * n) = omega (arith, ints) in
+      let left = div-eq_of_lt {n = d - 2 * n} {m = 2 * d} (omega arith) in
+      let size = div-eq_of_lt {n = 2 * n + (d - 1)} {m = 2 * d} (omega arith) in
+      ap (λ (k : ℤ). int_div_euclid k (pos (2 * d))) sum ∙ omega (arith, ints, left, size)
+]
 
 -- the nearest number, by its size
 pub nearest-halved : (negative : Bool) (n d : ℕ) → 0 < d
     → nearest (with_sign negative n) d ≡ with_sign negative (halved negative (quotient negative (2 * n) d))
 nearest-halved false n d some = ap pos (half_up n d some)
-nearest-halved true n d some =
-    let sum = 2 * n + (d - 1) in
-    let size = sum / (2 * d) in
-    let twice : 0 < 2 * d = omega arith in
-    sym (nearest-only (neg_ℤ (pos n)) d (neg_ℤ (pos size)) some
-    (negative-nearest n d size some (mul-div-le sum (2 * d)) (lt-div-mul-add {a = sum} twice)))
-    ∙ ap (λ (k : ℕ). neg_ℤ (pos k)) (half_down n d)
+nearest-halved true n d some = down n d some ∙ ap (λ (k : ℕ). neg_ℤ (pos k)) (half_down n d)
 
 product-less : (c d : ℕ) → 0 < d → c * d ≡ (d - 1) * c + c
 product-less c d some =

@@ -1,10 +1,11 @@
 -- A decimal's parts are its text, and texts that are no numbers.
-use Rattle.std.specs.Prelude.{◌≡◌, ◌≢◌, ℕ, suc, ◌+◌, ◌-◌, ◌<◌, ◌≤◌, Bool, true, false, ◌&&◌, ◌||◌, ◌==◌, List, [], ◌∷◌, ◌++◌, length, take, drop, slice_index, nat_lt, if◌then◌else◌, Option, Some, None, ℤ, refl}
+use Rattle.std.specs.Prelude.{◌≡◌, ◌≢◌, ℕ, ◌+◌, ◌-◌, ◌<◌, ◌≤◌, Bool, true, false, ◌&&◌, ◌||◌, ◌==◌, List, [], ◌∷◌, ◌++◌, length, take, drop, slice_index, nat_lt, if◌then◌else◌, Option, Some, None, ℤ, refl}
 use Rattle.std.specs.Char.{is_ascii_digit}
 use Rattle.std.specs.List.{list_all, prefix_len}
 use Rattle.std.proofs.Common.{arith, ap, sym, subst, ◌∙◌, inl, inr, append_assoc, get_or}
-use Rattle.std.proofs.lemmas.Bool.{cases_lt, eqb-true, ne_eqb, and_parts, false≢true}
-use Rattle.std.proofs.lemmas.List.Sums.{prefix_len_passes}
+use Rattle.std.proofs.lemmas.Bool.{cases_lt, eqb-true, ne_eqb, and_from, and_parts, false≢true}
+use Rattle.std.proofs.lemmas.Bool.Decides.{nat_tests}
+use Rattle.std.proofs.lemmas.List.Sums.{prefix_len_passes, take_while-cons}
 use Rattle.std.proofs.lemmas.List.{get_or-drop, take-append-drop, drop-drop, drop_more, take_all, length-drop}
 use Rattle.speedate_base.specs.Ascii.{plus_sign, hyphen, full_stop}
 use Rattle.speedate_base.specs.DigitRuns.{run_length, run_digits, run_value}
@@ -13,19 +14,16 @@ use Rattle.speedate_base.specs.IntFloat.{parts, number_of, JoinsToFloat}
 use Rattle.speedate_base.specs.declared.numbers.int_float.IntFloat.{IntFloat}
 use Rattle.speedate_base.specs.declared.numbers.int_float.IntFloat.TheVariants as number
 
-first-digit : (byte : ℕ) (bytes : List ℕ) (test : Bool) → is_ascii_digit byte ≡ test
-    → list_all is_ascii_digit (take (prefix_len is_ascii_digit bytes) bytes) ≡ true
-    → list_all is_ascii_digit (take (if test then 1 + prefix_len is_ascii_digit bytes else 0) (byte ∷ bytes)) ≡ true
-first-digit byte bytes true is others =
-    let more : 1 + prefix_len is_ascii_digit bytes ≡ suc (prefix_len is_ascii_digit bytes) = omega arith in
-    ap (λ (n : ℕ). list_all is_ascii_digit (take n (byte ∷ bytes))) more
-    ∙ ap (λ (test : Bool). test && list_all is_ascii_digit (take (prefix_len is_ascii_digit bytes) bytes)) is ∙ others
-first-digit byte bytes false is others = refl
+first-digit : (byte : ℕ) (digits : List ℕ) (test : Bool) → is_ascii_digit byte ≡ test → list_all is_ascii_digit digits ≡ true
+    → list_all is_ascii_digit (if test then byte ∷ digits else []) ≡ true
+first-digit byte digits true is others = and_from _ _ is others
+first-digit byte digits false is others = refl
 
 -- a run is made of digits
 pub run-digits : (bytes : List ℕ) → list_all is_ascii_digit (take (prefix_len is_ascii_digit bytes) bytes) ≡ true
 run-digits [] = refl
-run-digits (byte ∷ bytes) = first-digit byte bytes (is_ascii_digit byte) refl (run-digits bytes)
+run-digits (byte ∷ bytes) =
+    ap (list_all is_ascii_digit) (take_while-cons is_ascii_digit byte bytes) ∙ first-digit byte _ (is_ascii_digit byte) refl (run-digits bytes)
 
 first-sign : (byte : ℕ) (bytes : List ℕ) (plus minus : Bool) → (byte == plus_sign) ≡ plus → (byte == hyphen) ≡ minus
     → IsSign minus (take (if plus || minus then 1 else 0) (byte ∷ bytes))
@@ -80,21 +78,17 @@ never true b value = refl
 never false b value = refl
 
 -- a text that goes on after its digits is no whole number
-pub whole_number-none : (text : List ℕ) → point_place text < length text → whole_number text ≡ None
-whole_number-none text within =
+pub whole_number-none : (text : List ℕ) → (point_place text ≡ length text → ⊥) → whole_number text ≡ None
+whole_number-none text other =
     let start = sign_length text in
     let size = run_value text start in
     let value = with_sign (has_minus text) size in
     ap (λ (ends : Bool). if (nat_lt 0 (run_length text start) && ends) && fits_i64 (has_minus text) size then Some value else None)
-    (ne_eqb (point_place text) (length text) (λ same. absurd (omega arith)))
+    (ne_eqb (point_place text) (length text) other)
     ∙ never (nat_lt 0 (run_length text start)) (fits_i64 (has_minus text) size) value
 
-chosen-small : (test : Bool) → (if test then 1 else 0) ≤ 1
-chosen-small true = omega arith
-chosen-small false = omega arith
-
 sign_length-small : (text : List ℕ) → sign_length text ≤ 1
-sign_length-small text = chosen-small ((slice_index text 0 == plus_sign) || has_minus text)
+sign_length-small text = grind (arith, nat_tests)
 
 -- each byte of a run is a digit
 run-passes : (text : List ℕ) (start place : ℕ) → start ≤ place → place < start + run_length text start → is_ascii_digit (get_or text place 0) ≡ true
@@ -105,16 +99,12 @@ run-passes text start place after before =
     ∙ prefix_len_passes is_ascii_digit (drop start text) (place - start) 0 below
 
 -- a text with another byte after its first is no whole number
-pub whole_number-other : (text : List ℕ) (place : ℕ) → 1 ≤ place → place < length text → is_ascii_digit (get_or text place 0) ≡ false
+whole_number-other : (text : List ℕ) (place : ℕ) → 1 ≤ place → place < length text → is_ascii_digit (get_or text place 0) ≡ false
     → whole_number text ≡ None
 whole_number-other text place after within other =
-    let start = sign_length text in
-    let size = run_value text start in
     let small = sign_length-small text in
-    let value = with_sign (has_minus text) size in
-    let ends = ne_eqb (point_place text) (length text) (λ same. false≢true (sym other ∙ run-passes text start place (omega (arith, small)) (omega (arith, same)))) in
-    ap (λ (ends : Bool). if (nat_lt 0 (run_length text start) && ends) && fits_i64 (has_minus text) size then Some value else None) ends
-    ∙ never (nat_lt 0 (run_length text start)) (fits_i64 (has_minus text) size) value
+    whole_number-none text
+    (λ same. false≢true (sym other ∙ run-passes text (sign_length text) place (omega (arith, small)) (omega (arith, same))))
 
 cannot : (test : Bool) → test ≢ true → test ≡ false
 cannot true never = absurd (never refl)

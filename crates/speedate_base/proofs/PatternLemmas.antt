@@ -31,7 +31,8 @@ AllFit (suc count) [] bytes = ⊥
 AllFit (suc count) (form ∷ forms) [] = ⊥
 AllFit (suc count) (form ∷ forms) (byte ∷ bytes) = (fits_byte form byte ≡ true) × AllFit count forms bytes
 
-first-fits : (count rest : ℕ) (test : Bool) → suc count ≤ (if test then 1 + rest else 0) → (test ≡ true) × (count ≤ rest)
+-- where one more byte fits, the first one does, and the others behind it
+pub first-fits : (count rest : ℕ) (test : Bool) → suc count ≤ (if test then 1 + rest else 0) → (test ≡ true) × (count ≤ rest)
 first-fits count rest true enough = (refl, omega arith)
 first-fits count rest false enough = absurd (omega arith)
 

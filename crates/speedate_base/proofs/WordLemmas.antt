@@ -1,7 +1,7 @@
 -- Eight bytes as one number of 64 bits.
 use Rattle.std.specs.Prelude.{◌≡◌, ℕ, zero, suc, ◌+◌, ◌-◌, ◌*◌, ◌/◌, ◌%◌, ◌^◌, ◌<◌, ◌≤◌, List, [], ◌∷◌, length, bit_and}
 use Rattle.std.specs.Int.{w64, from_le_bytes, to_le_bytes}
-use Rattle.std.proofs.Common.{arith, refl, ap, ap₂, sym, ◌∙◌, get_or}
+use Rattle.std.proofs.Common.{arith, refl, lit<, ap, ap₂, sym, ◌∙◌, get_or}
 use Rattle.std.proofs.lemmas.Nat.{and_mask, le_bytes_8, mod-pow-add}
 use Rattle.std.proofs.Math.Nat.{zero-mod}
 use lib.Lanes.{Each1, digits_l}
@@ -16,15 +16,15 @@ word (byte ∷ bytes) = byte + 256 * word bytes
 pub from_le_bytes-word : (bytes : List ℕ) → length bytes ≡ 8 → from_le_bytes w64 bytes ≡ word bytes
 from_le_bytes-word = by_eight (λ (bytes : List ℕ). from_le_bytes w64 bytes ≡ word bytes) (λ a b c d e f g h. omega arith)
 
--- a byte of some bytes is below 256, and so is what stands past them
-within : (bytes : List ℕ) → Each1 (λ (byte : ℕ). byte < 256) bytes → (i : ℕ) → get_or bytes i 0 < 256
-within [] small i = omega arith
-within (byte ∷ bytes) small zero = small.0
-within (byte ∷ bytes) small (suc i) = within bytes small.1 i
+-- a number of some numbers below a bound is below it, and so is what stands past them
+pub each-at : (bound : ℕ) (numbers : List ℕ) → 0 < bound → Each1 (λ (number : ℕ). number < bound) numbers → (i : ℕ) → get_or numbers i 0 < bound
+each-at bound [] some small i = some
+each-at bound (number ∷ numbers) some small zero = small.0
+each-at bound (number ∷ numbers) some small (suc i) = each-at bound numbers some small.1 i
 
 -- the eight bytes of a number are those that it is made of
 pub to_le_bytes-word : (bytes : List ℕ) → length bytes ≡ 8 → Each1 (λ (byte : ℕ). byte < 256) bytes → to_le_bytes w64 (word bytes) ≡ bytes
-to_le_bytes-word bytes long small = le_bytes_8 bytes (word bytes) long (within bytes small) (sym (from_le_bytes-word bytes long))
+to_le_bytes-word bytes long small = le_bytes_8 bytes (word bytes) long (each-at 256 bytes (lit< tt) small) (sym (from_le_bytes-word bytes long))
 
 -- the first bytes, so many of them, and 0 for the others
 abbrev pub front_bytes : ℕ → List ℕ → List ℕ

@@ -14,42 +14,41 @@ abbrev pub refuses_digits : MicrosecondsPrecisionOverflowBehavior → Bool
 refuses_digits behavior.Truncate = false
 refuses_digits behavior.Error = true
 
--- what a configuration of times chooses
-pub record TimeChoices : Type 0 where
-  pub behavior : MicrosecondsPrecisionOverflowBehavior
-  pub offset : Option ℤ
-  pub order : IsoOrder
-
-abbrev pub time_choices : TimeConfig → TimeChoices
-time_choices config = record {
-  behavior = config.microseconds_precision_overflow_behavior;
-  offset = config.unix_timestamp_offset;
-  order = config.iso_order;
-}
-
--- the same with one choice replaced
-abbrev pub with_behavior : MicrosecondsPrecisionOverflowBehavior → TimeChoices → TimeChoices
-with_behavior behavior chosen = record { behavior = behavior; offset = chosen.offset; order = chosen.order }
-
-abbrev pub with_offset : Option ℤ → TimeChoices → TimeChoices
-with_offset offset chosen = record { behavior = chosen.behavior; offset = offset; order = chosen.order }
-
-abbrev pub with_order : IsoOrder → TimeChoices → TimeChoices
-with_order order chosen = record { behavior = chosen.behavior; offset = chosen.offset; order = order }
-
--- the default: digits past the microsecond are refused, the value of a timestamp gets no offset, and the components of a
--- duration may come in any order
-abbrev pub default_time : TimeChoices
-default_time = record { behavior = behavior.Error; offset = None; order = order.Lax }
-
--- what a configuration of date-times chooses
+-- what a configuration chooses
 pub record Choices : Type 0 where
   pub unit : TimestampUnit
-  pub time : TimeChoices
+  pub behavior : MicrosecondsPrecisionOverflowBehavior
+  pub order : IsoOrder
+  pub offset : Option ℤ
 
-abbrev pub choices : DateTimeConfig → Choices
-choices config = record { unit = config.timestamp_unit; time = time_choices config.time_config }
-
--- the default: the unit of a timestamp is inferred, and times are read as by default
+-- the default: the unit of a timestamp is inferred, digits past the microsecond are refused, the components of a duration may
+-- come in any order, and the value of a timestamp gets no offset
 abbrev pub default_choices : Choices
-default_choices = record { unit = unit.Infer; time = default_time }
+default_choices = record { unit = unit.Infer; behavior = behavior.Error; order = order.Lax; offset = None }
+
+-- a unit, and what a configuration of times chooses
+abbrev pub unit_and_time : TimestampUnit → TimeConfig → Choices
+unit_and_time unit config = record {
+  unit = unit;
+  behavior = config.microseconds_precision_overflow_behavior;
+  order = config.iso_order;
+  offset = config.unix_timestamp_offset;
+}
+
+-- the choices of a configuration of date-times
+abbrev pub choices : DateTimeConfig → Choices
+choices config = unit_and_time config.timestamp_unit config.time_config
+
+-- those of a configuration of times, which has no unit: it is the default one
+abbrev pub time_choices : TimeConfig → Choices
+time_choices config = unit_and_time unit.Infer config
+
+-- the same with one choice replaced
+abbrev pub with_behavior : MicrosecondsPrecisionOverflowBehavior → Choices → Choices
+with_behavior behavior chosen = record { unit = chosen.unit; behavior = behavior; order = chosen.order; offset = chosen.offset }
+
+abbrev pub with_order : IsoOrder → Choices → Choices
+with_order order chosen = record { unit = chosen.unit; behavior = chosen.behavior; order = order; offset = chosen.offset }
+
+abbrev pub with_offset : Option ℤ → Choices → Choices
+with_offset offset chosen = record { unit = chosen.unit; behavior = chosen.behavior; order = chosen.order; offset = offset }

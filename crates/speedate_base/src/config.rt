@@ -192,20 +192,20 @@ pub struct TimeConfig {
 }
 
 impl TimeConfig {
-    ghost use Rattle.speedate_base.specs.Config.{default_time, time_choices};
+    ghost use Rattle.speedate_base.specs.Config.{default_choices, time_choices};
 
     /// A builder of a configuration: `TimeConfig::builder().build()` is the default one.
     pub fn builder() -> TimeConfigBuilder
-        ensures default { time_choices result ≡ default_time }
+        ensures default { time_choices result ≡ default_choices }
     {
         TimeConfigBuilder::new()
     }
 }
 
 impl Default for TimeConfig {
-    ghost use Rattle.speedate_base.specs.Config.{default_time, time_choices};
+    ghost use Rattle.speedate_base.specs.Config.{default_choices, time_choices};
 
-    ghost is_default = { λ config. time_choices config ≡ default_time };
+    ghost is_default = { λ config. time_choices config ≡ default_choices };
 
     /// Digits past the microsecond are refused, the value of a timestamp gets no offset, and components
     /// may come in any order.
@@ -236,12 +236,12 @@ impl Model for TimeConfigBuilder {
 }
 
 impl TimeConfigBuilder {
-    ghost use Rattle.speedate_base.specs.Config.{default_time, time_choices, with_behavior, with_offset, with_order};
+    ghost use Rattle.speedate_base.specs.Config.{default_choices, time_choices, with_behavior, with_offset, with_order};
 
     ghost use Rattle.std.specs.Prelude.{◌≡◌};
     /// A builder of the default configuration; `TimeConfig::builder()` is the same.
     pub fn new() -> Self
-        ensures default { time_choices result ≡ default_time }
+        ensures default { time_choices result ≡ default_choices }
     {
         TimeConfigBuilder {
             config: TimeConfig::default(),
@@ -305,9 +305,9 @@ impl TimeConfigBuilder {
 }
 
 impl Default for TimeConfigBuilder {
-    ghost use Rattle.speedate_base.specs.Config.{default_time, time_choices};
+    ghost use Rattle.speedate_base.specs.Config.{default_choices, time_choices};
 
-    ghost is_default = { λ config. time_choices config ≡ default_time };
+    ghost is_default = { λ config. time_choices config ≡ default_choices };
 
     /// A builder of the default configuration.
     fn default() -> Self {

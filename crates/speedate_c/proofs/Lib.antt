@@ -1,1 +1,2 @@
+mod CodeLemmas
 mod TextLemmas

@@ -1,5 +1,5 @@
 -- The codes that calls answer: 0, the numbers of the faults, and those of what a caller got wrong.
-use Rattle.std.specs.Prelude.{ℕ, ◌+◌, ◌-◌, ℤ, pos, negsuc, unsigned_abs, int_le, List, codes, slice_get, Option, Some, None, Result, Ok, Err, if◌then◌else◌}
+use Rattle.std.specs.Prelude.{ℕ, ◌+◌, ◌-◌, ℤ, pos, negsuc, unsigned_abs, int_le, List, map, codes, slice_get, Option, Some, None, Result, Ok, Err, if◌then◌else◌}
 use Rattle.std.specs.Option.{option_map, option_or}
 use Rattle.std.specs.Ordering.{int_eq}
 use Rattle.std.specs.declared.cmp.Ordering.{Ordering}
@@ -31,10 +31,13 @@ no_such_date = pos 104
 abbrev pub fault_code : ParseError → ℤ
 fault_code fault = pos (fault_place fault + 1)
 
+-- the faults in the order of their codes
+abbrev pub faults : List ParseError
+faults = map (λ (row : FaultRow). row.fault) fault_rows
+
 -- the fault of a code
 abbrev pub fault_of : ℤ → Option ParseError
-fault_of code =
-    if int_le (pos 1) code then option_map (λ (row : FaultRow). row.fault) (slice_get fault_rows (unsigned_abs code - 1)) else None
+fault_of code = if int_le (pos 1) code then slice_get faults (unsigned_abs code - 1) else None
 
 -- the names of the codes that are no faults
 abbrev pub refusal_name : ℤ → Option (List ℕ)

@@ -44,7 +44,7 @@ choices_of config =
     option_and_then (λ unit.
     option_and_then (λ behavior.
     option_and_then (λ order.
-    option_and_then (λ offset. Some (record { unit = unit; time = record { behavior = behavior; offset = offset; order = order } }))
+    option_and_then (λ offset. Some (record { unit = unit; behavior = behavior; order = order; offset = offset }))
     (result_ok (offset_answer config.has_timestamp_offset config.timestamp_offset)))
     (slice_get orders config.iso_order))
     (slice_get behaviors config.overflow_behavior))

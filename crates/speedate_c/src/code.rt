@@ -85,7 +85,15 @@ fn fault_of(code: i32) -> Option<ParseError>
     if code < 1 {
         return None;
     }
-    FAULTS.get((code.unsigned_abs() - 1) as usize).copied()
+    fault_at(&FAULTS, (code.unsigned_abs() - 1) as usize)
+}
+
+/// The fault at a place of a list.
+#[inline]
+fn fault_at(faults: &[ParseError], place: usize) -> Option<ParseError>
+    ensures fault { result ≡ slice_get faults.now place }
+{
+    faults.get(place).copied()
 }
 
 /// The name of a code.

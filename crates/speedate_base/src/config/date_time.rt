@@ -1,7 +1,7 @@
 //! Configurations of date-times.
 
 ghost use Rattle.std.specs.Prelude.{◌≡◌};
-ghost use Rattle.speedate_base.specs.Config.{choices, default_choices, time_choices};
+ghost use Rattle.speedate_base.specs.Config.{choices, default_choices, unit_and_time};
 
 use super::{TimeConfig, TimestampUnit};
 use std::marker::Model;
@@ -70,7 +70,7 @@ impl DateTimeConfigBuilder {
     /// Sets the unit of timestamps: with `timestamp_unit(TimestampUnit::Millisecond)`, `1` is
     /// 1970-01-01T00:00:00.001000.
     pub fn timestamp_unit(self, unit: TimestampUnit) -> Self
-        ensures choices { choices result ≡ record { unit = unit; time = time_choices self.time_config } }
+        ensures choices { choices result ≡ unit_and_time unit self.time_config }
     {
         DateTimeConfigBuilder {
             config: DateTimeConfig {
@@ -83,7 +83,7 @@ impl DateTimeConfigBuilder {
     /// Sets how the texts of date-times are read, and which offset the value of a timestamp gets: none
     /// with `time_config(TimeConfig::default())`.
     pub fn time_config(self, config: TimeConfig) -> Self
-        ensures choices { choices result ≡ record { unit = self.timestamp_unit; time = time_choices config } }
+        ensures choices { choices result ≡ unit_and_time self.timestamp_unit config }
     {
         DateTimeConfigBuilder {
             config: DateTimeConfig {

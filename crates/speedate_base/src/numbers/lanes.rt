@@ -109,6 +109,7 @@ pub(crate) fn digits_in_front(lanes: u8x8) -> usize
 pub(crate) fn eight_digits(lanes: u8x8) -> u64
     requires { IsTrue (list_all is_ascii_digit lanes) }
     ensures value { result ≡ digits_value lanes }
+    ensures small { result < 100000000 }
 {
     let [a, _, b, _, c, _, d, _] = pairs(lanes, u8x8::splat(b'0'), LANES);
     1_000_000 * u64::from(a) + 10_000 * u64::from(b) + 100 * u64::from(c) + u64::from(d)

@@ -63,22 +63,9 @@ fn is_inferred_seconds(decimal: Decimal<'_>) -> bool
     }
     let whole = digits_number(decimal.whole);
     if whole == INFERRED_SECONDS_MAX {
-        return are_zeros(decimal.fraction);
+        return digits_number(decimal.fraction) == 0;
     }
     whole < INFERRED_SECONDS_MAX
-}
-
-/// Whether all digits are 0.
-fn are_zeros(digits: &[u8]) -> bool
-    requires { IsTrue (list_all is_ascii_digit digits.now) }
-    ensures { result ≡ (digits_value digits.now == 0) }
-{
-    for digit in digits {
-        if *digit != b'0' {
-            return false;
-        }
-    }
-    true
 }
 
 /// The instant of a decimal timestamp, to the nearest microsecond: second -1 and 999,999

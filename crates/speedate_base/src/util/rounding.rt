@@ -47,20 +47,10 @@ pub fn twice_microseconds(digits: &[u8], unit: u64, up: bool) -> u64
     let mut twice = eight_taken(filled(&digits[place..], LANES), 0, unit, up);
     while place > 0 {
         place -= LANES;
-        twice = eight_taken(block(&digits[place..]), twice, unit, up);
+        let value = eight_digits(u8x8::from_slice(&digits[place..]));
+        twice = eight_taken(value, twice, unit, up);
     }
     twice
-}
-
-/// What the first eight digits spell.
-#[inline]
-fn block(digits: &[u8]) -> u64
-    requires long { LANES ≤ length digits.now }
-    requires digits { IsTrue (list_all is_ascii_digit digits.now) }
-    ensures value { result ≡ digits_value (take LANES digits.now) }
-    ensures small { result < 100000000 }
-{
-    eight_digits(u8x8::from_slice(digits))
 }
 
 /// What fewer than eight digits spell, with zeros after them up to so many places: 120,000 for

@@ -2,7 +2,7 @@ use Rattle.std.proofs.Common.{◌≡◌, ◌∙◌, ap, sym, subst, ℕ, ◌+◌
 use Rattle.std.specs.Prelude.{Option, ℤ}
 use Rattle.std.proofs.lemmas.List.{length-drop, take_rest}
 use Rattle.speedate_base.specs.DigitRuns.{run_length}
-use Rattle.speedate_base.specs.Numbers.{point_place, whole_or, decimal_answer}
+use Rattle.speedate_base.specs.Numbers.{whole_or, decimal_answer}
 use Rattle.speedate_base.proofs.NumberLemmas.{number_of-joins, whole_number-none}
 use Rattle.speedate_base.proofs.BlockLemmas.{number_or_place, from-place}
 use Rattle.speedate_base.proofs.numbers.float_parse_bytes.Goals as goal
@@ -31,7 +31,6 @@ returns-in-Err-clause-joined c =
     let bytes = c.args.bytes.now in
     let stops = run_stops bytes c.sign-negative.result.1 c.in-Err.count _ c.sign-negative.ensures.within c.in-Err.ensures.answer in
     let run = ap (run_length bytes) c.sign-negative.ensures.len in
-    let within : point_place bytes < length bytes = omega (arith, c.sign-negative.ensures.len, stops.0, stops.1, run) in
-    let none = whole_number-none bytes within in
+    let none = whole_number-none bytes (λ same. absurd (omega (arith, c.sign-negative.ensures.len, stops.0, stops.1, run, same))) in
     number_of-joins c.decimal.result bytes
     (c.decimal.ensures.answer ∙ ap (λ (number : Option ℤ). whole_or number (decimal_answer bytes)) (sym none))

@@ -1,7 +1,6 @@
 use Rattle.std.proofs.Common.{◌≡◌, ◌∙◌, ap, ℕ, ◌+◌, ◌*◌, List, [], ◌∷◌, length, get_or, arith}
 use Rattle.speedate_base.specs.DigitRuns.{digits_value}
 use Rattle.speedate_base.specs.Pattern.{fit_digits, neighbours}
-use Rattle.speedate_base.proofs.DigitRunLemmas.{digits_value-fits}
 use Rattle.speedate_base.proofs.PatternLemmas.{by_eight}
 use Rattle.speedate_base.proofs.numbers.lanes.eight_digits.Goals as goal
 
@@ -16,10 +15,14 @@ joined-spells = by_eight (λ (lanes : List ℕ). joined (neighbours (fit_digits 
 
 pub overflow_add-result-3 : goal.overflow_add-result-3
 overflow_add-result-3 c =
-    let is = ap joined c.pairs.ensures.numbers ∙ joined-spells c.args.lanes c.fits-lanes.0 in
-    record { fits = omega (arith, is, c.from.ensures, c.from-2.ensures, c.from-3.ensures, c.from-4.ensures, digits_value-fits c.args.lanes (omega (arith, c.fits-lanes.0)) c.requires) }
+    let pair = c.pairs.ensures.small in
+    record { fits = omega (arith, c.from.ensures, c.from-2.ensures, c.from-3.ensures, c.from-4.ensures, pair 0, pair 2, pair 4, pair 6) }
 
 pub returns : goal.returns
 returns c =
     let is = ap joined c.pairs.ensures.numbers ∙ joined-spells c.args.lanes c.fits-lanes.0 in
-    record { value = omega (arith, is, c.from.ensures, c.from-2.ensures, c.from-3.ensures, c.from-4.ensures) }
+    let pair = c.pairs.ensures.small in
+    record {
+      value = omega (arith, is, c.from.ensures, c.from-2.ensures, c.from-3.ensures, c.from-4.ensures);
+      small = omega (arith, c.from.ensures, c.from-2.ensures, c.from-3.ensures, c.from-4.ensures, pair 0, pair 2, pair 4, pair 6);
+    }

@@ -1,14 +1,13 @@
-use Rattle.std.proofs.Common.{◌≡◌, ◌∙◌, ap, ap₂, sym, subst, ℕ, ◌+◌, ◌-◌, ◌%◌, ◌<◌, eqb, ltb, Bool, true, false, not, cond, min, List, [], ◌∷◌, map, length, replicate, refl, inl, inr, arith, Fits, w8}
-use Rattle.std.specs.Char.{is_ascii_digit}
+use Rattle.std.proofs.Common.{◌≡◌, ◌∙◌, ap, ap₂, sym, subst, ℕ, ◌+◌, ◌-◌, ◌%◌, ◌<◌, eqb, ltb, Bool, not, cond, min, List, [], ◌∷◌, map, length, replicate, refl, inl, inr, arith, Fits, w8}
 use Rattle.std.specs.List.{prefix_len}
-use Rattle.std.proofs.lemmas.Bool.{cases_lt, eqb-true}
+use Rattle.std.proofs.lemmas.Bool.{cases_lt}
 use Rattle.std.proofs.lemmas.Bool.Decides.{nat_tests}
 use Rattle.std.proofs.lemmas.List.{length-map}
 use Rattle.std.proofs.lemmas.List.Sums.{prefix_len-le-length}
 use Rattle.std.proofs.lemmas.Simd.{zip2_splat, tops_compared, length-zip2, mask_l-mod, leading_from_mask_l, trailing_mask_l}
 use lib.Lanes.{Each1, zip2, mask_l, sel_l, top}
 use lib.Count.{count_trailing_zeros}
-use Rattle.speedate_base.specs.Pattern.{fit_length}
+use Rattle.speedate_base.specs.Pattern.{fit_length, fits_byte}
 use Rattle.speedate_base.proofs.numbers.lanes.fitting.Goals as goal
 
 -- how far above the pattern's byte a lane may lie: a digit lies up to nine above `0`, any other byte is the pattern's own
@@ -20,18 +19,8 @@ abbrev less : ℕ → ℕ → ℕ
 less lane form = (lane + (256 - form)) % 256
 
 -- how far a lane lies above the pattern's byte tells whether it is as the pattern has it
-digit_fits : (byte : ℕ) → byte < 256 → not (ltb 9 (less byte 48)) ≡ is_ascii_digit byte
-digit_fits byte small = grind (arith, nat_tests)
-
-other_fits : (form byte : ℕ) → form < 256 → byte < 256 → not (ltb 0 (less byte form)) ≡ eqb byte form
-other_fits form byte small lane = grind (arith, nat_tests)
-
-fits : (form byte : ℕ) (digit : Bool) → digit ≡ eqb form 48 → form < 256 → byte < 256
-    → not (ltb (cond digit 9 0) (less byte form)) ≡ cond digit (is_ascii_digit byte) (eqb byte form)
-fits form byte true is small lane =
-    let zero_is : form ≡ 48 = eqb-true form 48 (sym is) in
-    ap (λ (f : ℕ). not (ltb 9 (less byte f))) zero_is ∙ digit_fits byte lane
-fits form byte false is small lane = other_fits form byte small lane
+fits : (form byte : ℕ) → form < 256 → byte < 256 → not (ltb (largest form) (less byte form)) ≡ fits_byte form byte
+fits form byte pattern lane = grind (arith, nat_tests)
 
 run : (forms lanes : List ℕ) → Each1 (Fits w8) forms → Each1 (Fits w8) lanes
     → prefix_len not (zip2 ltb (map largest forms) (zip2 less lanes forms)) ≡ fit_length forms lanes
@@ -40,7 +29,7 @@ run [] (byte ∷ bytes) small lanes = refl
 run (form ∷ forms) [] small lanes = refl
 run (form ∷ forms) (byte ∷ bytes) small lanes =
     ap₂ (λ (test : Bool) (count : ℕ). cond test (1 + count) 0)
-    (fits form byte (eqb form 48) refl small.0.fits lanes.0.fits) (run forms bytes small.1 lanes.1)
+    (fits form byte small.0.fits lanes.0.fits) (run forms bytes small.1 lanes.1)
 
 selected : (forms : List ℕ) → sel_l (map (λ (form : ℕ). eqb form 48) forms) (replicate (length forms) 9) (replicate (length forms) 0) ≡ map largest forms
 selected [] = refl

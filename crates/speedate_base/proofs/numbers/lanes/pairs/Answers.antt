@@ -1,14 +1,12 @@
-use Rattle.std.proofs.Common.{◌≡◌, ◌∙◌, ap, ap₂, sym, subst, refl, ℕ, zero, suc, ◌+◌, ◌-◌, ◌*◌, ◌/◌, ◌%◌, ◌^◌, ◌<◌, ◌≤◌, Bool, true, false, cond, eqb, get_or, List, [], ◌∷◌, length, arith, Fits, w8, w64}
+use Rattle.std.proofs.Common.{◌≡◌, ◌∙◌, ap, ap₂, sym, subst, refl, lit<, ℕ, zero, suc, ◌+◌, ◌-◌, ◌*◌, ◌/◌, ◌%◌, ◌^◌, ◌<◌, ◌≤◌, true, get_or, List, [], ◌∷◌, length, arith, Fits, w8, w64}
 use Rattle.std.specs.Prelude.{bit_and}
 use Rattle.std.specs.Int.{from_le_bytes, to_le_bytes}
-use Rattle.std.specs.Char.{is_ascii_digit}
-use Rattle.std.proofs.lemmas.Bool.{eqb-true}
 use Rattle.std.proofs.lemmas.Bool.Decides.{nat_tests}
 use Rattle.std.proofs.lemmas.Simd.{length-zip2}
 use lib.Lanes.{Each1, zip2}
 use Rattle.speedate_base.specs.Pattern.{fits_byte, fit_length, fit_digits, neighbours}
-use Rattle.speedate_base.proofs.PatternLemmas.{by_eight, fit_length-le}
-use Rattle.speedate_base.proofs.WordLemmas.{word, from_le_bytes-word, to_le_bytes-word, front_bytes, masked-word}
+use Rattle.speedate_base.proofs.PatternLemmas.{by_eight, first-fits, fit_length-le}
+use Rattle.speedate_base.proofs.WordLemmas.{word, each-at, from_le_bytes-word, to_le_bytes-word, front_bytes, masked-word}
 use Rattle.speedate_base.proofs.numbers.lanes.pairs.Goals as goal
 
 -- a lane less the pattern's byte
@@ -20,15 +18,8 @@ record Fitted (form byte : ℕ) : Type 0 where
   is : less byte form ≡ byte - form
   small : byte - form ≤ 9
 
-digit_fits : (byte : ℕ) → is_ascii_digit byte ≡ true → Fitted 48 byte
-digit_fits byte is = record { is = grind (arith, nat_tests); small = grind (arith, nat_tests) }
-
-same_fits : (byte : ℕ) → byte < 256 → Fitted byte byte
-same_fits byte small = record { is = omega arith; small = omega arith }
-
-fitted : (form byte : ℕ) (digit : Bool) → digit ≡ eqb form 48 → byte < 256 → cond digit (is_ascii_digit byte) (eqb byte form) ≡ true → Fitted form byte
-fitted form byte true is small fits = subst (λ (f : ℕ). Fitted f byte) (sym (eqb-true form 48 (sym is))) (digit_fits byte fits)
-fitted form byte false is small fits = subst (λ (f : ℕ). Fitted f byte) (eqb-true byte form fits) (same_fits byte small)
+fitted : (form byte : ℕ) → form < 256 → byte < 256 → fits_byte form byte ≡ true → Fitted form byte
+fitted form byte pattern lane fits = record { is = grind (arith, nat_tests); small = grind (arith, nat_tests) }
 
 -- so the first lanes, less the pattern, are the digits that they stand for
 record Digits (count : ℕ) (forms lanes : List ℕ) : Type 0 where
@@ -44,27 +35,23 @@ none (form ∷ forms) (byte ∷ bytes) = record {
   small = (omega arith, (none forms bytes).small);
 }
 
-digits_are : (count : ℕ) (forms lanes : List ℕ) → count ≤ fit_length forms lanes → Each1 (Fits w8) lanes → Digits count forms lanes
-digits_are zero forms lanes fits small = none forms lanes
-digits_are (suc count) [] lanes fits small = absurd (omega arith)
-digits_are (suc count) (form ∷ forms) [] fits small = absurd (omega arith)
-digits_are (suc count) (form ∷ forms) (byte ∷ bytes) fits small =
-    let step : (test : Bool) → test ≡ fits_byte form byte → suc count ≤ cond test (1 + fit_length forms bytes) 0 → Digits (suc count) (form ∷ forms) (byte ∷ bytes) =
-    λ test. elim test as (λ (t : Bool). t ≡ fits_byte form byte → suc count ≤ cond t (1 + fit_length forms bytes) 0 → Digits (suc count) (form ∷ forms) (byte ∷ bytes)) [
-      | true ↦ λ is enough.
-          let first = fitted form byte (eqb form 48) refl small.0.fits (sym is) in
-          let rest = digits_are count forms bytes (omega (arith, enough)) small.1 in
-          record { are = ap₂ (λ (d : ℕ) (ds : List ℕ). d ∷ ds) first.is rest.are; small = (first.small, rest.small) }
-      | false ↦ λ is enough. absurd (omega (arith, enough))
-    ] in
-    step (fits_byte form byte) refl fits
+digits_are : (count : ℕ) (forms lanes : List ℕ) → count ≤ fit_length forms lanes → Each1 (Fits w8) forms → Each1 (Fits w8) lanes
+    → Digits count forms lanes
+digits_are zero forms lanes fits patterns small = none forms lanes
+digits_are (suc count) [] lanes fits patterns small = absurd (omega arith)
+digits_are (suc count) (form ∷ forms) [] fits patterns small = absurd (omega arith)
+digits_are (suc count) (form ∷ forms) (byte ∷ bytes) fits patterns small =
+    let test = first-fits count (fit_length forms bytes) (fits_byte form byte) fits in
+    let first = fitted form byte patterns.0.fits small.0.fits test.0 in
+    let rest = digits_are count forms bytes test.1 patterns.1 small.1 in
+    record { are = ap₂ (λ (d : ℕ) (ds : List ℕ). d ∷ ds) first.is rest.are; small = (first.small, rest.small) }
 
 -- what is computed of a number of eight digits, and what it is
 record Spells (digits : List ℕ) : Type 0 where
   fits : 10 * word digits + word digits / 256 < 2 ^ 64
   are : 10 * word digits + word digits / 256 ≡ word (neighbours digits)
   long : length (neighbours digits) ≡ 8
-  small : Each1 (λ (number : ℕ). number ≤ 99) (neighbours digits)
+  small : Each1 (λ (number : ℕ). number < 100) (neighbours digits)
 
 eight_spell : (a b c d e f g h : ℕ) → a ≤ 9 → b ≤ 9 → c ≤ 9 → d ≤ 9 → e ≤ 9 → f ≤ 9 → g ≤ 9 → h ≤ 9 → Spells (a ∷ b ∷ c ∷ d ∷ e ∷ f ∷ g ∷ h ∷ [])
 eight_spell a b c d e f g h sa sb sc sd se sf sg sh =
@@ -99,11 +86,11 @@ record Computed (count : ℕ) (forms lanes : List ℕ) (masked : ℕ) : Type 0 w
   is : masked ≡ word (fit_digits count forms lanes)
   spells : Spells (fit_digits count forms lanes)
 
-computed : (count : ℕ) (forms lanes : List ℕ) (number : ℕ) → 1 ≤ count → count ≤ fit_length forms lanes → length forms ≡ 8 → length lanes ≡ 8 → Each1 (Fits w8) lanes
-    → number ≡ from_le_bytes w64 (zip2 less lanes forms) → Computed count forms lanes (bit_and number (18446744073709551615 / 2 ^ (64 - 8 * count)))
-computed count forms lanes number some fits long eight small is =
+computed : (count : ℕ) (forms lanes : List ℕ) (number : ℕ) → 1 ≤ count → count ≤ fit_length forms lanes → length forms ≡ 8 → length lanes ≡ 8
+    → Each1 (Fits w8) forms → Each1 (Fits w8) lanes → number ≡ from_le_bytes w64 (zip2 less lanes forms) → Computed count forms lanes (bit_and number (18446744073709551615 / 2 ^ (64 - 8 * count)))
+computed count forms lanes number some fits long eight patterns small is =
     let few : count ≤ 8 = omega (arith, fit_length-le forms lanes) in
-    let digits = digits_are count forms lanes fits small in
+    let digits = digits_are count forms lanes fits patterns small in
     let all = length-zip2 less lanes forms (omega (arith, long, eight)) in
     let whole = is ∙ from_le_bytes-word (zip2 less lanes forms) (omega (arith, all, eight)) in
     record {
@@ -113,13 +100,7 @@ computed count forms lanes number some fits long eight small is =
       spells = spells (fit_digits count forms lanes) (length-fit_digits count forms lanes (omega (arith, long, eight)) ∙ long) digits.small;
     }
 
--- a number among such numbers is as small, and so is what stands past them
-each_small : (numbers : List ℕ) → Each1 (λ (number : ℕ). number ≤ 99) numbers → (k : ℕ) → get_or numbers k 0 ≤ 99
-each_small [] small k = omega arith
-each_small (number ∷ numbers) small zero = small.0
-each_small (number ∷ numbers) small (suc k) = each_small numbers small.1 k
-
-bytes_small : (numbers : List ℕ) → Each1 (λ (number : ℕ). number ≤ 99) numbers → Each1 (λ (byte : ℕ). byte < 256) numbers
+bytes_small : (numbers : List ℕ) → Each1 (λ (number : ℕ). number < 100) numbers → Each1 (λ (byte : ℕ). byte < 256) numbers
 bytes_small [] small = tt
 bytes_small (number ∷ numbers) small = (omega (arith, small.0), bytes_small numbers small.1)
 
@@ -131,20 +112,20 @@ overflow_sub-digits c = omega (arith, fit_length-le c.args.pattern c.args.lanes,
 
 pub overflow_mul-digits-2 : goal.overflow_mul-digits-2
 overflow_mul-digits-2 c =
-    let so_far = computed c.args.count c.args.pattern c.args.lanes _ c.requires.some c.requires.fits c.fits-pattern.0 c.fits-lanes.0 c.fits-lanes.1 c.from_le_bytes-word.ensures in
+    let so_far = computed c.args.count c.args.pattern c.args.lanes _ c.requires.some c.requires.fits c.fits-pattern.0 c.fits-lanes.0 c.fits-pattern.1 c.fits-lanes.1 c.from_le_bytes-word.ensures in
     record { fits = omega (arith, so_far.is, so_far.spells.fits) }
 
 pub overflow_add-digits : goal.overflow_add-digits
 overflow_add-digits c =
-    let so_far = computed c.args.count c.args.pattern c.args.lanes _ c.requires.some c.requires.fits c.fits-pattern.0 c.fits-lanes.0 c.fits-lanes.1 c.from_le_bytes-word.ensures in
+    let so_far = computed c.args.count c.args.pattern c.args.lanes _ c.requires.some c.requires.fits c.fits-pattern.0 c.fits-lanes.0 c.fits-pattern.1 c.fits-lanes.1 c.from_le_bytes-word.ensures in
     record { fits = rw so_far.is so_far.spells.fits }
 
 pub returns : goal.returns
 returns c =
-    let so_far = computed c.args.count c.args.pattern c.args.lanes _ c.requires.some c.requires.fits c.fits-pattern.0 c.fits-lanes.0 c.fits-lanes.1 c.from_le_bytes-word.ensures in
+    let so_far = computed c.args.count c.args.pattern c.args.lanes _ c.requires.some c.requires.fits c.fits-pattern.0 c.fits-lanes.0 c.fits-pattern.1 c.fits-lanes.1 c.from_le_bytes-word.ensures in
     let number = ap (λ (n : ℕ). 10 * n + n / 256) so_far.is ∙ so_far.spells.are in
     let is = c.to_le_bytes.ensures ∙ ap (to_le_bytes w64) number ∙ to_le_bytes-word _ so_far.spells.long (bytes_small _ so_far.spells.small) in
     record {
       numbers = is;
-      small = λ k. subst (λ (numbers : List ℕ). get_or numbers k 0 ≤ 99) (sym is) (each_small _ so_far.spells.small k);
+      small = λ k. subst (λ (numbers : List ℕ). get_or numbers k 0 ≤ 99) (sym is) (omega (arith, each-at 100 _ (lit< tt) so_far.spells.small k));
     }

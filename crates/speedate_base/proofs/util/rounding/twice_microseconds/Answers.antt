@@ -1,4 +1,4 @@
-use Rattle.std.proofs.Common.{◌≡◌, ◌∙◌, ap, sym, subst, ℕ, ◌+◌, ◌-◌, ◌*◌, ◌%◌, ◌^◌, ◌≤◌, true, List, ◌++◌, length, take, drop, arith}
+use Rattle.std.proofs.Common.{◌≡◌, ◌∙◌, ap, sym, subst, ℕ, ◌+◌, ◌-◌, ◌*◌, ◌%◌, ◌^◌, ◌≤◌, List, ◌++◌, length, take, drop, arith}
 use Rattle.std.specs.Char.{is_ascii_digit}
 use Rattle.std.specs.List.{list_all}
 use Rattle.std.proofs.lemmas.List.{take_rest, take-append-drop, drop-drop, length-drop, length-take-le}
@@ -7,16 +7,17 @@ use Rattle.speedate_base.specs.Nearest.{quotient}
 use Rattle.speedate_base.proofs.RoundingLemmas.{parts-all, filled-taken, block-taken}
 use Rattle.speedate_base.proofs.util.rounding.twice_microseconds.Goals as goal
 
--- the digits from a place on, as the code's slice has them
-rest-all : (digits : List ℕ) (place : ℕ) → list_all is_ascii_digit digits ≡ true
-    → list_all is_ascii_digit (take (length digits - place) (drop place digits)) ≡ true
-rest-all digits place all = ap (list_all is_ascii_digit) (take_rest digits place) ∙ (parts-all digits place all).1
-
 pub filled-requires-clause-digits : goal.filled-requires-clause-digits
-filled-requires-clause-digits c = rest-all c.args.digits.now _ c.requires.digits
+filled-requires-clause-digits c =
+    let digits = c.args.digits.now in
+    let place = length digits - length digits % 8 in
+    ap (list_all is_ascii_digit) (take_rest digits place) ∙ (parts-all digits place c.requires.digits).1
 
-pub block-requires-clause-digits : goal.block-requires-clause-digits
-block-requires-clause-digits c = rest-all c.args.digits.now _ c.requires.digits
+pub eight_digits-value-requires : goal.eight_digits-value-requires
+eight_digits-value-requires c =
+    let digits = c.args.digits.now in
+    let place = c.loop-place.place - 8 in
+    (parts-all (drop place digits) 8 (parts-all digits place c.requires.digits).1).0
 
 pub loop-place-init : goal.loop-place-init
 loop-place-init c =
@@ -53,8 +54,7 @@ loop-place-preserved c =
     let front : List ℕ = take 8 rest in
     let more = block-more digits place long before.place in
     let eight = length-take-le 8 rest (omega (arith, length-drop (place - 8) digits, before.place)) in
-    let value = c.block.ensures.value ∙ ap (λ (part : List ℕ). digits_value (take 8 part)) (take_rest digits (place - 8)) in
-    let taken = block-taken c.args.up c.args.unit front (drop place digits) c.block.result c.loop-place.twice _ eight value before.twice c.eight_taken-twice-in-loop-place.ensures.twice in
+    let taken = block-taken c.args.up c.args.unit front (drop place digits) c.eight_digits-value.result c.loop-place.twice _ eight c.eight_digits-value.ensures.value before.twice c.eight_taken-twice-in-loop-place.ensures.twice in
     let joined = ap (λ (part : List ℕ). quotient c.args.up (2 * (digits_value part * c.args.unit)) (10 ^ (length (drop place digits) + 8))) more.0
     ∙ ap (λ (n : ℕ). quotient c.args.up (2 * (digits_value rest * c.args.unit)) (10 ^ n)) more.1 in
     record {

@@ -1,0 +1,20 @@
+-- The code of a fault leads back to it.
+use Rattle.std.specs.Prelude.{◌≡◌, ℕ, ◌+◌, ◌-◌, Bool, true, pos, int_le, slice_get, Some, None, if◌then◌else◌}
+use Rattle.std.proofs.Common.{arith, ap, ◌∙◌, rules}
+use Rattle.std.proofs.lemmas.Bool.Decides.{nat_tests}
+use Rattle.std.proofs.lemmas.Int.{ints}
+use Rattle.speedate.specs.declared.ParseError.{ParseError}
+use Rattle.speedate.specs.Fault.{fault_place}
+use Rattle.speedate_c.specs.Code.{faults, fault_code, fault_of}
+
+listed : (fault : ParseError) → slice_get faults (fault_place fault) ≡ Some fault
+listed fault = search rules
+
+of_place : (place : ℕ) → fault_of (pos (place + 1)) ≡ slice_get faults place
+of_place place =
+    let some : int_le (pos 1) (pos (place + 1)) ≡ true = grind (arith, ints, nat_tests) in
+    let back : place + 1 - 1 ≡ place = omega arith in
+    ap (λ (test : Bool). if test then slice_get faults (place + 1 - 1) else None) some ∙ ap (slice_get faults) back
+
+pub fault_of_code : (fault : ParseError) → fault_of (fault_code fault) ≡ Some fault
+fault_of_code fault = of_place (fault_place fault) ∙ listed fault
