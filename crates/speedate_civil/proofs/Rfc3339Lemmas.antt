@@ -2,10 +2,10 @@
 use Rattle.std.specs.Prelude.{◌≡◌, ◌⊎◌, ℕ, ◌+◌, ◌*◌, ◌/◌, ◌%◌, ◌≤◌, zero, suc, Bool, true, false, ◌||◌, ◌==◌, List, [], ◌∷◌, ◌++◌, length, take, drop, nat_le, nat_lt, slice_index, if◌then◌else◌, Option, Some, ℤ, IfOk, Result, Ok, Err, refl, ◌↔◌}
 use Rattle.std.specs.Char.{is_ascii_digit}
 use Rattle.std.specs.Int.{is_in_range, IsInRange}
-use Rattle.std.specs.List.{list_all, prefix_len}
+use Rattle.std.specs.List.{prefix_len}
 use Rattle.std.specs.Result.{IsOk}
 use Rattle.std.proofs.Common.{arith, ap, ap₂, subst, sym, ◌∙◌, inl, inr}
-use Rattle.std.proofs.Math.Seq.{take-append_seam, drop-append_seam}
+use Rattle.std.proofs.Math.Seq.{drop-append_seam}
 use Rattle.std.proofs.lemmas.Bool.{and_parts, or_cases, le-leb, lt-ltb, leb-true, ltb-true, eqb-true, not-true}
 use Rattle.std.proofs.lemmas.Bool.Decides.{nat_tests}
 use Rattle.std.proofs.lemmas.List.{drop_more, get_or-drop, length-append, length-drop, length-take-le, nil_from_length, take_all, take-append-drop}
@@ -13,7 +13,7 @@ use Rattle.std.proofs.lemmas.List.Sums.{prefix_len-le-length}
 use Rattle.speedate_base.specs.declared.config.MicrosecondsPrecisionOverflowBehavior.{MicrosecondsPrecisionOverflowBehavior}
 use Rattle.speedate_base.specs.declared.faults.ParseError.{ParseError}
 use Rattle.speedate_base.specs.Ascii.{colon, comma, full_stop, hyphen, plus_sign, capital_t, capital_z, small_t, small_z}
-use Rattle.speedate_base.specs.DigitRuns.{fraction_value, run_length}
+use Rattle.speedate_base.specs.DigitRuns.{run_length}
 use Rattle.speedate_base.proofs.DigitRunLemmas.{run_length-append, one_digit_value-le}
 use Rattle.speedate_base.specs.Digits.{digit, one_digit_value, two_digits_at, two_digit_text, two_digit_value, four_digit_text, four_digit_value}
 use Rattle.speedate_base.proofs.DigitLemmas.{two_digits-printed, two_digit_value-printed}
@@ -26,8 +26,8 @@ use Rattle.speedate_base.proofs.RequirementLemmas.{alone-iff, alone-whole, and_t
 use Rattle.speedate_civil.specs.declared.datetime.DateTime.{DateTime}
 use Rattle.speedate_civil.specs.declared.time.Time.{Time}
 use Rattle.speedate_civil.specs.Calendar.{Ymd, IsDate, month_length}
-use Rattle.speedate_civil.specs.ClockText.{Clock, clock_answer, clock_front, has_point, has_second, is_decimal_mark, minute_text}
-use Rattle.speedate_civil.proofs.ClockLemmas.{run_length-none, clock-whole}
+use Rattle.speedate_civil.specs.ClockText.{Clock, clock_front, has_point, has_second, is_decimal_mark, minute_text}
+use Rattle.speedate_civil.proofs.ClockLemmas.{run_length-none, clock-secfrac, clock-whole}
 use Rattle.speedate_civil.specs.DateAndTime.{DateAndTime}
 use Rattle.speedate_civil.specs.DateText.{date_front, date_table, date_text}
 use Rattle.speedate_civil.proofs.DateLemmas.{date_text-front}
@@ -228,24 +228,6 @@ full-time-of behavior text rows =
       is_offset = read-value _ _ offset after (offset-all (drop clock.size text) standard) (omega (arith, whole, length-drop clock.size text));
       together = sym (take-append-drop clock.size text);
     }))
-
-few-holds : (refuses : Bool) (count : ℕ) → (refuses ≡ true → count ≤ 6) → (refuses implies nat_le count 6) ≡ true
-few-holds true count few = le-leb count 6 (few refl)
-few-holds false count few = refl
-
--- a fraction of any digits is read as it
-clock-secfrac : (behavior : MicrosecondsPrecisionOverflowBehavior) (minute second : ℕ) (digits tail : List ℕ) → minute ≤ 59 → second ≤ 59
-    → list_all is_ascii_digit digits ≡ true → 1 ≤ length digits → (refuses_digits behavior ≡ true → length digits ≤ 6) → is_ascii_digit (slice_index tail 0) ≡ false
-    → clock_answer behavior (minute_text minute second ++ full_stop ∷ digits ++ tail)
-    ≡ Ok (record { hour = 0; minute = minute; second = second; microsecond = fraction_value 6 digits; size = 6 + length digits })
-clock-secfrac behavior minute second digits tail small_minute small_second all some few other =
-    let minute_is = two_digit_value-printed minute in
-    let second_is = two_digit_value-printed second in
-    let long : prefix_len is_ascii_digit (digits ++ tail) ≡ length digits =
-    run_length-append digits tail all ∙ ap (λ (n : ℕ). length digits + n) (run_length-none tail other) ∙ omega arith in
-    let value : take (prefix_len is_ascii_digit (digits ++ tail)) (digits ++ tail) ≡ digits = ap (λ (n : ℕ). take n (digits ++ tail)) long ∙ take-append_seam digits tail in
-    let asked : ((refuses_digits behavior) implies nat_le (length digits) 6) ≡ true = few-holds (refuses_digits behavior) (length digits) few in
-    rw (minute_is, second_is, le-leb minute 59 small_minute, le-leb second 59 small_second, two_digits-printed second (omega arith), value, long, lt-ltb 0 (length digits) some, asked) refl
 
 -- an offset of the rules is read whole, and begins with no digit and no mark
 record OffsetRead (text : List ℕ) : Type 0 where
