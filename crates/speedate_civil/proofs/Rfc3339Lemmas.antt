@@ -244,17 +244,24 @@ numoffset-read west hour minute small_hour small_minute =
     let hour_is = two_digit_value-printed hour in
     let minute_is = two_digit_value-printed minute in
     let is : signed_front west 1 (two_digit_text hour ++ colon ∷ two_digit_text minute) ≡ Ok (Some (with_sign west (3600 * hour + 60 * minute)), 6) =
-    rw (two_digits-printed hour (omega arith), two_digits-printed minute (omega arith), hour_is, minute_is, le-leb minute 59 small_minute, lt-ltb (3600 * hour + 60 * minute) seconds_per_day (omega arith)) refl in
+    let hours = two_digits-printed hour (omega arith) in
+    let minutes = two_digits-printed minute (omega arith) in
+    rw (hours, minutes, hour_is, minute_is, le-leb minute 59 small_minute, lt-ltb (3600 * hour + 60 * minute) seconds_per_day (omega arith)) refl in
     signed west is
   where
-    signed : (negative : Bool) → signed_front negative 1 (two_digit_text hour ++ colon ∷ two_digit_text minute) ≡ Ok (Some (with_sign negative (3600 * hour + 60 * minute)), 6)
+    signed : (negative : Bool)
+        → signed_front negative 1 (two_digit_text hour ++ colon ∷ two_digit_text minute) ≡ Ok (Some (with_sign negative (3600 * hour + 60 * minute)), 6)
         → OffsetRead ((if negative then hyphen else plus_sign) ∷ two_digit_text hour ++ colon ∷ two_digit_text minute)
     signed true is = record { front = _; read = is; whole = refl; no_digit = refl; no_mark = refl; standard = (refl, (refl, (refl, tt))) }
     signed false is = record { front = _; read = is; whole = refl; no_digit = refl; no_mark = refl; standard = (refl, (refl, (refl, tt))) }
 
 utc-read : (text : List ℕ) → (text ≡ capital_z ∷ []) ⊎ (text ≡ small_z ∷ []) → OffsetRead text
-utc-read text (inl is) = subst OffsetRead (sym is) (record { front = _; read = refl; whole = refl; no_digit = refl; no_mark = refl; standard = (refl, (refl, (refl, tt))) })
-utc-read text (inr is) = subst OffsetRead (sym is) (record { front = _; read = refl; whole = refl; no_digit = refl; no_mark = refl; standard = (refl, (refl, (refl, tt))) })
+utc-read text (inl is) =
+    subst OffsetRead (sym is)
+    (record { front = _; read = refl; whole = refl; no_digit = refl; no_mark = refl; standard = (refl, (refl, (refl, tt))) })
+utc-read text (inr is) =
+    subst OffsetRead (sym is)
+    (record { front = _; read = refl; whole = refl; no_digit = refl; no_mark = refl; standard = (refl, (refl, (refl, tt))) })
 
 offset-read : (text : List ℕ) → IsTimeOffset text → OffsetRead text
 offset-read text (inl is) = utc-read text (inl is)
@@ -327,7 +334,8 @@ full-time-taken behavior text is =
     time.is_fraction (offset-read is.offset is.is_offset))
 
 -- the digits of a year
-year-spelled : (text : List ℕ) → two_digits_at text 0 ≡ true → two_digits_at text 2 ≡ true → four_digit_text (four_digit_value text 0) ≡ bytes_from 0 4 text
+year-spelled : (text : List ℕ) → two_digits_at text 0 ≡ true → two_digits_at text 2 ≡ true
+    → four_digit_text (four_digit_value text 0) ≡ bytes_from 0 4 text
 year-spelled text century year =
     let small = spelled-small text 2 year in
     let high : four_digit_value text 0 / 100 ≡ two_digit_value text 0 = omega (arith, small) in
@@ -404,7 +412,8 @@ date-time-taken behavior text is =
 -- a result whose value meets further rows is a value if and only if a text is one of the rules
 strict : {A B : Type 0} (view : A → B) (result : Result A ParseError) (rows : List Requirement) (answer : Result B ParseError) (IsOne : Type 0)
     → result_map view result ≡ result_and_then (λ (read : B). meets rows (Ok read)) answer
-    → ((value : B) → answer ≡ Ok value → AllHold rows → IsOne) → (IsOne → (value : B) × ((answer ≡ Ok value) × AllHold rows)) → IsOk result ↔ IsOne
+    → ((value : B) → answer ≡ Ok value → AllHold rows → IsOne)
+    → (IsOne → (value : B) × ((answer ≡ Ok value) × AllHold rows)) → IsOk result ↔ IsOne
 strict {B = B} view (Ok value) rows answer IsOne is to from =
     let read = and_then-ok (λ (found : B). meets rows (Ok found)) answer (view value) (sym is) in
     (λ ok. to read.0 read.1 (meets-value rows read.0 (view value) read.2).0, λ one. refl)
