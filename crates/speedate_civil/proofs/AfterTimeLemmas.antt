@@ -25,7 +25,8 @@ use Rattle.speedate_civil.specs.TimeText.{clock_text, continues_fraction, is_aft
 use Rattle.speedate_civil.proofs.TimeLemmas.{time_text-front}
 
 -- a text after which no offset was read begins none
-signed-some : (west : Bool) (sign : ℕ) (numbers rest : List ℕ) → IfOk (signed_front west sign numbers) (λ front. front.0 ≡ None → begins_offset rest ≡ false)
+signed-some : (west : Bool) (sign : ℕ) (numbers rest : List ℕ)
+    → IfOk (signed_front west sign numbers) (λ front. front.0 ≡ None → begins_offset rest ≡ false)
 signed-some west sign numbers rest =
     read-rows _ (offset_digits numbers) _ (λ digits. read-rows _ (offset_ranges numbers) _ (λ ranges none. absurd (cc)))
 

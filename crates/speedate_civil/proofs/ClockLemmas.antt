@@ -1,16 +1,18 @@
 -- A printed clock is read as itself, from its minute on.
-use Rattle.std.specs.Prelude.{◌≡◌, ℕ, ◌+◌, ◌<◌, ◌≤◌, false, List, [], ◌∷◌, ◌++◌, slice_index, Ok, refl}
+use Rattle.std.specs.Prelude.{◌≡◌, ℕ, ◌+◌, ◌<◌, ◌≤◌, Bool, true, false, List, [], ◌∷◌, ◌++◌, length, nat_le, slice_index, Ok, refl}
 use Rattle.std.specs.Char.{is_ascii_digit}
+use Rattle.std.specs.List.{list_all, prefix_len}
 use Rattle.std.proofs.Common.{arith, ◌∙◌, ap, take}
-use Rattle.std.proofs.lemmas.Bool.{le-leb}
+use Rattle.std.proofs.Math.Seq.{take-append_seam}
+use Rattle.std.proofs.lemmas.Bool.{le-leb, lt-ltb}
 use Rattle.speedate_base.specs.declared.config.MicrosecondsPrecisionOverflowBehavior.{MicrosecondsPrecisionOverflowBehavior}
 use Rattle.speedate_base.specs.Ascii.{full_stop}
-use Rattle.speedate_base.specs.DigitRuns.{run_length, run_digits, fraction_value}
+use Rattle.speedate_base.specs.DigitRuns.{run_length, fraction_value}
 use Rattle.speedate_base.proofs.DigitRunLemmas.{run_length-append}
 use Rattle.speedate_base.specs.Digits.{six_digit_text}
 use Rattle.speedate_base.proofs.DigitLemmas.{two_digits-printed, two_digit_value-printed, six_digits-printed, fraction_value-printed}
 use Rattle.speedate_base.specs.Config.{refuses_digits}
-use Rattle.speedate_base.proofs.RequirementLemmas.{implies-true}
+use Rattle.speedate_base.specs.Requirement.{◌implies◌}
 use Rattle.speedate_civil.specs.ClockText.{clock_answer, is_decimal_mark, minute_text}
 
 -- without a fraction, whatever follows that is no point
@@ -28,17 +30,30 @@ pub run_length-none : (tail : List ℕ) → is_ascii_digit (slice_index tail 0) 
 run_length-none [] other = refl
 run_length-none (byte ∷ tail) other = rw other refl
 
--- and with one, whatever follows that is no digit
+few-holds : (refuses : Bool) (count : ℕ) → (refuses ≡ true → count ≤ 6) → (refuses implies nat_le count 6) ≡ true
+few-holds true count few = le-leb count 6 (few refl)
+few-holds false count few = refl
+
+-- a fraction of any digits is read as it
+pub clock-secfrac : (behavior : MicrosecondsPrecisionOverflowBehavior) (minute second : ℕ) (digits tail : List ℕ) → minute ≤ 59 → second ≤ 59
+    → list_all is_ascii_digit digits ≡ true → 1 ≤ length digits → (refuses_digits behavior ≡ true → length digits ≤ 6) → is_ascii_digit (slice_index tail 0) ≡ false
+    → clock_answer behavior (minute_text minute second ++ full_stop ∷ digits ++ tail)
+    ≡ Ok (record { hour = 0; minute = minute; second = second; microsecond = fraction_value 6 digits; size = 6 + length digits })
+clock-secfrac behavior minute second digits tail small_minute small_second all some few other =
+    let minute_is = two_digit_value-printed minute in
+    let second_is = two_digit_value-printed second in
+    let long : prefix_len is_ascii_digit (digits ++ tail) ≡ length digits =
+    run_length-append digits tail all ∙ ap (λ (n : ℕ). length digits + n) (run_length-none tail other) ∙ omega arith in
+    let value : take (prefix_len is_ascii_digit (digits ++ tail)) (digits ++ tail) ≡ digits = ap (λ (n : ℕ). take n (digits ++ tail)) long ∙ take-append_seam digits tail in
+    let asked : ((refuses_digits behavior) implies nat_le (length digits) 6) ≡ true = few-holds (refuses_digits behavior) (length digits) few in
+    rw (minute_is, second_is, le-leb minute 59 small_minute, le-leb second 59 small_second, two_digits-printed second (omega arith), value, long, lt-ltb 0 (length digits) some, asked) refl
+
+-- and so is one of six digits
 pub clock-fraction : (behavior : MicrosecondsPrecisionOverflowBehavior) (minute second microsecond : ℕ) (tail : List ℕ)
     → minute ≤ 59 → second ≤ 59 → microsecond < 1000000 → is_ascii_digit (slice_index tail 0) ≡ false
     → clock_answer behavior (minute_text minute second ++ full_stop ∷ six_digit_text microsecond ++ tail)
     ≡ Ok (record { hour = 0; minute = minute; second = second; microsecond = microsecond; size = 12 })
 clock-fraction behavior minute second microsecond tail small_minute small_second small other =
-    let digits = six_digit_text microsecond ++ tail in
-    let minute_is = two_digit_value-printed minute in
-    let second_is = two_digit_value-printed second in
-    let long : run_length digits 0 ≡ 6 =
-    run_length-append (six_digit_text microsecond) tail (six_digits-printed microsecond small) ∙ ap (λ (n : ℕ). 6 + n) (run_length-none tail other) in
-    let value : fraction_value 6 (run_digits digits 0) ≡ microsecond =
-    ap (λ (n : ℕ). fraction_value 6 (take n digits)) long ∙ fraction_value-printed microsecond in
-    rw (minute_is, second_is, le-leb minute 59 small_minute, le-leb second 59 small_second, two_digits-printed second (omega arith), value, long, implies-true (refuses_digits behavior)) refl
+    clock-secfrac behavior minute second (six_digit_text microsecond) tail small_minute small_second (six_digits-printed microsecond small) (omega arith)
+    (λ refuses. omega arith) other
+    ∙ ap (λ (n : ℕ). Ok (record { hour = 0; minute = minute; second = second; microsecond = n; size = 12 })) (fraction_value-printed microsecond)

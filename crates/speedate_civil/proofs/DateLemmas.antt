@@ -1,16 +1,15 @@
 -- The text by which a date is printed is read as the date, whatever follows it.
-use Rattle.std.specs.Prelude.{◌≡◌, ℕ, List, [], ◌++◌, ◌≤◌, true, refl, length, Ok}
+use Rattle.std.specs.Prelude.{◌≡◌, ℕ, List, [], ◌++◌, ◌≤◌, true, length, Ok}
 use Rattle.std.specs.Int.{is_in_range, IsInRange}
-use Rattle.std.proofs.Common.{arith, ◌∙◌, ap, sym, subst}
+use Rattle.std.proofs.Common.{arith, ap, sym, subst}
 use Rattle.std.proofs.lemmas.Bool.{le-leb}
 use Rattle.std.proofs.lemmas.Bool.Decides.{nat_tests}
 use Rattle.speedate_base.specs.declared.faults.ParseError.TheVariants as fault
 use Rattle.speedate_base.proofs.DigitLemmas.{two_digits-printed, four_digits-printed, two_digit_value-printed, four_digit_value-printed}
 use Rattle.speedate_base.specs.Requirement.{alone, result_and_then}
-use Rattle.speedate_base.proofs.RequirementLemmas.{meets-all}
 use Rattle.speedate_base.proofs.TextLemmas.{text-distinct}
 use Rattle.speedate_civil.specs.Calendar.{Ymd, IsDate, month_length}
-use Rattle.speedate_civil.specs.DateText.{date_text, date_front, date_answer, date_numbers, date_table}
+use Rattle.speedate_civil.specs.DateText.{date_text, date_front, date_answer, date_numbers}
 
 -- no month is longer than 31 days
 pub month_length-small : (year month : ℕ) → month_length year month ≤ 31
@@ -32,34 +31,13 @@ pub date_text-front : (date : Ymd) (tail : List ℕ) → IsDate date → date_fr
 date_text-front date tail valid =
     let text = date_text date ++ tail in
     let numbers = date_numbers-printed date tail in
-    meets-all (date_table text) _ (
-      le-leb 10 (length text) (omega arith),
-      (
-        four_digits-printed date.year (omega (arith, valid.year)),
-        (
-          refl,
-          (
-            two_digits-printed date.month (omega (arith, valid.day.month)),
-            (
-              refl,
-              (
-                two_digits-printed date.day (omega (arith, valid.day.day, month_length-small date.year date.month)),
-                (
-                  subst (λ (read : Ymd). is_in_range 1 12 read.month ≡ true) (sym numbers)
-                      (is_in_range-true 1 12 date.month valid.day.month),
-                  (
-                    subst (λ (read : Ymd). is_in_range 1 (month_length read.year read.month) read.day ≡ true) (sym numbers)
-                        (is_in_range-true 1 (month_length date.year date.month) date.day valid.day.day),
-                    tt,
-                  ),
-                ),
-              ),
-            ),
-          ),
-        ),
-      ),
-    )
-    ∙ ap (λ (read : Ymd). Ok (read, 10)) numbers
+    let months = subst (λ (read : Ymd). is_in_range 1 12 read.month ≡ true) (sym numbers) (is_in_range-true 1 12 date.month valid.day.month) in
+    let days = subst (λ (read : Ymd). is_in_range 1 (month_length read.year read.month) read.day ≡ true) (sym numbers)
+    (is_in_range-true 1 (month_length date.year date.month) date.day valid.day.day) in
+    let year = four_digits-printed date.year (omega (arith, valid.year)) in
+    let month = two_digits-printed date.month (omega (arith, valid.day.month)) in
+    let day = two_digits-printed date.day (omega (arith, valid.day.day, month_length-small date.year date.month)) in
+    rw (le-leb 10 (length text) (omega arith), year, month, day, months, days) (ap (λ (read : Ymd). Ok (read, 10)) numbers)
 
 -- and alone it is that date
 pub date_text-reads : (date : Ymd) → IsDate date → date_answer (date_text date) ≡ Ok date

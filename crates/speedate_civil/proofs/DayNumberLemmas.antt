@@ -1,9 +1,10 @@
 -- Laws of day numbers: how long years and months are, and that each day has one number more than the day before.
-use Rattle.std.specs.Prelude.{◌≡◌, ℕ, zero, suc, ◌+◌, ◌-◌, ◌*◌, ◌/◌, ◌<◌, ◌≤◌, Bool, true, false, if◌then◌else◌, nat_lt, refl}
+use Rattle.std.specs.Prelude.{◌≡◌, ℕ, zero, suc, ◌+◌, ◌-◌, ◌*◌, ◌/◌, ◌<◌, ◌≤◌, true, false, if◌then◌else◌, nat_lt, refl}
 use Rattle.std.proofs.Common.{arith, ap, subst, add-one, add-zero, add-suc}
 use Rattle.std.proofs.lemmas.Bool.Decides.{nat_tests}
 use borrow.Author.Tests.{ltb-true, ltb-false}
 use Rattle.speedate_civil.specs.Calendar.{Ymd, is_leap_year, february_length, month_length, IsDay}
+use Rattle.speedate_civil.proofs.ReadLemmas.{if_cases}
 use Rattle.speedate_civil.specs.DayNumber.{days_of_months, year_length, days_before_year, ordinal_day, day_number, day_after, date_after}
 
 -- the 29 February of a year, counted
@@ -87,11 +88,6 @@ day_number-small date valid small =
       days_before_year-is 10000,
       valid.day.0,
     )
-
--- a choice by a test
-pub if_cases : {A : Type 0} (P : A → Type 0) (test : Bool) (one other : A) → (test ≡ true → P one) → (test ≡ false → P other) → P (if test then one else other)
-if_cases P true one other holds fails = holds refl
-if_cases P false one other holds fails = fails refl
 
 -- what holds of each of the three days that may follow holds of the day after
 day_after-cases : (P : Ymd → Type 0) (date : Ymd)

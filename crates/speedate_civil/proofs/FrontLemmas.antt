@@ -30,7 +30,8 @@ bytes_from place zero text = []
 bytes_from place (suc count) text = slice_index text place ∷ bytes_from (place + 1) count text
 
 -- those of a front are those of the text
-pub bytes-taken : (count place number : ℕ) (text : List ℕ) → place + number ≤ count → bytes_from place number (take count text) ≡ bytes_from place number text
+pub bytes-taken : (count place number : ℕ) (text : List ℕ) → place + number ≤ count
+    → bytes_from place number (take count text) ≡ bytes_from place number text
 bytes-taken count place zero text within = refl
 bytes-taken count place (suc number) text within =
     ap₂ (λ (byte : ℕ) (rest : List ℕ). byte ∷ rest) (get_or-take count text place 0 (omega arith)) (bytes-taken count (place + 1) number text (omega arith))
@@ -171,7 +172,8 @@ time_front-taken behavior text =
     (ap offset_front (drop-take clock.size offset.1 text) ∙ read-value _ _ offset after (offset-taken (drop clock.size text)))))
 
 -- what is read of so many bytes takes them all
-taken-alone : {A : Type 0} (fault : A → ParseError) (text : List ℕ) (answer : Result (A × ℕ) ParseError) (front : A × ℕ) → front.1 ≤ length text → answer ≡ Ok front
+taken-alone : {A : Type 0} (fault : A → ParseError) (text : List ℕ) (answer : Result (A × ℕ) ParseError) (front : A × ℕ)
+    → front.1 ≤ length text → answer ≡ Ok front
     → result_and_then (alone fault (take front.1 text)) answer ≡ Ok front.0
 taken-alone fault text answer front inside read =
     ap (result_and_then (alone fault (take front.1 text))) read ∙ alone-whole fault (take front.1 text) front.0 front.1 (length-take-le front.1 text inside)

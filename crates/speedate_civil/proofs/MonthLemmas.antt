@@ -8,7 +8,8 @@ use borrow.Author.Count.{below_none, below_more}
 use borrow.Author.Tests.{ltb-true, ltb-false}
 use Rattle.speedate_civil.specs.Calendar.{february_length, month_length}
 use Rattle.speedate_civil.specs.DayNumber.{days_of_months, year_length}
-use Rattle.speedate_civil.proofs.DayNumberLemmas.{leap_day, leap_day-small, february_length-is, year_length-is, if_cases}
+use Rattle.speedate_civil.proofs.DayNumberLemmas.{leap_day, leap_day-small, february_length-is, year_length-is}
+use Rattle.speedate_civil.proofs.ReadLemmas.{if_cases}
 
 -- the days before a month, where a February of 30 days is taken for the year's
 abbrev pub long_days : ℕ → ℕ

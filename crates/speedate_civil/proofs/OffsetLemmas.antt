@@ -1,8 +1,7 @@
 -- Offsets at the front of a text, by what they begin with; and a printed offset of whole minutes is read as itself.
-use Rattle.std.specs.Prelude.{◌≡◌, ℕ, zero, suc, ◌+◌, ◌*◌, ◌/◌, ◌%◌, ◌<◌, Bool, true, false, not, ◌||◌, List, ◌∷◌, ◌++◌, length, drop, ◌==◌, slice_index, Option, Some, None, ℤ, pos, negsuc, unsigned_abs, Result, Ok, refl}
+use Rattle.std.specs.Prelude.{◌≡◌, ℕ, zero, suc, ◌+◌, ◌*◌, ◌/◌, ◌%◌, ◌<◌, Bool, true, false, not, ◌||◌, List, ◌∷◌, ◌++◌, length, drop, ◌==◌, slice_index, Option, Some, None, ℤ, pos, negsuc, Result, Ok, refl}
 use Rattle.std.specs.Option.{ForSome, is_some}
-use Rattle.std.proofs.Common.{arith, ap, subst, ◌∙◌}
-use Rattle.std.proofs.Math.Nat.{mul-mod_right}
+use Rattle.std.proofs.Common.{arith}
 use Rattle.std.proofs.lemmas.Bool.{le-leb, lt-ltb, le-ltb, ne_eqb, not-true}
 use Rattle.std.proofs.lemmas.Bool.Decides.{nat_tests}
 use Rattle.speedate_base.specs.declared.faults.ParseError.{ParseError}
@@ -24,20 +23,6 @@ offset-cases P rest signed utc minus none =
     if_cases P (is_plus_or_minus (slice_index rest 0)) _ _ signed
     (λ no_sign. if_cases P (is_utc (slice_index rest 0)) _ _ (utc no_sign)
     (λ no_utc. if_cases P (has_minus_sign rest) _ _ (minus no_sign no_utc) (none no_sign no_utc)))
-
--- a whole number of minutes is one with either sign
-pub minutes-signed : (west : Bool) (hour minute : ℕ) → IsWholeMinutes (Some (with_sign west (3600 * hour + 60 * minute)))
-minutes-signed west hour minute =
-    let spread : 3600 * hour + 60 * minute ≡ 60 * (60 * hour + minute) = grind arith in
-    let whole : (3600 * hour + 60 * minute) % 60 ≡ 0 = ap (λ (n : ℕ). n % 60) spread ∙ mul-mod_right 60 (60 * hour + minute) in
-    λ seconds is.
-    let same : with_sign west (3600 * hour + 60 * minute) ≡ seconds = cc in
-    subst (λ (offset : ℤ). unsigned_abs offset % 60 ≡ 0) same (sized west (3600 * hour + 60 * minute) whole)
-  where
-    sized : (negative : Bool) (size : ℕ) → size % 60 ≡ 0 → unsigned_abs (with_sign negative size) % 60 ≡ 0
-    sized false size whole = whole
-    sized true zero whole = whole
-    sized true (suc size) whole = whole
 
 -- an offset other than 0 is printed with a sign
 offset_text-west : (size : ℕ) → offset_text (Some (negsuc size)) ≡ hyphen ∷ offset_size_text (suc size)

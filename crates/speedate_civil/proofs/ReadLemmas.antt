@@ -10,7 +10,8 @@ if_cases P true one other holds fails = holds refl
 if_cases P false one other holds fails = fails refl
 
 -- a table lets a value through where its rows hold
-pub read-rows : {A : Type 0} (P : A → Type 0) (rows : List Requirement) (next : Result A ParseError) → (AllHold rows → IfOk next P) → IfOk (meets rows next) P
+pub read-rows : {A : Type 0} (P : A → Type 0) (rows : List Requirement) (next : Result A ParseError)
+    → (AllHold rows → IfOk next P) → IfOk (meets rows next) P
 read-rows P [] next held = held tt
 read-rows P (row ∷ rows) next held =
     if_cases (λ (answer : Result _ ParseError). IfOk answer P) row.holds (meets rows next) (Err row.fault)
@@ -22,7 +23,8 @@ pub read-then : {A B : Type 0} (P : B → Type 0) (next : A → Result B ParseEr
 read-then P next (Ok read) held = held read refl
 read-then P next (Err fault) held = tt
 
-pub read-map : {A B : Type 0} (P : B → Type 0) (view : A → B) (answer : Result A ParseError) → IfOk answer (λ read. P (view read)) → IfOk (result_map view answer) P
+pub read-map : {A B : Type 0} (P : B → Type 0) (view : A → B) (answer : Result A ParseError)
+    → IfOk answer (λ read. P (view read)) → IfOk (result_map view answer) P
 read-map P view (Ok read) held = held
 read-map P view (Err fault) held = tt
 

@@ -1,11 +1,11 @@
 -- The texts of RFC 3339 by its rules are those that the strict readers take.
-use Rattle.std.specs.Prelude.{◌≡◌, ◌⊎◌, ℕ, ◌+◌, ◌*◌, ◌/◌, ◌%◌, ◌≤◌, zero, suc, Bool, true, false, ◌&&◌, ◌||◌, ◌==◌, List, [], ◌∷◌, ◌++◌, length, take, drop, nat_le, nat_lt, slice_index, if◌then◌else◌, Option, Some, ℤ, IfOk, Result, Ok, Err, refl, ◌↔◌}
+use Rattle.std.specs.Prelude.{◌≡◌, ◌⊎◌, ℕ, ◌+◌, ◌*◌, ◌/◌, ◌%◌, ◌≤◌, zero, suc, Bool, true, false, ◌||◌, ◌==◌, List, [], ◌∷◌, ◌++◌, length, take, drop, nat_le, nat_lt, slice_index, if◌then◌else◌, Option, Some, ℤ, IfOk, Result, Ok, Err, refl, ◌↔◌}
 use Rattle.std.specs.Char.{is_ascii_digit}
 use Rattle.std.specs.Int.{is_in_range, IsInRange}
-use Rattle.std.specs.List.{list_all, prefix_len}
+use Rattle.std.specs.List.{prefix_len}
 use Rattle.std.specs.Result.{IsOk}
 use Rattle.std.proofs.Common.{arith, ap, ap₂, subst, sym, ◌∙◌, inl, inr}
-use Rattle.std.proofs.Math.Seq.{take-append_seam, drop-append_seam}
+use Rattle.std.proofs.Math.Seq.{drop-append_seam}
 use Rattle.std.proofs.lemmas.Bool.{and_parts, or_cases, le-leb, lt-ltb, leb-true, ltb-true, eqb-true, not-true}
 use Rattle.std.proofs.lemmas.Bool.Decides.{nat_tests}
 use Rattle.std.proofs.lemmas.List.{drop_more, get_or-drop, length-append, length-drop, length-take-le, nil_from_length, take_all, take-append-drop}
@@ -13,7 +13,7 @@ use Rattle.std.proofs.lemmas.List.Sums.{prefix_len-le-length}
 use Rattle.speedate_base.specs.declared.config.MicrosecondsPrecisionOverflowBehavior.{MicrosecondsPrecisionOverflowBehavior}
 use Rattle.speedate_base.specs.declared.faults.ParseError.{ParseError}
 use Rattle.speedate_base.specs.Ascii.{colon, comma, full_stop, hyphen, plus_sign, capital_t, capital_z, small_t, small_z}
-use Rattle.speedate_base.specs.DigitRuns.{fraction_value, run_length}
+use Rattle.speedate_base.specs.DigitRuns.{run_length}
 use Rattle.speedate_base.proofs.DigitRunLemmas.{run_length-append, one_digit_value-le}
 use Rattle.speedate_base.specs.Digits.{digit, one_digit_value, two_digits_at, two_digit_text, two_digit_value, four_digit_text, four_digit_value}
 use Rattle.speedate_base.proofs.DigitLemmas.{two_digits-printed, two_digit_value-printed}
@@ -26,14 +26,14 @@ use Rattle.speedate_base.proofs.RequirementLemmas.{alone-iff, alone-whole, and_t
 use Rattle.speedate_civil.specs.declared.datetime.DateTime.{DateTime}
 use Rattle.speedate_civil.specs.declared.time.Time.{Time}
 use Rattle.speedate_civil.specs.Calendar.{Ymd, IsDate, month_length}
-use Rattle.speedate_civil.specs.ClockText.{Clock, clock_answer, clock_front, has_point, has_second, is_decimal_mark, minute_text}
-use Rattle.speedate_civil.proofs.ClockLemmas.{run_length-none, clock-whole}
+use Rattle.speedate_civil.specs.ClockText.{Clock, clock_front, has_point, has_second, is_decimal_mark, minute_text}
+use Rattle.speedate_civil.proofs.ClockLemmas.{run_length-none, clock-secfrac, clock-whole}
 use Rattle.speedate_civil.specs.DateAndTime.{DateAndTime}
 use Rattle.speedate_civil.specs.DateText.{date_front, date_table, date_text}
 use Rattle.speedate_civil.proofs.DateLemmas.{date_text-front}
 use Rattle.speedate_civil.specs.DateTime.{parts as date_time_parts}
 use Rattle.speedate_civil.specs.DateTimeText.{date_time_answer, date_time_front, is_separator, separator_table}
-use Rattle.speedate_civil.proofs.FrontLemmas.{bytes_from, clock-read, clock-size, date_time_front-is, minute_size, time_front-is}
+use Rattle.speedate_civil.proofs.FrontLemmas.{ClockRead, bytes_from, clock-read, clock-size, date_time_front-is, minute_size, time_front-is}
 use Rattle.speedate_civil.specs.OffsetText.{end_fault, is_plus_or_minus, is_utc, offset_digits, offset_front, offset_ranges, signed_front}
 use Rattle.speedate_civil.proofs.OffsetLemmas.{offset-cases}
 use Rattle.speedate_civil.proofs.ReadLemmas.{read-rows, read-then, read-value}
@@ -86,94 +86,66 @@ two-digits : (highest : ℕ) (text : List ℕ) (place : ℕ) → two_digits_at t
 two-digits highest text place digits small =
     record { number = two_digit_value text place; within = leb-true _ highest small; together = sym (spelled text place digits) }
 
-asked-true : (there asked : Bool) → there ≡ true → (there implies asked) ≡ true → asked ≡ true
-asked-true true asked is holds = holds
-asked-true false asked is holds = absurd (cc)
-
--- an hour, a minute and a second, and a fraction, put together
-clock-of : (behavior : MicrosecondsPrecisionOverflowBehavior) (a b c d e f g h : ℕ) (fraction : List ℕ) → IsTwoDigits 23 (a ∷ b ∷ []) → (c == colon) ≡ true
-    → IsTwoDigits 59 (d ∷ e ∷ []) → (f == colon) ≡ true → IsTwoDigits 59 (g ∷ h ∷ []) → (fraction ≡ []) ⊎ IsSecfrac behavior fraction
-    → IsPartialTime behavior (a ∷ b ∷ c ∷ d ∷ e ∷ f ∷ g ∷ h ∷ fraction)
-clock-of behavior a b c d e f g h fraction hour first minute second_colon second part = record {
-  hour = a ∷ b ∷ [];
-  minute = d ∷ e ∷ [];
-  second = g ∷ h ∷ [];
-  fraction = fraction;
-  is_hour = hour;
-  is_minute = minute;
-  is_second = second;
-  is_fraction = part;
-  together = ap₂ (λ (x y : ℕ). a ∷ b ∷ x ∷ d ∷ e ∷ y ∷ g ∷ h ∷ fraction) (eqb-true c colon first) (eqb-true f colon second_colon);
-}
-
--- the fraction that follows a second
-fraction-of : (behavior : MicrosecondsPrecisionOverflowBehavior) (more : List ℕ) (point : Bool) → (slice_index more 0 == full_stop) ≡ point
-    → ((point implies nat_lt 0 (prefix_len is_ascii_digit (drop 1 more))) ≡ true)
-    → (((point && refuses_digits behavior) implies nat_le (prefix_len is_ascii_digit (drop 1 more)) 6) ≡ true)
-    → (take (if point then 1 + prefix_len is_ascii_digit (drop 1 more) else 0) more ≡ [])
-    ⊎ IsSecfrac behavior (take (if point then 1 + prefix_len is_ascii_digit (drop 1 more) else 0) more)
-fraction-of behavior more false other some few = inl refl
-fraction-of behavior [] true there some few = absurd (cc)
-fraction-of behavior (mark ∷ digits) true there some few =
+-- a fraction of all the digits that follow
+secfrac-of : (behavior : MicrosecondsPrecisionOverflowBehavior) (digits : List ℕ) → nat_lt 0 (prefix_len is_ascii_digit digits) ≡ true
+    → (refuses_digits behavior implies nat_le (prefix_len is_ascii_digit digits) 6) ≡ true
+    → IsSecfrac behavior (full_stop ∷ take (prefix_len is_ascii_digit digits) digits)
+secfrac-of behavior digits some few =
     let run = prefix_len is_ascii_digit digits in
-    let within = prefix_len-le-length is_ascii_digit digits in
-    let next : 1 + run ≡ suc run = omega arith in
-    let taken : take (1 + run) (mark ∷ digits) ≡ full_stop ∷ take run digits =
-    ap (λ (n : ℕ). take n (mark ∷ digits)) next ∙ ap (λ (byte : ℕ). byte ∷ take run digits) (eqb-true mark full_stop there) in
-    inr (record {
+    let long = length-take-le run digits (prefix_len-le-length is_ascii_digit digits) in
+    record {
       digits = take run digits;
       are_digits = run-digits digits;
-      some = omega (arith, ltb-true 0 run some, length-take-le run digits within);
-      few = λ refuses. omega (arith, leb-true run 6 (asked-true (refuses_digits behavior) (nat_le run 6) refuses few), length-take-le run digits within);
-      together = taken;
-    })
+      some = omega (arith, ltb-true 0 run some, long);
+      few = λ refuses. omega (arith, leb-true run 6 (rw refuses at few), long);
+      together = refl;
+    }
 
--- what is asked of a fraction where a second is there and its decimal mark is no comma
-size-of : (second point comma : Bool) (run : ℕ) → second ≡ true → comma ≡ false
-    → 3 + (if second && (point || comma) then 6 + run else (if second then 5 else 2)) ≡ 8 + (if point then 1 + run else 0)
-size-of true true comma run there none = omega arith
-size-of true false false run there none = omega arith
-size-of true false true run there none = absurd (cc)
-size-of false point comma run there none = absurd (cc)
+-- a clock that was read is one of the rules if its second is there
+clock-of : (behavior : MicrosecondsPrecisionOverflowBehavior) (a b c d e f g h : ℕ) (more fraction : List ℕ) (clock : Clock)
+    → ClockRead behavior (a ∷ b ∷ c ∷ d ∷ e ∷ f ∷ g ∷ h ∷ more) clock → (f == colon) ≡ true → (fraction ≡ []) ⊎ IsSecfrac behavior fraction
+    → IsPartialTime behavior (a ∷ b ∷ c ∷ d ∷ e ∷ f ∷ g ∷ h ∷ fraction)
+clock-of behavior a b c d e f g h more fraction clock rows second part =
+    let text : List ℕ = a ∷ b ∷ c ∷ d ∷ e ∷ f ∷ g ∷ h ∷ more in
+    let digits = rw second at rows.minute.1.0 in
+    let small = rw second at rows.minute.1.1.0 in
+    record {
+      hour = a ∷ b ∷ [];
+      minute = d ∷ e ∷ [];
+      second = g ∷ h ∷ [];
+      fraction = fraction;
+      is_hour = two-digits 23 text 0 rows.hour.1.0 rows.range.0;
+      is_minute = two-digits 59 text 3 rows.digits.0 rows.minute.0;
+      is_second = two-digits 59 text 6 digits small;
+      is_fraction = part;
+      together = ap₂ (λ (x y : ℕ). a ∷ b ∷ x ∷ d ∷ e ∷ y ∷ g ∷ h ∷ fraction) (eqb-true c colon rows.hour.1.1.0) (eqb-true f colon second);
+    }
 
-some-asked : (second point comma asked : Bool) → second ≡ true → ((second && (point || comma)) implies asked) ≡ true → (point implies asked) ≡ true
-some-asked true true comma asked there holds = holds
-some-asked true false comma asked there holds = refl
-some-asked false point comma asked there holds = absurd (cc)
-
-few-asked : (second point comma refuses asked : Bool) → second ≡ true → (((second && (point || comma)) && refuses) implies asked) ≡ true
-    → ((point && refuses) implies asked) ≡ true
-few-asked true true comma refuses asked there holds = holds
-few-asked true false comma refuses asked there holds = refl
-few-asked false point comma refuses asked there holds = absurd (cc)
-
--- where the offset stands
-place-of : (point : Bool) (run : ℕ) → (if point then 9 + run else 8) ≡ 8 + (if point then 1 + run else 0)
-place-of true run = omega arith
-place-of false run = refl
-
--- a clock that was read is one of the rules if its second is there and its mark is no comma, and the offset follows it
-clock-parts : (behavior : MicrosecondsPrecisionOverflowBehavior) (a b c d e f g h : ℕ) (more : List ℕ) (clock : Clock)
-    → clock_front behavior (a ∷ b ∷ c ∷ d ∷ e ∷ f ∷ g ∷ h ∷ more) ≡ Ok clock → (f == colon) ≡ true → (slice_index more 0 == comma) ≡ false
+-- and its mark is no comma; the offset follows it
+clock-parts : (behavior : MicrosecondsPrecisionOverflowBehavior) (a b c d e f g h : ℕ) (more : List ℕ) (clock : Clock) (point : Bool)
+    → (slice_index more 0 == full_stop) ≡ point → clock_front behavior (a ∷ b ∷ c ∷ d ∷ e ∷ f ∷ g ∷ h ∷ more) ≡ Ok clock
+    → (f == colon) ≡ true → (slice_index more 0 == comma) ≡ false
     → IsPartialTime behavior (take clock.size (a ∷ b ∷ c ∷ d ∷ e ∷ f ∷ g ∷ h ∷ more))
     × (clock.size ≡ offset_place (a ∷ b ∷ c ∷ d ∷ e ∷ f ∷ g ∷ h ∷ more))
-clock-parts behavior a b c d e f g h more clock read second_colon plain =
+clock-parts behavior a b c d e f g h more clock false none read second plain =
     let text : List ℕ = a ∷ b ∷ c ∷ d ∷ e ∷ f ∷ g ∷ h ∷ more in
     let rows = clock-read behavior text clock read in
-    let size = ap (λ (found : Clock). found.size) rows.is in
-    let run = prefix_len is_ascii_digit (drop 1 more) in
-    let point = slice_index more 0 == full_stop in
-    let mark = slice_index more 0 == comma in
-    let taken = if point then 1 + run else 0 in
-    let count : clock.size ≡ 8 + taken = sym size ∙ size-of (f == colon) point mark run second_colon plain in
-    let eight : 8 + taken ≡ suc (suc (suc (suc (suc (suc (suc (suc taken))))))) = omega arith in (
-      subst (λ (n : ℕ). IsPartialTime behavior (take n text)) (sym (count ∙ eight))
-          (clock-of behavior a b c d e f g h (take taken more) (two-digits 23 text 0 rows.hour.1.0 rows.range.0) rows.hour.1.1.0
-          (two-digits 59 text 3 rows.digits.0 rows.minute.0) second_colon
-          (two-digits 59 text 6 (asked-true (f == colon) _ second_colon rows.minute.1.0) (asked-true (f == colon) _ second_colon rows.minute.1.1.0))
-          (fraction-of behavior more point refl (some-asked (f == colon) point mark _ second_colon rows.minute.1.1.1.0)
-          (few-asked (f == colon) point mark (refuses_digits behavior) _ second_colon rows.minute.1.1.1.1.0))),
-      count ∙ sym (place-of point run),
+    let size : 8 ≡ clock.size = rw (second, none, plain) at (ap (λ (found : Clock). found.size) rows.is) in (
+      subst (λ (n : ℕ). IsPartialTime behavior (take n text)) size (clock-of behavior a b c d e f g h more [] clock rows second (inl refl)),
+      rw none (sym size),
+    )
+clock-parts behavior a b c d e f g h [] clock true there read second plain = absurd (cc)
+clock-parts behavior a b c d e f g h (mark ∷ digits) clock true there read second plain =
+    let text : List ℕ = a ∷ b ∷ c ∷ d ∷ e ∷ f ∷ g ∷ h ∷ mark ∷ digits in
+    let run = prefix_len is_ascii_digit digits in
+    let rows = clock-read behavior text clock read in
+    let size : 3 + (6 + run) ≡ clock.size = rw (second, there) at (ap (λ (found : Clock). found.size) rows.is) in
+    let long : suc (suc (suc (suc (suc (suc (suc (suc (suc run)))))))) ≡ clock.size = omega (arith, size) in
+    let some = rw (second, there) at rows.minute.1.1.1.0 in
+    let few = rw (second, there) at rows.minute.1.1.1.1.0 in
+    let part = subst (λ (byte : ℕ). IsSecfrac behavior (byte ∷ take run digits)) (sym (eqb-true mark full_stop there)) (secfrac-of behavior digits some few) in (
+      subst (λ (n : ℕ). IsPartialTime behavior (take n text)) long (clock-of behavior a b c d e f g h (mark ∷ digits) (mark ∷ take run digits) clock rows second (inr part)),
+      rw there (omega (arith, size)),
     )
 
 -- one of two bytes
@@ -240,7 +212,7 @@ partial-time-of behavior text clock read inside second plain =
     let five = size-five (has_point (drop 3 text)) (run_length (drop 3 text) 6) in
     split (λ (bytes : List ℕ). clock_front behavior bytes ≡ Ok clock → (slice_index bytes 5 == colon) ≡ true → (slice_index bytes 8 == comma) ≡ false
     → IsPartialTime behavior (take clock.size bytes) × (clock.size ≡ offset_place bytes)) 8 text (omega arith)
-    (λ same there none. clock-parts behavior _ _ _ _ _ _ _ _ (drop 8 text) clock same there none) read second plain
+    (λ same there none. clock-parts behavior _ _ _ _ _ _ _ _ (drop 8 text) clock _ refl same there none) read second plain
 
 -- what the strict reader takes as a time is one by the rules
 full-time-of : (behavior : MicrosecondsPrecisionOverflowBehavior) (text : List ℕ) → AllHold (standard_time text)
@@ -257,24 +229,6 @@ full-time-of behavior text rows =
       together = sym (take-append-drop clock.size text);
     }))
 
-few-holds : (refuses : Bool) (count : ℕ) → (refuses ≡ true → count ≤ 6) → (refuses implies nat_le count 6) ≡ true
-few-holds true count few = le-leb count 6 (few refl)
-few-holds false count few = refl
-
--- a fraction of any digits is read as it
-clock-secfrac : (behavior : MicrosecondsPrecisionOverflowBehavior) (minute second : ℕ) (digits tail : List ℕ) → minute ≤ 59 → second ≤ 59
-    → list_all is_ascii_digit digits ≡ true → 1 ≤ length digits → (refuses_digits behavior ≡ true → length digits ≤ 6) → is_ascii_digit (slice_index tail 0) ≡ false
-    → clock_answer behavior (minute_text minute second ++ full_stop ∷ digits ++ tail)
-    ≡ Ok (record { hour = 0; minute = minute; second = second; microsecond = fraction_value 6 digits; size = 6 + length digits })
-clock-secfrac behavior minute second digits tail small_minute small_second all some few other =
-    let minute_is = two_digit_value-printed minute in
-    let second_is = two_digit_value-printed second in
-    let long : prefix_len is_ascii_digit (digits ++ tail) ≡ length digits =
-    run_length-append digits tail all ∙ ap (λ (n : ℕ). length digits + n) (run_length-none tail other) ∙ omega arith in
-    let value : take (prefix_len is_ascii_digit (digits ++ tail)) (digits ++ tail) ≡ digits = ap (λ (n : ℕ). take n (digits ++ tail)) long ∙ take-append_seam digits tail in
-    let asked : ((refuses_digits behavior) implies nat_le (length digits) 6) ≡ true = few-holds (refuses_digits behavior) (length digits) few in
-    rw (minute_is, second_is, le-leb minute 59 small_minute, le-leb second 59 small_second, two_digits-printed second (omega arith), value, long, lt-ltb 0 (length digits) some, asked) refl
-
 -- an offset of the rules is read whole, and begins with no digit and no mark
 record OffsetRead (text : List ℕ) : Type 0 where
   front : Option ℤ × ℕ
@@ -290,17 +244,24 @@ numoffset-read west hour minute small_hour small_minute =
     let hour_is = two_digit_value-printed hour in
     let minute_is = two_digit_value-printed minute in
     let is : signed_front west 1 (two_digit_text hour ++ colon ∷ two_digit_text minute) ≡ Ok (Some (with_sign west (3600 * hour + 60 * minute)), 6) =
-    rw (two_digits-printed hour (omega arith), two_digits-printed minute (omega arith), hour_is, minute_is, le-leb minute 59 small_minute, lt-ltb (3600 * hour + 60 * minute) seconds_per_day (omega arith)) refl in
+    let hours = two_digits-printed hour (omega arith) in
+    let minutes = two_digits-printed minute (omega arith) in
+    rw (hours, minutes, hour_is, minute_is, le-leb minute 59 small_minute, lt-ltb (3600 * hour + 60 * minute) seconds_per_day (omega arith)) refl in
     signed west is
   where
-    signed : (negative : Bool) → signed_front negative 1 (two_digit_text hour ++ colon ∷ two_digit_text minute) ≡ Ok (Some (with_sign negative (3600 * hour + 60 * minute)), 6)
+    signed : (negative : Bool)
+        → signed_front negative 1 (two_digit_text hour ++ colon ∷ two_digit_text minute) ≡ Ok (Some (with_sign negative (3600 * hour + 60 * minute)), 6)
         → OffsetRead ((if negative then hyphen else plus_sign) ∷ two_digit_text hour ++ colon ∷ two_digit_text minute)
     signed true is = record { front = _; read = is; whole = refl; no_digit = refl; no_mark = refl; standard = (refl, (refl, (refl, tt))) }
     signed false is = record { front = _; read = is; whole = refl; no_digit = refl; no_mark = refl; standard = (refl, (refl, (refl, tt))) }
 
 utc-read : (text : List ℕ) → (text ≡ capital_z ∷ []) ⊎ (text ≡ small_z ∷ []) → OffsetRead text
-utc-read text (inl is) = subst OffsetRead (sym is) (record { front = _; read = refl; whole = refl; no_digit = refl; no_mark = refl; standard = (refl, (refl, (refl, tt))) })
-utc-read text (inr is) = subst OffsetRead (sym is) (record { front = _; read = refl; whole = refl; no_digit = refl; no_mark = refl; standard = (refl, (refl, (refl, tt))) })
+utc-read text (inl is) =
+    subst OffsetRead (sym is)
+    (record { front = _; read = refl; whole = refl; no_digit = refl; no_mark = refl; standard = (refl, (refl, (refl, tt))) })
+utc-read text (inr is) =
+    subst OffsetRead (sym is)
+    (record { front = _; read = refl; whole = refl; no_digit = refl; no_mark = refl; standard = (refl, (refl, (refl, tt))) })
 
 offset-read : (text : List ℕ) → IsTimeOffset text → OffsetRead text
 offset-read text (inl is) = utc-read text (inl is)
@@ -373,7 +334,8 @@ full-time-taken behavior text is =
     time.is_fraction (offset-read is.offset is.is_offset))
 
 -- the digits of a year
-year-spelled : (text : List ℕ) → two_digits_at text 0 ≡ true → two_digits_at text 2 ≡ true → four_digit_text (four_digit_value text 0) ≡ bytes_from 0 4 text
+year-spelled : (text : List ℕ) → two_digits_at text 0 ≡ true → two_digits_at text 2 ≡ true
+    → four_digit_text (four_digit_value text 0) ≡ bytes_from 0 4 text
 year-spelled text century year =
     let small = spelled-small text 2 year in
     let high : four_digit_value text 0 / 100 ≡ two_digit_value text 0 = omega (arith, small) in
@@ -450,7 +412,8 @@ date-time-taken behavior text is =
 -- a result whose value meets further rows is a value if and only if a text is one of the rules
 strict : {A B : Type 0} (view : A → B) (result : Result A ParseError) (rows : List Requirement) (answer : Result B ParseError) (IsOne : Type 0)
     → result_map view result ≡ result_and_then (λ (read : B). meets rows (Ok read)) answer
-    → ((value : B) → answer ≡ Ok value → AllHold rows → IsOne) → (IsOne → (value : B) × ((answer ≡ Ok value) × AllHold rows)) → IsOk result ↔ IsOne
+    → ((value : B) → answer ≡ Ok value → AllHold rows → IsOne)
+    → (IsOne → (value : B) × ((answer ≡ Ok value) × AllHold rows)) → IsOk result ↔ IsOne
 strict {B = B} view (Ok value) rows answer IsOne is to from =
     let read = and_then-ok (λ (found : B). meets rows (Ok found)) answer (view value) (sym is) in
     (λ ok. to read.0 read.1 (meets-value rows read.0 (view value) read.2).0, λ one. refl)

@@ -3,8 +3,9 @@
 use Rattle.std.specs.Prelude.{◌≡◌, ℕ, ◌+◌, ◌≤◌, Bool, true, false, not, ◌&&◌, ◌||◌, List, [], ◌∷◌, ◌++◌, length, slice_index, drop, ◌==◌, if◌then◌else◌, Option, ℤ, Result, Ok, refl}
 use Rattle.std.specs.Char.{is_ascii_digit}
 use Rattle.std.specs.Option.{is_some}
-use Rattle.std.proofs.Common.{arith, ◌∙◌, ap, subst, sym}
-use Rattle.std.proofs.lemmas.Bool.{le-leb, eqb-true}
+use Rattle.std.proofs.Common.{arith, ◌∙◌, ap, sym}
+use Rattle.std.proofs.Math.Bool.{or-and_distrib_left}
+use Rattle.std.proofs.lemmas.Bool.{and_parts, le-leb, eqb-true}
 use Rattle.std.proofs.lemmas.List.{append-nil}
 use Rattle.speedate_base.specs.declared.config.MicrosecondsPrecisionOverflowBehavior.{MicrosecondsPrecisionOverflowBehavior}
 use Rattle.speedate_base.specs.declared.config.MicrosecondsPrecisionOverflowBehavior.TheVariants as behavior
@@ -21,7 +22,7 @@ use Rattle.speedate_civil.proofs.ClockLemmas.{clock-whole, clock-fraction}
 use Rattle.speedate_civil.specs.OffsetText.{begins_offset, end_fault, offset_front, offset_text}
 use Rattle.speedate_civil.proofs.OffsetLemmas.{offset_text-first, offset_text-front}
 use Rattle.speedate_civil.specs.TimeOfDay.{TimeOfDay, IsTime}
-use Rattle.speedate_civil.specs.TimeText.{time_front, time_answer, time_of, clock_text, time_text, continues_fraction, is_after_time}
+use Rattle.speedate_civil.specs.TimeText.{time_front, time_answer, time_of, clock_text, time_text, is_after_time}
 
 -- what is read after a clock decides on the time
 pub time_front-after : (behavior : MicrosecondsPrecisionOverflowBehavior) (text : List ℕ) (clock : Clock) (offset : Result (Option ℤ × ℕ) ParseError)
@@ -41,21 +42,12 @@ front-printed behavior hour minute second tail clock small_hour small_minute ans
 
 -- what follows is neither
 neither : (some first second : Bool) → (some || (not first && not second)) ≡ true → ((some || not first) ≡ true) × ((some || not second) ≡ true)
-neither true first second ends = (refl, refl)
-neither false false false ends = (refl, refl)
-neither false false true ends = absurd (cc)
-neither false true second ends = absurd (cc)
+neither some first second ends = and_parts (some || not first) (some || not second) (sym (or-and_distrib_left some (not first) (not second)) ∙ ends)
 
 nothing : (some none : Bool) → (some || (not (if none then false else false) && true)) ≡ true
 nothing true none = refl
 nothing false true = refl
 nothing false false = refl
-
--- how a fraction would go on, where it is known whether one is printed
-goes-on : (time : TimeOfDay) (rest : List ℕ) (none : Bool) → (time.microsecond == 0) ≡ none → (is_some time.offset || not (continues_fraction time.microsecond rest)) ≡ true
-    → (is_some time.offset || not (if none then is_decimal_mark (slice_index rest 0) else is_ascii_digit (slice_index rest 0))) ≡ true
-goes-on time rest none is after =
-    subst (λ (test : Bool). (is_some time.offset || not (if test then is_decimal_mark (slice_index rest 0) else is_ascii_digit (slice_index rest 0))) ≡ true) is after
 
 text-front : (behavior : MicrosecondsPrecisionOverflowBehavior) (time : TimeOfDay) (rest : List ℕ) (none : Bool) → IsTime time → IsWholeMinutes time.offset
     → is_after_time time rest ≡ true → (time.microsecond == 0) ≡ none
@@ -63,16 +55,16 @@ text-front : (behavior : MicrosecondsPrecisionOverflowBehavior) (time : TimeOfDa
 text-front behavior time rest true valid whole after none =
     let tail = offset_text time.offset ++ rest in
     let zero_is : 0 ≡ time.microsecond = sym (eqb-true time.microsecond 0 none) in
-    let parted = neither (is_some time.offset) (continues_fraction time.microsecond rest) (begins_offset rest) after in
-    let plain = offset_text-first is_decimal_mark time.offset rest refl refl refl (goes-on time rest true none parted.0) in
+    let parted = neither (is_some time.offset) (is_decimal_mark (slice_index rest 0)) (begins_offset rest) (rw none at after) in
+    let plain = offset_text-first is_decimal_mark time.offset rest refl refl refl parted.0 in
     let front = front-printed behavior time.hour time.minute time.second tail _ valid.hour valid.minute
     (clock-whole behavior time.minute time.second tail valid.minute valid.second plain) in
     let long : 8 + length (offset_text time.offset) ≡ length (clock_text time ++ offset_text time.offset) = omega arith in
     rw (none, front, offset_text-front time.offset rest valid.offset whole parted.1, zero_is) (ap (λ (size : ℕ). Ok (time, size)) long)
 text-front behavior time rest false valid whole after some =
     let tail = offset_text time.offset ++ rest in
-    let parted = neither (is_some time.offset) (continues_fraction time.microsecond rest) (begins_offset rest) after in
-    let other = offset_text-first is_ascii_digit time.offset rest refl refl refl (goes-on time rest false some parted.0) in
+    let parted = neither (is_some time.offset) (is_ascii_digit (slice_index rest 0)) (begins_offset rest) (rw some at after) in
+    let other = offset_text-first is_ascii_digit time.offset rest refl refl refl parted.0 in
     let front = front-printed behavior time.hour time.minute time.second (full_stop ∷ six_digit_text time.microsecond ++ tail) _ valid.hour valid.minute
     (clock-fraction behavior time.minute time.second time.microsecond tail valid.minute valid.second (omega (arith, valid.microsecond)) other) in
     let long : 15 + length (offset_text time.offset) ≡ length (clock_text time ++ full_stop ∷ six_digit_text time.microsecond ++ offset_text time.offset) = omega arith in

@@ -6,12 +6,12 @@ use Rattle.std.proofs.lemmas.Bool.Decides.{nat_tests}
 use Rattle.speedate_base.specs.Digits.{four_digits_at, four_digit_value, two_digits_at, two_digit_value}
 use Rattle.speedate_base.proofs.DigitRunLemmas.{one_digit_value-le}
 use Rattle.speedate_base.specs.Pattern.{eight_at, fit_length, fit_digits, neighbours}
-use Rattle.speedate_base.proofs.RequirementLemmas.{alone-iff, meets-all}
+use Rattle.speedate_base.proofs.RequirementLemmas.{alone-iff}
 use Rattle.speedate_base.proofs.PatternLemmas.{fit_length-all}
 use Rattle.speedate_civil.specs.Calendar.{Ymd, month_length}
 use Rattle.speedate_base.specs.declared.faults.ParseError.TheVariants as fault
 use Rattle.speedate_civil.proofs.FrontLemmas.{date_front-alone}
-use Rattle.speedate_civil.specs.DateText.{date_table, date_numbers, date_front}
+use Rattle.speedate_civil.specs.DateText.{date_numbers, date_front}
 use Rattle.speedate_civil.proofs.date.Date.parse_front.Goals as goal
 
 -- the front of a date, as it looks
@@ -70,30 +70,9 @@ answered text numbers year month day front long given year_is month_is months da
     let there = day_there (two_digits_at text 8) (two_digit_value text 8) day given in
     let value : date_numbers text ≡ record { year = year; month = month; day = day } =
     λ i. record { year = (sym year_is) i; month = (sym month_is) i; day = there.1 i } in
-    let enough : nat_le 10 (length text) ≡ true = le-leb 10 (length text) long in
-    sym (meets-all (date_table text) (Ok (date_numbers text, 10)) (
-      enough,
-      (
-        front.year,
-        (
-          front.first,
-          (
-            front.month,
-            (
-              front.second,
-              (
-                there.0,
-                (
-                  ap (is_in_range 1 12) (sym month_is) ∙ months,
-                  (ap₂ (λ (date : Ymd) (d : ℕ). is_in_range 1 (month_length date.year date.month) d) value there.1 ∙ days, tt),
-                ),
-              ),
-            ),
-          ),
-        ),
-      ),
-    )
-    ∙ ap (λ (date : Ymd). Ok (date, 10)) value)
+    let months_is : is_in_range 1 12 (two_digit_value text 5) ≡ true = ap (is_in_range 1 12) (sym month_is) ∙ months in
+    let days_is = ap₂ (λ (date : Ymd) (d : ℕ). is_in_range 1 (month_length date.year date.month) d) value there.1 ∙ days in
+    rw (le-leb 10 (length text) long, front.year, front.first, front.month, front.second, there.0, months_is, days_is) (ap (λ (date : Ymd). Ok (date, 10)) (sym value))
 
 pub invariant_of-result : goal.invariant_of-result
 invariant_of-result c =
@@ -107,7 +86,7 @@ invariant_of-result c =
 pub returns-clause-answer : goal.returns-clause-answer
 returns-clause-answer c =
     let text = c.args.bytes.now in
-    let front = read text _ _ _ c.eight_bytes-front.ensures.bytes c.fitting-place.ensures.count c.if-place-lt-LANES.false c.pairs.ensures.numbers in
+    let front = read c.args.bytes.now _ _ _ c.eight_bytes-front.ensures.bytes c.fitting-place.ensures.count c.if-place-lt-LANES.false c.pairs.ensures.numbers in
     answered text _ _ _ _ front c.if-bytes-lt-TEXT_LENGTH.false (sym c.in-Some.is ∙ c.two_digits.ensures.value)
     (omega (arith, front.year_is, c.from.ensures, c.from-2.ensures)) front.month_is (grind (arith, nat_tests)) (sym c.if-not-is_day.ensures)
 
@@ -119,7 +98,7 @@ day_missing false value given = refl
 pub returns-in_default-two_digits-clause-answer : goal.returns-in_default-two_digits-clause-answer
 returns-in_default-two_digits-clause-answer c =
     let text = c.args.bytes.now in
-    let front = read text _ _ _ c.eight_bytes-front.ensures.bytes c.fitting-place.ensures.count c.if-place-lt-LANES.false c.pairs.ensures.numbers in
+    let front = read c.args.bytes.now _ _ _ c.eight_bytes-front.ensures.bytes c.fitting-place.ensures.count c.if-place-lt-LANES.false c.pairs.ensures.numbers in
     let enough : nat_le 10 (length text) ≡ true = le-leb 10 (length text) c.if-bytes-lt-TEXT_LENGTH.false in
     let missing : two_digits_at text 8 ≡ false = day_missing (two_digits_at text 8) (two_digit_value text 8) c.in_default-two_digits.ensures.value in
     rw (enough, front.year, front.first, front.month, front.second, missing) refl

@@ -27,10 +27,6 @@ eight-first (a ∷ b ∷ c ∷ d ∷ e ∷ f ∷ g ∷ []) = refl
 eight-first (a ∷ b ∷ c ∷ d ∷ e ∷ f ∷ g ∷ h ∷ more) = refl
 
 -- a run goes as far in them as in the text
-first-none : (count : ℕ) → fit_length (replicate count 48) (first count []) ≡ 0
-first-none zero = refl
-first-none (suc count) = refl
-
 first-run : (count : ℕ) (text : List ℕ) → fit_length (replicate count 48) (first count text) ≡ min count (prefix_len is_ascii_digit text)
 first-run zero text = omega arith
 first-run (suc count) [] = omega arith
