@@ -1,5 +1,5 @@
 -- How the answer to an ISO 8601 duration goes on from item to item.
-use Rattle.std.specs.Prelude.{◌≡◌, ℕ, zero, suc, ◌-◌, ◌<◌, Bool, true, false, not, List, [], ◌∷◌, ◌++◌, length, drop, if◌then◌else◌, Result, Ok, Err, refl}
+use Rattle.std.specs.Prelude.{◌≡◌, ℕ, zero, suc, ◌-◌, ◌<◌, Bool, true, false, not, List, [], ◌∷◌, ◌++◌, length, drop, slice_index, if◌then◌else◌, Result, Ok, Err, refl}
 use Rattle.std.proofs.Common.{arith, ap, sym, ◌∙◌, inl, inr, lt_irrefl}
 use Rattle.std.proofs.Math.Seq.{drop-append_seam}
 use Rattle.std.proofs.lemmas.List.{length-append}
@@ -7,10 +7,10 @@ use Rattle.speedate_base.specs.declared.config.IsoOrder.{IsoOrder}
 use Rattle.speedate_base.specs.declared.config.MicrosecondsPrecisionOverflowBehavior.{MicrosecondsPrecisionOverflowBehavior}
 use Rattle.speedate_base.specs.declared.faults.ParseError.{ParseError}
 use Rattle.speedate_base.specs.declared.faults.ParseError.TheVariants as fault
-use Rattle.speedate_base.specs.Ascii.{capital_p}
+use Rattle.speedate_base.specs.Ascii.{capital_p, capital_t}
 use Rattle.speedate_base.specs.Numbers.{IsSign}
 use Rattle.speedate_base.specs.Requirement.{meets, result_and_then}
-use Rattle.speedate_base.proofs.RequirementLemmas.{meets-and_then}
+use Rattle.speedate_base.proofs.RequirementLemmas.{meets-all, meets-and_then}
 use Rattle.speedate.specs.DurationAnswer.{iso_after, iso_from, iso_form, unsigned_answer, duration_answer}
 use Rattle.speedate.specs.DurationNumbers.{signed_form}
 use Rattle.speedate.specs.IsoForm.{Item, TimeDesignator, Component, item_text, Sums, item_at, item_table, with_item, sums_length}
@@ -70,6 +70,14 @@ iso_from-item sums item rest is =
     iso_from-step sums text some
     ∙ ap (λ (item : Item). meets (item_table sums item) (iso_from (with_item item sums) (drop (length (item_text item)) text))) is
     ∙ ap (λ (rest : List ℕ). meets (item_table sums item) (iso_from (with_item item sums) rest)) (drop-append_seam (item_text item) rest)
+
+-- and so has a first `T`
+pub iso_from-time : (sums : Sums) (text : List ℕ) → slice_index text 0 ≡ capital_t → sums.is_time ≡ false
+    → iso_from (with_item TimeDesignator sums) (drop 1 text) ≡ iso_from sums text
+iso_from-time sums [] first none = absurd (cc)
+iso_from-time sums (byte ∷ rest) first none =
+    sym (ap (λ (byte : ℕ). iso_from sums (byte ∷ rest)) first ∙ iso_from-item sums TimeDesignator rest refl
+    ∙ meets-all (item_table sums TimeDesignator) _ (ap not none, tt))
 
 -- after a sign and a `P` the answer is that of ISO 8601
 pub duration_answer-iso : (order : IsoOrder) (behavior : MicrosecondsPrecisionOverflowBehavior) (negative : Bool) (sign body : List ℕ) → IsSign negative sign

@@ -136,22 +136,15 @@ impl Sums {
 
     /// Reads all items of a duration, and adds them up.
     ///
-    /// Most texts are whole numbers of few digits with their designators, and a `T`. These are read
-    /// straight on, and from the first item that is anything else the text is read item by item.
+    /// Most texts are whole numbers of few digits with their designators, a `T`, and such components
+    /// again. These are read straight on, and what is left is read item by item.
     #[inline(always)]
     pub(super) fn read(body: &[u8], order: IsoOrder) -> Result<UnsignedDuration, ParseError>
         ensures answer { result_map unsigned_parts result ≡ iso_form order body.now }
     {
-        let mut sums = Self::none(order);
-        let mut rest = body;
-        while !rest.is_empty() {
-            let Some((next, size)) = sums.with_short_item(rest) else {
-                return sums.with_items(rest);
-            };
-            sums = next;
-            rest = &rest[size..];
-        }
-        sums.length()
+        let (days, rest) = Self::none(order).with_short_components(body);
+        let (sums, rest) = days.with_short_time(rest);
+        sums.with_items(rest)
     }
 
     /// The sums of no items.
@@ -171,23 +164,46 @@ impl Sums {
         }
     }
 
-    /// The sums with the item that begins a text, and how many bytes it has, if it is a first `T` or a
-    /// whole number of one to six digits with its designator, and nothing is wrong in it.
+    /// The sums with the short components after a `T`, if a first one begins a text, and what follows
+    /// them.
     #[inline(always)]
-    fn with_short_item(self, text: &[u8]) -> Option<(Self, usize)>
+    fn with_short_time(self, text: &[u8]) -> (Self, &[u8])
+        ensures answer { iso_from (sums_parts result.0) result.1.now ≡ iso_from (sums_parts self) text.now }
+    {
+        match text {
+            [b'T', rest @ ..] if !self.is_time => self.begin_time().with_short_components(rest),
+            _ => (self, text),
+        }
+    }
+
+    /// The sums with the short components that begin a text, as many as there are, and what follows
+    /// them.
+    #[inline(always)]
+    fn with_short_components(self, text: &[u8]) -> (Self, &[u8])
+        ensures answer { iso_from (sums_parts result.0) result.1.now ≡ iso_from (sums_parts self) text.now }
+    {
+        let mut sums = self;
+        let mut rest = text;
+        while let Some((next, size)) = sums.with_short_component(rest) {
+            sums = next;
+            rest = &rest[size..];
+        }
+        (sums, rest)
+    }
+
+    /// The sums with the component that begins a text, and how many bytes it has, if it is a whole
+    /// number of one to six digits with its designator, and nothing is wrong in it.
+    #[inline(always)]
+    fn with_short_component(self, text: &[u8]) -> Option<(Self, usize)>
         ensures item { IfSome result (λ next. Ok (sums_parts next.0, next.1) ≡ item_front (sums_parts self) (item_at text.now)) }
         ensures some { IfSome result (λ next. 0 < next.1) }
         ensures within { IfSome result (λ next. next.1 ≤ length text.now) }
     {
         let (number, end) = few_digits(text, 0)?;
-        let designator = byte_at(text, end);
         if end == 0 {
-            if designator != b'T' || self.is_time {
-                return None;
-            }
-            return Some((self.begin_time(), 1));
+            return None;
         }
-        let unit = DurationUnit::of_designator(designator, self.is_time)?;
+        let unit = DurationUnit::of_designator(byte_at(text, end), self.is_time)?;
         if self.fraction || !self.takes(&unit) {
             return None;
         }
@@ -268,7 +284,7 @@ impl Sums {
     }
 
     /// Reads the items of a text one by one, with all that may be wrong in them, and adds them.
-    #[inline(never)]
+    #[inline(always)]
     fn with_items(self, text: &[u8]) -> Result<UnsignedDuration, ParseError>
         ensures answer { result_map unsigned_parts result ≡ iso_from (sums_parts self) text.now }
     {
