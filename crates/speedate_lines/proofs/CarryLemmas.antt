@@ -1,15 +1,15 @@
 -- Of a line that is too long, its first 4,097 bytes tell that it is.
 use Rattle.std.proofs.Common.{◌≡◌, ◌∙◌, ap, sym, refl, ℕ, zero, suc, List, [], ◌∷◌, ◌++◌, length, take, arith, inl, inr}
-use Rattle.std.proofs.lemmas.Bool.{cases_lt, ne_eqb}
+use Rattle.std.proofs.lemmas.Bool.{cases_lt}
 use Rattle.std.proofs.lemmas.List.{take_all, length-take}
-use Rattle.std.proofs.lemmas.List.Elements.{All-head, All-tail, All-take}
+use Rattle.std.proofs.lemmas.List.Elements.{All-take}
 use Rattle.std.proofs.lemmas.Grind.{flat_map-append}
 use Rattle.speedate.specs.Ascii.{line_feed}
-use Rattle.speedate_lines.specs.Lines.{Pieces, pieces, with_byte, complete_lines, unfinished_line, last_line, lines}
+use Rattle.speedate_lines.specs.Lines.{Pieces, pieces, onto_first, complete_lines, unfinished_line, last_line, lines}
 use Rattle.speedate_lines.specs.Block.{kept_part}
 use Rattle.speedate_lines.specs.Answer.{line_answer, answers}
 use Rattle.speedate_lines.proofs.AnswerLemmas.{line_answer-long}
-use Rattle.speedate_lines.proofs.LineLemmas.{EndsNoLine, IsFree, unfinished-free, pieces-append}
+use Rattle.speedate_lines.proofs.LineLemmas.{EndsNoLine, IsFree, pieces-onto_first, unfinished-free, pieces-append}
 
 -- a line answers as its kept part does
 line_answer-kept : (line : List ℕ) → line_answer (kept_part line) ≡ line_answer line
@@ -27,42 +27,22 @@ take-kept (suc n) (byte ∷ bytes) more = ap (λ (rest : List ℕ). byte ∷ res
 answers-append : (xs ys : List (List ℕ)) → answers (xs ++ ys) ≡ answers xs ++ answers ys
 answers-append xs ys = flat_map-append (λ (line : List ℕ). line_answer line ++ line_feed ∷ []) xs ys
 
--- a line before the first of the pieces
-abbrev before : List ℕ → List (List ℕ) → List ℕ → Pieces
-before front [] last = record { complete = []; unfinished = front ++ last }
-before front (line ∷ lines) last = record { complete = (front ++ line) ∷ lines; unfinished = last }
-
-before-nil : (lines : List (List ℕ)) (last : List ℕ) → before [] lines last ≡ record { complete = lines; unfinished = last }
-before-nil [] last = refl
-before-nil (line ∷ lines) last = refl
-
-before-cons : (byte : ℕ) (front : List ℕ) (lines : List (List ℕ)) (last : List ℕ)
-    → with_byte byte (before front lines last).complete (before front lines last).unfinished ≡ before (byte ∷ front) lines last
-before-cons byte front [] last = refl
-before-cons byte front (line ∷ lines) last = refl
-
-pieces-before : (front more : List ℕ) → IsFree front → pieces (front ++ more) ≡ before front (complete_lines more) (unfinished_line more)
-pieces-before [] more free = sym (before-nil (complete_lines more) (unfinished_line more))
-pieces-before (byte ∷ bytes) more free =
-    rw (ne_eqb byte line_feed (All-head EndsNoLine byte bytes free), pieces-before bytes more (All-tail EndsNoLine byte bytes free))
-    (before-cons byte bytes (complete_lines more) (unfinished_line more))
-
 -- what is answered of some pieces, and what is then kept
 abbrev done : Pieces → List ℕ × List ℕ
 done all = (answers all.complete, kept_part all.unfinished)
 
-before-kept : (line : List ℕ) (lines : List (List ℕ)) (last : List ℕ) → done (before (kept_part line) lines last) ≡ done (before line lines last)
-before-kept line [] last = ap (λ (kept : List ℕ). (answers [], kept)) (take-kept 4097 line last)
-before-kept line (first ∷ lines) last =
+onto_first-kept : (line : List ℕ) (lines : List (List ℕ)) (last : List ℕ) → done (onto_first (kept_part line) lines last) ≡ done (onto_first line lines last)
+onto_first-kept line [] last = ap (λ (kept : List ℕ). (answers [], kept)) (take-kept 4097 line last)
+onto_first-kept line (first ∷ lines) last =
     ap (λ (answer : List ℕ). ((answer ++ line_feed ∷ []) ++ answers lines, kept_part last))
     (sym (line_answer-kept (kept_part line ++ first)) ∙ ap line_answer (take-kept 4097 line first) ∙ line_answer-kept (line ++ first))
 
 -- the unfinished line may be cut to what is kept of it before the text goes on
 pieces-kept : (line more : List ℕ) → IsFree line → done (pieces (kept_part line ++ more)) ≡ done (pieces (line ++ more))
 pieces-kept line more free =
-    ap done (pieces-before (kept_part line) more (All-take EndsNoLine 4097 line free))
-    ∙ before-kept line (complete_lines more) (unfinished_line more)
-    ∙ sym (ap done (pieces-before line more free))
+    ap done (pieces-onto_first (kept_part line) more (All-take EndsNoLine 4097 line free))
+    ∙ onto_first-kept line (complete_lines more) (unfinished_line more)
+    ∙ sym (ap done (pieces-onto_first line more free))
 
 -- what is answered when more of a text has come after what was kept of it, and what is then kept
 done-more : (text more kept block : List ℕ) → kept ≡ kept_part (unfinished_line text) → block ≡ kept ++ more

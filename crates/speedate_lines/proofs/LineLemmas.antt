@@ -1,5 +1,5 @@
 -- How the lines of a text are found from place to place, and from block to block.
-use Rattle.std.proofs.Common.{◌≡◌, ◌≢◌, ◌∙◌, ap, sym, subst, refl, ℕ, ◌+◌, ◌-◌, ◌<◌, ◌≤◌, Bool, true, false, List, [], ◌∷◌, ◌++◌, length, take, drop, get_or, if◌then◌else◌, ◌==◌, arith, inl, inr}
+use Rattle.std.proofs.Common.{◌≡◌, ◌≢◌, ◌∙◌, ap, sym, subst, refl, ℕ, ◌+◌, ◌-◌, ◌<◌, ◌≤◌, Bool, true, false, List, [], ◌∷◌, ◌++◌, length, take, drop, get_or, append-nil, if◌then◌else◌, ◌==◌, arith, inl, inr}
 use Rattle.std.proofs.lemmas.Bool.{cases_lt, eqb-false, ne_eqb}
 use Rattle.std.proofs.lemmas.List.{take_rest, length-take, get_or-take, get_or-drop, take-append-drop, drop_more, drop-drop}
 use Rattle.std.proofs.lemmas.List.Elements.{All-head, All-tail, All-nil, All-cons, All-take, All-get_or, All-from_get_or}
@@ -7,7 +7,7 @@ use Rattle.std.proofs.Math.ListN.{get_or-append}
 use Rattle.std.specs.List.{All}
 use Rattle.speedate.specs.Ascii.{line_feed}
 use Rattle.speedate_lines.specs.Block.{kept_part}
-use Rattle.speedate_lines.specs.Lines.{Pieces, pieces, with_byte, complete_lines, unfinished_line, IsOneLine, IsLineEnd}
+use Rattle.speedate_lines.specs.Lines.{Pieces, pieces, onto_first, complete_lines, unfinished_line, IsOneLine, IsLineEnd}
 
 -- a byte that ends no line
 abbrev pub EndsNoLine : ℕ → Type 0
@@ -17,22 +17,34 @@ EndsNoLine byte = byte ≢ line_feed
 abbrev pub IsFree : List ℕ → Type 0
 IsFree text = All EndsNoLine text
 
+-- a line put before the first piece
+onto_first-nil : (lines : List (List ℕ)) (last : List ℕ) → onto_first [] lines last ≡ record { complete = lines; unfinished = last }
+onto_first-nil [] last = refl
+onto_first-nil (line ∷ lines) last = refl
+
+onto_first-cons : (byte : ℕ) (front : List ℕ) (lines : List (List ℕ)) (last : List ℕ)
+    → onto_first (byte ∷ []) (onto_first front lines last).complete (onto_first front lines last).unfinished ≡ onto_first (byte ∷ front) lines last
+onto_first-cons byte front [] last = refl
+onto_first-cons byte front (line ∷ lines) last = refl
+
+pub pieces-onto_first : (front more : List ℕ) → IsFree front → pieces (front ++ more) ≡ onto_first front (complete_lines more) (unfinished_line more)
+pieces-onto_first [] more free = sym (onto_first-nil (complete_lines more) (unfinished_line more))
+pieces-onto_first (byte ∷ bytes) more free =
+    rw (ne_eqb byte line_feed (All-head EndsNoLine byte bytes free), pieces-onto_first bytes more (All-tail EndsNoLine byte bytes free))
+    (onto_first-cons byte bytes (complete_lines more) (unfinished_line more))
+
 -- a text without line feed is an unfinished line
-pub pieces-free : (text : List ℕ) → IsFree text → pieces text ≡ record { complete = []; unfinished = text }
-pieces-free [] free = refl
-pieces-free (byte ∷ bytes) free =
-    rw (ne_eqb byte line_feed (All-head EndsNoLine byte bytes free), pieces-free bytes (All-tail EndsNoLine byte bytes free)) refl
+pieces-free : (text : List ℕ) → IsFree text → pieces text ≡ record { complete = []; unfinished = text }
+pieces-free text free = rw (append-nil text) at (pieces-onto_first text [] free)
 
 -- the line that a line feed ends comes first
-pub pieces-line : (line rest : List ℕ) → IsFree line
+pieces-line : (line rest : List ℕ) → IsFree line
     → pieces (line ++ line_feed ∷ rest) ≡ record { complete = line ∷ complete_lines rest; unfinished = unfinished_line rest }
-pieces-line [] rest free = refl
-pieces-line (byte ∷ bytes) rest free =
-    rw (ne_eqb byte line_feed (All-head EndsNoLine byte bytes free), pieces-line bytes rest (All-tail EndsNoLine byte bytes free)) refl
+pieces-line line rest free = rw (append-nil line) at (pieces-onto_first line (line_feed ∷ rest) free)
 
 -- what stands after the last line feed holds none
 first-free : (byte : ℕ) (test : Bool) (lines : List (List ℕ)) (last : List ℕ) → (byte == line_feed) ≡ test → IsFree last
-    → IsFree (if test then record { complete = [] ∷ lines; unfinished = last } else with_byte byte lines last).unfinished
+    → IsFree (if test then record { complete = [] ∷ lines; unfinished = last } else onto_first (byte ∷ []) lines last).unfinished
 first-free byte true lines last is free = free
 first-free byte false [] last is free = All-cons EndsNoLine byte last (eqb-false byte line_feed is) free
 first-free byte false (line ∷ lines) last is free = free
@@ -56,9 +68,9 @@ after lines rest = record { complete = lines ++ rest.complete; unfinished = rest
 
 first-after : (byte : ℕ) (test : Bool) (lines : List (List ℕ)) (last more : List ℕ) → (byte == line_feed) ≡ test
     → (if test then record { complete = [] ∷ (lines ++ complete_lines (last ++ more)); unfinished = unfinished_line (last ++ more) }
-    else with_byte byte (lines ++ complete_lines (last ++ more)) (unfinished_line (last ++ more)))
-    ≡ after (if test then record { complete = [] ∷ lines; unfinished = last } else with_byte byte lines last).complete
-    (pieces ((if test then record { complete = [] ∷ lines; unfinished = last } else with_byte byte lines last).unfinished ++ more))
+    else onto_first (byte ∷ []) (lines ++ complete_lines (last ++ more)) (unfinished_line (last ++ more)))
+    ≡ after (if test then record { complete = [] ∷ lines; unfinished = last } else onto_first (byte ∷ []) lines last).complete
+    (pieces ((if test then record { complete = [] ∷ lines; unfinished = last } else onto_first (byte ∷ []) lines last).unfinished ++ more))
 first-after byte true lines last more is = refl
 first-after byte false [] last more is = rw is refl
 first-after byte false (line ∷ lines) last more is = refl

@@ -11,10 +11,10 @@ pub record Pieces : Type 0 where
   pub complete : List (List ℕ)
   pub unfinished : List ℕ
 
--- a byte before the first piece
-abbrev pub with_byte : ℕ → List (List ℕ) → List ℕ → Pieces
-with_byte byte [] unfinished = record { complete = []; unfinished = byte ∷ unfinished }
-with_byte byte (line ∷ lines) unfinished = record { complete = (byte ∷ line) ∷ lines; unfinished = unfinished }
+-- some bytes put before the first piece
+abbrev pub onto_first : List ℕ → List (List ℕ) → List ℕ → Pieces
+onto_first front [] unfinished = record { complete = []; unfinished = front ++ unfinished }
+onto_first front (line ∷ lines) unfinished = record { complete = (front ++ line) ∷ lines; unfinished = unfinished }
 
 -- each piece that a line feed ends is complete, and what stands after the last line feed is unfinished
 abbrev pub pieces : List ℕ → Pieces
@@ -22,7 +22,7 @@ pieces [] = record { complete = []; unfinished = [] }
 pieces (byte ∷ bytes) =
     let rest = pieces bytes in
     if byte == line_feed then record { complete = [] ∷ rest.complete; unfinished = rest.unfinished }
-    else with_byte byte rest.complete rest.unfinished
+    else onto_first (byte ∷ []) rest.complete rest.unfinished
 
 -- the lines that a line feed ends
 abbrev pub complete_lines : List ℕ → List (List ℕ)

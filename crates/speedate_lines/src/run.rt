@@ -83,7 +83,7 @@ pub fn run<R: Read, W: Write>(
         if filled == kept {
             break;
         }
-        let Ok(start) = answer_block(&block[..filled], kept, &mut pending, output) else {
+        let Ok(start) = answer_lines(&block[..filled], kept, &mut pending, output) else {
             return Err(RunError::Write);
         };
         kept = carry(&mut block, start, filled);
@@ -114,8 +114,9 @@ fn fill<R: Read>(
     Ok(kept + count)
 }
 
-/// Answers the complete lines of a text, as `answer_lines` does, and writes all answers.
-fn answer_block<W: Write>(
+/// Answers the complete lines of a text whose first bytes, `seen` of them, hold no line feed, and writes
+/// all answers. Returns where the unfinished line begins.
+fn answer_lines<W: Write>(
     text: &[u8],
     seen: usize,
     pending: &mut Pending,
@@ -134,30 +135,6 @@ fn answer_block<W: Write>(
         (W.contents output.new.inner) (answers (complete_lines text.now))) }
     ensures unflushed { output.new.flushes ≡ output.old.flushes }
 {
-    let start = answer_lines(text, seen, pending, output)?;
-    send(pending, output)?;
-    Ok(start)
-}
-
-/// Answers the complete lines of a text whose first bytes, `seen` of them, hold no line feed, and
-/// returns where the unfinished line begins.
-fn answer_lines<W: Write>(
-    text: &[u8],
-    seen: usize,
-    pending: &mut Pending,
-    output: &mut Watched<W>,
-) -> Result<usize, Failed>
-    requires within { seen ≤ length text.now }
-    requires one_line { IsOneLine text.now 0 seen }
-    ensures failed { output.new.failed ≡ (output.old.failed || is_err result) }
-    ensures start { IfOk result (λ start. start ≤ length text.now) }
-    ensures unfinished { IfOk result (λ start. drop start text.now ≡ unfinished_line text.now) }
-    ensures answered { OnOk result (AppendsBut pending.new.bytes (W.contents output.old.inner)
-        (W.contents output.new.inner) (pending.old.bytes ++ answers (complete_lines text.now))) }
-    ensures beginning { OnErr result (AppendsBeginning (W.contents output.old.inner)
-        (W.contents output.new.inner) (pending.old.bytes ++ answers (complete_lines text.now))) }
-    ensures unflushed { output.new.flushes ≡ output.old.flushes }
-{
     let mut start = 0;
     let mut searched = seen;
     while let Some(end) = line_end(text, searched) {
@@ -166,6 +143,7 @@ fn answer_lines<W: Write>(
         start = end + 1;
         searched = start;
     }
+    send(pending, output)?;
     Ok(start)
 }
 

@@ -3,7 +3,7 @@ use Rattle.speedate.specs.Ascii.{line_feed}
 use Rattle.speedate_lines.specs.Lines.{Pieces, complete_lines}
 use Rattle.speedate_lines.specs.Answer.{line_answer, answers}
 use Rattle.speedate_lines.proofs.LineLemmas.{pieces-from, pieces-rest}
-use Rattle.speedate_lines.proofs.SentLemmas.{AppendsBut-all, AppendsBut-trans, AppendsBut-more, AppendsBut-same, AppendsBeginning-left, AppendsBeginning-more, on_err}
+use Rattle.speedate_lines.proofs.SentLemmas.{Appends-left, AppendsBut-all, AppendsBut-trans, AppendsBut-more, AppendsBut-same, AppendsBeginning-left, AppendsBeginning-more, on_err}
 use Rattle.std.proofs.Math.Bool.{or-false}
 use Rattle.speedate_lines.proofs.run.answer_lines.Goals as goal
 
@@ -12,7 +12,7 @@ loop-end-init g c = record {
   ordered = omega arith;
   within = c.requires.within;
   one_line = c.requires.one_line;
-  answered = AppendsBut-all _ _;
+  answered = rw c.requires.empty (AppendsBut-all _ _);
   failed = refl;
   unflushed = refl;
   rest = refl;
@@ -52,8 +52,13 @@ returns-clause-answered g c =
     let before = c.loop-end.invariant in
     let waiting : List ℕ = c.loop-end.pending.bytes in
     let here = pieces-rest c.args.text.now c.loop-end.start c.loop-end.searched before.one_line c.in_default.ensures.found in
-    AppendsBut-same before.answered (ap (λ (all : Pieces). waiting ++ answers all.complete) here ∙ append-nil waiting)
+    let left = ap (λ (all : Pieces). waiting ++ answers all.complete) here ∙ append-nil waiting in
+    Appends-left _ _ _ (AppendsBut-same before.answered left) c.in_ok-send.ensures.sent
 
 pub returns-in_err-make_room-clause-beginning : goal.returns-in_err-make_room-clause-beginning
 returns-in_err-make_room-clause-beginning g c =
     on_err c.from_residual.result (AppendsBeginning-left c.loop-end.invariant.answered (AppendsBeginning-more _ c.in_err-make_room.ensures.beginning))
+
+pub returns-in_err-send-clause-beginning : goal.returns-in_err-send-clause-beginning
+returns-in_err-send-clause-beginning g c =
+    on_err c.from_residual-in_err-send.result (AppendsBeginning-left c.loop-end.invariant.answered (AppendsBeginning-more _ c.in_err-send.ensures.beginning))

@@ -12,7 +12,7 @@ invariant-loop-end g l = record {
   one_line : IsOneLine l.text l.start l.searched;
   answered : AppendsBut (l.pending.bytes ++ answers (complete_lines (drop l.start l.text)))
       (g.W.Write.contents l.initial.output.inner) (g.W.Write.contents l.output.inner)
-      (l.initial.pending.bytes ++ answers (complete_lines l.text));
+      (answers (complete_lines l.text));
   failed : l.output.failed ≡ l.initial.output.failed;
   unflushed : l.output.flushes ≡ l.initial.output.flushes;
   rest : unfinished_line l.text ≡ unfinished_line (drop l.start l.text);

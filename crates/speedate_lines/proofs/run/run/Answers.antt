@@ -11,8 +11,8 @@ use Rattle.std.proofs.Math.Bool.{or-false}
 use Rattle.speedate_lines.proofs.SentLemmas.{AppendsFrom-beginning}
 use Rattle.speedate_lines.proofs.run.run.Goals as goal
 
-pub answer_block-requires-clause-one_line : goal.answer_block-requires-clause-one_line
-answer_block-requires-clause-one_line g c =
+pub answer_lines-requires-clause-one_line : goal.answer_lines-requires-clause-one_line
+answer_lines-requires-clause-one_line g c =
     let before = c.loop-filled.invariant.answered in
     let filled = c.in-Ok.ensures.filled in
     IsOneLine-from_kept before.0 _ filled.more _ _ before.3 (sym (length-take-le c.loop-filled.kept c.loop-filled.block filled.room)) filled.text
@@ -22,7 +22,7 @@ loop-filled-preserved g c =
     let before = c.loop-filled.invariant in
     let read = before.answered.0 in
     let filled = c.in-Ok.ensures.filled in
-    let done = c.in-Ok-answer_block.ensures in
+    let done = c.in-Ok-answer_lines.ensures in
     record {
       empty = done.empty;
       input_failed = c.in-Ok.ensures.failed ∙ or-false c.loop-filled.input.failed ∙ before.input_failed;
@@ -60,8 +60,8 @@ returns-in-Ok-finish-clause-answered g c =
 pub returns-in_default-clause-unflushed : goal.returns-in_default-clause-unflushed
 returns-in_default-clause-unflushed g c = λ read. c.loop-filled.invariant.unflushed
 
-pub returns-in_default-answer_block-clause-write_failed : goal.returns-in_default-answer_block-clause-write_failed
-returns-in_default-answer_block-clause-write_failed g c = λ write.
+pub returns-in_default-answer_lines-clause-write_failed : goal.returns-in_default-answer_lines-clause-write_failed
+returns-in_default-answer_lines-clause-write_failed g c = λ write.
     let before = c.loop-filled.invariant.answered in
     let filled = c.in-Ok.ensures.filled in
     record {
@@ -71,7 +71,7 @@ returns-in_default-answer_block-clause-write_failed g c = λ write.
       consumed = Consumes-trans _ _ _ before.0 filled.more before.1 filled.consumed;
       one_read = filled.one_read;
       is_due = inl refl;
-      sent = AppendsFrom-beginning (answers (complete_lines before.0)) before.2 c.in_default-answer_block.ensures.beginning
+      sent = AppendsFrom-beginning (answers (complete_lines before.0)) before.2 c.in_default-answer_lines.ensures.beginning
           (answers-more before.0 filled.more _ _ before.3 filled.text);
     }
 
