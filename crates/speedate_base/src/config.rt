@@ -132,7 +132,6 @@ impl Model for DateConfigBuilder {
 }
 
 impl DateConfigBuilder {
-    ghost use Rattle.std.specs.Prelude.{◌≡◌};
     /// A builder of the default configuration; `DateConfig::builder()` is the same.
     pub fn new() -> Self
         ensures default { result.timestamp_unit ≡ unit.Infer }
@@ -238,7 +237,6 @@ impl Model for TimeConfigBuilder {
 impl TimeConfigBuilder {
     ghost use Rattle.speedate_base.specs.Config.{default_choices, time_choices, with_behavior, with_offset, with_order};
 
-    ghost use Rattle.std.specs.Prelude.{◌≡◌};
     /// A builder of the default configuration; `TimeConfig::builder()` is the same.
     pub fn new() -> Self
         ensures default { time_choices result ≡ default_choices }

@@ -57,7 +57,6 @@ impl Model for DateTimeConfigBuilder {
 }
 
 impl DateTimeConfigBuilder {
-    ghost use Rattle.std.specs.Prelude.{◌≡◌};
     /// A builder of the default configuration; `DateTimeConfig::builder()` is the same.
     pub fn new() -> Self
         ensures default { choices result ≡ default_choices }
