@@ -22,8 +22,7 @@ abbrev pub AreWhole : Sums → List Item → Type 0
 AreWhole sums [] = Unit {0}
 AreWhole sums (item ∷ items) = IsWhole sums item × AreWhole (with_item item sums) items
 
--- a component is whole and no decimal mark is in it or before it: in any order it can be refused for its size alone. That of
--- `is_plain` in `IsoSums.antt` is shorter: one to six digits
+-- a component is whole and no decimal mark is in it or before it: in any order it can be refused for its size alone
 abbrev pub IsPlain : Sums → ComponentText → Type 0
 IsPlain sums component = IsWhole sums (Component component) × (has_decimal_mark component ≡ false) × (sums.fraction ≡ false)
 

@@ -33,7 +33,7 @@ impl UnsignedDuration {
         hours: DigitRun,
         behavior: MicrosecondsPrecisionOverflowBehavior,
     ) -> Result<Self, ParseError>
-        requires len { hours.length ≡ run_length bytes.now 0 }
+        requires length { hours.length ≡ run_length bytes.now 0 }
         requires value { hours.value ≡ min (run_value bytes.now 0) (2 ^ 64 - 1) }
         ensures answer { result_map unsigned_parts result ≡ clock_form behavior bytes.now }
     {
@@ -89,7 +89,6 @@ impl UnsignedDuration {
 fn hours_end(bytes: &[u8], end: usize) -> Result<usize, ParseError>
     requires { end ≡ run_length bytes.now 0 }
     ensures answer { result ≡ meets (hours_table bytes.now) (Ok (colon_place bytes.now)) }
-    ensures len { IfOk result (λ place. place ≡ colon_place bytes.now) }
     ensures within { IfOk result (λ place. place < length bytes.now) }
 {
     if bytes.len() < 5 {
@@ -106,7 +105,7 @@ fn hours_end(bytes: &[u8], end: usize) -> Result<usize, ParseError>
 fn has_hours(bytes: &[u8], end: usize) -> bool
     requires { end ≡ run_length bytes.now 0 }
     ensures value { result ≡ has_hours bytes.now }
-    ensures len { IsTrue result → end ≡ colon_place bytes.now }
+    ensures length { IsTrue result → end ≡ colon_place bytes.now }
     ensures within { IsTrue result → end < length bytes.now }
 {
     byte_at(bytes, end) == b':' && end <= HOURS_LENGTH_MAX

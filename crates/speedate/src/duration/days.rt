@@ -23,7 +23,7 @@ impl UnsignedDuration {
         days: DigitRun,
         behavior: MicrosecondsPrecisionOverflowBehavior,
     ) -> Result<Self, ParseError>
-        requires len { days.length ≡ run_length bytes.now 0 }
+        requires length { days.length ≡ run_length bytes.now 0 }
         requires value { days.value ≡ min (run_value bytes.now 0) (2 ^ 64 - 1) }
         ensures answer { result_map unsigned_parts result ≡ day_form behavior bytes.now }
     {
@@ -71,7 +71,7 @@ impl UnsignedDuration {
 /// clock.
 #[inline(always)]
 fn days_at_front(bytes: &[u8], days: DigitRun) -> Result<(u32, &[u8]), ParseError>
-    requires len { days.length ≡ run_length bytes.now 0 }
+    requires length { days.length ≡ run_length bytes.now 0 }
     requires value { days.value ≡ min (run_value bytes.now 0) (2 ^ 64 - 1) }
     ensures answer { result_map {B = ℕ × List ℕ} (λ days. (days.0, days.1.now)) result
         ≡ meets (days_table bytes.now) (Ok (run_value bytes.now 0, after_gap bytes.now)) }

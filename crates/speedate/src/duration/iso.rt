@@ -395,7 +395,7 @@ impl Sums {
 /// 0 and 0 if there is none.
 #[inline(always)]
 fn fraction_at_front(text: &[u8]) -> (usize, u32)
-    ensures len { result.0 ≡ fraction_length text.now }
+    ensures length { result.0 ≡ fraction_length text.now }
     ensures microseconds { result.1 ≡ fraction_value 6 (drop 1 (take (fraction_length text.now) text.now)) }
     ensures within { result.0 ≤ length text.now }
     ensures small { result.1 < 1000000 }

@@ -72,7 +72,7 @@ fn push_counted<const LENGTH: usize>(number: u32, unit: char, text: &mut ArraySt
     requires ascii { unit < 128 }
     requires room { array_string_len text.old + length (counted_text number unit) ≤ LENGTH }
     ensures text { text.new.bytes ≡ text.old.bytes ++ counted_text number unit }
-    ensures len { array_string_len text.new ≡ array_string_len text.old + length (counted_text number unit) }
+    ensures length { array_string_len text.new ≡ array_string_len text.old + length (counted_text number unit) }
 {
     if number != 0 {
         push_number(number, text);

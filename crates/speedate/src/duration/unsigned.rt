@@ -72,7 +72,7 @@ impl UnsignedDuration {
         hours: DigitRun,
         behavior: MicrosecondsPrecisionOverflowBehavior,
     ) -> Result<Self, ParseError>
-        requires len { hours.length ≡ run_length bytes.now 0 }
+        requires length { hours.length ≡ run_length bytes.now 0 }
         requires value { hours.value ≡ min (run_value bytes.now 0) (2 ^ 64 - 1) }
         ensures answer { result_map unsigned_parts result ≡ clock_form behavior bytes.now }
     {

@@ -16,8 +16,8 @@ returns-then-byte_at-eq58-clause-value c =
     let ends = at-end text c.args.end _ c.requires c.byte_at.ensures.byte ∙ c.if-byte_at-eq58.true in
     ap (λ (n : ℕ). nat_le n 10) c.requires ∙ sym (has_hours-run text true (ap (λ byte. byte == colon) ends))
 
-pub returns-then-byte_at-eq58-clause-len : goal.returns-then-byte_at-eq58-clause-len
-returns-then-byte_at-eq58-clause-len c few =
+pub returns-then-byte_at-eq58-clause-length : goal.returns-then-byte_at-eq58-clause-length
+returns-then-byte_at-eq58-clause-length c few =
     let text = c.args.bytes.now in
     c.requires ∙ sym (colon_place-run text (at-end text c.args.end _ c.requires c.byte_at.ensures.byte ∙ c.if-byte_at-eq58.true)).1
 

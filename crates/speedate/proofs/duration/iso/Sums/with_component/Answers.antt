@@ -9,4 +9,4 @@ with_amount-requires-clause-digits c =
     let text = c.args.text.now in
     let count = c.digit_run-number.result.length in
     let rest = take (length text - count) (drop count text) in
-    ap (λ (n : ℕ). list_all is_ascii_digit (drop 1 (take n rest))) c.fraction_at_front-size.ensures.len ∙ fraction-digits rest
+    ap (λ (n : ℕ). list_all is_ascii_digit (drop 1 (take n rest))) c.fraction_at_front-size.ensures.length ∙ fraction-digits rest

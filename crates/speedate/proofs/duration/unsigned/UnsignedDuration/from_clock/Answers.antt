@@ -22,7 +22,7 @@ returns c =
     let next = after_hours c.args.behavior (digits_value (hours text)) (from_minute text) in
     let held = meets-value (hours_table text) (colon_place text) _ (sym c.in_ok-end.ensures.answer) in
     let number = ap (λ (n : ℕ). digits_value (take n text)) (hours-run text held.0.1.0 held.0.1.1.1.0) in
-    let rest = take_rest text _ ∙ ap (λ (n : ℕ). drop (n + 1) text) c.in_ok-end.ensures.len in
+    let rest = take_rest text _ ∙ ap (λ (n : ℕ). drop (n + 1) text) (sym held.1) in
     record {
       answer =
           c.after_hours.ensures.answer ∙ ap₂ (after_hours c.args.behavior) (c.requires.value ∙ ap (λ (n : ℕ). min n (2 ^ 64 - 1)) number) rest
