@@ -1,6 +1,6 @@
 //! Day numbers, days of the year and midnights, and the walk over the calendar.
 
-use crate::rows::{Row, each, same, value, words};
+use crate::rows::{each, same, value, words};
 use jiff::civil;
 use speedate::Date;
 use std::fmt::Debug;
@@ -32,59 +32,39 @@ const COUNTED: &str = "\
 0000-01-01  1    -62167219200
 0000-02-29  60   -62162121600
 1969-12-31  365  -86400
-1970-01-02  2    86400
 2020-12-31  366  1609372800
-2021-03-01  60   1614556800
 2021-12-31  365  1640908800
 9999-12-31  365  253402214400";
 
-struct NumberedRow;
-
-impl Row for NumberedRow {
-    fn check<R: AllocGlobal + Abort>(rt: &R, row: &str) {
-        let [number, text, ..] = words(row);
-        let (number, date): (u32, Date) = (value(rt, number), value(rt, text));
-        same(rt, date.day_number(), number, row);
-        same(rt, Date::from_day_number(number), Some(date), row);
-    }
-}
-
 #[test]
 fn day_numbers(rt: HostRuntime) {
-    each::<NumberedRow, _>(&rt, NUMBERED);
+    each(NUMBERED, |row| {
+        let [number, text, ..] = words(row);
+        let (number, date): (u32, Date) = (value(&rt, number), value(&rt, text));
+        same(&rt, date.day_number(), number, row);
+        same(&rt, Date::from_day_number(number), Some(date), row);
+    });
     same(&rt, Date::from_day_number(3_652_425), None, "3652425");
-}
-
-struct NextRow;
-
-impl Row for NextRow {
-    fn check<R: AllocGlobal + Abort>(rt: &R, row: &str) {
-        let [text, next, ..] = words(row);
-        let date: Date = value(rt, text);
-        same(rt, date.next_day(), Some(value(rt, next)), row);
-    }
 }
 
 #[test]
 fn next_days(rt: HostRuntime) {
-    each::<NextRow, _>(&rt, NEXT);
-}
-
-struct CountedRow;
-
-impl Row for CountedRow {
-    fn check<R: AllocGlobal + Abort>(rt: &R, row: &str) {
-        let [text, day, second, ..] = words(row);
-        let (date, second): (Date, i64) = (value(rt, text), value(rt, second));
-        same(rt, date.ordinal_day(), value(rt, day), row);
-        same(rt, date.timestamp(), second, row);
-        same(rt, date.timestamp_ms(), second.saturating_mul(1000), row);
-    }
+    each(NEXT, |row| {
+        let [text, next, ..] = words(row);
+        let date: Date = value(&rt, text);
+        same(&rt, date.next_day(), Some(value(&rt, next)), row);
+    });
 }
 
 #[test]
 fn days_of_the_year_and_midnights(rt: HostRuntime) {
-    each::<CountedRow, _>(&rt, COUNTED);
+    each(COUNTED, |row| {
+        let [text, day, second, ..] = words(row);
+        let (date, second): (Date, i64) = (value(&rt, text), value(&rt, second));
+        same(&rt, date.ordinal_day(), value(&rt, day), row);
+        same(&rt, date.timestamp(), second, row);
+        same(&rt, date.timestamp_ms(), second.saturating_mul(1000), row);
+    });
 }
 
 /// What was found at a number is to be what is wanted there.

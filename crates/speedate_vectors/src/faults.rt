@@ -1,8 +1,9 @@
 //! The faults by name, and their documentation texts.
 
 use crate::rows::same;
-use crate::shown::{expect_debug, expect_shown};
+use crate::shown::expect_shown;
 use speedate::{ConfigError, ParseError};
+use std::fmt::{Debug, Display};
 use std::process::Abort;
 
 const FAULTS: [ParseError; 42] = [
@@ -95,42 +96,40 @@ TimeTooLarge                time_too_large                 numeric times may not
 DurationUnitOrder           duration_unit_order            quantities out of order or repeated in duration
 MicrosecondFractionTooLong  microsecond_fraction_too_long  microsecond timestamps may not have fraction digits";
 
-fn expect_fault<R: AllocGlobal + Abort>(rt: &R, fault: &ParseError, row: &str) {
-    let (variant, texts) = row.split_once(' ').expect(rt, row);
-    let (name, documentation) = texts.trim_start().split_once(' ').expect(rt, row);
-    same(rt, fault.name(), name, row);
-    let documentation = documentation.trim_start();
-    same(rt, fault.get_documentation(), Some(documentation), row);
+/// A fault is to be written so by Debug and by Display.
+fn expect_written<T: Debug + Display, R: AllocGlobal + Abort>(
+    rt: &R,
+    fault: &T,
+    variant: &str,
+    name: &str,
+) {
+    let written = format!(in rt.alloc(); "{fault:?}").ok().expect(rt, name);
+    same(rt, written.as_str(), variant, name);
     expect_shown(rt, fault, name);
-    expect_debug(rt, fault, variant);
 }
 
 #[test]
 fn of_texts_that_are_read(rt: HostRuntime) {
     same(&rt, TEXTS.lines().count(), 42, "how many faults");
     for (fault, row) in FAULTS.iter().zip(TEXTS.lines()) {
-        expect_fault(&rt, fault, row);
+        let (variant, texts) = row.split_once(' ').expect(&rt, row);
+        let (name, documentation) = texts.trim_start().split_once(' ').expect(&rt, row);
+        same(&rt, fault.name(), name, row);
+        let documentation = Some(documentation.trim_start());
+        same(&rt, fault.get_documentation(), documentation, row);
+        expect_written(&rt, fault, variant, name);
     }
-}
-
-fn expect_choice<R: AllocGlobal + Abort>(rt: &R, fault: &ConfigError, name: &str, variant: &str) {
-    same(rt, fault.get_documentation(), None, name);
-    expect_shown(rt, fault, name);
-    expect_debug(rt, fault, variant);
 }
 
 #[test]
 fn of_choices(rt: HostRuntime) {
-    expect_choice(
-        &rt,
-        &ConfigError::UnknownTimestampUnitString,
-        "unknown_timestamp_unit_string",
-        "UnknownTimestampUnitString",
-    );
-    expect_choice(
-        &rt,
-        &ConfigError::UnknownMicrosecondsPrecisionOverflowBehaviorString,
-        "unknown_microseconds_precision_overflow_behavior_string",
-        "UnknownMicrosecondsPrecisionOverflowBehaviorString",
-    );
+    let fault = ConfigError::UnknownTimestampUnitString;
+    let name = "unknown_timestamp_unit_string";
+    same(&rt, fault.get_documentation(), None, name);
+    expect_written(&rt, &fault, "UnknownTimestampUnitString", name);
+    let fault = ConfigError::UnknownMicrosecondsPrecisionOverflowBehaviorString;
+    let name = "unknown_microseconds_precision_overflow_behavior_string";
+    let variant = "UnknownMicrosecondsPrecisionOverflowBehaviorString";
+    same(&rt, fault.get_documentation(), None, name);
+    expect_written(&rt, &fault, variant, name);
 }

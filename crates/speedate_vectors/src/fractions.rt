@@ -9,7 +9,8 @@ use std::process::Abort;
 
 /// The microseconds of three units and a fraction, digit by digit: so many digits are whole
 /// microseconds, and a half more goes away from zero where `up` says so.
-fn by_digits(digits: &[u8], places: usize, up: bool) -> i64 {
+fn by_digits(digits: &str, places: usize, up: bool) -> i64 {
+    let digits = digits.as_bytes();
     let mut size: i64 = 3;
     for place in 0..places {
         let digit = digits.get(place).copied().unwrap_or(b'0');
@@ -35,32 +36,32 @@ fn microseconds(second: i64, microsecond: i64) -> i64 {
 }
 
 /// The microseconds of the timestamp that `front` and the digits are, with this unit and behavior.
-fn timestamp<R: AllocGlobal + Abort>(rt: &R, front: &str, digits: &[u8], unit: &str) -> i64 {
+fn timestamp<R: AllocGlobal + Abort>(rt: &R, front: &str, digits: &str, unit: &str) -> i64 {
     let config = date_time_config(rt, unit);
     let text = joined(rt.alloc(), front, digits, 1, "");
     let text = text.ok().expect(rt, front);
-    let read = DateTime::parse_bytes_with_config(&text, &config).ok();
+    let read = DateTime::parse_str_with_config(&text, &config).ok();
     let read = read.expect(rt, "a date-time");
     microseconds(read.timestamp(), i64::from(read.time.microsecond))
 }
 
 /// The microseconds of the duration that `front`, the digits and `S` are.
-fn duration<R: AllocGlobal + Abort>(rt: &R, front: &str, digits: &[u8]) -> i64 {
+fn duration<R: AllocGlobal + Abort>(rt: &R, front: &str, digits: &str) -> i64 {
     let text = joined(rt.alloc(), front, digits, 1, "S");
     let text = text.ok().expect(rt, front);
-    let read = Duration::parse_bytes(&text).ok().expect(rt, "a duration");
+    let read = Duration::parse_str(&text).ok().expect(rt, "a duration");
     let microsecond = i64::from(read.signed_microseconds());
     microseconds(read.signed_total_seconds(), microsecond)
 }
 
 /// What the digits of a unit were read as is to be what is wanted.
-fn same_size<R: Abort>(rt: &R, found: i64, want: i64, digits: &[u8], unit: &str) {
-    assert_eq!(rt; found, want, "{digits:?} of {unit}");
+fn same_size<R: Abort>(rt: &R, found: i64, want: i64, digits: &str, unit: &str) {
+    assert_eq!(rt; found, want, "{digits} of {unit}");
 }
 
 /// Compares timestamps of both signs in a unit, of whose digits so many are whole microseconds: of two
 /// that are equally near, the later one.
-fn expect_timestamps<R: AllocGlobal + Abort>(rt: &R, digits: &[u8], places: usize, unit: &str) {
+fn expect_timestamps<R: AllocGlobal + Abort>(rt: &R, digits: &str, places: usize, unit: &str) {
     let want = by_digits(digits, places, true);
     same_size(rt, timestamp(rt, "3.", digits, unit), want, digits, unit);
     let want = by_digits(digits, places, false).saturating_mul(-1);
@@ -68,7 +69,7 @@ fn expect_timestamps<R: AllocGlobal + Abort>(rt: &R, digits: &[u8], places: usiz
 }
 
 /// Compares seconds of durations of both signs: a half goes away from zero.
-fn expect_durations<R: AllocGlobal + Abort>(rt: &R, digits: &[u8]) {
+fn expect_durations<R: AllocGlobal + Abort>(rt: &R, digits: &str) {
     let want = by_digits(digits, 6, true);
     let unit = "a second";
     same_size(rt, duration(rt, "PT3.", digits), want, digits, unit);
@@ -77,7 +78,7 @@ fn expect_durations<R: AllocGlobal + Abort>(rt: &R, digits: &[u8]) {
 }
 
 /// The digit at a place of a fraction of this kind, where this one was drawn.
-fn digit_at(place: usize, kind: usize, drawn: u8) -> u8 {
+fn digit_at(place: usize, kind: usize, drawn: u8) -> char {
     let digit = match kind {
         0 => 9,
         // a half of a microsecond of each unit, and mostly zeros or nines
@@ -86,7 +87,7 @@ fn digit_at(place: usize, kind: usize, drawn: u8) -> u8 {
         16..28 => if drawn < 8 { 9 } else { drawn },
         _ => drawn,
     };
-    b'0'.saturating_add(digit)
+    char::from(b'0'.saturating_add(digit))
 }
 
 /// So many digits of this kind, which are drawn.
@@ -95,8 +96,8 @@ fn drawn_digits(
     state: &mut u64,
     length: usize,
     kind: usize,
-) -> Result<Vec<u8>, AllocError> {
-    let mut digits = Vec::new(alloc);
+) -> Result<String, AllocError> {
+    let mut digits = String::new(alloc);
     for place in 0..length {
         let drawn = (next_number(state) % 10) as u8;
         digits.push(digit_at(place, kind, drawn))?;
@@ -105,16 +106,16 @@ fn drawn_digits(
 }
 
 #[test]
-fn fractions(rt: HostRuntime) {
+fn fractions(rt: HostRuntime) -> Result<(), AllocError> {
     let mut state: u64 = 20_240_601;
     for length in 0..41 {
         for kind in 0..40 {
-            let digits = drawn_digits(rt.alloc(), &mut state, length, kind);
-            let digits = digits.ok().expect(&rt, "digits");
+            let digits = drawn_digits(rt.alloc(), &mut state, length, kind)?;
             expect_timestamps(&rt, &digits, 6, "s truncate");
             expect_timestamps(&rt, &digits, 3, "ms truncate");
             expect_timestamps(&rt, &digits, 0, "us truncate");
             expect_durations(&rt, &digits);
         }
     }
+    Ok(())
 }

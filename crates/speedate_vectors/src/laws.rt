@@ -1,5 +1,5 @@
-//! Laws of equality, of cloning, of defaults and of `<`. Each function makes the one call that its law
-//! is about, and its contract is the law.
+//! Laws of equality, of cloning, of defaults and of `<`. Each function makes the calls that its laws
+//! are about, and a clause of its contract is a law. A derived `clone` asks each field for its own.
 
 ghost use Rattle.std.specs.Prelude.{◌≡◌, ◌<◌, ◌↔◌, IsTrue, Ok};
 ghost use Rattle.speedate.specs.Date.{parts as date_parts};
@@ -16,42 +16,65 @@ use speedate::{
 };
 use std::alloc::AllocError;
 
-/// Whether two faults are equal: false for `TooShort` and `ExtraCharacters`.
-pub fn same_fault(first: &ParseError, second: &ParseError) -> bool
-    ensures same { IsTrue result ↔ (first.now ≡ second.now) }
-{
-    first == second
+/// A value of each type that is compared or cloned.
+#[derive(Clone, Drop)]
+pub struct Each<'a> {
+    /// `TooShort` is not `ExtraCharacters`.
+    pub fault: ParseError,
+    /// The fault of a unit is not that of a behavior.
+    pub config_error: ConfigError,
+    /// `Truncate` is not `Error`.
+    pub behavior: MicrosecondsPrecisionOverflowBehavior,
+    /// `Lax` is not `Strict`.
+    pub iso_order: IsoOrder,
+    /// `Second` is not `Infer`.
+    pub unit: TimestampUnit,
+    /// A configuration of dates.
+    pub date_config: DateConfig,
+    /// A configuration.
+    pub time_config: TimeConfig,
+    /// A configuration of date-times.
+    pub date_time_config: DateTimeConfig,
+    /// The builders of configurations.
+    pub builders: (DateConfigBuilder, TimeConfigBuilder, DateTimeConfigBuilder),
+    /// A date.
+    pub date: Date,
+    /// A time.
+    pub time: Time,
+    /// A date-time.
+    pub date_time: DateTime,
+    /// A moment.
+    pub moment: Moment,
+    /// A duration.
+    pub duration: Duration,
+    /// A decimal.
+    pub decimal: Decimal<'a>,
+    /// A number.
+    pub number: IntFloat<'a>,
 }
 
-/// Whether two faults of a choice are equal: false for that of a unit and that of a behavior.
-pub fn same_config_error(first: &ConfigError, second: &ConfigError) -> bool
-    ensures same { IsTrue result ↔ (first.now ≡ second.now) }
+/// A second value of each type that is the same.
+pub fn clone_each<'a>(each: &Each<'a>) -> Result<Each<'a>, AllocError>
+    ensures clone { result ≡ Ok each.now }
 {
-    first == second
+    each.clone()
 }
 
-/// Whether two behaviors are equal: false for `Truncate` and `Error`.
-pub fn same_behavior(
-    first: &MicrosecondsPrecisionOverflowBehavior,
-    second: &MicrosecondsPrecisionOverflowBehavior,
-) -> bool
-    ensures same { IsTrue result ↔ (first.now ≡ second.now) }
+/// Whether the faults are equal, and the choices.
+pub fn same_choices(first: &Each<'_>, second: &Each<'_>) -> (bool, bool, bool, bool, bool)
+    ensures fault { IsTrue result.0 ↔ (first.now.fault ≡ second.now.fault) }
+    ensures config_error { IsTrue result.1 ↔ (first.now.config_error ≡ second.now.config_error) }
+    ensures behavior { IsTrue result.2 ↔ (first.now.behavior ≡ second.now.behavior) }
+    ensures iso_order { IsTrue result.3 ↔ (first.now.iso_order ≡ second.now.iso_order) }
+    ensures unit { IsTrue result.4 ↔ (first.now.unit ≡ second.now.unit) }
 {
-    first == second
-}
-
-/// Whether two orders of components are equal: false for `Lax` and `Strict`.
-pub fn same_iso_order(first: &IsoOrder, second: &IsoOrder) -> bool
-    ensures same { IsTrue result ↔ (first.now ≡ second.now) }
-{
-    first == second
-}
-
-/// Whether two units are equal: false for `Second` and `Infer`.
-pub fn same_timestamp_unit(first: &TimestampUnit, second: &TimestampUnit) -> bool
-    ensures same { IsTrue result ↔ (first.now ≡ second.now) }
-{
-    first == second
+    (
+        first.fault == second.fault,
+        first.config_error == second.config_error,
+        first.behavior == second.behavior,
+        first.iso_order == second.iso_order,
+        first.unit == second.unit,
+    )
 }
 
 /// Whether two configurations of dates are equal: false if their units differ.
@@ -114,140 +137,6 @@ pub fn same_duration(first: &Duration, second: &Duration) -> bool
     first == second
 }
 
-/// A second fault that is the same: `TooShort` for `TooShort`.
-pub fn clone_fault(fault: &ParseError) -> Result<ParseError, AllocError>
-    ensures clone { result ≡ Ok fault.now }
-{
-    fault.clone()
-}
-
-/// A second fault of a choice that is the same.
-pub fn clone_config_error(fault: &ConfigError) -> Result<ConfigError, AllocError>
-    ensures clone { result ≡ Ok fault.now }
-{
-    fault.clone()
-}
-
-/// A second behavior that is the same: `Truncate` for `Truncate`.
-pub fn clone_behavior(
-    behavior: &MicrosecondsPrecisionOverflowBehavior,
-) -> Result<MicrosecondsPrecisionOverflowBehavior, AllocError>
-    ensures clone { result ≡ Ok behavior.now }
-{
-    behavior.clone()
-}
-
-/// A second order of components that is the same: `Strict` for `Strict`.
-pub fn clone_iso_order(order: &IsoOrder) -> Result<IsoOrder, AllocError>
-    ensures clone { result ≡ Ok order.now }
-{
-    order.clone()
-}
-
-/// A second unit that is the same: `Second` for `Second`.
-pub fn clone_timestamp_unit(unit: &TimestampUnit) -> Result<TimestampUnit, AllocError>
-    ensures clone { result ≡ Ok unit.now }
-{
-    unit.clone()
-}
-
-/// A second configuration of dates that is the same.
-pub fn clone_date_config(config: &DateConfig) -> Result<DateConfig, AllocError>
-    ensures clone { result ≡ Ok config.now }
-{
-    config.clone()
-}
-
-/// A second builder of such configurations that is the same.
-pub fn clone_date_config_builder(
-    builder: &DateConfigBuilder,
-) -> Result<DateConfigBuilder, AllocError>
-    ensures clone { result ≡ Ok builder.now }
-{
-    builder.clone()
-}
-
-/// A second configuration that is the same, with the same offset or none.
-pub fn clone_time_config(config: &TimeConfig) -> Result<TimeConfig, AllocError>
-    ensures clone { result ≡ Ok config.now }
-{
-    config.clone()
-}
-
-/// A second builder of such configurations that is the same.
-pub fn clone_time_config_builder(
-    builder: &TimeConfigBuilder,
-) -> Result<TimeConfigBuilder, AllocError>
-    ensures clone { result ≡ Ok builder.now }
-{
-    builder.clone()
-}
-
-/// A second configuration of date-times that is the same.
-pub fn clone_date_time_config(config: &DateTimeConfig) -> Result<DateTimeConfig, AllocError>
-    ensures clone { result ≡ Ok config.now }
-{
-    config.clone()
-}
-
-/// A second builder of such configurations that is the same.
-pub fn clone_date_time_config_builder(
-    builder: &DateTimeConfigBuilder,
-) -> Result<DateTimeConfigBuilder, AllocError>
-    ensures clone { result ≡ Ok builder.now }
-{
-    builder.clone()
-}
-
-/// A second date that is the same: 2020-02-29 for 2020-02-29.
-pub fn clone_date(date: &Date) -> Result<Date, AllocError>
-    ensures clone { result ≡ Ok date.now }
-{
-    date.clone()
-}
-
-/// A second time that is the same, with the same offset or none.
-pub fn clone_time(time: &Time) -> Result<Time, AllocError>
-    ensures clone { result ≡ Ok time.now }
-{
-    time.clone()
-}
-
-/// A second date-time that is the same, with the same offset or none.
-pub fn clone_date_time(value: &DateTime) -> Result<DateTime, AllocError>
-    ensures clone { result ≡ Ok value.now }
-{
-    value.clone()
-}
-
-/// A second moment that is the same.
-pub fn clone_moment(moment: &Moment) -> Result<Moment, AllocError>
-    ensures clone { result ≡ Ok moment.now }
-{
-    moment.clone()
-}
-
-/// A second duration that is the same: `-PT0S` for `-PT0S`.
-pub fn clone_duration(duration: &Duration) -> Result<Duration, AllocError>
-    ensures clone { result ≡ Ok duration.now }
-{
-    duration.clone()
-}
-
-/// A second decimal with the same sign and the same digits.
-pub fn clone_decimal<'a>(decimal: &Decimal<'a>) -> Result<Decimal<'a>, AllocError>
-    ensures clone { result ≡ Ok decimal.now }
-{
-    decimal.clone()
-}
-
-/// A second number that is the same.
-pub fn clone_int_float<'a>(number: &IntFloat<'a>) -> Result<IntFloat<'a>, AllocError>
-    ensures clone { result ≡ Ok number.now }
-{
-    number.clone()
-}
-
 /// Whether the first date is before the second, which it is if and only if its day number is smaller:
 /// 2020-02-29 is before 2020-03-01.
 pub fn earlier_date(first: &Date, second: &Date) -> bool
@@ -256,23 +145,16 @@ pub fn earlier_date(first: &Date, second: &Date) -> bool
     first < second
 }
 
-/// The default behavior: digits of a second past the sixth are refused.
-pub fn default_behavior() -> MicrosecondsPrecisionOverflowBehavior
-    ensures default { result ≡ MicrosecondsPrecisionOverflowBehavior.Error }
+/// The default choices: digits of a second past the sixth are refused, the unit is inferred, and
+/// components come in any order.
+pub fn defaults() -> (
+    MicrosecondsPrecisionOverflowBehavior,
+    TimestampUnit,
+    IsoOrder,
+)
+    ensures behavior { result.0 ≡ MicrosecondsPrecisionOverflowBehavior.Error }
+    ensures unit { result.1 ≡ TimestampUnit.Infer }
+    ensures order { result.2 ≡ IsoOrder.Lax }
 {
-    MicrosecondsPrecisionOverflowBehavior::default()
-}
-
-/// The default unit: it is inferred.
-pub fn default_timestamp_unit() -> TimestampUnit
-    ensures default { result ≡ TimestampUnit.Infer }
-{
-    TimestampUnit::default()
-}
-
-/// The default order of components: any.
-pub fn default_iso_order() -> IsoOrder
-    ensures default { result ≡ IsoOrder.Lax }
-{
-    IsoOrder::default()
+    Default::default()
 }

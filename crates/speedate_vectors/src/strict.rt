@@ -1,9 +1,8 @@
 //! Times and date-times by the relaxed readers and by the strict ones, which take the texts of RFC 3339
 //! alone: the texts of JSON Schema's own tests, and texts for each row that the strict readers add.
 
-use crate::rows::{Row, each, expect, quoted, words};
+use crate::rows::{each, expect, quoted, value, words};
 use speedate::{DateTime, MicrosecondsPrecisionOverflowBehavior, Time};
-use std::process::Abort;
 
 /// Times of JSON Schema's tests, and the answers of the relaxed reader and of the strict one; one word where
 /// both are the same. A second 60 is a time of the standard, and refused.
@@ -40,38 +39,19 @@ const SCHEMA_TIMES: &str = "\
 
 /// Times that break a row of the strict reader, alone or with a later one; the answers as above.
 const TIMES: &str = "\
-'12:13'                  12:13:00                  invalid_char_time_sep
-'12:13Z'                 12:13:00Z                 invalid_char_time_sep
-'12:13:1'                invalid_char_second
-'xx:13:14'               invalid_char_hour
-'12:13x1'                invalid_char_tz_sign
-'12:13+01:00'            12:13:00+01:00            invalid_char_time_sep
-'12:13\u{2212}01:00'     12:13:00-01:00            invalid_char_time_sep
-'12:13Z   '              extra_characters
-'12:13+xx:00'            invalid_char_tz_hour
-'12:13xxxx'              invalid_char_tz_sign
-'12:13.5+01:00'          invalid_char_tz_sign
-'12:13:14,'              second_fraction_missing
-'12:13:14,+01:00'        second_fraction_missing
-'12:13:14,5'             12:13:14.500000           invalid_char_tz_sign
-'12:13:14,5Z'            12:13:14.500000Z          invalid_char_tz_sign
-'12:13:14,1234567Z'      second_fraction_too_long
-'12:13:14.5'             12:13:14.500000           tz_required
-'12:13:14.123456'        12:13:14.123456           tz_required
-'12:13:14.5Z'            12:13:14.500000Z
-'12:13:14\u{2212}01:00'  12:13:14-01:00            invalid_char_tz_sign
-'12:13:14.5\u{2212}0130'  12:13:14.500000-01:30     invalid_char_tz_sign
-'12:13:14\u{2212}x'      invalid_char_tz_hour
-'12:13:14\u{2212}01:60'  out_of_range_tz_minute
-'12:13:14+0100'          12:13:14+01:00            invalid_char_tz_minute
-'12:13:14-0100'          12:13:14-01:00            invalid_char_tz_minute
-'12:13:14+0160'          out_of_range_tz_minute
-'12:13:14+2400'          out_of_range_tz
-'12:13:14+0100x'         extra_characters
-'12:13:14+00:00'         12:13:14Z
-'12:13:14-00:00'         12:13:14Z
-'12:13:14.000001-23:59'  12:13:14.000001-23:59
-'00:00:00z'              00:00:00Z";
+'12:13Z'                  12:13:00Z                invalid_char_time_sep
+'12:13:1'                 invalid_char_second
+'12:13x1'                 invalid_char_tz_sign
+'12:13Z   '               extra_characters
+'12:13:14,'               second_fraction_missing
+'12:13:14,5Z'             12:13:14.500000Z         invalid_char_tz_sign
+'12:13:14,1234567Z'       second_fraction_too_long
+'12:13:14.5\u{2212}0130'  12:13:14.500000-01:30    invalid_char_tz_sign
+'12:13:14\u{2212}x'       invalid_char_tz_hour
+'12:13:14+0160'           out_of_range_tz_minute
+'12:13:14+2400'           out_of_range_tz
+'12:13:14+0100x'          extra_characters
+'12:13:14-00:00'          12:13:14Z";
 
 /// Date-times of RFC 3339 and of JSON Schema's tests; the answers as above. The second 60 stands in both,
 /// and is refused.
@@ -101,29 +81,20 @@ const SCHEMA_DATE_TIMES: &str = "\
 
 /// Date-times that break a row of the strict reader, alone or with a later one; the answers as above.
 const DATE_TIMES: &str = "\
-'2020-01-01 12:13:14Z'              2020-01-01T12:13:14Z              invalid_char_date_time_sep
-'2020-01-01_12:13:14Z'              2020-01-01T12:13:14Z              invalid_char_date_time_sep
-'2020-01-01 12:13'                  2020-01-01T12:13:00               invalid_char_date_time_sep
-'2020-01-01 '                       too_short
-'2020-01-01_x2:13:14Z'              invalid_char_hour
-'2020-01-01T12:13'                  2020-01-01T12:13:00               invalid_char_time_sep
-'2020-01-01T12:13:14'               2020-01-01T12:13:14               tz_required
-'2020-01-01Tx2:13:14'               invalid_char_hour
-'2020-01-01T12:13+01:00'            2020-01-01T12:13:00+01:00         invalid_char_time_sep
-'2020-01-01T12:13:14,5Z'            2020-01-01T12:13:14.500000Z       invalid_char_tz_sign
-'2020-01-01T12:13:14.5'             2020-01-01T12:13:14.500000        tz_required
-'2020-01-01T12:13:14\u{2212}0100'   2020-01-01T12:13:14-01:00         invalid_char_tz_sign
-'2020-01-01T12:13:14+0100'          2020-01-01T12:13:14+01:00         invalid_char_tz_minute
-'0000-01-01t00:00:00z'              0000-01-01T00:00:00Z
-'9999-12-31T23:59:59.999999-23:59'  9999-12-31T23:59:59.999999-23:59";
+'2020-01-01 12:13'         2020-01-01T12:13:00   invalid_char_date_time_sep
+'2020-01-01_12:13:14Z'     2020-01-01T12:13:14Z  invalid_char_date_time_sep
+'2020-01-01_x2:13:14Z'     invalid_char_hour
+'2020-01-01T12:13'         2020-01-01T12:13:00   invalid_char_time_sep
+'2020-01-01T12:13:14'      2020-01-01T12:13:14   tz_required
+'2020-01-01T12:13:14+010'  invalid_char_tz_minute";
 
-/// Times with more than six digits in the fraction, and the answers of the strict reader if it counts digits
-/// and if it drops those past the sixth.
+/// A behavior, times with more than six digits in the fraction, and the answers of the strict reader.
 const LONG_FRACTIONS: &str = "\
-'12:13:14.1234567Z'      second_fraction_too_long  12:13:14.123456Z
-'12:13:14.1234567'       second_fraction_too_long  tz_required
-'12:13:14,1234567Z'      second_fraction_too_long  invalid_char_tz_sign
-'12:13:14.1234567+0100'  second_fraction_too_long  invalid_char_tz_minute";
+error     '12:13:14.1234567'       second_fraction_too_long
+error     '12:13:14.1234567+0100'  second_fraction_too_long
+truncate  '12:13:14.1234567Z'      12:13:14.123456Z
+truncate  '12:13:14.1234567'       tz_required
+truncate  '12:13:14,1234567Z'      invalid_char_tz_sign";
 
 /// The answers of a row, of the relaxed reader and of the strict one.
 fn answers(row: &str) -> (&str, &str) {
@@ -134,59 +105,38 @@ fn answers(row: &str) -> (&str, &str) {
 /// The behavior that counts digits.
 const ERROR: MicrosecondsPrecisionOverflowBehavior = MicrosecondsPrecisionOverflowBehavior::Error;
 
-/// The behavior that drops digits past the sixth.
-const TRUNCATE: MicrosecondsPrecisionOverflowBehavior =
-    MicrosecondsPrecisionOverflowBehavior::Truncate;
-
-struct TimeRow;
-
-impl Row for TimeRow {
-    fn check<R: AllocGlobal + Abort>(rt: &R, row: &str) {
-        let (_, text, wants) = quoted(rt, row);
-        let (relaxed, strict) = answers(wants);
-        expect(rt, Time::parse_str(text), relaxed, row);
-        let read = Time::parse_bytes_strict(text.as_bytes(), ERROR);
-        expect(rt, read, strict, row);
-    }
-}
-
 #[test]
 fn times(rt: HostRuntime) {
-    each::<TimeRow, _>(&rt, SCHEMA_TIMES);
-    each::<TimeRow, _>(&rt, TIMES);
-}
-
-struct LongFractionRow;
-
-impl Row for LongFractionRow {
-    fn check<R: AllocGlobal + Abort>(rt: &R, row: &str) {
-        let (_, text, wants) = quoted(rt, row);
-        let (counted, dropped) = answers(wants);
-        let bytes = text.as_bytes();
-        expect(rt, Time::parse_bytes_strict(bytes, ERROR), counted, row);
-        expect(rt, Time::parse_bytes_strict(bytes, TRUNCATE), dropped, row);
-    }
-}
-
-#[test]
-fn long_fractions(rt: HostRuntime) {
-    each::<LongFractionRow, _>(&rt, LONG_FRACTIONS);
-}
-
-struct DateTimeRow;
-
-impl Row for DateTimeRow {
-    fn check<R: AllocGlobal + Abort>(rt: &R, row: &str) {
-        let (_, text, wants) = quoted(rt, row);
-        let (relaxed, strict) = answers(wants);
-        expect(rt, DateTime::parse_str_rfc3339(text), relaxed, row);
-        let read = DateTime::parse_bytes_strict(text.as_bytes(), ERROR);
-        expect(rt, read, strict, row);
+    for table in [SCHEMA_TIMES, TIMES] {
+        each(table, |row| {
+            let (_, text, wants) = quoted(&rt, row);
+            let (relaxed, strict) = answers(wants);
+            expect(&rt, Time::parse_str(&text), relaxed, row);
+            let read = Time::parse_bytes_strict(text.as_bytes(), ERROR);
+            expect(&rt, read, strict, row);
+        });
     }
 }
 
 #[test]
 fn date_times(rt: HostRuntime) {
-    each::<DateTimeRow, _>(&rt, SCHEMA_DATE_TIMES);
-    each::<DateTimeRow, _>(&rt, DATE_TIMES);
+    for table in [SCHEMA_DATE_TIMES, DATE_TIMES] {
+        each(table, |row| {
+            let (_, text, wants) = quoted(&rt, row);
+            let (relaxed, strict) = answers(wants);
+            expect(&rt, DateTime::parse_str_rfc3339(&text), relaxed, row);
+            let read = DateTime::parse_bytes_strict(text.as_bytes(), ERROR);
+            expect(&rt, read, strict, row);
+        });
+    }
+}
+
+#[test]
+fn long_fractions(rt: HostRuntime) {
+    each(LONG_FRACTIONS, |row| {
+        let (behavior, text, want) = quoted(&rt, row);
+        let behavior = value(&rt, behavior.trim_end());
+        let read = Time::parse_bytes_strict(text.as_bytes(), behavior);
+        expect(&rt, read, want, row);
+    });
 }
