@@ -74,6 +74,7 @@ fn expect_drawn<R: AllocGlobal + Abort>(rt: &R, state: &mut u64) {
     let offset = drawn(state, 172_799) as i32 - 86_399;
     let time = time.with_timezone_offset(Some(offset));
     let time = time.ok().expect(rt, "a time");
+    expect_shown(rt, &time, time.to_text().as_str());
     let date_time = DateTime { date, time };
     expect_shown(rt, &date_time, date_time.to_text().as_str());
     let (positive, day) = (drawn(state, 2) == 1, drawn(state, 1_000_000_000));

