@@ -1,7 +1,7 @@
 /* Reads the lines of a log, each of which begins with a date-time, and prints them with that date-time in UTC. What the
  * log spans goes to the end. Lines without a date-time are told on standard error.
  *
- *     cc -I c c/example.c out/libspeedate.a -o example && ./example < LOG
+ *     cc example.c $(pkg-config --cflags --libs speedate) -o example && ./example < LOG
  */
 #define _POSIX_C_SOURCE 200809L /* for getline */
 #include "speedate.h"
@@ -10,10 +10,11 @@
 #include <stdlib.h>
 
 static void tell(int number, int code) {
-    char why[SPEEDATE_CODE_TEXT_SIZE];
+    char name[SPEEDATE_CODE_TEXT_SIZE], why[SPEEDATE_CODE_TEXT_SIZE];
     size_t length;
-    if (speedate_code_documentation(code, why, sizeof why, &length) == SPEEDATE_OK)
-        fprintf(stderr, "line %d: %s\n", number, why);
+    if (speedate_code_name(code, name, sizeof name, &length) == SPEEDATE_OK &&
+        speedate_code_documentation(code, why, sizeof why, &length) == SPEEDATE_OK)
+        fprintf(stderr, "line %d: %s: %s\n", number, name, why);
 }
 
 int main(void) {
@@ -46,5 +47,9 @@ int main(void) {
     if (seen > 0 && speedate_duration_between(first, last, &span) == SPEEDATE_OK &&
         speedate_duration_to_text(span, span_text, sizeof span_text, &length) == SPEEDATE_OK)
         printf("%d lines in %s\n", seen, span_text);
+    if (ferror(stdin) || fflush(stdout) != 0 || ferror(stdout)) {
+        fputs("the log was not read or printed to its end\n", stderr);
+        return 1;
+    }
     return 0;
 }
