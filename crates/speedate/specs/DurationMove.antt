@@ -1,4 +1,4 @@
--- The duration between two values, and the value so long after another, by microseconds of any size.
+-- The duration between two values, and the value a duration after another, by microseconds of any size.
 use Rattle.std.specs.Prelude.{suc, Bool, true, false, not, ◌||◌, ◌==◌, if◌then◌else◌, [], ◌∷◌, Option, Some, None, ℤ, pos, negsuc, ◌+ℤ◌, ◌-ℤ◌, int_le, unsigned_abs, Result, Ok, Err}
 use Rattle.speedate_base.specs.declared.faults.ParseError.{ParseError}
 use Rattle.speedate_base.specs.declared.faults.ParseError.TheVariants as fault
@@ -55,7 +55,7 @@ date_or_fault onward None = Err (if onward then fault.DateTooLarge else fault.Da
 abbrev pub signed_days : DurationNumbers → ℤ
 signed_days numbers = with_sign (not numbers.positive) numbers.day
 
--- the date so long after another, or the fault: that of a duration which is not whole days comes first
+-- the date a duration after another, or the fault: that of a duration which is not whole days comes first
 abbrev pub date_after_days : DurationNumbers → Ymd → Result Ymd ParseError
 date_after_days numbers start =
     meets ((is_whole_days numbers else_fault fault.DateNotExact) ∷ [])

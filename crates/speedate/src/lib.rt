@@ -18,7 +18,7 @@
 //! - [`DateTime`]: a date and a time, with timestamps, moves to other offsets, and the order by
 //!   instant.
 //! - [`Duration`]: days, seconds and microseconds with a sign, the duration between two values, and the
-//!   value so long after another.
+//!   value a duration after another.
 //! - [`Decimal`], [`IntFloat`], [`int_parse_bytes`] and [`float_parse_bytes`]: numbers as texts.
 //! - [`DateConfig`], [`TimeConfig`], [`DateTimeConfig`] and their builders: how texts are read.
 //! - [`ParseError`], [`ConfigError`]: the faults. A text that is refused has exactly one, and each has
@@ -44,8 +44,8 @@
 //!
 //! # Documents
 //!
-//! `docs/GRAMMAR.md` has the texts and the faults, as tables; `docs/CALLING.md` each call with its
-//! contract, and callers; `docs/DIFFERENCES.md` what differs from the Rust crate. Some of its calls
+//! `docs/GRAMMAR.md` has the texts and the faults, as tables; `docs/CALLING.md` the first check,
+//! which call does what, and callers; `docs/DIFFERENCES.md` what differs from the Rust crate. Some of its calls
 //! have another name here: `to_string` is `to_text`, `from_float_with_config` is
 //! [`DateTime::from_decimal_with_config`], and `<` of times and date-times is `cmp_instant`.
 #![tactic(auto)]

@@ -41,7 +41,7 @@ pub enum ParseError {
     InvalidCharMinute,
     /// The second is not two digits.
     InvalidCharSecond,
-    /// Kept for its name: no call answers it.
+    /// Kept for its name: no call returns it.
     InvalidCharSecondFraction,
     /// What follows a time does not begin an offset, or for the strict readers one of RFC 3339.
     InvalidCharTzSign,
@@ -92,10 +92,10 @@ pub enum ParseError {
     DurationHourValueTooLarge,
     /// A duration has more than 999,999,999 days.
     DurationDaysTooLarge,
-    /// A date lies before the year 0000: of a timestamp, at another offset, or so long before another.
+    /// A date lies before the year 0000: of a timestamp, at another offset, or after a duration.
     DateTooSmall,
-    /// A date lies after the year 9999: of a timestamp or a moment, at another offset, so long after
-    /// another, or by its number.
+    /// A date lies after the year 9999: of a timestamp or a moment, at another offset, after a duration,
+    /// or by its number.
     DateTooLarge,
     /// A time of day, or a sum on the way to it, is too large.
     TimeTooLarge,

@@ -1,4 +1,4 @@
-//! The duration between two values, and the value so long after another, as C sees them.
+//! The duration between two values, and the value a duration after another, as C sees them.
 
 ghost use Rattle.std.specs.Prelude.{◌≡◌, neg_ℤ};
 ghost use Rattle.speedate.specs.DurationMove.{date_after_days, date_time_after, duration_between, duration_between_dates, negated, signed_length};
@@ -32,7 +32,7 @@ pub extern "C" fn speedate_duration_between(
     SUCCESS
 }
 
-/// The date-time so long after another, or before it where the duration is negative, as
+/// The date-time a duration after another, or before it where the duration is negative, as
 /// [`Duration::after`] gives it: 2020-03-01T00:30:00+01:00 for an hour and
 /// 2020-02-29T23:30:00+01:00. `VALUE_OUT_OF_RANGE` comes before the faults of that call.
 #[unsafe(no_mangle)]

@@ -124,7 +124,7 @@ impl Date {
         Ok(date)
     }
 
-    /// Reads the date at the front of a text, whatever follows it, and answers how many bytes it takes,
+    /// Reads the date at the front of a text, whatever follows it, and returns how many bytes it takes,
     /// which is always ten: 22 November 2026 and 10 from `b"2026-11-22 opening balance"`. It reads no
     /// timestamps. The faults are those of [`Date::parse_str_rfc3339`] except `ExtraCharacters`.
     #[inline]

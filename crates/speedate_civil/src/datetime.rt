@@ -97,7 +97,7 @@ impl DateTime {
         Ok(value)
     }
 
-    /// Reads the date-time at the front of a text, whatever follows it, and answers how many bytes it
+    /// Reads the date-time at the front of a text, whatever follows it, and returns how many bytes it
     /// takes: 12:13:14.5 on 22 November 2026, an hour east of UTC, and 27, from
     /// `b"2026-11-22T12:13:14.5+01:00 GET /"`. It reads no timestamps.
     ///

@@ -1,6 +1,6 @@
 //! Dates, times of day and date-times: their values, their texts, and the calendar that dates lie in.
 //!
-//! A crate that reads dates or times needs `speedate` alone, which gives these types out again. This
+//! A crate that reads dates or times needs `speedate` alone, which re-exports these types. This
 //! crate is for readers and printers of further forms: it has a clock within a longer text, the
 //! date-time at an instant, and the pieces of printed texts.
 #![tactic(auto)]

@@ -117,7 +117,7 @@ impl Time {
         Self::parse_whole(bytes, config.microseconds_precision_overflow_behavior)
     }
 
-    /// Reads the time at the front of a text, whatever follows it, and answers how many bytes it takes:
+    /// Reads the time at the front of a text, whatever follows it, and returns how many bytes it takes:
     /// 12:13:14.5 an hour east of UTC, and 16, from `b"12:13:14.5+01:00 GET /"`.
     ///
     /// A time that goes on has to go on without a fault: after a `:` that follows the minute with two

@@ -8,7 +8,7 @@ ghost use Rattle.speedate_lines.specs.Watch.{one_more};
 use std::io::{Read, Write};
 use std::marker::Model;
 
-/// What a [`Watched`] answers to a call that could not be carried out.
+/// The error of a call of a [`Watched`] that could not be carried out.
 #[derive(Clone, Copy, Debug, PartialEq, Eq)]
 pub struct Failed;
 
@@ -68,9 +68,9 @@ impl<T> Watched<T> {
 }
 
 impl<R: Read> Watched<R> {
-    /// Reads into `buffer`, and answers how many bytes were read: 0 at the end of the input.
+    /// Reads into `buffer`, and returns how many bytes were read: 0 at the end of the input.
     ///
-    /// Fails with `Failed` if the reader answers an error, and after `u64::MAX` reads, when the reader
+    /// Fails with `Failed` if the reader returns an error, and after `u64::MAX` reads, when the reader
     /// is not called.
     pub fn read(&mut self, buffer: &mut [u8]) -> Result<usize, Failed>
         ensures bound { ReadsAtMost result buffer.new }
@@ -100,9 +100,9 @@ impl<R: Read> Watched<R> {
 }
 
 impl<W: Write> Watched<W> {
-    /// Writes some of `bytes`, and answers how many.
+    /// Writes some of `bytes`, and returns how many.
     ///
-    /// Fails with `Failed` if the writer answers an error, or takes nothing of bytes that are not
+    /// Fails with `Failed` if the writer returns an error, or takes nothing of bytes that are not
     /// empty.
     pub fn write(&mut self, bytes: &[u8]) -> Result<usize, Failed>
         ensures bound { WritesAtMost result bytes.now }
@@ -128,7 +128,7 @@ impl<W: Write> Watched<W> {
         }
     }
 
-    /// Flushes the writer. Fails with `Failed` if it answers an error.
+    /// Flushes the writer. Fails with `Failed` if it returns an error.
     ///
     /// Each flush is counted, up to `u64::MAX` of them; a further one is a flush like the others.
     pub fn flush(&mut self) -> Result<(), Failed>

@@ -1,5 +1,5 @@
 //! Uses of the library, as crates of other workspaces would write them: each file is one use, with
-//! its test. `docs/CALLING.md` shows three of them whole.
+//! its test. `docs/CALLING.md` shows parts of two of them.
 #![tactic(auto)]
 
 pub mod calendar;

@@ -1,4 +1,4 @@
-//! Days added and counted, durations between two values, and values so long after another.
+//! Days added and counted, durations between two values, and values a duration after another.
 
 use crate::rows::{each, expect, same, value, words};
 use speedate::{Date, DateTime, Duration};
@@ -22,7 +22,7 @@ const BETWEEN: &str = "\
 1970-01-01T00:00:00.5Z            1969-12-31T23:59:59.75Z           -PT0.75S
 9999-12-31T23:59:59.999999-23:59  0000-01-01T00:00:00+23:59         -P10006Y236DT23H57M59.999999S";
 
-/// A date-time, a duration, and the date-time so long after it.
+/// A date-time, a duration, and the date-time that long after it.
 const AFTER: &str = "\
 2020-02-29T23:30:00+01:00         PT1H          2020-03-01T00:30:00+01:00
 2020-02-28T23:59:59.999999        PT0.000001S   2020-02-29T00:00:00
@@ -40,7 +40,7 @@ const SPANS: &str = "\
 2020-01-01  2020-01-01  PT0S
 0000-01-01  9999-12-31  P10006Y234D";
 
-/// A date, a duration, and the date so long after it.
+/// A date, a duration, and the date that long after it.
 const DATES: &str = "\
 2020-02-28  P2D          2020-03-01
 2020-03-01  -P2D         2020-02-28

@@ -1,4 +1,4 @@
-//! The duration between two values, and the value so long after another or before it.
+//! The duration between two values, and the value a duration after another or before it.
 
 ghost use Rattle.std.specs.Prelude.{◌≡◌, ◌<◌, ◌≤◌, ◌+ℤ◌, ◌-ℤ◌, ◌*ℤ◌, IfOk, Ok, pos, neg_ℤ, unsigned_abs};
 ghost use Rattle.std.specs.Ordering.{int_cmp};
@@ -38,7 +38,7 @@ impl Duration {
         Self::of_microseconds(utc_microsecond(later) - utc_microsecond(earlier))
     }
 
-    /// The date-time so long after another, or before it where the duration is negative, at the same
+    /// The date-time this long after another, or before it where the duration is negative, at the same
     /// offset: 2020-03-01T00:30:00+01:00 for an hour and 2020-02-29T23:30:00+01:00. `DateTooSmall`
     /// where the date that a clock at the offset shows is before the year 0000, `DateTooLarge` where it
     /// is after the year 9999. [`Duration::before`] leads back.
@@ -163,7 +163,7 @@ impl Duration {
         }
     }
 
-    /// The instant so long after a date-time, as a clock at its offset shows it.
+    /// The instant this long after a date-time, as a clock at its offset shows it.
     #[inline]
     fn end(&self, start: &DateTime) -> UnixTime
         ensures instant { instant_parts result

@@ -58,7 +58,7 @@ impl PartialOrd for Duration {
 
     ghost laws = { po (on_total parts duration_order-total) (Prim.search (comparing, rules)) };
 
-    /// What [`Duration::cmp`] answers, since any two durations have an order:
+    /// What [`Duration::cmp`] returns, since any two durations have an order:
     /// `Some(Ordering::Less)` for -PT0S and PT0S.
     #[inline]
     fn partial_cmp(&self, other: &Duration) -> Option<Ordering>

@@ -75,7 +75,7 @@ impl DateTime {
 
     /// The date-time that a clock tells, at an offset in seconds: 1970-01-01T00:00:00Z for a clock that
     /// tells second 0, and 0. The library reads no clock itself: the first argument is called once, and
-    /// answers a [`Moment`], or `None` if it stands before 1970.
+    /// returns a [`Moment`], or `None` if it stands before 1970.
     ///
     /// Fails with `SystemTimeError` if the clock has no moment to tell, and otherwise with the faults
     /// of [`DateTime::now_at`].
