@@ -1,9 +1,9 @@
 //! Configurations from outside.
 
 ghost use Rattle.std.specs.Option.{ForSome, option_map};
-ghost use Rattle.std.specs.Prelude.{◌≡◌, IfOk, slice_get};
+ghost use Rattle.std.specs.Prelude.{◌≡◌, IfOk, IsTrue, Some, slice_get};
 ghost use Rattle.speedate.specs.Offset.{IsOffset};
-ghost use Rattle.speedate.specs.Config.{choices};
+ghost use Rattle.speedate.specs.Config.{choices, default_choices};
 ghost use Rattle.speedate_c.specs.Config.{behaviors, choices_of, flags, offset_answer, orders, units};
 
 use speedate::{
@@ -29,10 +29,23 @@ pub struct SpeedateConfig {
 }
 
 impl SpeedateConfig {
-    /// The configuration, where each number has a value.
+    /// Whether all numbers are 0.
     #[inline]
-    pub(crate) fn to_config(&self) -> Option<DateTimeConfig>
-        ensures choices { option_map choices result ≡ choices_of self.now }
+    pub(crate) fn is_default(self) -> bool
+        ensures choices { IsTrue result → choices_of self ≡ Some default_choices }
+    {
+        self.timestamp_offset == 0
+            && self.has_timestamp_offset == 0
+            && self.timestamp_unit == 0
+            && self.overflow_behavior == 0
+            && self.iso_order == 0
+    }
+
+    /// The configuration, where each number has a value.
+    #[cold]
+    #[inline(never)]
+    pub(crate) fn to_config(self) -> Option<DateTimeConfig>
+        ensures choices { option_map choices result ≡ choices_of self }
     {
         Some(DateTimeConfig {
             timestamp_unit: unit(self.timestamp_unit)?,

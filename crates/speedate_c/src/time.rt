@@ -97,6 +97,19 @@ pub extern "C" fn speedate_time_parse(
     ensures answer { (result, out.new) ≡ with_option (choices_of config) (config_out_of_range, out.old)
         (λ config. after_answer shown_time out.old (time_answer config.behavior text.now)) }
 {
+    if config.is_default() {
+        return write_time(Time::parse_bytes(text), out);
+    }
+    parse_configured(text, config, out)
+}
+
+/// Reads a time under a configuration that is not the default.
+#[cold]
+#[inline(never)]
+fn parse_configured(text: &[u8], config: SpeedateConfig, out: &mut SpeedateTime) -> i32
+    ensures answer { (result, out.new) ≡ with_option (choices_of config) (config_out_of_range, out.old)
+        (λ config. after_answer shown_time out.old (time_answer config.behavior text.now)) }
+{
     let config = config_or_return!(config);
     write_time(
         Time::parse_bytes_with_config(text, &config.time_config),

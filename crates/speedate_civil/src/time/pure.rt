@@ -87,6 +87,9 @@ impl PureTime {
         if hour > 23 {
             return Err(ParseError::OutOfRangeHour);
         }
+        if minute > 59 {
+            return Err(ParseError::OutOfRangeMinute);
+        }
         let time = Self::after_minute(minute, second_there(front, fits), text, 3, behavior)?;
         Ok(PureTime {
             hour,
@@ -120,6 +123,9 @@ impl PureTime {
             return Err(ParseError::InvalidCharMinute);
         }
         let [minute, _, _, second, _, _, _, _] = pairs(front, pattern, fits);
+        if minute > 59 {
+            return Err(ParseError::OutOfRangeMinute);
+        }
         let second = match fits {
             2 => Second::Absent,
             3 | 4 => Second::Faulty,
@@ -144,8 +150,8 @@ impl PureTime {
         }
     }
 
-    /// Tests the range of the minute that stands at `place`, and of the second, and reads the fraction
-    /// that follows.
+    /// Tests the range of the second that follows the minute at `place`, and reads the fraction after
+    /// it.
     #[inline(always)]
     fn after_minute(
         minute: u8,
@@ -156,14 +162,12 @@ impl PureTime {
     ) -> Result<Self, ParseError>
         requires place { place + 2 ≤ length bytes.now }
         requires minute { minute ≡ two_digit_value (drop place bytes.now) 0 }
+        requires range { minute ≤ 59 }
         requires second { second ≡ second_there (drop place bytes.now) }
         ensures answer { result_map parts result ≡ clock_answer behavior (drop place bytes.now) }
         ensures minute { IfOk result (λ time. time.minute ≡ minute) }
         ensures within { IfOk result (λ time. place + time.size ≤ length bytes.now) }
     {
-        if minute > 59 {
-            return Err(ParseError::OutOfRangeMinute);
-        }
         let rest = &bytes[place..];
         let second = match second {
             Second::Number(second) => second,
