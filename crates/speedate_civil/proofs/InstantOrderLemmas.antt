@@ -1,10 +1,10 @@
 -- Laws of the order by instants: it is total, among values with offsets and among those without; without offsets it is the
 -- order of the texts; and if the offsets are equal it is that of what clocks show.
-use Rattle.std.specs.Prelude.{◌≡◌, ℕ, ◌+◌, ◌*◌, ◌/◌, ◌%◌, ◌<◌, ◌<ℤ◌, Bool, true, false, ◌&&◌, ◌∷◌, ◌==◌, ℤ, pos, ◌+ℤ◌, ◌-ℤ◌, ◌*ℤ◌, Option, None, refl}
-use Rattle.std.specs.Cmp.{IsTotalOrder, int_ranks, int_cmp_is, upto, nat_cmp_total, int_cmp_total, on_total, then_total}
+use Rattle.std.specs.Prelude.{◌≡◌, ℕ, ◌+◌, ◌*◌, ◌/◌, ◌%◌, ◌<◌, Bool, true, false, ◌&&◌, ◌∷◌, ◌==◌, ℤ, pos, ◌+ℤ◌, ◌-ℤ◌, ◌*ℤ◌, Option, None, refl}
+use Rattle.std.specs.Cmp.{IsTotalOrder, upto, nat_cmp_total, int_cmp_total, on_total, then_total}
 use Rattle.std.specs.Cmp.Lexicographic.{slice_cmp}
 use Rattle.std.specs.Option.{is_some}
-use Rattle.std.specs.Ordering.{nat_cmp, int_cmp, is_gt, ordering_then, ordering_reverse, MatchOrdering, on}
+use Rattle.std.specs.Ordering.{nat_cmp, int_cmp, is_gt, ordering_then, ordering_reverse, on}
 use Rattle.std.specs.declared.cmp.Ordering.{Ordering}
 use Rattle.std.specs.declared.cmp.Ordering.TheVariants.{Less, Equal, Greater}
 use Rattle.std.proofs.Common.{arith, ◌∙◌, ap, sym}
@@ -36,19 +36,8 @@ pub pos-order : (first second : ℕ) → int_cmp (pos first) (pos second) ≡ na
 pos-order first second = grind (arith, nat_tests)
 
 -- two numbers are ordered as what is left of them
-left-ranked : (first second less : ℤ) (order : Ordering) → MatchOrdering order (first <ℤ second) (first ≡ second) (second <ℤ first)
-    → order ≡ int_cmp (first -ℤ less) (second -ℤ less)
-left-ranked first second less Less before = int_cmp_is (first -ℤ less) (second -ℤ less) Less (omega (arith, ints))
-left-ranked first second less Equal same = int_cmp_is (first -ℤ less) (second -ℤ less) Equal (ap (λ (number : ℤ). number -ℤ less) same)
-left-ranked first second less Greater after = int_cmp_is (first -ℤ less) (second -ℤ less) Greater (omega (arith, ints))
-
 pub left-order : (first second less : ℤ) → int_cmp (first -ℤ less) (second -ℤ less) ≡ int_cmp first second
-left-order first second less = sym (left-ranked first second less (int_cmp first second) (int_ranks first second))
-
--- days and then seconds of the day are ordered as the seconds
-day-order : (first second one two : ℕ) → one < seconds_per_day → two < seconds_per_day
-    → nat_cmp (seconds_per_day * first + one) (seconds_per_day * second + two) ≡ ordering_then (nat_cmp first second) (nat_cmp one two)
-day-order first second one two small little = grind (arith, nat_tests)
+left-order first second less = grind (arith, ints, nat_tests)
 
 -- a clock's hours, minutes and seconds are ordered as its second of the day
 clock-order : (first second : TimeOfDay) → IsTime first → IsTime second → (next : Ordering)
@@ -60,51 +49,20 @@ clock-order first second one two next = grind (arith, nat_tests, one.minute, one
 time_instant-order : (first second : TimeOfDay)
     → on (time_instant false) instant_order first second
     ≡ ordering_then (nat_cmp (second_of_day first) (second_of_day second)) (nat_cmp first.microsecond second.microsecond)
-time_instant-order first second =
-    ap (λ (order : Ordering). ordering_then order (nat_cmp first.microsecond second.microsecond)) (pos-order (second_of_day first) (second_of_day second))
-
--- the second of a date-time, from the year 0 on
-from_year_0 : (day second : ℕ)
-    → (pos day -ℤ pos epoch_day) *ℤ pos seconds_per_day +ℤ pos second ≡ pos (seconds_per_day * day + second) -ℤ pos (seconds_per_day * epoch_day)
-from_year_0 day second = omega (arith, ints)
+time_instant-order first second = grind (arith, nat_tests)
 
 -- what clocks show of date-times is ordered as the dates, and then as the times
-local_second-order : (first second : DateAndTime) → IsDateAndTime first → IsDateAndTime second
-    → int_cmp (local_second first) (local_second second)
-    ≡ ordering_then (date_order first.date second.date) (nat_cmp (second_of_day first.time) (second_of_day second.time))
-local_second-order first second one two =
-    let days : ℕ = day_number first.date in
-    let others : ℕ = day_number second.date in
-    let seconds : ℕ = second_of_day first.time in
-    let shown : ℕ = second_of_day second.time in
-    let small : second_of_day first.time < seconds_per_day = omega (arith, one.time.hour, one.time.minute, one.time.second) in
-    let little : second_of_day second.time < seconds_per_day = omega (arith, two.time.hour, two.time.minute, two.time.second) in
-    (λ i. int_cmp (from_year_0 days seconds i) (from_year_0 others shown i))
-    ∙ left-order (pos (seconds_per_day * days + seconds)) (pos (seconds_per_day * others + shown)) (pos (seconds_per_day * epoch_day))
-    ∙ pos-order (seconds_per_day * days + seconds) (seconds_per_day * others + shown)
-    ∙ day-order days others seconds shown small little
-    ∙ ap (λ (order : Ordering). ordering_then order (nat_cmp seconds shown)) (sym (date_order-day_number first.date second.date one.date.day two.date.day))
-
 date_time_instant-order : (first second : DateAndTime) → IsDateAndTime first → IsDateAndTime second
     → on (date_time_instant false) instant_order first second ≡ ordering_then (date_order first.date second.date) (on (time_instant false) instant_order first.time second.time)
 date_time_instant-order first second one two =
-    let dates : Ordering = date_order first.date second.date in
-    let seconds : Ordering = nat_cmp (second_of_day first.time) (second_of_day second.time) in
-    let microseconds : Ordering = nat_cmp first.time.microsecond second.time.microsecond in
-    ap (λ (order : Ordering). ordering_then order microseconds) (local_second-order first second one two)
-    ∙ then-then dates seconds microseconds
-    ∙ ap (ordering_then dates) (sym (time_instant-order first.time second.time))
+    let small : second_of_day first.time < seconds_per_day = omega (arith, one.time.hour, one.time.minute, one.time.second) in
+    let little : second_of_day second.time < seconds_per_day = omega (arith, two.time.hour, two.time.minute, two.time.second) in
+    rw (date_order-day_number first.date second.date one.date.day two.date.day) (grind (arith, ints, nat_tests))
 
 -- the first digits of six and the last four are ordered as the number
 six_digits-order : (first second : ℕ)
     → slice_cmp nat_cmp (six_digit_text first) (six_digit_text second) ≡ nat_cmp first second
-six_digits-order first second =
-    digits-order (first / 10000) (second / 10000) _
-    ∙ ap (ordering_then (nat_cmp (first / 10000) (second / 10000)))
-    (digits-order (first % 10000 / 100) (second % 10000 / 100) _
-    ∙ ap (ordering_then (nat_cmp (first % 10000 / 100) (second % 10000 / 100))) (digits-order (first % 10000 % 100) (second % 10000 % 100) Equal)
-    ∙ hundreds-order (first % 10000) (second % 10000) Equal)
-    ∙ grind (arith, nat_tests)
+six_digits-order first second = grind (arith, nat_tests)
 
 -- two printed fractions are ordered as the microseconds
 fractions-order : (first second : ℕ) (one two : Bool) → (first == 0) ≡ one → (second == 0) ≡ two

@@ -16,11 +16,6 @@ use Rattle.speedate_civil.specs.OffsetMove.{move_table}
 use Rattle.speedate_civil.proofs.OffsetMoveLemmas.{second-moved, instant-kept}
 use Rattle.speedate_civil.proofs.datetime.DateTime.in_timezone.Goals as goal
 
-pub shifted-requires : goal.shifted-requires
-shifted-requires c =
-    let fits : SFits w64 c.timestamp.result = search rules in
-    rw (to_z-of_z w64 c.timestamp.result fits) c.timestamp.ensures.small
-
 -- the offset can be had, and the second is the one that its clock shows
 found : (c : goal.After-of_instant)
     → AllHold (move_table c.args.tz_offset c.args.self.now.time.tz_offset) × (c.shifted.result ≡ utc_second (parts c.args.self.now) +ℤ c.args.tz_offset)

@@ -38,19 +38,3 @@ returns-in-Int-clause-answer c =
     let number = sym c.in-Int.ensures.answer in
     let fits : SFits w64 c.in-Int.timestamp = search rules in
     (simp to_z-of_z at c.from_timestamp_with_config.ensures.answer) ∙ sym (known config.timestamp_unit behavior offset _ _ _ _ number c.requires)
-
-pub returns-in-Float-clause-answer : goal.returns-in-Float-clause-answer
-returns-in-Float-clause-answer c =
-    let config = c.args.config.now in
-    let behavior = config.time_config.microseconds_precision_overflow_behavior in
-    let offset = config.time_config.unix_timestamp_offset in
-    let number = sym c.in-Float.ensures.answer in
-    c.parse_decimal.ensures.answer ∙ sym (known config.timestamp_unit behavior offset _ _ _ _ number c.requires)
-
-pub returns-in-Err-clause-answer : goal.returns-in-Err-clause-answer
-returns-in-Err-clause-answer c =
-    let config = c.args.config.now in
-    let behavior = config.time_config.microseconds_precision_overflow_behavior in
-    let offset = config.time_config.unix_timestamp_offset in
-    let number = sym c.in-Err.ensures.answer in
-    sym (known config.timestamp_unit behavior offset _ _ _ _ number c.requires)
