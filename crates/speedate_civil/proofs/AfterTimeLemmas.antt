@@ -1,10 +1,11 @@
 -- A printed time at the front of a text is read as itself if and only if what follows is no part of it. So is a printed date-time.
-use Rattle.std.specs.Prelude.{◌≡◌, ◌↔◌, ℕ, ◌+◌, ◌≤◌, ◌<◌, Bool, true, false, ◌==◌, List, [], ◌∷◌, ◌++◌, length, drop, slice_index, if◌then◌else◌, Option, Some, None, ℤ, IfOk, Ok, refl}
+use Rattle.std.proofs.lemmas.Grind.{common_steps}
+use Rattle.std.proofs.lemmas.Bool.Decides.{nat_tests}
+use Rattle.std.specs.Prelude.{◌≡◌, ◌↔◌, ℕ, ◌+◌, ◌≤◌, ◌<◌, Bool, true, false, ◌==◌, List, ◌∷◌, ◌++◌, length, drop, slice_index, Option, None, ℤ, IfOk, Ok, refl}
 use Rattle.std.specs.Char.{is_ascii_digit}
-use Rattle.std.specs.List.{prefix_len}
-use Rattle.std.proofs.Common.{arith, ◌∙◌, ap, ap₂, sym}
+use Rattle.std.proofs.Common.{rules, arith, ◌∙◌, ap, ap₂, sym}
 use Rattle.speedate_base.specs.declared.config.MicrosecondsPrecisionOverflowBehavior.{MicrosecondsPrecisionOverflowBehavior}
-use Rattle.speedate_base.specs.Ascii.{colon, full_stop, hyphen}
+use Rattle.speedate_base.specs.Ascii.{colon, full_stop}
 use Rattle.speedate_base.specs.DigitRuns.{run_length}
 use Rattle.speedate_base.proofs.DigitRunLemmas.{run_length-append}
 use Rattle.speedate_base.specs.Digits.{six_digit_text, two_digit_text}
@@ -17,45 +18,22 @@ use Rattle.speedate_civil.specs.DateText.{date_front}
 use Rattle.speedate_civil.specs.DateTimeText.{date_time_front, date_time_text, separator_table}
 use Rattle.speedate_civil.proofs.DateTimeLemmas.{date_time_text-front}
 use Rattle.speedate_civil.proofs.FrontLemmas.{clock-size}
-use Rattle.speedate_civil.specs.OffsetText.{begins_offset, offset_digits, offset_front, offset_ranges, signed_front}
-use Rattle.speedate_civil.proofs.OffsetLemmas.{offset-cases}
-use Rattle.speedate_civil.proofs.ReadLemmas.{read-rows, read-then, read-value}
+use Rattle.speedate_civil.specs.OffsetText.{begins_offset, offset_front}
+use Rattle.speedate_civil.proofs.ReadLemmas.{read-then, read-value}
 use Rattle.speedate_civil.specs.TimeOfDay.{TimeOfDay, IsTime}
 use Rattle.speedate_civil.specs.TimeText.{clock_text, continues_fraction, is_after_time, time_front, time_text}
 use Rattle.speedate_civil.proofs.TimeLemmas.{time_text-front}
 
--- a text after which no offset was read begins none
-signed-some : (west : Bool) (sign : ℕ) (numbers rest : List ℕ)
-    → IfOk (signed_front west sign numbers) (λ front. front.0 ≡ None → begins_offset rest ≡ false)
-signed-some west sign numbers rest =
-    read-rows _ (offset_digits numbers) _ (λ digits. read-rows _ (offset_ranges numbers) _ (λ ranges none. absurd (cc)))
-
 begins-none : (rest : List ℕ) → IfOk (offset_front rest) (λ front. front.0 ≡ None → begins_offset rest ≡ false)
-begins-none rest =
-    offset-cases (λ answer. IfOk answer (λ front. front.0 ≡ None → begins_offset rest ≡ false)) rest
-    (λ some. signed-some (slice_index rest 0 == hyphen) 1 (drop 1 rest) rest) (λ no_sign utc none. absurd (cc))
-    (λ no_sign no_utc there. signed-some true 3 (drop 3 rest) rest) (λ no_sign no_utc no_minus none. rw (no_sign, no_utc, no_minus) refl)
-
--- a clock in print that takes no more bytes does not go on with a decimal mark
-no-more : (mark : Bool) (run size : ℕ) → 3 + (if mark then 6 + run else 5) ≡ size → size ≤ 8 → (mark ≡ false) × (size ≡ 8)
-no-more true run size is small = absurd (omega (arith, is, small))
-no-more false run size is small = (refl, sym is)
+begins-none rest = search rules
 
 second-ends : (behavior : MicrosecondsPrecisionOverflowBehavior) (hour minute second : ℕ) (rest : List ℕ) (clock : Clock)
     → clock_front behavior (two_digit_text hour ++ colon ∷ minute_text minute second ++ rest) ≡ Ok clock → clock.size ≤ 8
     → (is_decimal_mark (slice_index rest 0) ≡ false) × (clock.size ≡ 8)
-second-ends behavior hour minute second rest clock read small =
-    let text = two_digit_text hour ++ colon ∷ minute_text minute second ++ rest in
-    no-more (is_decimal_mark (slice_index rest 0)) (run_length (drop 3 text) 6) clock.size (clock-size behavior text clock read) small
-
--- nor, after six digits, with a digit
-no-first : (digit : Bool) (run : ℕ) → (if digit then 1 + run else 0) ≡ 0 → digit ≡ false
-no-first true run none = absurd (omega (arith, none))
-no-first false run none = refl
+second-ends behavior hour minute second rest clock read small = grind (arith, nat_tests)
 
 no-digit : (rest : List ℕ) → run_length rest 0 ≡ 0 → is_ascii_digit (slice_index rest 0) ≡ false
-no-digit [] none = refl
-no-digit (byte ∷ rest) none = no-first (is_ascii_digit byte) (prefix_len is_ascii_digit rest) none
+no-digit rest none = grind (arith, common_steps)
 
 fraction-ends : (behavior : MicrosecondsPrecisionOverflowBehavior) (hour minute second microsecond : ℕ) (rest : List ℕ) (clock : Clock) → microsecond < 1000000
     → clock_front behavior (two_digit_text hour ++ colon ∷ minute_text minute second ++ full_stop ∷ six_digit_text microsecond ++ rest) ≡ Ok clock
@@ -95,16 +73,12 @@ ends behavior time rest false valid some without =
 
 after-read : (behavior : MicrosecondsPrecisionOverflowBehavior) (time : TimeOfDay) (rest : List ℕ) (offset : Option ℤ) → time.offset ≡ offset
     → IsTime time → time_front behavior (time_text time ++ rest) ≡ Ok (time, length (time_text time)) → is_after_time time rest ≡ true
-after-read behavior time rest (Some seconds) is valid read = rw (is) refl
-after-read behavior time rest None is valid read = ends behavior time rest (time.microsecond == 0) valid refl is read
+after-read behavior time rest offset is valid read = grind (arith, ends)
 
 -- where its offset is whole minutes, that is the one condition
 pub time_text-front-iff : (behavior : MicrosecondsPrecisionOverflowBehavior) (time : TimeOfDay) (rest : List ℕ) → IsTime time → IsWholeMinutes time.offset
     → (is_after_time time rest ≡ true) ↔ (time_front behavior (time_text time ++ rest) ≡ Ok (time, length (time_text time)))
-time_text-front-iff behavior time rest valid whole = (
-  λ after. time_text-front behavior time rest valid whole after,
-  λ read. after-read behavior time rest time.offset refl valid read,
-)
+time_text-front-iff behavior time rest valid whole = grind (arith, time_text-front, after-read)
 
 pub date_time_text-front-iff : (behavior : MicrosecondsPrecisionOverflowBehavior) (value : DateAndTime) (rest : List ℕ) → IsDateAndTime value
     → IsWholeMinutes value.time.offset

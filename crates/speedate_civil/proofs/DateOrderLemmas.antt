@@ -3,8 +3,8 @@ use Rattle.std.specs.Prelude.{◌≡◌, ℕ, ◌+◌, ◌-◌, ◌/◌, ◌%◌
 use Rattle.std.specs.Cmp.Lexicographic.{slice_cmp}
 use Rattle.std.specs.Ordering.{nat_cmp, ordering_then}
 use Rattle.std.specs.declared.cmp.Ordering.{Ordering}
-use Rattle.std.specs.declared.cmp.Ordering.TheVariants.{Less, Equal, Greater}
-use Rattle.std.proofs.Common.{arith, ◌∙◌, ap, sym}
+use Rattle.std.specs.declared.cmp.Ordering.TheVariants.{Equal}
+use Rattle.std.proofs.Common.{rules, arith, ◌∙◌, ap}
 use Rattle.std.proofs.lemmas.Bool.Decides.{nat_tests}
 use Rattle.speedate_base.specs.Digits.{digit}
 use Rattle.speedate_civil.specs.Calendar.{Ymd, IsDay}
@@ -33,36 +33,15 @@ earlier_month first second one two same less =
 
 -- and an earlier day of a month
 earlier_day : (first second : Ymd) → IsDay first → first.year ≡ second.year → first.month ≡ second.month → first.day < second.day → day_number first < day_number second
-earlier_day first second one same_year same_month less =
-    omega (
-      arith,
-      ap days_before_year same_year,
-      one.day.0,
-      ap (λ (year : ℕ). days_of_months year (first.month - 1)) same_year,
-      ap (λ (month : ℕ). days_of_months second.year (month - 1)) same_month,
-    )
+earlier_day first second one same_year same_month less = search rules
 
 -- the order of dates is that of their day numbers
 pub date_order-day_number : (first second : Ymd) → IsDay first → IsDay second → date_order first second ≡ nat_cmp (day_number first) (day_number second)
-date_order-day_number first second one two =
-    grind (
-      arith,
-      nat_tests,
-      earlier_year first second one two,
-      earlier_year second first two one,
-      earlier_month first second one two,
-      earlier_month second first two one,
-      earlier_day first second one,
-      earlier_day second first two,
-    )
+date_order-day_number first second one two = grind (arith, nat_tests, earlier_year, earlier_month)
 
 -- dates with the same day number are equal
 pub day_number-distinct : (first second : Ymd) → IsDay first → IsDay second → day_number first ≡ day_number second → first ≡ second
-day_number-distinct first second one two same =
-    let years : first.year ≡ second.year = grind (arith, earlier_year first second one two, earlier_year second first two one) in
-    let months : first.month ≡ second.month = grind (arith, earlier_month first second one two years, earlier_month second first two one (sym years)) in
-    let days : first.day ≡ second.day = grind (arith, earlier_day first second one years months, earlier_day second first two (sym years) (sym months)) in
-    λ i. record { year = years i; month = months i; day = days i }
+day_number-distinct first second one two same = grind (arith, earlier_year, earlier_month, earlier_day)
 
 -- the tens and then the units of two numbers are ordered as the numbers
 pub digits-order : (first second : ℕ) (next : Ordering)
@@ -78,15 +57,11 @@ hundreds-order first second next = grind (arith, nat_tests)
 
 -- a last order
 pub last-order : (order : Ordering) → ordering_then order Equal ≡ order
-last-order Less = refl
-last-order Equal = refl
-last-order Greater = refl
+last-order order = search rules
 
 -- three orders are joined from either end
 pub then-then : (one two three : Ordering) → ordering_then (ordering_then one two) three ≡ ordering_then one (ordering_then two three)
-then-then Less two three = refl
-then-then Equal two three = refl
-then-then Greater two three = refl
+then-then one two three = search rules
 
 -- two texts that begin with dates are ordered as the dates, and then as what follows
 pub date_text-front-order : (first second : Ymd) (one two : List ℕ)

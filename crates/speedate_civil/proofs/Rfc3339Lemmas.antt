@@ -1,12 +1,12 @@
 -- The texts of RFC 3339 by its rules are those that the strict readers take.
-use Rattle.std.specs.Prelude.{◌≡◌, ◌⊎◌, ℕ, ◌+◌, ◌*◌, ◌/◌, ◌%◌, ◌≤◌, zero, suc, Bool, true, false, ◌||◌, ◌==◌, List, [], ◌∷◌, ◌++◌, length, take, drop, nat_le, nat_lt, slice_index, if◌then◌else◌, Option, Some, ℤ, IfOk, Result, Ok, Err, refl, ◌↔◌}
+use Rattle.std.specs.Prelude.{◌≡◌, ◌⊎◌, ℕ, ◌+◌, ◌*◌, ◌≤◌, zero, suc, Bool, true, false, ◌||◌, ◌==◌, List, [], ◌∷◌, ◌++◌, length, take, drop, nat_le, nat_lt, slice_index, if◌then◌else◌, Option, Some, ℤ, IfOk, Result, Ok, refl, ◌↔◌}
 use Rattle.std.specs.Char.{is_ascii_digit}
 use Rattle.std.specs.Int.{is_in_range, IsInRange}
 use Rattle.std.specs.List.{prefix_len}
 use Rattle.std.specs.Result.{IsOk}
-use Rattle.std.proofs.Common.{arith, ap, ap₂, subst, sym, ◌∙◌, inl, inr}
+use Rattle.std.proofs.Common.{rules, arith, ap, ap₂, subst, sym, ◌∙◌, inl, inr}
 use Rattle.std.proofs.Math.Seq.{drop-append_seam}
-use Rattle.std.proofs.lemmas.Bool.{and_parts, or_cases, le-leb, lt-ltb, leb-true, ltb-true, eqb-true, not-true}
+use Rattle.std.proofs.lemmas.Bool.{and_parts, le-leb, lt-ltb, leb-true, ltb-true, eqb-true, not-true}
 use Rattle.std.proofs.lemmas.Bool.Decides.{nat_tests}
 use Rattle.std.proofs.lemmas.List.{drop_more, get_or-drop, length-append, length-drop, length-take-le, nil_from_length, take_all, take-append-drop}
 use Rattle.std.proofs.lemmas.List.Sums.{prefix_len-le-length}
@@ -14,15 +14,15 @@ use Rattle.speedate_base.specs.declared.config.MicrosecondsPrecisionOverflowBeha
 use Rattle.speedate_base.specs.declared.faults.ParseError.{ParseError}
 use Rattle.speedate_base.specs.Ascii.{colon, comma, full_stop, hyphen, plus_sign, capital_t, capital_z, small_t, small_z}
 use Rattle.speedate_base.specs.DigitRuns.{run_length}
-use Rattle.speedate_base.proofs.DigitRunLemmas.{run_length-append, one_digit_value-le}
-use Rattle.speedate_base.specs.Digits.{digit, one_digit_value, two_digits_at, two_digit_text, two_digit_value, four_digit_text, four_digit_value}
+use Rattle.speedate_base.proofs.DigitRunLemmas.{run_length-append}
+use Rattle.speedate_base.specs.Digits.{two_digits_at, two_digit_text, two_digit_value, four_digit_text, four_digit_value}
 use Rattle.speedate_base.proofs.DigitLemmas.{two_digits-printed, two_digit_value-printed}
 use Rattle.speedate_base.specs.Numbers.{with_sign}
 use Rattle.speedate_base.proofs.NumberLemmas.{run-digits}
 use Rattle.speedate_base.specs.Offset.{seconds_per_day}
 use Rattle.speedate_base.specs.Config.{refuses_digits}
 use Rattle.speedate_base.specs.Requirement.{Requirement, ◌implies◌, AllHold, alone, meets, result_map, result_and_then}
-use Rattle.speedate_base.proofs.RequirementLemmas.{alone-iff, alone-whole, and_then-ok, meets-all, meets-ok, meets-value}
+use Rattle.speedate_base.proofs.RequirementLemmas.{alone-iff, alone-whole, meets-all, meets-ok, meets-value}
 use Rattle.speedate_civil.specs.declared.datetime.DateTime.{DateTime}
 use Rattle.speedate_civil.specs.declared.time.Time.{Time}
 use Rattle.speedate_civil.specs.Calendar.{Ymd, IsDate, month_length}
@@ -62,44 +62,22 @@ both : (text : List ℕ) (place : ℕ) → two_digits_at text place ≡ true
 both text place digits = and_parts (is_ascii_digit (slice_index text place)) (is_ascii_digit (slice_index text (place + 1))) digits
 
 spelled-small : (text : List ℕ) (place : ℕ) → two_digits_at text place ≡ true → two_digit_value text place ≤ 99
-spelled-small text place digits =
-    let parts = both text place digits in
-    omega (arith, one_digit_value-le (slice_index text place) parts.0, one_digit_value-le (slice_index text (place + 1)) parts.1)
-
-digit-spelled : (byte : ℕ) → is_ascii_digit byte ≡ true → digit (one_digit_value byte) ≡ byte
-digit-spelled byte is = grind (arith, nat_tests)
+spelled-small text place digits = search rules
 
 -- they are the text of the number that they spell
 spelled : (text : List ℕ) (place : ℕ) → two_digits_at text place ≡ true → two_digit_text (two_digit_value text place) ≡ bytes_from place 2 text
-spelled text place digits =
-    let first = slice_index text place in
-    let second = slice_index text (place + 1) in
-    let parts = both text place digits in
-    let low = one_digit_value-le second parts.1 in
-    let tens : two_digit_value text place / 10 ≡ one_digit_value first = omega (arith, low) in
-    let ones : two_digit_value text place % 10 ≡ one_digit_value second = omega (arith, low) in
-    rw (tens, ones, digit-spelled first parts.0, digit-spelled second parts.1) refl
+spelled text place digits = search rules
 
 -- so they are two digits of the rules where the number is in its range
 two-digits : (highest : ℕ) (text : List ℕ) (place : ℕ) → two_digits_at text place ≡ true → nat_le (two_digit_value text place) highest ≡ true
     → IsTwoDigits highest (bytes_from place 2 text)
-two-digits highest text place digits small =
-    record { number = two_digit_value text place; within = leb-true _ highest small; together = sym (spelled text place digits) }
+two-digits highest text place digits small = search (rules, leb-true, spelled)
 
 -- a fraction of all the digits that follow
 secfrac-of : (behavior : MicrosecondsPrecisionOverflowBehavior) (digits : List ℕ) → nat_lt 0 (prefix_len is_ascii_digit digits) ≡ true
     → (refuses_digits behavior implies nat_le (prefix_len is_ascii_digit digits) 6) ≡ true
     → IsSecfrac behavior (full_stop ∷ take (prefix_len is_ascii_digit digits) digits)
-secfrac-of behavior digits some few =
-    let run = prefix_len is_ascii_digit digits in
-    let long = length-take-le run digits (prefix_len-le-length is_ascii_digit digits) in
-    record {
-      digits = take run digits;
-      are_digits = run-digits digits;
-      some = omega (arith, ltb-true 0 run some, long);
-      few = λ refuses. omega (arith, leb-true run 6 (rw refuses at few), long);
-      together = refl;
-    }
+secfrac-of behavior digits some few = grind (arith, leb-true, ltb-true, length-take-le, prefix_len-le-length, run-digits)
 
 -- a clock that was read is one of the rules if its second is there
 clock-of : (behavior : MicrosecondsPrecisionOverflowBehavior) (a b c d e f g h : ℕ) (more fraction : List ℕ) (clock : Clock)
@@ -150,14 +128,10 @@ clock-parts behavior a b c d e f g h (mark ∷ digits) clock true there read sec
 
 -- one of two bytes
 one-of : (byte first second : ℕ) → ((byte == first) || (byte == second)) ≡ true → (byte ≡ first) ⊎ (byte ≡ second)
-one-of byte first second some = elim (or_cases (byte == first) (byte == second) some) [
-  | inl is ↦ inl (eqb-true byte first is)
-  | inr is ↦ inr (eqb-true byte second is)
-]
+one-of byte first second some = search rules
 
 either : (P : ℕ → Type 0) (byte first second : ℕ) → P first → P second → (byte ≡ first) ⊎ (byte ≡ second) → P byte
-either P byte first second one other (inl is) = subst P (sym is) one
-either P byte first second one other (inr is) = subst P (sym is) other
+either P byte first second one other is = search rules
 
 -- a sign is not UTC itself
 no_utc : (byte : ℕ) (other : Bool) → is_plus_or_minus byte ≡ true → (is_utc byte || other) ≡ true → other ≡ true
@@ -200,8 +174,7 @@ offset-all (byte ∷ numbers) rows =
     (λ none other nothing one. absurd (omega (arith, one)))
 
 size-five : (point : Bool) (run : ℕ) → 5 ≤ minute_size true point run
-size-five true run = omega arith
-size-five false run = omega arith
+size-five point run = search rules
 
 partial-time-of : (behavior : MicrosecondsPrecisionOverflowBehavior) (text : List ℕ) (clock : Clock) → clock_front behavior text ≡ Ok clock
     → clock.size ≤ length text → (slice_index text 5 == colon) ≡ true → (slice_index text 8 == comma) ≡ false
@@ -336,11 +309,7 @@ full-time-taken behavior text is =
 -- the digits of a year
 year-spelled : (text : List ℕ) → two_digits_at text 0 ≡ true → two_digits_at text 2 ≡ true
     → four_digit_text (four_digit_value text 0) ≡ bytes_from 0 4 text
-year-spelled text century year =
-    let small = spelled-small text 2 year in
-    let high : four_digit_value text 0 / 100 ≡ two_digit_value text 0 = omega (arith, small) in
-    let low : four_digit_value text 0 % 100 ≡ two_digit_value text 2 = omega (arith, small) in
-    rw (high, low) (ap₂ (λ (x y : List ℕ). x ++ y) (spelled text 0 century) (spelled text 2 year))
+year-spelled text century year = search rules
 
 in-range : (low high n : ℕ) → is_in_range low high n ≡ true → IsInRange low high n
 in-range low high n within = grind (arith, nat_tests)
@@ -414,16 +383,7 @@ strict : {A B : Type 0} (view : A → B) (result : Result A ParseError) (rows : 
     → result_map view result ≡ result_and_then (λ (read : B). meets rows (Ok read)) answer
     → ((value : B) → answer ≡ Ok value → AllHold rows → IsOne)
     → (IsOne → (value : B) × ((answer ≡ Ok value) × AllHold rows)) → IsOk result ↔ IsOne
-strict {B = B} view (Ok value) rows answer IsOne is to from =
-    let read = and_then-ok (λ (found : B). meets rows (Ok found)) answer (view value) (sym is) in
-    (λ ok. to read.0 read.1 (meets-value rows read.0 (view value) read.2).0, λ one. refl)
-strict {B = B} view (Err refused) rows answer IsOne is to from = (
-  λ ok. absurd (cc),
-  λ one.
-      let taken = from one in
-      let never = is ∙ ap (result_and_then (λ (found : B). meets rows (Ok found))) taken.1.0 ∙ meets-all rows (Ok taken.0) taken.1.1 in
-      absurd (cc),
-)
+strict view result rows answer IsOne is to from = grind (arith, nat_tests, meets-all, meets-value)
 
 -- so a text is taken if and only if it is one of the rules
 pub time-standard : (behavior : MicrosecondsPrecisionOverflowBehavior) (text : List ℕ) (result : Result Time ParseError)

@@ -3,20 +3,17 @@
 use Rattle.std.specs.Prelude.{◌≡◌, ℕ, ◌+◌, ◌≤◌, Bool, true, false, not, ◌&&◌, ◌||◌, List, [], ◌∷◌, ◌++◌, length, slice_index, drop, ◌==◌, if◌then◌else◌, Option, ℤ, Result, Ok, refl}
 use Rattle.std.specs.Char.{is_ascii_digit}
 use Rattle.std.specs.Option.{is_some}
-use Rattle.std.proofs.Common.{arith, ◌∙◌, ap, sym}
+use Rattle.std.proofs.Common.{rules, arith, ◌∙◌, ap, sym}
 use Rattle.std.proofs.Math.Bool.{or-and_distrib_left}
-use Rattle.std.proofs.lemmas.Bool.{and_parts, le-leb, eqb-true}
+use Rattle.std.proofs.lemmas.Bool.{and_parts, eqb-true}
 use Rattle.std.proofs.lemmas.List.{append-nil}
 use Rattle.speedate_base.specs.declared.config.MicrosecondsPrecisionOverflowBehavior.{MicrosecondsPrecisionOverflowBehavior}
-use Rattle.speedate_base.specs.declared.config.MicrosecondsPrecisionOverflowBehavior.TheVariants as behavior
 use Rattle.speedate_base.specs.declared.faults.ParseError.{ParseError}
 use Rattle.speedate_base.specs.Ascii.{colon, full_stop}
 use Rattle.speedate_base.specs.Digits.{two_digit_text, six_digit_text}
-use Rattle.speedate_base.proofs.DigitLemmas.{two_digits-printed, two_digit_value-printed}
 use Rattle.speedate_base.specs.Offset.{IsWholeMinutes}
-use Rattle.speedate_base.specs.Requirement.{alone, result_map, result_and_then}
+use Rattle.speedate_base.specs.Requirement.{alone, result_and_then}
 use Rattle.speedate_base.proofs.RequirementLemmas.{alone-whole}
-use Rattle.speedate_base.proofs.TextLemmas.{text-distinct}
 use Rattle.speedate_civil.specs.ClockText.{Clock, at_hour, clock_answer, clock_front, is_decimal_mark, minute_text}
 use Rattle.speedate_civil.proofs.ClockLemmas.{clock-whole, clock-fraction}
 use Rattle.speedate_civil.specs.OffsetText.{begins_offset, end_fault, offset_front, offset_text}
@@ -34,20 +31,14 @@ time_front-after behavior text clock offset read after = rw (sym read, after) re
 pub front-printed : (behavior : MicrosecondsPrecisionOverflowBehavior) (hour minute second : ℕ) (tail : List ℕ) (clock : Clock)
     → hour ≤ 23 → minute ≤ 59 → clock_answer behavior (minute_text minute second ++ tail) ≡ Ok clock
     → clock_front behavior (two_digit_text hour ++ colon ∷ minute_text minute second ++ tail) ≡ Ok (at_hour hour clock)
-front-printed behavior hour minute second tail clock small_hour small_minute answer =
-    let text = two_digit_text hour ++ colon ∷ minute_text minute second ++ tail in
-    let long : 5 ≤ length text = omega arith in
-    rw (le-leb 5 (length text) long, two_digits-printed hour (omega arith), two_digits-printed minute (omega arith), two_digit_value-printed hour, le-leb hour 23 small_hour)
-    (ap (result_map (at_hour hour)) answer)
+front-printed behavior hour minute second tail clock small_hour small_minute answer = search rules
 
 -- what follows is neither
 neither : (some first second : Bool) → (some || (not first && not second)) ≡ true → ((some || not first) ≡ true) × ((some || not second) ≡ true)
 neither some first second ends = and_parts (some || not first) (some || not second) (sym (or-and_distrib_left some (not first) (not second)) ∙ ends)
 
 nothing : (some none : Bool) → (some || (not (if none then false else false) && true)) ≡ true
-nothing true none = refl
-nothing false true = refl
-nothing false false = refl
+nothing some none = search rules
 
 text-front : (behavior : MicrosecondsPrecisionOverflowBehavior) (time : TimeOfDay) (rest : List ℕ) (none : Bool) → IsTime time → IsWholeMinutes time.offset
     → is_after_time time rest ≡ true → (time.microsecond == 0) ≡ none
@@ -86,10 +77,3 @@ time_text-reads behavior time valid whole =
     let fault = λ (read : TimeOfDay). end_fault read.offset in
     let front = sym (ap (time_front behavior) (append-nil text)) ∙ time_text-front behavior time [] valid whole (nothing-after time) in
     ap (result_and_then (alone fault text)) front ∙ alone-whole fault text time (length text) refl
-
--- two such times with the same text are equal
-pub time_text-distinct : (first second : TimeOfDay) → IsTime first → IsTime second → IsWholeMinutes first.offset → IsWholeMinutes second.offset
-    → time_text first ≡ time_text second → first ≡ second
-time_text-distinct first second one two whole_one whole_two =
-    text-distinct time_text (time_answer behavior.Error) first second
-    (time_text-reads behavior.Error first one whole_one) (time_text-reads behavior.Error second two whole_two)
