@@ -73,18 +73,14 @@ ordinal-late : (year day days : ℕ) → days + february_length year ≡ day + 3
     → IsOrdinal year day (long_month days) (day_in_month days)
 ordinal-late year day days moved valid = grind (arith, nat_tests, late-month)
 
-pub ordinal-is : (year day : ℕ) → day < year_length year →
-    IsOrdinal year day (long_month (long_day year day)) (day_in_month (long_day year day))
-ordinal-is year day few =
+pub ordinal-at : (year day days : ℕ) → day < year_length year → days ≡ long_day year day
+    → IsOrdinal year day (long_month days) (day_in_month days)
+ordinal-at year day days few is =
     let length = year_length-is year in
     let february = february_length-is year in
     let small = leap_day-small year in
-    if_cases (λ (days : ℕ). IsOrdinal year day (long_month days) (day_in_month days)) (nat_lt day (31 + february_length year)) day _
+    rw is (if_cases (λ (days : ℕ). IsOrdinal year day (long_month days) (day_in_month days)) (nat_lt day (31 + february_length year)) day _
     (λ early. ordinal-early year day (ltb-true _ _ early))
     (λ late.
     let from_march = ltb-false _ _ late in
-    ordinal-late year day (day + 30 - february_length year) (omega arith) (omega arith, omega arith))
-
-pub ordinal-at : (year day days : ℕ) → day < year_length year → days ≡ long_day year day
-    → IsOrdinal year day (long_month days) (day_in_month days)
-ordinal-at year day days few is = rw is (ordinal-is year day few)
+    ordinal-late year day (day + 30 - february_length year) (omega arith) (omega arith, omega arith)))
