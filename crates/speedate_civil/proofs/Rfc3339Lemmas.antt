@@ -1,5 +1,5 @@
 -- The texts of RFC 3339 by its rules are those that the strict readers take.
-use Rattle.std.specs.Prelude.{◌≡◌, ◌⊎◌, ℕ, ◌+◌, ◌*◌, ◌≤◌, zero, suc, Bool, true, false, ◌||◌, ◌==◌, List, [], ◌∷◌, ◌++◌, length, take, drop, nat_le, nat_lt, slice_index, if◌then◌else◌, Option, Some, ℤ, IfOk, Result, Ok, refl, ◌↔◌}
+use Rattle.std.specs.Prelude.{◌≡◌, ◌⊎◌, ℕ, ◌+◌, ◌*◌, ◌≤◌, zero, suc, Bool, true, false, ◌||◌, ◌==◌, List, [], ◌∷◌, ◌++◌, length, take, drop, nat_le, nat_lt, slice_index, if◌then◌else◌, Option, Some, ℤ, pos, IfOk, Result, Ok, refl, ◌↔◌}
 use Rattle.std.specs.Char.{is_ascii_digit}
 use Rattle.std.specs.Int.{is_in_range, IsInRange}
 use Rattle.std.specs.List.{prefix_len}
@@ -211,38 +211,33 @@ record OffsetRead (text : List ℕ) : Type 0 where
   no_mark : is_decimal_mark (slice_index text 0) ≡ false
   standard : AllHold (standard_offset text)
 
-numoffset-read : (west : Bool) (hour minute : ℕ) → hour ≤ 23 → minute ≤ 59
-    → OffsetRead ((if west then hyphen else plus_sign) ∷ two_digit_text hour ++ colon ∷ two_digit_text minute)
-numoffset-read west hour minute small_hour small_minute =
-    let hour_is = two_digit_value-printed hour in
-    let minute_is = two_digit_value-printed minute in
-    let is : signed_front west 1 (two_digit_text hour ++ colon ∷ two_digit_text minute) ≡ Ok (Some (with_sign west (3600 * hour + 60 * minute)), 6) =
-    let hours = two_digits-printed hour (omega arith) in
-    let minutes = two_digits-printed minute (omega arith) in
-    rw (hours, minutes, hour_is, minute_is, le-leb minute 59 small_minute, lt-ltb (3600 * hour + 60 * minute) seconds_per_day (omega arith)) refl in
-    signed west is
-  where
-    signed : (negative : Bool)
-        → signed_front negative 1 (two_digit_text hour ++ colon ∷ two_digit_text minute) ≡ Ok (Some (with_sign negative (3600 * hour + 60 * minute)), 6)
-        → OffsetRead ((if negative then hyphen else plus_sign) ∷ two_digit_text hour ++ colon ∷ two_digit_text minute)
-    signed true is = record { front = _; read = is; whole = refl; no_digit = refl; no_mark = refl; standard = (refl, (refl, (refl, tt))) }
-    signed false is = record { front = _; read = is; whole = refl; no_digit = refl; no_mark = refl; standard = (refl, (refl, (refl, tt))) }
+numoffset-read : (sign hour minute : ℕ) → (sign ≡ plus_sign) ⊎ (sign ≡ hyphen) → hour ≤ 23 → minute ≤ 59
+    → OffsetRead (sign ∷ two_digit_text hour ++ colon ∷ two_digit_text minute)
+numoffset-read sign hour minute is small_hour small_minute = record {
+  front = (Some (with_sign (sign == hyphen) (3600 * hour + 60 * minute)), 6);
+  read = search rules;
+  whole = refl;
+  no_digit = search rules;
+  no_mark = search rules;
+  standard = search rules;
+}
 
-utc-read : (text : List ℕ) → (text ≡ capital_z ∷ []) ⊎ (text ≡ small_z ∷ []) → OffsetRead text
-utc-read text (inl is) =
-    subst OffsetRead (sym is)
-    (record { front = _; read = refl; whole = refl; no_digit = refl; no_mark = refl; standard = (refl, (refl, (refl, tt))) })
-utc-read text (inr is) =
-    subst OffsetRead (sym is)
-    (record { front = _; read = refl; whole = refl; no_digit = refl; no_mark = refl; standard = (refl, (refl, (refl, tt))) })
+utc-read : (byte : ℕ) → (byte ≡ capital_z) ⊎ (byte ≡ small_z) → OffsetRead (byte ∷ [])
+utc-read byte is = record {
+  front = (Some (pos 0), 1);
+  read = search rules;
+  whole = refl;
+  no_digit = search rules;
+  no_mark = search rules;
+  standard = search rules;
+}
 
 offset-read : (text : List ℕ) → IsTimeOffset text → OffsetRead text
-offset-read text (inl is) = utc-read text (inl is)
-offset-read text (inr (inl is)) = utc-read text (inr is)
+offset-read text (inl is) = subst OffsetRead (sym is) (utc-read capital_z (inl refl))
+offset-read text (inr (inl is)) = subst OffsetRead (sym is) (utc-read small_z (inr refl))
 offset-read text (inr (inr is)) =
     subst OffsetRead (sym (is.together ∙ ap₂ (λ (hour minute : List ℕ). is.sign ∷ hour ++ colon ∷ minute) is.is_hour.together is.is_minute.together))
-    (either (λ (byte : ℕ). OffsetRead (byte ∷ two_digit_text is.is_hour.number ++ colon ∷ two_digit_text is.is_minute.number)) is.sign plus_sign hyphen
-    (numoffset-read false _ _ is.is_hour.within is.is_minute.within) (numoffset-read true _ _ is.is_hour.within is.is_minute.within) is.is_sign)
+    (numoffset-read is.sign is.is_hour.number is.is_minute.number is.is_sign is.is_hour.within is.is_minute.within)
 
 -- a text that the strict reader takes
 abbrev Taken : MicrosecondsPrecisionOverflowBehavior → List ℕ → Type 0
