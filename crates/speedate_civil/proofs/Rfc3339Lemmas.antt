@@ -6,7 +6,7 @@ use Rattle.std.specs.List.{prefix_len}
 use Rattle.std.specs.Result.{IsOk}
 use Rattle.std.proofs.Common.{rules, arith, ap, ap₂, subst, sym, ◌∙◌, inl, inr}
 use Rattle.std.proofs.Math.Seq.{drop-append_seam}
-use Rattle.std.proofs.lemmas.Bool.{and_parts, le-leb, lt-ltb, leb-true, ltb-true, eqb-true, not-true}
+use Rattle.std.proofs.lemmas.Bool.{and_parts, le-leb, leb-true, ltb-true, eqb-true, not-true}
 use Rattle.std.proofs.lemmas.Bool.Decides.{nat_tests}
 use Rattle.std.proofs.lemmas.List.{drop_more, get_or-drop, length-append, length-drop, length-take-le, nil_from_length, take_all, take-append-drop}
 use Rattle.std.proofs.lemmas.List.Sums.{prefix_len-le-length}
@@ -16,7 +16,6 @@ use Rattle.speedate_base.specs.Ascii.{colon, comma, full_stop, hyphen, plus_sign
 use Rattle.speedate_base.specs.DigitRuns.{run_length}
 use Rattle.speedate_base.proofs.DigitRunLemmas.{run_length-append}
 use Rattle.speedate_base.specs.Digits.{two_digits_at, two_digit_text, two_digit_value, four_digit_text, four_digit_value}
-use Rattle.speedate_base.proofs.DigitLemmas.{two_digits-printed, two_digit_value-printed}
 use Rattle.speedate_base.specs.Numbers.{with_sign}
 use Rattle.speedate_base.proofs.NumberLemmas.{run-digits}
 use Rattle.speedate_base.specs.Offset.{seconds_per_day}
