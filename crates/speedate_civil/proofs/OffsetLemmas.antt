@@ -1,5 +1,5 @@
 -- Offsets at the front of a text, by what they begin with; and a printed offset of whole minutes is read as itself.
-use Rattle.std.specs.Prelude.{◌≡◌, ℕ, zero, suc, ◌+◌, ◌%◌, ◌<◌, Bool, true, false, not, ◌||◌, List, ◌∷◌, ◌++◌, length, drop, ◌==◌, slice_index, Option, Some, None, ℤ, pos, negsuc, Result, Ok, refl}
+use Rattle.std.specs.Prelude.{◌≡◌, ℕ, zero, suc, ◌%◌, ◌<◌, Bool, true, false, not, ◌||◌, List, ◌∷◌, ◌++◌, length, drop, ◌==◌, slice_index, Option, Some, None, ℤ, pos, negsuc, Result, Ok, refl}
 use Rattle.std.specs.Option.{ForSome, is_some}
 use Rattle.std.proofs.Common.{rules, arith}
 use Rattle.std.proofs.lemmas.Bool.{le-ltb, ne_eqb}

@@ -1,5 +1,5 @@
 use Rattle.std.proofs.lemmas.Grind.{common_steps}
-use Rattle.std.proofs.Common.{arith, sym, false}
+use Rattle.std.proofs.Common.{arith, sym}
 use Rattle.speedate_base.proofs.RequirementLemmas.{alone-iff}
 use Rattle.speedate_civil.specs.Calendar.{Ymd}
 use Rattle.speedate_base.specs.declared.faults.ParseError.TheVariants as fault
