@@ -36,8 +36,8 @@ month_is year =
     (omega arith, refl)) (omega arith, refl)) (omega arith, refl)) (omega arith, refl)) (omega arith, refl)) (omega arith, refl)
 
 -- the days before a month
-pub days_of_months-is : (year month : ℕ) → IsInRange 1 12 month → days_of_months year (month - 1) + missing year month ≡ long_days month
-days_of_months-is year month valid = grind (arith, month_is)
+pub days_of_months_is : (year month : ℕ) → IsInRange 1 12 month → days_of_months year (month - 1) + missing year month ≡ long_days month
+days_of_months_is year month valid = grind (arith, month_is)
 
 -- a day of the year, counted from 0, as if February had 30 days
 abbrev pub long_day : ℕ → ℕ → ℕ
@@ -62,7 +62,7 @@ long_day-small year day few = grind (arith, nat_tests, year_length-is)
 
 -- in January and February the line through the months has what the months have
 ordinal-early : (year day : ℕ) → day < 31 + february_length year → IsOrdinal year day (long_month day) (day_in_month day)
-ordinal-early year day early = grind (arith, nat_tests, days_of_months-is)
+ordinal-early year day early = grind (arith, nat_tests, days_of_months_is)
 
 -- from March on it lags by what February lacks
 late-month : (year month : ℕ) → IsInRange 3 12 month
