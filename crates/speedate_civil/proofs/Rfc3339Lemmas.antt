@@ -1,7 +1,6 @@
 -- The texts of RFC 3339 by its rules are those that the strict readers take.
-use Rattle.std.specs.Prelude.{◌≡◌, ◌⊎◌, ℕ, ◌+◌, ◌*◌, ◌≤◌, zero, suc, Bool, true, false, ◌||◌, ◌==◌, List, [], ◌∷◌, ◌++◌, length, take, drop, nat_le, nat_lt, slice_index, if◌then◌else◌, Option, Some, ℤ, pos, IfOk, Result, Ok, refl, ◌↔◌}
+use Rattle.std.specs.Prelude.{◌≡◌, ◌⊎◌, ℕ, ◌+◌, ◌*◌, ◌≤◌, zero, suc, Bool, true, false, ◌==◌, List, [], ◌∷◌, ◌++◌, length, take, drop, nat_le, nat_lt, slice_index, if◌then◌else◌, Option, Some, ℤ, pos, IfOk, Result, Ok, refl, ◌↔◌}
 use Rattle.std.specs.Char.{is_ascii_digit}
-use Rattle.std.specs.Int.{is_in_range, IsInRange}
 use Rattle.std.specs.List.{prefix_len}
 use Rattle.std.specs.Result.{IsOk}
 use Rattle.std.proofs.Common.{rules, arith, ap, ap₂, subst, sym, ◌∙◌, inl, inr}
@@ -24,7 +23,7 @@ use Rattle.speedate_base.specs.Requirement.{Requirement, ◌implies◌, AllHold,
 use Rattle.speedate_base.proofs.RequirementLemmas.{alone-iff, alone-whole, meets-all, meets-ok, meets-value}
 use Rattle.speedate_civil.specs.declared.datetime.DateTime.{DateTime}
 use Rattle.speedate_civil.specs.declared.time.Time.{Time}
-use Rattle.speedate_civil.specs.Calendar.{Ymd, IsDate, month_length}
+use Rattle.speedate_civil.specs.Calendar.{Ymd, IsDate}
 use Rattle.speedate_civil.specs.ClockText.{Clock, clock_front, has_point, has_second, is_decimal_mark, minute_text}
 use Rattle.speedate_civil.proofs.ClockLemmas.{run_length-none, clock-secfrac, clock-whole}
 use Rattle.speedate_civil.specs.DateAndTime.{DateAndTime}
@@ -33,7 +32,7 @@ use Rattle.speedate_civil.proofs.DateLemmas.{date_text-front}
 use Rattle.speedate_civil.specs.DateTime.{parts as date_time_parts}
 use Rattle.speedate_civil.specs.DateTimeText.{date_time_answer, date_time_front, is_separator, separator_table}
 use Rattle.speedate_civil.proofs.FrontLemmas.{ClockRead, bytes_from, clock-read, clock-size, date_time_front-is, minute_size, time_front-is}
-use Rattle.speedate_civil.specs.OffsetText.{end_fault, is_plus_or_minus, is_utc, offset_digits, offset_front, offset_ranges, signed_front}
+use Rattle.speedate_civil.specs.OffsetText.{end_fault, is_plus_or_minus, offset_digits, offset_front, offset_ranges, signed_front}
 use Rattle.speedate_civil.proofs.OffsetLemmas.{offset-cases}
 use Rattle.speedate_civil.proofs.ReadLemmas.{read-rows, read-then, read-value}
 use Rattle.speedate_civil.specs.Rfc3339Text.{IsFullDate, IsDateTime, IsTwoDigits, IsSecfrac, IsPartialTime, IsNumoffset, IsTimeOffset, IsFullTime}
@@ -54,14 +53,6 @@ bytes-are (suc count) place text within =
 split : (P : List ℕ → Type 0) (count : ℕ) (text : List ℕ) → count ≤ length text → P (bytes_from 0 count text ++ drop count text) → P text
 split P count text within =
     subst P (ap (λ (front : List ℕ). front ++ drop count text) (sym (bytes-are count 0 text (omega (arith, within)))) ∙ take-append-drop count text)
-
--- two digits, each by itself
-both : (text : List ℕ) (place : ℕ) → two_digits_at text place ≡ true
-    → (is_ascii_digit (slice_index text place) ≡ true) × (is_ascii_digit (slice_index text (place + 1)) ≡ true)
-both text place digits = and_parts (is_ascii_digit (slice_index text place)) (is_ascii_digit (slice_index text (place + 1))) digits
-
-spelled-small : (text : List ℕ) (place : ℕ) → two_digits_at text place ≡ true → two_digit_value text place ≤ 99
-spelled-small text place digits = search rules
 
 -- they are the text of the number that they spell
 spelled : (text : List ℕ) (place : ℕ) → two_digits_at text place ≡ true → two_digit_text (two_digit_value text place) ≡ bytes_from place 2 text
@@ -125,17 +116,6 @@ clock-parts behavior a b c d e f g h (mark ∷ digits) clock true there read sec
       rw there (omega (arith, size)),
     )
 
--- one of two bytes
-one-of : (byte first second : ℕ) → ((byte == first) || (byte == second)) ≡ true → (byte ≡ first) ⊎ (byte ≡ second)
-one-of byte first second some = search rules
-
-either : (P : ℕ → Type 0) (byte first second : ℕ) → P first → P second → (byte ≡ first) ⊎ (byte ≡ second) → P byte
-either P byte first second one other is = search rules
-
--- a sign is not UTC itself
-no_utc : (byte : ℕ) (other : Bool) → is_plus_or_minus byte ≡ true → (is_utc byte || other) ≡ true → other ≡ true
-no_utc byte other sign some = grind (arith, nat_tests)
-
 -- an offset with a sign is one of the rules if it has its `:` and takes all bytes
 numoffset : (byte : ℕ) (numbers : List ℕ) → is_plus_or_minus byte ≡ true → (slice_index numbers 2 == colon) ≡ true
     → IfOk (signed_front (byte == hyphen) 1 numbers) (λ front. front.1 ≡ length (byte ∷ numbers) → IsTimeOffset (byte ∷ numbers))
@@ -152,7 +132,7 @@ numoffset byte numbers some there =
       sign = byte;
       hour = bytes_from 0 2 numbers;
       minute = bytes_from 3 2 numbers;
-      is_sign = one-of byte plus_sign hyphen some;
+      is_sign = search rules;
       is_hour = two-digits 23 numbers 0 digits.0 (le-leb _ 23 hour_small);
       is_minute = two-digits 59 numbers 3 minute_digits minute_small;
       together = ap (λ (x : ℕ). byte ∷ slice_index numbers 0 ∷ slice_index numbers 1 ∷ x ∷ slice_index numbers 3 ∷ slice_index numbers 4 ∷ [])
@@ -164,16 +144,13 @@ offset-all : (rest : List ℕ) → AllHold (standard_offset rest) → IfOk (offs
 offset-all [] rows = absurd (cc)
 offset-all (byte ∷ numbers) rows =
     offset-cases (λ answer. IfOk answer (λ front. front.1 ≡ length (byte ∷ numbers) → IsTimeOffset (byte ∷ numbers))) (byte ∷ numbers)
-    (λ some. numoffset byte numbers some (no_utc byte _ some rows.1.1.0))
+    (λ some. numoffset byte numbers some (search rules))
     (λ none utc one.
     let ended : numbers ≡ [] = nil_from_length numbers (omega (arith, one)) in
     subst (λ (left : List ℕ). IsTimeOffset (byte ∷ left)) (sym ended)
-    (either (λ (b : ℕ). IsTimeOffset (b ∷ [])) byte capital_z small_z (inl refl) (inr (inl refl)) (one-of byte capital_z small_z utc)))
+    (search rules))
     (λ none other there. let not_there = not-true _ rows.1.0 in absurd (cc))
     (λ none other nothing one. absurd (omega (arith, one)))
-
-size-five : (point : Bool) (run : ℕ) → 5 ≤ minute_size true point run
-size-five point run = search rules
 
 partial-time-of : (behavior : MicrosecondsPrecisionOverflowBehavior) (text : List ℕ) (clock : Clock) → clock_front behavior text ≡ Ok clock
     → clock.size ≤ length text → (slice_index text 5 == colon) ≡ true → (slice_index text 8 == comma) ≡ false
@@ -181,7 +158,7 @@ partial-time-of : (behavior : MicrosecondsPrecisionOverflowBehavior) (text : Lis
 partial-time-of behavior text clock read inside second plain =
     let there : has_second (drop 3 text) ≡ true = ap (λ (byte : ℕ). byte == colon) (get_or-drop 3 text 2 0) ∙ second in
     let size = rw there at (clock-size behavior text clock read) in
-    let five = size-five (has_point (drop 3 text)) (run_length (drop 3 text) 6) in
+    let five : 5 ≤ minute_size true (has_point (drop 3 text)) (run_length (drop 3 text) 6) = search rules in
     split (λ (bytes : List ℕ). clock_front behavior bytes ≡ Ok clock → (slice_index bytes 5 == colon) ≡ true → (slice_index bytes 8 == comma) ≡ false
     → IsPartialTime behavior (take clock.size bytes) × (clock.size ≡ offset_place bytes)) 8 text (omega arith)
     (λ same there none. clock-parts behavior _ _ _ _ _ _ _ _ (drop 8 text) clock _ refl same there none) read second plain
@@ -259,21 +236,17 @@ taken-of behavior text offset clock after read rest long second plain place =
       ),
     )
 
--- what is no decimal mark is neither a point nor a comma
-neither : (byte : ℕ) → is_decimal_mark byte ≡ false → ((byte == full_stop) ≡ false) × ((byte == comma) ≡ false)
-neither byte none = (grind (arith, nat_tests), grind (arith, nat_tests))
-
 taken-parts : (behavior : MicrosecondsPrecisionOverflowBehavior) (hour minute second : ℕ) (fraction offset : List ℕ) → hour ≤ 23 → minute ≤ 59 → second ≤ 59
     → (fraction ≡ []) ⊎ IsSecfrac behavior fraction → OffsetRead offset
     → Taken behavior (two_digit_text hour ++ colon ∷ minute_text minute second ++ fraction ++ offset)
 taken-parts behavior hour minute second fraction offset small_hour small_minute small_second (inl none) after =
     let text = two_digit_text hour ++ colon ∷ minute_text minute second ++ offset in
-    let byte = neither (slice_index offset 0) after.no_mark in
+    let point : (slice_index offset 0 == full_stop) ≡ false = search rules in
     subst (λ (part : List ℕ). Taken behavior (two_digit_text hour ++ colon ∷ minute_text minute second ++ part ++ offset)) (sym none)
     (taken-of behavior text offset _ after
     (front-printed behavior hour minute second offset _ small_hour small_minute
-    (clock-whole behavior minute second offset small_minute small_second after.no_mark)) refl (omega arith) refl byte.1
-    (ap (λ (point : Bool). if point then 9 + run_length text 9 else 8) (sym byte.0)))
+    (clock-whole behavior minute second offset small_minute small_second after.no_mark)) refl (omega arith) refl (search rules)
+    (ap (λ (point : Bool). if point then 9 + run_length text 9 else 8) (sym point)))
 taken-parts behavior hour minute second fraction offset small_hour small_minute small_second (inr part) after =
     let digits = part.digits in
     let text = two_digit_text hour ++ colon ∷ minute_text minute second ++ full_stop ∷ digits ++ offset in
@@ -305,9 +278,6 @@ year-spelled : (text : List ℕ) → two_digits_at text 0 ≡ true → two_digit
     → four_digit_text (four_digit_value text 0) ≡ bytes_from 0 4 text
 year-spelled text century year = search rules
 
-in-range : (low high n : ℕ) → is_in_range low high n ≡ true → IsInRange low high n
-in-range low high n within = grind (arith, nat_tests)
-
 full-date-of : (text : List ℕ) → IfOk (date_front text) (λ front. IsFullDate (take 10 text))
 full-date-of text = read-rows (λ (front : Ymd × ℕ). IsFullDate (take 10 text)) (date_table text) _ (λ met.
     let years = and_parts (two_digits_at text 0) (two_digits_at text 2) met.1.0 in
@@ -315,9 +285,9 @@ full-date-of text = read-rows (λ (front : Ymd × ℕ). IsFullDate (take 10 text
       year = four_digit_value text 0;
       month = two_digit_value text 5;
       day = two_digit_value text 8;
-      is_year = omega (arith, spelled-small text 0 years.0, spelled-small text 2 years.1);
-      is_month = in-range 1 12 (two_digit_value text 5) met.1.1.1.1.1.1.0;
-      is_day = in-range 1 (month_length (four_digit_value text 0) (two_digit_value text 5)) (two_digit_value text 8) met.1.1.1.1.1.1.1.0;
+      is_year = search rules;
+      is_month = search rules;
+      is_day = search rules;
       together = λ k. (sym (year-spelled text years.0 years.1)) k ++ (eqb-true (slice_index text 4) hyphen met.1.1.0) k
           ∷ (sym (spelled text 5 met.1.1.1.0)) k ++ (eqb-true (slice_index text 7) hyphen met.1.1.1.1.0) k ∷ (sym (spelled text 8 met.1.1.1.1.1.0)) k;
     }))
@@ -334,7 +304,7 @@ date-time-of behavior text rows =
       separator = slice_index text 10;
       time = rest;
       is_date = read-value _ (date_front text) date dated (full-date-of text);
-      is_separator = one-of (slice_index text 10) capital_t small_t rows.0;
+      is_separator = search rules;
       is_time = read-value _ _ time read (full-time-of behavior rest rows.1) (omega (arith, whole, length-drop 11 text));
       together = sym (take-append-drop 10 text) ∙ ap (λ (left : List ℕ). take 10 text ++ left) (drop_more text 10 0 (omega (arith, whole)));
     }))
@@ -348,7 +318,7 @@ date-time-parts behavior date separator time valid parted value read =
     let fault_of = λ (read_value : DateAndTime). end_fault read_value.time.offset in
     let front = (alone-iff (λ (read_time : TimeOfDay). end_fault read_time.offset) time (time_front behavior time) value).0 read in
     let long : length text ≡ 11 + length time = omega arith in
-    let separated : is_separator separator ≡ true = either (λ (byte : ℕ). is_separator byte ≡ true) separator capital_t small_t refl refl parted in
+    let separated : is_separator separator ≡ true = search rules in
     let is = date_time_front-is behavior text (date, 10) (value, length time) (date_text-front date (separator ∷ time) valid) (separated, tt) front in
     ap (result_and_then (alone fault_of text)) is ∙ alone-whole fault_of text whole (11 + length time) long
 
@@ -368,7 +338,7 @@ date-time-taken behavior text is =
       value,
       (
         date-time-parts behavior date is.separator is.time valid is.is_separator taken.0 taken.1.0,
-        (either (λ (byte : ℕ). ((byte == capital_t) || (byte == small_t)) ≡ true) is.separator capital_t small_t refl refl is.is_separator, taken.1.1),
+        (search rules, taken.1.1),
       ),
     )
 
