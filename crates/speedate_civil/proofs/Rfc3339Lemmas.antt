@@ -86,7 +86,7 @@ clock-of behavior a b c d e f g h more fraction clock rows second part =
       is_minute = two-digits 59 text 3 rows.digits.0 rows.minute.0;
       is_second = two-digits 59 text 6 digits small;
       is_fraction = part;
-      together = ap₂ (λ (x y : ℕ). a ∷ b ∷ x ∷ d ∷ e ∷ y ∷ g ∷ h ∷ fraction) (eqb-true c colon rows.hour.1.1.0) (eqb-true f colon second);
+      together = search rules;
     }
 
 -- and its mark is no comma; the offset follows it
@@ -135,8 +135,7 @@ numoffset byte numbers some there =
       is_sign = search rules;
       is_hour = two-digits 23 numbers 0 digits.0 (le-leb _ 23 hour_small);
       is_minute = two-digits 59 numbers 3 minute_digits minute_small;
-      together = ap (λ (x : ℕ). byte ∷ slice_index numbers 0 ∷ slice_index numbers 1 ∷ x ∷ slice_index numbers 3 ∷ slice_index numbers 4 ∷ [])
-          (eqb-true (slice_index numbers 2) colon there);
+      together = search rules;
     })))))
 
 -- an offset of the rules, by what it begins with
@@ -273,11 +272,6 @@ full-time-taken behavior text is =
     (taken-parts behavior time.is_hour.number time.is_minute.number time.is_second.number time.fraction is.offset time.is_hour.within time.is_minute.within time.is_second.within
     time.is_fraction (offset-read is.offset is.is_offset))
 
--- the digits of a year
-year-spelled : (text : List ℕ) → two_digits_at text 0 ≡ true → two_digits_at text 2 ≡ true
-    → four_digit_text (four_digit_value text 0) ≡ bytes_from 0 4 text
-year-spelled text century year = search rules
-
 full-date-of : (text : List ℕ) → IfOk (date_front text) (λ front. IsFullDate (take 10 text))
 full-date-of text = read-rows (λ (front : Ymd × ℕ). IsFullDate (take 10 text)) (date_table text) _ (λ met.
     let years = and_parts (two_digits_at text 0) (two_digits_at text 2) met.1.0 in
@@ -288,8 +282,7 @@ full-date-of text = read-rows (λ (front : Ymd × ℕ). IsFullDate (take 10 text
       is_year = search rules;
       is_month = search rules;
       is_day = search rules;
-      together = λ k. (sym (year-spelled text years.0 years.1)) k ++ (eqb-true (slice_index text 4) hyphen met.1.1.0) k
-          ∷ (sym (spelled text 5 met.1.1.1.0)) k ++ (eqb-true (slice_index text 7) hyphen met.1.1.1.1.0) k ∷ (sym (spelled text 8 met.1.1.1.1.1.0)) k;
+      together = search rules;
     }))
 
 -- what the strict reader takes as a date-time is one by the rules
