@@ -5,7 +5,7 @@ use Rattle.std.specs.List.{prefix_len}
 use Rattle.std.specs.Result.{IsOk}
 use Rattle.std.proofs.Common.{rules, arith, ap, ap₂, subst, sym, ◌∙◌, inl, inr}
 use Rattle.std.proofs.Math.Seq.{drop-append_seam}
-use Rattle.std.proofs.lemmas.Bool.{and_parts, le-leb, leb-true, ltb-true, eqb-true, not-true}
+use Rattle.std.proofs.lemmas.Bool.{leb-true, ltb-true, eqb-true, not-true}
 use Rattle.std.proofs.lemmas.Bool.Decides.{nat_tests}
 use Rattle.std.proofs.lemmas.List.{drop_more, get_or-drop, length-append, length-drop, length-take-le, nil_from_length, take_all, take-append-drop}
 use Rattle.std.proofs.lemmas.List.Sums.{prefix_len-le-length}
@@ -14,10 +14,9 @@ use Rattle.speedate_base.specs.declared.faults.ParseError.{ParseError}
 use Rattle.speedate_base.specs.Ascii.{colon, comma, full_stop, hyphen, plus_sign, capital_t, capital_z, small_t, small_z}
 use Rattle.speedate_base.specs.DigitRuns.{run_length}
 use Rattle.speedate_base.proofs.DigitRunLemmas.{run_length-append}
-use Rattle.speedate_base.specs.Digits.{two_digits_at, two_digit_text, two_digit_value, four_digit_text, four_digit_value}
+use Rattle.speedate_base.specs.Digits.{two_digits_at, two_digit_text, two_digit_value, four_digit_value}
 use Rattle.speedate_base.specs.Numbers.{with_sign}
 use Rattle.speedate_base.proofs.NumberLemmas.{run-digits}
-use Rattle.speedate_base.specs.Offset.{seconds_per_day}
 use Rattle.speedate_base.specs.Config.{refuses_digits}
 use Rattle.speedate_base.specs.Requirement.{Requirement, ◌implies◌, AllHold, alone, meets, result_map, result_and_then}
 use Rattle.speedate_base.proofs.RequirementLemmas.{alone-iff, alone-whole, meets-all, meets-ok, meets-value}
@@ -121,20 +120,15 @@ numoffset : (byte : ℕ) (numbers : List ℕ) → is_plus_or_minus byte ≡ true
     → IfOk (signed_front (byte == hyphen) 1 numbers) (λ front. front.1 ≡ length (byte ∷ numbers) → IsTimeOffset (byte ∷ numbers))
 numoffset byte numbers some there =
     read-rows _ (offset_digits numbers) _ (λ digits. read-rows _ (offset_ranges numbers) _ (λ ranges whole.
-    let minute_digits = rw there at digits.1.0 in
-    let minute_small = rw there at ranges.0 in
-    let small = rw there at ranges.1.0 in
-    let size = rw there at whole in
-    let five : length numbers ≡ 5 = omega (arith, size) in
-    let hour_small : two_digit_value numbers 0 ≤ 23 = omega (arith, ltb-true _ seconds_per_day small) in
+    let five : length numbers ≡ 5 = search rules in
     inr (inr (subst (λ (text : List ℕ). IsNumoffset (byte ∷ text)) (sym (bytes-are 5 0 numbers (omega (arith, five))) ∙ take_all 5 numbers (omega (arith, five)))
     (record {
       sign = byte;
       hour = bytes_from 0 2 numbers;
       minute = bytes_from 3 2 numbers;
       is_sign = search rules;
-      is_hour = two-digits 23 numbers 0 digits.0 (le-leb _ 23 hour_small);
-      is_minute = two-digits 59 numbers 3 minute_digits minute_small;
+      is_hour = two-digits 23 numbers 0 digits.0 (search rules);
+      is_minute = two-digits 59 numbers 3 (search rules) (search rules);
       together = search rules;
     })))))
 
@@ -274,7 +268,6 @@ full-time-taken behavior text is =
 
 full-date-of : (text : List ℕ) → IfOk (date_front text) (λ front. IsFullDate (take 10 text))
 full-date-of text = read-rows (λ (front : Ymd × ℕ). IsFullDate (take 10 text)) (date_table text) _ (λ met.
-    let years = and_parts (two_digits_at text 0) (two_digits_at text 2) met.1.0 in
     subst IsFullDate (sym (bytes-are 10 0 text (leb-true 10 (length text) met.0))) (record {
       year = four_digit_value text 0;
       month = two_digit_value text 5;
