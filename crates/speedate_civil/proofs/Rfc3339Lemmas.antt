@@ -1,5 +1,5 @@
 -- The texts of RFC 3339 by its rules are those that the strict readers take.
-use Rattle.std.specs.Prelude.{◌≡◌, ◌⊎◌, ℕ, ◌+◌, ◌*◌, ◌≤◌, zero, suc, Bool, true, false, ◌==◌, List, [], ◌∷◌, ◌++◌, length, take, drop, nat_le, nat_lt, slice_index, if◌then◌else◌, Option, Some, ℤ, pos, IfOk, Result, Ok, refl, ◌↔◌}
+use Rattle.std.specs.Prelude.{◌≡◌, ◌⊎◌, ℕ, ◌+◌, ◌*◌, ◌≤◌, zero, suc, Bool, true, false, ◌==◌, List, [], ◌∷◌, ◌++◌, length, take, drop, nat_le, nat_lt, slice_index, Option, Some, ℤ, pos, IfOk, Result, Ok, refl, ◌↔◌}
 use Rattle.std.specs.Char.{is_ascii_digit}
 use Rattle.std.specs.List.{prefix_len}
 use Rattle.std.specs.Result.{IsOk}
@@ -74,8 +74,6 @@ clock-of : (behavior : MicrosecondsPrecisionOverflowBehavior) (a b c d e f g h :
     → IsPartialTime behavior (a ∷ b ∷ c ∷ d ∷ e ∷ f ∷ g ∷ h ∷ fraction)
 clock-of behavior a b c d e f g h more fraction clock rows second part =
     let text : List ℕ = a ∷ b ∷ c ∷ d ∷ e ∷ f ∷ g ∷ h ∷ more in
-    let digits = rw second at rows.minute.1.0 in
-    let small = rw second at rows.minute.1.1.0 in
     record {
       hour = a ∷ b ∷ [];
       minute = d ∷ e ∷ [];
@@ -83,7 +81,7 @@ clock-of behavior a b c d e f g h more fraction clock rows second part =
       fraction = fraction;
       is_hour = two-digits 23 text 0 rows.hour.1.0 rows.range.0;
       is_minute = two-digits 59 text 3 rows.digits.0 rows.minute.0;
-      is_second = two-digits 59 text 6 digits small;
+      is_second = two-digits 59 text 6 (search rules) (search rules);
       is_fraction = part;
       together = search rules;
     }
@@ -108,9 +106,7 @@ clock-parts behavior a b c d e f g h (mark ∷ digits) clock true there read sec
     let rows = clock-read behavior text clock read in
     let size : 3 + (6 + run) ≡ clock.size = rw (second, there) at (ap (λ (found : Clock). found.size) rows.is) in
     let long : suc (suc (suc (suc (suc (suc (suc (suc (suc run)))))))) ≡ clock.size = omega (arith, size) in
-    let some = rw (second, there) at rows.minute.1.1.1.0 in
-    let few = rw (second, there) at rows.minute.1.1.1.1.0 in
-    let part = subst (λ (byte : ℕ). IsSecfrac behavior (byte ∷ take run digits)) (sym (eqb-true mark full_stop there)) (secfrac-of behavior digits some few) in (
+    let part = subst (λ (byte : ℕ). IsSecfrac behavior (byte ∷ take run digits)) (sym (eqb-true mark full_stop there)) (secfrac-of behavior digits (search rules) (search rules)) in (
       subst (λ (n : ℕ). IsPartialTime behavior (take n text)) long (clock-of behavior a b c d e f g h (mark ∷ digits) (mark ∷ take run digits) clock rows second (inr part)),
       rw there (omega (arith, size)),
     )
@@ -220,12 +216,11 @@ taken-of behavior text offset clock after read rest long second plain place =
     let front : TimeOfDay × ℕ = (time_of clock after.front.0, clock.size + after.front.1) in
     let fault = λ (value : TimeOfDay). end_fault value.offset in
     let is : time_front behavior text ≡ Ok front = time_front-is behavior text clock after.front read (ap offset_front rest ∙ after.read) in
-    let there : drop (offset_place text) text ≡ offset = ap (λ (n : ℕ). drop n text) (sym place) ∙ rest in
-    let rows = subst (λ (left : List ℕ). AllHold (standard_offset left)) (sym there) after.standard in (
+    let rows : AllHold (standard_offset (drop (offset_place text) text)) = search rules in (
       front.0,
       (
         ap (result_and_then (alone fault text)) is ∙ alone-whole fault text front.0 front.1 (omega (arith, long, after.whole)),
-        (second, (rw (plain) refl, rows)),
+        (second, (search rules, rows)),
       ),
     )
 
@@ -234,12 +229,10 @@ taken-parts : (behavior : MicrosecondsPrecisionOverflowBehavior) (hour minute se
     → Taken behavior (two_digit_text hour ++ colon ∷ minute_text minute second ++ fraction ++ offset)
 taken-parts behavior hour minute second fraction offset small_hour small_minute small_second (inl none) after =
     let text = two_digit_text hour ++ colon ∷ minute_text minute second ++ offset in
-    let point : (slice_index offset 0 == full_stop) ≡ false = search rules in
     subst (λ (part : List ℕ). Taken behavior (two_digit_text hour ++ colon ∷ minute_text minute second ++ part ++ offset)) (sym none)
     (taken-of behavior text offset _ after
     (front-printed behavior hour minute second offset _ small_hour small_minute
-    (clock-whole behavior minute second offset small_minute small_second after.no_mark)) refl (omega arith) refl (search rules)
-    (ap (λ (point : Bool). if point then 9 + run_length text 9 else 8) (sym point)))
+    (clock-whole behavior minute second offset small_minute small_second after.no_mark)) refl (omega arith) refl (search rules) (search rules))
 taken-parts behavior hour minute second fraction offset small_hour small_minute small_second (inr part) after =
     let digits = part.digits in
     let text = two_digit_text hour ++ colon ∷ minute_text minute second ++ full_stop ∷ digits ++ offset in
