@@ -4,7 +4,7 @@ use Rattle.std.specs.Prelude.{◌≡◌, ℕ, ◌<◌, Bool, true, false, ◌&&�
 use Rattle.std.specs.Cmp.{IsTotalOrder, on_total}
 use Rattle.std.specs.Cmp.Lexicographic.{slice_cmp}
 use Rattle.std.specs.Option.{is_some}
-use Rattle.std.specs.Ordering.{nat_cmp, int_cmp, is_gt, ordering_then, ordering_reverse, on}
+use Rattle.std.specs.Ordering.{nat_cmp, int_cmp, ordering_then, ordering_reverse, on}
 use Rattle.std.specs.declared.cmp.Ordering.{Ordering}
 use Rattle.std.proofs.Common.{rules, arith, ◌∙◌, ap, sym}
 use Rattle.std.proofs.Math.Bool.{and_comm}
@@ -74,13 +74,6 @@ date_time_text-order first second one two none nothing =
     ∙ ap (ordering_then (date_order first.date second.date)) (sym shown ∙ times)
     ∙ sym (date_text-front-order first.date second.date (capital_t ∷ time_text first.time) (capital_t ∷ time_text second.time))
 
--- what is not after is not greater, and the other way round
-not_greater : (order : Ordering) → IsNotAfter order → is_gt order ≡ false
-not_greater order not_after = search rules
-
-not_after : (order : Ordering) → is_gt order ≡ false → IsNotAfter order
-not_after order not_greater = search rules
-
 -- "not after" is transitive in a total order
 chain : {K : Type 0} {order : K → K → Ordering} → IsTotalOrder order → (first second third : K)
     → IsNotAfter (order first second) → IsNotAfter (order second third) → IsNotAfter (order first third)
@@ -105,8 +98,7 @@ module _ {K : Type 0} (offset : K → Option ℤ) (instant : Bool → K → Inst
       chained : (a b c : Bool) → a ≡ b → b ≡ c → IsNotAfter (on (instant (a && b)) instant_order first second)
           → IsNotAfter (on (instant (b && c)) instant_order second third) → IsNotAfter (on (instant (a && c)) instant_order first third)
       chained true true true one two = chain (total true) first second third
-      chained false false false one two = chain (total false) first second third
+      chained false false c one two = chain (total false) first second third
       chained true true false one two = absurd (cc)
       chained true false c one two = absurd (cc)
       chained false true c one two = absurd (cc)
-      chained false false true one two = absurd (cc)

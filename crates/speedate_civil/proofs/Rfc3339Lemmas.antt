@@ -238,14 +238,13 @@ taken-parts behavior hour minute second fraction offset small_hour small_minute 
     let text = two_digit_text hour ++ colon ∷ minute_text minute second ++ full_stop ∷ digits ++ offset in
     let size : 3 + (6 + length digits) ≡ suc (suc (suc (suc (suc (suc (suc (suc (suc (length digits))))))))) = omega arith in
     let rest : drop (3 + (6 + length digits)) text ≡ offset = ap (λ (n : ℕ). drop n text) size ∙ drop-append_seam digits offset in
-    let run : prefix_len is_ascii_digit (digits ++ offset) ≡ length digits =
-    run_length-append digits offset part.are_digits ∙ ap (λ (n : ℕ). length digits + n) (run_length-none offset after.no_digit) ∙ omega arith in
-    let place : 3 + (6 + length digits) ≡ 9 + prefix_len is_ascii_digit (digits ++ offset) = omega (arith, run) in
+    let run = run_length-append digits offset part.are_digits in
+    let none = run_length-none offset after.no_digit in
     subst (λ (cut : List ℕ). Taken behavior (two_digit_text hour ++ colon ∷ minute_text minute second ++ cut ++ offset)) (sym part.together)
     (taken-of behavior text offset _ after
     (front-printed behavior hour minute second (full_stop ∷ digits ++ offset) _ small_hour small_minute
     (clock-secfrac behavior minute second digits offset small_minute small_second part.are_digits part.some part.few after.no_digit)) rest
-    (omega (arith, length-append digits offset)) refl refl place)
+    (omega (arith, length-append digits offset)) refl refl (omega (arith, run, none)))
 
 -- and a time of the rules is taken
 full-time-taken : (behavior : MicrosecondsPrecisionOverflowBehavior) (text : List ℕ) → IsFullTime behavior text → Taken behavior text
@@ -296,10 +295,8 @@ date-time-parts behavior date separator time valid parted value read =
     let whole : DateAndTime = record { date = date; time = value } in
     let fault_of = λ (read_value : DateAndTime). end_fault read_value.time.offset in
     let front = (alone-iff (λ (read_time : TimeOfDay). end_fault read_time.offset) time (time_front behavior time) value).0 read in
-    let long : length text ≡ 11 + length time = omega arith in
-    let separated : is_separator separator ≡ true = search rules in
-    let is = date_time_front-is behavior text (date, 10) (value, length time) (date_text-front date (separator ∷ time) valid) (separated, tt) front in
-    ap (result_and_then (alone fault_of text)) is ∙ alone-whole fault_of text whole (11 + length time) long
+    let is = date_time_front-is behavior text (date, 10) (value, length time) (date_text-front date (separator ∷ time) valid) (search rules, tt) front in
+    ap (result_and_then (alone fault_of text)) is ∙ alone-whole fault_of text whole (11 + length time) (omega arith)
 
 -- a text that the strict reader takes as a date-time
 abbrev DateTimeTaken : MicrosecondsPrecisionOverflowBehavior → List ℕ → Type 0

@@ -1,11 +1,9 @@
 -- The text by which a time is printed is read as the time, where its offset is absent or whole minutes, whatever follows
 -- it that is no part of it.
-use Rattle.std.specs.Prelude.{◌≡◌, ℕ, ◌+◌, ◌≤◌, Bool, true, false, not, ◌&&◌, ◌||◌, List, [], ◌∷◌, ◌++◌, length, slice_index, drop, ◌==◌, if◌then◌else◌, Option, ℤ, Result, Ok, refl}
+use Rattle.std.specs.Prelude.{◌≡◌, ℕ, ◌+◌, ◌≤◌, Bool, true, false, List, [], ◌∷◌, ◌++◌, length, drop, ◌==◌, Option, ℤ, Result, Ok, refl}
 use Rattle.std.specs.Char.{is_ascii_digit}
-use Rattle.std.specs.Option.{is_some}
 use Rattle.std.proofs.Common.{rules, arith, ◌∙◌, ap, sym}
-use Rattle.std.proofs.Math.Bool.{or-and_distrib_left}
-use Rattle.std.proofs.lemmas.Bool.{and_parts, eqb-true}
+use Rattle.std.proofs.lemmas.Bool.{eqb-true}
 use Rattle.std.proofs.lemmas.List.{append-nil}
 use Rattle.speedate_base.specs.declared.config.MicrosecondsPrecisionOverflowBehavior.{MicrosecondsPrecisionOverflowBehavior}
 use Rattle.speedate_base.specs.declared.faults.ParseError.{ParseError}
@@ -16,7 +14,7 @@ use Rattle.speedate_base.specs.Requirement.{alone, result_and_then}
 use Rattle.speedate_base.proofs.RequirementLemmas.{alone-whole}
 use Rattle.speedate_civil.specs.ClockText.{Clock, at_hour, clock_answer, clock_front, is_decimal_mark, minute_text}
 use Rattle.speedate_civil.proofs.ClockLemmas.{clock-whole, clock-fraction}
-use Rattle.speedate_civil.specs.OffsetText.{begins_offset, end_fault, offset_front, offset_text}
+use Rattle.speedate_civil.specs.OffsetText.{end_fault, offset_front, offset_text}
 use Rattle.speedate_civil.proofs.OffsetLemmas.{offset_text-first, offset_text-front}
 use Rattle.speedate_civil.specs.TimeOfDay.{TimeOfDay, IsTime}
 use Rattle.speedate_civil.specs.TimeText.{time_front, time_answer, time_of, clock_text, time_text, is_after_time}
@@ -33,33 +31,26 @@ pub front-printed : (behavior : MicrosecondsPrecisionOverflowBehavior) (hour min
     → clock_front behavior (two_digit_text hour ++ colon ∷ minute_text minute second ++ tail) ≡ Ok (at_hour hour clock)
 front-printed behavior hour minute second tail clock small_hour small_minute answer = search rules
 
--- what follows is neither
-neither : (some first second : Bool) → (some || (not first && not second)) ≡ true → ((some || not first) ≡ true) × ((some || not second) ≡ true)
-neither some first second ends = and_parts (some || not first) (some || not second) (sym (or-and_distrib_left some (not first) (not second)) ∙ ends)
-
-nothing : (some none : Bool) → (some || (not (if none then false else false) && true)) ≡ true
-nothing some none = search rules
-
 text-front : (behavior : MicrosecondsPrecisionOverflowBehavior) (time : TimeOfDay) (rest : List ℕ) (none : Bool) → IsTime time → IsWholeMinutes time.offset
     → is_after_time time rest ≡ true → (time.microsecond == 0) ≡ none
     → time_front behavior (time_text time ++ rest) ≡ Ok (time, length (time_text time))
 text-front behavior time rest true valid whole after none =
     let tail = offset_text time.offset ++ rest in
     let zero_is : 0 ≡ time.microsecond = sym (eqb-true time.microsecond 0 none) in
-    let parted = neither (is_some time.offset) (is_decimal_mark (slice_index rest 0)) (begins_offset rest) (rw none at after) in
-    let plain = offset_text-first is_decimal_mark time.offset rest refl refl refl parted.0 in
+    let ended = rw none at after in
+    let plain = offset_text-first is_decimal_mark time.offset rest refl refl refl (search rules) in
     let front = front-printed behavior time.hour time.minute time.second tail _ valid.hour valid.minute
     (clock-whole behavior time.minute time.second tail valid.minute valid.second plain) in
     let long : 8 + length (offset_text time.offset) ≡ length (clock_text time ++ offset_text time.offset) = omega arith in
-    rw (none, front, offset_text-front time.offset rest valid.offset whole parted.1, zero_is) (ap (λ (size : ℕ). Ok (time, size)) long)
+    rw (none, front, offset_text-front time.offset rest valid.offset whole search rules, zero_is) (ap (λ (size : ℕ). Ok (time, size)) long)
 text-front behavior time rest false valid whole after some =
     let tail = offset_text time.offset ++ rest in
-    let parted = neither (is_some time.offset) (is_ascii_digit (slice_index rest 0)) (begins_offset rest) (rw some at after) in
-    let other = offset_text-first is_ascii_digit time.offset rest refl refl refl parted.0 in
+    let ended = rw some at after in
+    let other = offset_text-first is_ascii_digit time.offset rest refl refl refl (search rules) in
     let front = front-printed behavior time.hour time.minute time.second (full_stop ∷ six_digit_text time.microsecond ++ tail) _ valid.hour valid.minute
     (clock-fraction behavior time.minute time.second time.microsecond tail valid.minute valid.second (omega (arith, valid.microsecond)) other) in
     let long : 15 + length (offset_text time.offset) ≡ length (clock_text time ++ full_stop ∷ six_digit_text time.microsecond ++ offset_text time.offset) = omega arith in
-    rw (some, front, offset_text-front time.offset rest valid.offset whole parted.1) (ap (λ (size : ℕ). Ok (time, size)) long)
+    rw (some, front, offset_text-front time.offset rest valid.offset whole search rules) (ap (λ (size : ℕ). Ok (time, size)) long)
 
 pub time_text-front : (behavior : MicrosecondsPrecisionOverflowBehavior) (time : TimeOfDay) (rest : List ℕ) → IsTime time → IsWholeMinutes time.offset
     → is_after_time time rest ≡ true → time_front behavior (time_text time ++ rest) ≡ Ok (time, length (time_text time))
@@ -67,7 +58,7 @@ time_text-front behavior time rest valid whole after = text-front behavior time 
 
 -- nothing that follows is no part of a time
 pub nothing-after : (time : TimeOfDay) → is_after_time time [] ≡ true
-nothing-after time = nothing (is_some time.offset) (time.microsecond == 0)
+nothing-after time = search rules
 
 -- and alone it is that time
 pub time_text-reads : (behavior : MicrosecondsPrecisionOverflowBehavior) (time : TimeOfDay) → IsTime time → IsWholeMinutes time.offset
