@@ -1,15 +1,13 @@
 -- A printed time at the front of a text is read as itself if and only if what follows is no part of it. So is a printed date-time.
 use Rattle.std.proofs.lemmas.Grind.{common_steps}
 use Rattle.std.proofs.lemmas.Bool.Decides.{nat_tests}
-use Rattle.std.specs.Prelude.{◌≡◌, ◌↔◌, ℕ, ◌+◌, ◌≤◌, ◌<◌, Bool, true, false, ◌==◌, List, ◌∷◌, ◌++◌, length, drop, slice_index, Option, None, ℤ, IfOk, Ok, refl}
+use Rattle.std.specs.Prelude.{◌≡◌, ◌↔◌, ℕ, ◌+◌, ◌≤◌, ◌<◌, Bool, true, false, ◌==◌, List, ◌∷◌, ◌++◌, length, drop, slice_index, None, IfOk, Ok, refl}
 use Rattle.std.specs.Char.{is_ascii_digit}
 use Rattle.std.proofs.Common.{rules, arith, ◌∙◌, ap, ap₂, sym}
 use Rattle.speedate_base.specs.declared.config.MicrosecondsPrecisionOverflowBehavior.{MicrosecondsPrecisionOverflowBehavior}
 use Rattle.speedate_base.specs.Ascii.{colon, full_stop}
 use Rattle.speedate_base.specs.DigitRuns.{run_length}
-use Rattle.speedate_base.proofs.DigitRunLemmas.{run_length-append}
 use Rattle.speedate_base.specs.Digits.{six_digit_text, two_digit_text}
-use Rattle.speedate_base.proofs.DigitLemmas.{six_digits-printed}
 use Rattle.speedate_base.specs.Offset.{IsWholeMinutes}
 use Rattle.speedate_base.specs.Requirement.{meets}
 use Rattle.speedate_civil.specs.ClockText.{Clock, clock_front, is_decimal_mark, minute_text}
@@ -17,7 +15,6 @@ use Rattle.speedate_civil.specs.DateAndTime.{DateAndTime, IsDateAndTime}
 use Rattle.speedate_civil.specs.DateText.{date_front}
 use Rattle.speedate_civil.specs.DateTimeText.{date_time_front, date_time_text, separator_table}
 use Rattle.speedate_civil.proofs.DateTimeLemmas.{date_time_text-front}
-use Rattle.speedate_civil.proofs.FrontLemmas.{clock-size}
 use Rattle.speedate_civil.specs.OffsetText.{begins_offset, offset_front}
 use Rattle.speedate_civil.proofs.ReadLemmas.{read-then, read-value}
 use Rattle.speedate_civil.specs.TimeOfDay.{TimeOfDay, IsTime}
@@ -38,11 +35,7 @@ no-digit rest none = grind (arith, common_steps)
 fraction-ends : (behavior : MicrosecondsPrecisionOverflowBehavior) (hour minute second microsecond : ℕ) (rest : List ℕ) (clock : Clock) → microsecond < 1000000
     → clock_front behavior (two_digit_text hour ++ colon ∷ minute_text minute second ++ full_stop ∷ six_digit_text microsecond ++ rest) ≡ Ok clock
     → clock.size ≤ 15 → (is_ascii_digit (slice_index rest 0) ≡ false) × (clock.size ≡ 15)
-fraction-ends behavior hour minute second microsecond rest clock few read small =
-    let text = two_digit_text hour ++ colon ∷ minute_text minute second ++ full_stop ∷ six_digit_text microsecond ++ rest in
-    let size : 3 + (6 + run_length (six_digit_text microsecond ++ rest) 0) ≡ clock.size = clock-size behavior text clock read in
-    let run : run_length (six_digit_text microsecond ++ rest) 0 ≡ 6 + run_length rest 0 = run_length-append (six_digit_text microsecond) rest (six_digits-printed microsecond few) in
-    (no-digit rest (omega (arith, size, run, small)), omega (arith, size, run, small))
+fraction-ends behavior hour minute second microsecond rest clock few read small = grind (arith, common_steps, no-digit)
 
 -- so what follows a time without an offset, that was read as itself, is no part of it
 ends-at : (behavior : MicrosecondsPrecisionOverflowBehavior) (time : TimeOfDay) (rest text : List ℕ) (size : ℕ) → time_text time ++ rest ≡ text
@@ -71,14 +64,10 @@ ends behavior time rest false valid some without =
     let stopped = fraction-ends behavior time.hour time.minute time.second time.microsecond rest clock (omega (arith, valid.microsecond)) is small in
     (rw some stopped.0, stopped.1))
 
-after-read : (behavior : MicrosecondsPrecisionOverflowBehavior) (time : TimeOfDay) (rest : List ℕ) (offset : Option ℤ) → time.offset ≡ offset
-    → IsTime time → time_front behavior (time_text time ++ rest) ≡ Ok (time, length (time_text time)) → is_after_time time rest ≡ true
-after-read behavior time rest offset is valid read = grind (arith, ends)
-
 -- where its offset is whole minutes, that is the one condition
 pub time_text-front-iff : (behavior : MicrosecondsPrecisionOverflowBehavior) (time : TimeOfDay) (rest : List ℕ) → IsTime time → IsWholeMinutes time.offset
     → (is_after_time time rest ≡ true) ↔ (time_front behavior (time_text time ++ rest) ≡ Ok (time, length (time_text time)))
-time_text-front-iff behavior time rest valid whole = grind (arith, time_text-front, after-read)
+time_text-front-iff behavior time rest valid whole = grind (arith, time_text-front, ends)
 
 pub date_time_text-front-iff : (behavior : MicrosecondsPrecisionOverflowBehavior) (value : DateAndTime) (rest : List ℕ) → IsDateAndTime value
     → IsWholeMinutes value.time.offset

@@ -3,17 +3,16 @@ use Rattle.std.specs.Prelude.{◌≡◌, ℕ, List, ◌++◌, ◌≤◌, true, l
 use Rattle.std.specs.Int.{is_in_range, IsInRange}
 use Rattle.std.proofs.Common.{rules, arith, ap, sym, subst}
 use Rattle.std.proofs.lemmas.Bool.{le-leb}
-use Rattle.std.proofs.lemmas.Bool.Decides.{nat_tests}
 use Rattle.speedate_base.proofs.DigitLemmas.{two_digits-printed, four_digits-printed}
 use Rattle.speedate_civil.specs.Calendar.{Ymd, IsDate, month_length}
 use Rattle.speedate_civil.specs.DateText.{date_text, date_front, date_answer, date_numbers}
 
 -- no month is longer than 31 days
 pub month_length-small : (year month : ℕ) → month_length year month ≤ 31
-month_length-small year month = grind (arith, nat_tests)
+month_length-small year month = grind arith
 
 is_in_range-true : (low high n : ℕ) → IsInRange low high n → is_in_range low high n ≡ true
-is_in_range-true low high n within = grind (arith, nat_tests)
+is_in_range-true low high n within = grind arith
 
 -- the numbers of a printed date stand at their places
 date_numbers-printed : (date : Ymd) (tail : List ℕ) → date_numbers (date_text date ++ tail) ≡ date

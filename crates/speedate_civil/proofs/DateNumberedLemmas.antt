@@ -1,7 +1,6 @@
 -- Each date of the years to 9999 is the date of its day number.
 use Rattle.std.specs.Prelude.{◌≡◌, ℕ, ◌≤◌, Some}
 use Rattle.std.proofs.Common.{arith}
-use Rattle.std.proofs.lemmas.Bool.{le-leb}
 use Rattle.speedate_civil.specs.Calendar.{Ymd, IsDay}
 use Rattle.speedate_civil.proofs.DateOrderLemmas.{day_number-distinct}
 use Rattle.speedate_civil.specs.DayNumber.{day_number, date_after, date_numbered}
@@ -12,4 +11,4 @@ pub date_after-day_number : (date : Ymd) → IsDay date → date_after (day_numb
 date_after-day_number date valid = grind (arith, day_number-distinct, date_after-IsDay, day_number-date_after)
 
 pub date_numbered-is : (number : ℕ) (date : Ymd) → IsDay date → date.year ≤ 9999 → day_number date ≡ number → date_numbered number ≡ Some date
-date_numbered-is number date valid small same = grind (arith, le-leb, day_number-small, date_after-day_number)
+date_numbered-is number date valid small same = grind (arith, day_number-small, date_after-day_number)

@@ -31,29 +31,25 @@ earlier_month first second one two same less =
       one.day.1,
     )
 
--- and an earlier day of a month
-earlier_day : (first second : Ymd) → IsDay first → first.year ≡ second.year → first.month ≡ second.month → first.day < second.day → day_number first < day_number second
-earlier_day first second one same_year same_month less = search rules
-
 -- the order of dates is that of their day numbers
 pub date_order-day_number : (first second : Ymd) → IsDay first → IsDay second → date_order first second ≡ nat_cmp (day_number first) (day_number second)
 date_order-day_number first second one two = grind (arith, nat_tests, earlier_year, earlier_month)
 
 -- dates with the same day number are equal
 pub day_number-distinct : (first second : Ymd) → IsDay first → IsDay second → day_number first ≡ day_number second → first ≡ second
-day_number-distinct first second one two same = grind (arith, earlier_year, earlier_month, earlier_day)
+day_number-distinct first second one two same = grind (arith, earlier_year, earlier_month)
 
 -- the tens and then the units of two numbers are ordered as the numbers
 pub digits-order : (first second : ℕ) (next : Ordering)
     → ordering_then (nat_cmp (digit (first / 10)) (digit (second / 10))) (ordering_then (nat_cmp (digit (first % 10)) (digit (second % 10))) next)
     ≡ ordering_then (nat_cmp first second) next
-digits-order first second next = grind (arith, nat_tests)
+digits-order first second next = grind arith
 
 -- and so are the hundreds and what is left
 pub hundreds-order : (first second : ℕ) (next : Ordering)
     → ordering_then (nat_cmp (first / 100) (second / 100)) (ordering_then (nat_cmp (first % 100) (second % 100)) next)
     ≡ ordering_then (nat_cmp first second) next
-hundreds-order first second next = grind (arith, nat_tests)
+hundreds-order first second next = grind arith
 
 -- a last order
 pub last-order : (order : Ordering) → ordering_then order Equal ≡ order

@@ -1,7 +1,6 @@
 -- The date-time of a timestamp lies as many microseconds after 1970-01-01T00:00:00 as the timestamp means.
 use Rattle.std.specs.Prelude.{◌≡◌, ℕ, true, int_le, length, Option, ℤ, pos, ◌+ℤ◌, ◌*ℤ◌, IfOk, Ok, refl}
 use Rattle.std.proofs.Common.{arith, ◌∙◌, ap, sym, subst}
-use Rattle.std.proofs.lemmas.Bool.Decides.{nat_tests}
 use Rattle.std.proofs.lemmas.Int.{ints}
 use Rattle.speedate_base.specs.declared.config.TimestampUnit.{TimestampUnit}
 use Rattle.speedate_base.specs.DecimalTimestamp.{decimal_row, decimal_scale, decimal_size, decimal_microsecond, decimal_instant}
@@ -21,7 +20,7 @@ later-is microseconds instant = omega (arith, ints)
 
 local-is : (offset : Option ℤ) (instant : Instant) → int_le first_second instant.second ≡ true
     → local_second (date_time_at offset instant) ≡ instant.second
-local-is offset instant after = grind (arith, ints, nat_tests, day_number-date_after)
+local-is offset instant after = grind (arith, ints, day_number-date_after)
 
 -- a clock shows an instant as the date-time at it
 pub date_time_at-shown : (offset : Option ℤ) (instant : Instant) → int_le first_second instant.second ≡ true

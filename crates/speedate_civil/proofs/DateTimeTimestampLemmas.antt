@@ -1,5 +1,5 @@
 -- The seconds of a date-time without an offset, as a timestamp, and its microsecond lead back to it.
-use Rattle.std.specs.Prelude.{◌≡◌, ℕ, ◌<◌, ◌≤◌, true, int_le, ℤ, pos, ◌+ℤ◌, ◌-ℤ◌, ◌*ℤ◌, unsigned_abs, Ok}
+use Rattle.std.specs.Prelude.{◌≡◌, ℕ, ◌<◌, ◌≤◌, ℤ, pos, ◌+ℤ◌, ◌-ℤ◌, ◌*ℤ◌, unsigned_abs, Ok}
 use Rattle.std.specs.Int.{int_div_euclid, int_rem_euclid}
 use Rattle.std.proofs.Common.{rules, arith}
 use Rattle.std.proofs.lemmas.Bool.Decides.{nat_tests}
@@ -7,7 +7,6 @@ use Rattle.std.proofs.lemmas.Int.{ints}
 use Rattle.speedate_base.specs.declared.config.TimestampUnit.TheVariants as unit
 use Rattle.speedate_base.specs.Offset.{seconds_per_day}
 use Rattle.speedate_base.proofs.RequirementLemmas.{meets-all}
-use Rattle.speedate_base.specs.Timestamp.{last_second}
 use Rattle.speedate_base.proofs.TimestampLemmas.{instant_of_seconds}
 use Rattle.speedate_civil.specs.DateAndTime.{DateAndTime, IsDateAndTime, local_second}
 use Rattle.speedate_civil.proofs.DateNumberedLemmas.{date_after-day_number}
@@ -29,20 +28,16 @@ second-of : (at : ℤ) (day second : ℕ) → second < seconds_per_day → at �
     → unsigned_abs (int_rem_euclid at (pos seconds_per_day)) ≡ second
 second-of at day second small is = search rules
 
-before-last : (day second : ℕ) → day ≤ 3652424 → second < seconds_per_day
-    → int_le ((pos day -ℤ pos epoch_day) *ℤ pos seconds_per_day +ℤ pos second) last_second ≡ true
-before-last day second few small = grind (arith, ints, nat_tests)
-
 -- the date-time at the instant of a day number, a second of that day and a microsecond
 date_time-at : (value : DateAndTime) → IsDateAndTime value → date_time_at value.time.offset (record { second = local_second value; microsecond = value.time.microsecond }) ≡ value
-date_time-at value valid = grind (arith, ints, nat_tests, date_after-day_number, day-of, second-of)
+date_time-at value valid = grind (arith, ints, date_after-day_number, day-of, second-of)
 
 -- the instant at which a date-time lies, as a clock shows it, leads back to it
 pub instant_date_time-local : (value : DateAndTime) → IsDateAndTime value
     → instant_date_time value.time.offset (record { second = local_second value; microsecond = value.time.microsecond }) ≡ Ok value
-instant_date_time-local value valid = grind (arith, ints, nat_tests, meets-all, day_number-small, before-last, date_time-at)
+instant_date_time-local value valid = grind (arith, ints, nat_tests, meets-all, day_number-small, date_time-at)
 
 -- its second and its microsecond, as a timestamp, lead back to it, where the offset is attached that it has
 pub date_time_timestamp-leads_back : (value : DateAndTime) → IsDateAndTime value
     → date_time_timestamp_answer unit.Second value.time.offset value.time.microsecond (local_second value) ≡ Ok value
-date_time_timestamp-leads_back value valid = grind (arith, ints, nat_tests, instant_of_seconds, day_number-small, later-microsecond, instant_date_time-local)
+date_time_timestamp-leads_back value valid = grind (arith, nat_tests, instant_of_seconds, day_number-small, later-microsecond, instant_date_time-local)

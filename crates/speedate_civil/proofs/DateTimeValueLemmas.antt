@@ -1,5 +1,4 @@
 -- What every `DateTime` is, and how large its seconds are.
-use Rattle.std.proofs.lemmas.Bool.Decides.{nat_tests}
 use Rattle.std.proofs.Common.{rules, ◌<◌, arith, Option}
 use Rattle.std.specs.Prelude.{ℤ, pos, ◌-ℤ◌, ◌≤ℤ◌, unsigned_abs}
 use Rattle.std.specs.Option.{ForSome, unwrap_or}
@@ -21,14 +20,14 @@ pub offset-small : (offset : Option ℤ) → ForSome offset IsOffset → unsigne
 offset-small offset valid = search rules
 
 pub local_second-small : (value : DateAndTime) → IsDateAndTime value → unsigned_abs (local_second value) < 300000000000
-local_second-small value valid = grind (arith, ints, day_number-small)
+local_second-small value valid = grind (arith, day_number-small)
 
 -- a clock shows the years 0000 to 9999
 pub local_second-late : (value : DateAndTime) → IsDateAndTime value → first_second ≤ℤ local_second value
 local_second-late value valid = omega (arith, ints)
 
 pub local_second-early : (value : DateAndTime) → IsDateAndTime value → local_second value ≤ℤ last_second
-local_second-early value valid = grind (arith, ints, day_number-small)
+local_second-early value valid = grind (arith, day_number-small)
 
 -- two sizes add up
 difference-small : (first second : ℤ) → unsigned_abs first < 300000000000 → unsigned_abs second < seconds_per_day
@@ -36,4 +35,4 @@ difference-small : (first second : ℤ) → unsigned_abs first < 300000000000 �
 difference-small first second small little = omega (arith, ints)
 
 pub utc_second-small : (value : DateAndTime) → IsDateAndTime value → unsigned_abs (utc_second value) < 400000000000
-utc_second-small value valid = grind (arith, ints, nat_tests, local_second-small, difference-small)
+utc_second-small value valid = grind (arith, ints, local_second-small, difference-small)

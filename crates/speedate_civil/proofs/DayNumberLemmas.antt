@@ -10,7 +10,7 @@ abbrev pub leap_day : ℕ → ℕ
 leap_day year = if is_leap_year year then 1 else 0
 
 pub leap_day-small : (year : ℕ) → leap_day year ≤ 1
-leap_day-small year = grind (arith, nat_tests)
+leap_day-small year = grind arith
 
 pub february_length-is : (year : ℕ) → february_length year ≡ 28 + leap_day year
 february_length-is year = elim (is_leap_year year) as (λ leap. (if leap then 29 else 28) ≡ 28 + (if leap then 1 else 0)) [ true ↦ refl | false ↦ refl ]
@@ -32,7 +32,7 @@ year_length-is year = let february = february_length-is year in omega arith
 -- how many leap years there are
 leap_day-counts : (year : ℕ)
     → leap_day year + (year + 399) / 4 + (year + 400) / 100 + (year + 399) / 400 ≡ (year + 400) / 4 + (year + 399) / 100 + (year + 400) / 400
-leap_day-counts year = grind (arith, nat_tests)
+leap_day-counts year = grind arith
 
 -- the days before a year, by the 399 years that go before the year 0, so that a leap year ends each four
 pub days_before_year-is : (year : ℕ) → days_before_year year + 145731 + (year + 399) / 100 ≡ 365 * (year + 399) + (year + 399) / 4 + (year + 399) / 400
@@ -64,11 +64,11 @@ days_before_year-rises = rises days_before_year (λ year. omega arith)
 
 -- a day lies in its year
 pub ordinal_day-small : (date : Ymd) → IsDay date → ordinal_day date ≤ year_length date.year
-ordinal_day-small date valid = grind (arith, nat_tests, days_of_months-next)
+ordinal_day-small date valid = grind (arith, days_of_months-next)
 
 -- the years to 9999 have 3,652,425 days
 pub day_number-small : (date : Ymd) → IsDay date → date.year ≤ 9999 → day_number date ≤ 3652424
-day_number-small date valid small = grind (arith, nat_tests, leap_day-small, year_length-is, days_before_year-is, days_before_year-next, ordinal_day-small)
+day_number-small date valid small = grind (arith, nat_tests, leap_day-small, year_length-is, days_before_year-is, ordinal_day-small)
 
 -- the day after a day is a day
 pub day_after-IsDay : (date : Ymd) → IsDay date → IsDay (day_after date)
@@ -86,7 +86,7 @@ day_number-next_year date valid last end = grind (arith, days_of_months-none, da
 
 -- and anywhere
 pub day_number-day_after : (date : Ymd) → IsDay date → day_number (day_after date) ≡ day_number date + 1
-day_number-day_after date valid = grind (arith, nat_tests, day_number-next_month, day_number-next_year)
+day_number-day_after date valid = grind (arith, nat_tests, day_number-next_month, days_of_months-none, days_of_months-next, days_before_year-next)
 
 -- the steps from 0000-01-01 lead to days
 pub date_after-IsDay : (days : ℕ) → IsDay (date_after days)

@@ -1,9 +1,7 @@
 -- Days that are added to a date and counted again, and their order.
 use Rattle.std.specs.Prelude.{◌≡◌, ℕ, ℤ, pos, ◌+ℤ◌, ◌-ℤ◌, Option, IfSome}
 use Rattle.std.specs.Ordering.{int_cmp, nat_cmp}
-use Rattle.std.proofs.Common.{rules, arith}
-use Rattle.std.proofs.lemmas.Bool.Decides.{nat_tests}
-use Rattle.std.proofs.lemmas.Int.{ints}
+use Rattle.std.proofs.Common.{rules}
 use Rattle.speedate_civil.specs.declared.date.Date.{Date}
 use Rattle.speedate_civil.specs.Date.{parts}
 use Rattle.speedate_civil.specs.DayNumber.{day_number}
@@ -15,4 +13,4 @@ days-counted result first number days sum same = search rules
 
 -- a difference is negative, none or positive as the numbers are in order
 pub day-difference-order : (first second : ℕ) → int_cmp (pos first -ℤ pos second) (pos 0) ≡ nat_cmp first second
-day-difference-order first second = grind (arith, ints, nat_tests)
+day-difference-order first second = search rules

@@ -1,4 +1,5 @@
 -- What is read at the front of a text is the same without the bytes after it.
+use Rattle.std.proofs.lemmas.Bool.Decides.{nat_tests}
 use Rattle.std.proofs.lemmas.Grind.{common_steps}
 use Rattle.std.specs.Prelude.{◌≡◌, ℕ, zero, suc, ◌+◌, ◌-◌, ◌≤◌, Bool, true, false, ◌&&◌, ◌==◌, List, [], ◌∷◌, length, take, drop, slice_index, if◌then◌else◌, Option, ℤ, IfOk, Result, Ok, refl}
 use Rattle.std.specs.Char.{is_ascii_digit}
@@ -19,7 +20,7 @@ use Rattle.speedate_civil.specs.ClockText.{Clock, at_hour, is_decimal_mark, cloc
 use Rattle.speedate_civil.specs.DateAndTime.{DateAndTime}
 use Rattle.speedate_civil.specs.DateText.{date_front, date_answer, date_numbers, date_table}
 use Rattle.speedate_civil.specs.DateTimeText.{date_time_answer, date_time_front, is_separator, separator_table}
-use Rattle.speedate_civil.specs.OffsetText.{end_fault, offset_digits, offset_digits_length, offset_front, offset_ranges, signed_front}
+use Rattle.speedate_civil.specs.OffsetText.{end_fault, offset_digits_length, offset_front, signed_front}
 use Rattle.speedate_civil.proofs.OffsetLemmas.{offset-cases}
 use Rattle.speedate_civil.proofs.ReadLemmas.{read-map, read-rows, read-then, read-value}
 use Rattle.speedate_civil.specs.TimeOfDay.{TimeOfDay}
@@ -82,13 +83,12 @@ minute_size-two second point run = search rules
 -- the clock from its hour on
 clock-taken : (behavior : MicrosecondsPrecisionOverflowBehavior) (text : List ℕ) (count : ℕ) → 3 + (minute_clock (drop 3 text)).size ≤ count → count ≤ length text
     → clock_front behavior (take count text) ≡ clock_front behavior text
-clock-taken behavior text count within inside = grind (arith, le-leb, drop-take, length-take-le, bytes-taken, minute-taken, minute_size-two)
+clock-taken behavior text count within inside = grind (arith, le-leb, drop-take, length-take-le, minute-taken, minute_size-two)
 
 -- the digits of an offset
 digits-taken : (west : Bool) (sign : ℕ) (numbers : List ℕ) (there : Bool) → (slice_index numbers 2 == colon) ≡ there
     → signed_front west sign (take (offset_digits_length numbers) numbers) ≡ signed_front west sign numbers
-digits-taken west sign numbers true there = let bytes = bytes-taken 5 0 5 numbers (omega arith) in rw there cc
-digits-taken west sign numbers false there = let bytes = bytes-taken 4 0 4 numbers (omega arith) in rw there cc
+digits-taken west sign numbers there is = grind (arith, nat_tests, bytes-taken, get_or-take)
 
 -- the offset, by what it begins with
 abbrev OffsetTaken : List ℕ → Result (Option ℤ × ℕ) ParseError → Type 0
@@ -98,11 +98,7 @@ signed-taken : (west : Bool) (sign : ℕ) (rest : List ℕ)
     → (offset_front (take (sign + offset_digits_length (drop sign rest)) rest)
     ≡ signed_front west sign (drop sign (take (sign + offset_digits_length (drop sign rest)) rest)))
     → OffsetTaken rest (signed_front west sign (drop sign rest))
-signed-taken west sign rest is =
-    let numbers : List ℕ = drop sign rest in
-    read-rows _ (offset_digits numbers) _ (λ digits. read-rows _ (offset_ranges numbers) _ (λ ranges.
-    is ∙ ap (signed_front west sign) (drop-take sign (offset_digits_length numbers) rest) ∙ digits-taken west sign numbers _ refl
-    ∙ meets-all (offset_digits numbers) _ digits ∙ meets-all (offset_ranges numbers) _ ranges))
+signed-taken west sign rest is = grind (arith, nat_tests, drop-take, meets-all, digits-taken)
 
 offset-taken : (rest : List ℕ) → OffsetTaken rest (offset_front rest)
 offset-taken rest =

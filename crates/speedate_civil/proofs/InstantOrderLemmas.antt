@@ -10,7 +10,6 @@ use Rattle.std.proofs.Common.{rules, arith, ◌∙◌, ap, sym}
 use Rattle.std.proofs.Math.Bool.{and_comm}
 use Rattle.std.proofs.lemmas.Bool.Decides.{nat_tests}
 use Rattle.std.proofs.lemmas.Int.{ints}
-use Rattle.std.proofs.lemmas.List.{append-nil}
 use Rattle.speedate_base.specs.Ascii.{capital_t}
 use Rattle.speedate_base.specs.Offset.{seconds_per_day}
 use Rattle.speedate_base.specs.Timestamp.{Instant}
@@ -29,19 +28,19 @@ instant_order-total = search rules
 
 -- two numbers are ordered as what is left of them
 pub left-order : (first second less : ℤ) → int_cmp (first -ℤ less) (second -ℤ less) ≡ int_cmp first second
-left-order first second less = grind (arith, ints, nat_tests)
+left-order first second less = search rules
 
 -- a clock's hours, minutes and seconds are ordered as its second of the day
 clock-order : (first second : TimeOfDay) → IsTime first → IsTime second → (next : Ordering)
     → ordering_then (nat_cmp first.hour second.hour) (ordering_then (nat_cmp first.minute second.minute) (ordering_then (nat_cmp first.second second.second) next))
     ≡ ordering_then (nat_cmp (second_of_day first) (second_of_day second)) next
-clock-order first second one two next = grind (arith, nat_tests, one.minute, one.second, two.minute, two.second)
+clock-order first second one two next = search rules
 
 -- what clocks show of times is ordered as the second of the day and the microsecond
 time_instant-order : (first second : TimeOfDay)
     → on (time_instant false) instant_order first second
     ≡ ordering_then (nat_cmp (second_of_day first) (second_of_day second)) (nat_cmp first.microsecond second.microsecond)
-time_instant-order first second = grind (arith, nat_tests)
+time_instant-order first second = grind arith
 
 -- what clocks show of date-times is ordered as the dates, and then as the times
 date_time_instant-order : (first second : DateAndTime) → IsDateAndTime first → IsDateAndTime second
@@ -59,7 +58,7 @@ fractions-order first second one two first_is second_is = grind (arith, nat_test
 -- without offsets times are ordered as their texts
 pub time_text-order : (first second : TimeOfDay) → IsTime first → IsTime second → first.offset ≡ None → second.offset ≡ None
     → time_instant_order first second ≡ slice_cmp nat_cmp (time_text first) (time_text second)
-time_text-order first second one two none nothing = grind (arith, ints, append-nil, digits-order, clock-order, time_instant-order, fractions-order)
+time_text-order first second one two none nothing = grind (arith, ints, digits-order, clock-order, time_instant-order, fractions-order)
 
 -- and so are date-times
 pub date_time_text-order : (first second : DateAndTime) → IsDateAndTime first → IsDateAndTime second → first.time.offset ≡ None → second.time.offset ≡ None

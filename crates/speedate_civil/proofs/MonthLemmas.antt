@@ -4,7 +4,6 @@ use Rattle.std.specs.Int.{IsInRange}
 use Rattle.std.proofs.Common.{arith}
 use Rattle.std.proofs.lemmas.Bool.Decides.{nat_tests}
 use borrow.Author.Count.{below_none, below_more}
-use borrow.Author.Tests.{ltb-true, ltb-false}
 use Rattle.speedate_civil.specs.Calendar.{february_length, month_length}
 use Rattle.speedate_civil.specs.DayNumber.{days_of_months, year_length}
 use Rattle.speedate_civil.proofs.DayNumberLemmas.{leap_day, leap_day-small, february_length-is, year_length-is}
@@ -58,29 +57,21 @@ pub record IsOrdinal (year day month day_of_month : ℕ) : Type 0 where
   pub ordinal : days_of_months year (month - 1) + day_of_month ≡ day + 1
 
 pub long_day-small : (year day : ℕ) → day < year_length year → long_day year day ≤ 366
-long_day-small year day few = grind (arith, nat_tests, year_length-is)
+long_day-small year day few = grind (arith, year_length-is)
 
 -- in January and February the line through the months has what the months have
 ordinal-early : (year day : ℕ) → day < 31 + february_length year → IsOrdinal year day (long_month day) (day_in_month day)
-ordinal-early year day early = grind (arith, nat_tests, days_of_months_is)
+ordinal-early year day early = grind (arith, days_of_months_is)
 
 -- from March on it lags by what February lacks
 late-month : (year month : ℕ) → IsInRange 3 12 month
     → (days_of_months year (month - 1) + 2 ≡ long_days month + leap_day year) × (long_days month + month_length year month ≡ long_days (month + 1))
-late-month year month valid = grind (arith, nat_tests, month_is)
+late-month year month valid = grind (arith, month_is)
 
 ordinal-late : (year day days : ℕ) → days + february_length year ≡ day + 30 → IsInRange 61 366 days
     → IsOrdinal year day (long_month days) (day_in_month days)
-ordinal-late year day days moved valid = grind (arith, nat_tests, late-month)
+ordinal-late year day days moved valid = grind (arith, late-month)
 
 pub ordinal-at : (year day days : ℕ) → day < year_length year → days ≡ long_day year day
     → IsOrdinal year day (long_month days) (day_in_month days)
-ordinal-at year day days few is =
-    let length = year_length-is year in
-    let february = february_length-is year in
-    let small = leap_day-small year in
-    rw is (if_cases (λ (days : ℕ). IsOrdinal year day (long_month days) (day_in_month days)) (nat_lt day (31 + february_length year)) day _
-    (λ early. ordinal-early year day (ltb-true _ _ early))
-    (λ late.
-    let from_march = ltb-false _ _ late in
-    ordinal-late year day (day + 30 - february_length year) (omega arith) (omega arith, omega arith)))
+ordinal-at year day days few is = grind (arith, nat_tests, leap_day-small, february_length-is, year_length-is, if_cases, ordinal-early, ordinal-late, days_of_months_is, late-month)

@@ -1,4 +1,5 @@
 -- No text that begins as a date is a number.
+use Rattle.std.proofs.lemmas.Bool.Decides.{nat_tests}
 use Rattle.std.specs.Prelude.{◌≡◌, ◌≢◌, ℕ, ◌<◌, Bool, true, false, ◌==◌, List, length, slice_index, nat_le, if◌then◌else◌, Option, None, ℤ, Result, Ok, Err, refl}
 use Rattle.std.specs.Char.{is_ascii_digit}
 use Rattle.std.proofs.Common.{rules, arith, ap}
@@ -57,5 +58,4 @@ pub whole_number-none : (text : List ℕ) → number_answer text ≡ NoNumber �
 whole_number-none text none = no-whole (whole_number text) (decimal_answer text) none
 
 pub whole_number-refused : (text : List ℕ) (fault : ParseError) → date_answer text ≡ Err fault → may_be_number fault ≡ false → whole_number text ≡ None
-whole_number-refused text refused read behind =
-    whole_number-none text (number_answer-refused text (date_answer text) refused (λ other is. rw is refl) read behind)
+whole_number-refused text refused read behind = grind (arith, nat_tests, number_answer-refused, whole_number-none, rows-met, hyphen-no_number, other-fault, no-whole)

@@ -3,7 +3,6 @@ use Rattle.std.specs.Prelude.{◌≡◌, ℕ, zero, suc, ◌%◌, ◌<◌, Bool,
 use Rattle.std.specs.Option.{ForSome, is_some}
 use Rattle.std.proofs.Common.{rules, arith}
 use Rattle.std.proofs.lemmas.Bool.{le-ltb, ne_eqb}
-use Rattle.std.proofs.lemmas.Bool.Decides.{nat_tests}
 use Rattle.speedate_base.specs.declared.faults.ParseError.{ParseError}
 use Rattle.speedate_base.specs.Ascii.{plus_sign, hyphen, capital_z}
 use Rattle.speedate_base.specs.Numbers.{with_sign}
@@ -38,7 +37,7 @@ signed-printed west size rest small whole = search rules
 
 -- where no offset begins, none is read
 no_offset : (rest : List ℕ) → not (begins_offset rest) ≡ true → offset_front rest ≡ Ok (None, 0)
-no_offset rest none = grind (arith, nat_tests)
+no_offset rest none = grind arith
 
 -- a printed offset of whole minutes is read as itself, whatever follows it, and so is none where no offset follows
 pub offset_text-front : (offset : Option ℤ) (rest : List ℕ) → ForSome offset IsOffset → IsWholeMinutes offset

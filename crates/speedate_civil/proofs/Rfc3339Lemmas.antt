@@ -3,7 +3,7 @@ use Rattle.std.specs.Prelude.{◌≡◌, ◌⊎◌, ℕ, ◌+◌, ◌*◌, ◌�
 use Rattle.std.specs.Char.{is_ascii_digit}
 use Rattle.std.specs.List.{prefix_len}
 use Rattle.std.specs.Result.{IsOk}
-use Rattle.std.proofs.Common.{rules, arith, ap, ap₂, subst, sym, ◌∙◌, inl, inr}
+use Rattle.std.proofs.Common.{rules, arith, ap, subst, sym, ◌∙◌, inl, inr}
 use Rattle.std.proofs.Math.Seq.{drop-append_seam}
 use Rattle.std.proofs.lemmas.Bool.{leb-true, ltb-true, eqb-true, not-true}
 use Rattle.std.proofs.lemmas.Bool.Decides.{nat_tests}
@@ -66,7 +66,7 @@ two-digits highest text place digits small = search (rules, leb-true, spelled)
 secfrac-of : (behavior : MicrosecondsPrecisionOverflowBehavior) (digits : List ℕ) → nat_lt 0 (prefix_len is_ascii_digit digits) ≡ true
     → (refuses_digits behavior implies nat_le (prefix_len is_ascii_digit digits) 6) ≡ true
     → IsSecfrac behavior (full_stop ∷ take (prefix_len is_ascii_digit digits) digits)
-secfrac-of behavior digits some few = grind (arith, leb-true, ltb-true, length-take-le, prefix_len-le-length, run-digits)
+secfrac-of behavior digits some few = grind (arith, ltb-true, length-take-le, prefix_len-le-length, run-digits)
 
 -- a clock that was read is one of the rules if its second is there
 clock-of : (behavior : MicrosecondsPrecisionOverflowBehavior) (a b c d e f g h : ℕ) (more fraction : List ℕ) (clock : Clock)
@@ -198,11 +198,7 @@ utc-read byte is = record {
 }
 
 offset-read : (text : List ℕ) → IsTimeOffset text → OffsetRead text
-offset-read text (inl is) = subst OffsetRead (sym is) (utc-read capital_z (inl refl))
-offset-read text (inr (inl is)) = subst OffsetRead (sym is) (utc-read small_z (inr refl))
-offset-read text (inr (inr is)) =
-    subst OffsetRead (sym (is.together ∙ ap₂ (λ (hour minute : List ℕ). is.sign ∷ hour ++ colon ∷ minute) is.is_hour.together is.is_minute.together))
-    (numoffset-read is.sign is.is_hour.number is.is_minute.number is.is_sign is.is_hour.within is.is_minute.within)
+offset-read text is = grind (arith, nat_tests, numoffset-read, utc-read)
 
 -- a text that the strict reader takes
 abbrev Taken : MicrosecondsPrecisionOverflowBehavior → List ℕ → Type 0
@@ -323,7 +319,7 @@ strict : {A B : Type 0} (view : A → B) (result : Result A ParseError) (rows : 
     → result_map view result ≡ result_and_then (λ (read : B). meets rows (Ok read)) answer
     → ((value : B) → answer ≡ Ok value → AllHold rows → IsOne)
     → (IsOne → (value : B) × ((answer ≡ Ok value) × AllHold rows)) → IsOk result ↔ IsOne
-strict view result rows answer IsOne is to from = grind (arith, nat_tests, meets-all, meets-value)
+strict view result rows answer IsOne is to from = grind (arith, meets-all, meets-value)
 
 -- so a text is taken if and only if it is one of the rules
 pub time-standard : (behavior : MicrosecondsPrecisionOverflowBehavior) (text : List ℕ) (result : Result Time ParseError)

@@ -1,7 +1,6 @@
 -- The year of a day number, by cycles of 400 years, centuries, four years and years.
 use Rattle.std.specs.Prelude.{◌≡◌, ℕ, ◌+◌, ◌*◌, ◌/◌, ◌%◌, ◌<◌, ◌≤◌, min}
 use Rattle.std.proofs.Common.{arith}
-use Rattle.std.proofs.lemmas.Bool.Decides.{nat_tests}
 use Rattle.speedate_civil.specs.DayNumber.{year_length, days_before_year}
 use Rattle.speedate_civil.proofs.DayNumberLemmas.{year_length-is, days_before_year-is}
 
@@ -19,12 +18,12 @@ pub days_before_year-cycle : (cycle century year : ℕ) → days_before_year (40
 days_before_year-cycle cycle century year = omega (arith, days_before_year-is (400 * cycle + 100 * century + year), days_before_year-is (100 * century + year))
 
 pub year_length-cycle : (cycle century year : ℕ) → year_length (400 * cycle + 100 * century + year) ≡ year_length (100 * century + year)
-year_length-cycle cycle century year = grind (arith, nat_tests, year_length-is)
+year_length-cycle cycle century year = grind (arith, year_length-is)
 
 -- a day of a century's first year is one of that year's days
 pub first_day-left : (century day : ℕ) → century ≤ 3 → day + min century 1 < 366 → day < year_length (100 * century + 0)
-first_day-left century day few within = grind (arith, nat_tests, year_length-is (100 * century + 0))
+first_day-left century day few within = grind (arith, year_length-is (100 * century + 0))
 
 -- and so is a day of a later year, if its year has a 366th day only where four years begin
 pub later_day-left : (century year day : ℕ) → century ≤ 3 → year ≤ 99 → 1 ≤ year → day ≤ 365 → (day ≡ 365 → year % 4 ≡ 0) → day < year_length (100 * century + year)
-later_day-left century year day few small some within full = grind (arith, nat_tests, year_length-is)
+later_day-left century year day few small some within full = grind (arith, year_length-is)

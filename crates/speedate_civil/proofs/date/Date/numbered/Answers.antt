@@ -1,6 +1,6 @@
-use Rattle.std.proofs.Common.{◌≡◌, ◌/◌, arith, ◌∙◌, ap, sym}
+use Rattle.std.proofs.Common.{rules, ◌≡◌, arith, ◌∙◌, ap, sym}
 use Rattle.speedate_civil.specs.Date.{parts}
-use Rattle.speedate_civil.specs.DayNumber.{date_after, day_number, days_before_year}
+use Rattle.speedate_civil.specs.DayNumber.{date_after, day_number}
 use Rattle.speedate_civil.proofs.DateNumberedLemmas.{date_after-day_number}
 use Rattle.speedate_civil.proofs.DateValueLemmas.{is_day}
 use Rattle.speedate_civil.proofs.DayNumberLemmas.{year_length-is, leap_day-small}
@@ -14,9 +14,7 @@ pub day_of_year-requires-clause-day : goal.day_of_year-requires-clause-day
 day_of_year-requires-clause-day c = grind (arith, year_length-cycle)
 
 number-is : (c : goal.After-day_of_year) → day_number (parts c.day_of_year.result) ≡ c.args.number
-number-is c =
-    let before = ap days_before_year c.day_of_year.ensures.year in
-    omega (arith, days_before_year-cycle (c.args.number / 146097) c.century-century.result.0 c.year_of_century-year.result.0, c.day_of_year.result.day_in_range.0)
+number-is c = search (rules, days_before_year-cycle)
 
 pub returns-clause-date : goal.returns-clause-date
 returns-clause-date c =

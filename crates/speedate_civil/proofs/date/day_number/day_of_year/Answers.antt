@@ -9,12 +9,7 @@ pub overflow_add-long_day : goal.overflow_add-long_day
 overflow_add-long_day c = grind (arith, year_length-is, leap_day-small)
 
 long_day-is : (c : goal.After-row_known-1) → c.if-day-february.long_day ≡ long_day c.args.year c.args.day
-long_day-is c =
-    let february = c.from-february.ensures ∙ c.month_length.ensures.length in
-    elim c.if-day-february.branch [
-      | then-day-february w ↦ grind (arith, nat_tests)
-      | else-day-february w ↦ grind (arith, nat_tests)
-    ]
+long_day-is c = search rules
 
 small : (c : goal.After-row_known-1) → c.if-day-february.long_day ≤ 366
 small c = omega (arith, long_day-is c, long_day-small c.args.year c.args.day c.requires.day)

@@ -1,6 +1,6 @@
-use Rattle.std.proofs.Common.{◌≡◌, ap, rules, Result, Ok, Err, Some, IfOk}
-use Rattle.std.specs.Prelude.{ℤ, pos, ◌+ℤ◌}
-use Rattle.std.specs.Option.{unwrap_or}
+use Rattle.std.proofs.Common.{arith, ◌≡◌, rules, Result, Some, IfOk}
+use Rattle.std.proofs.lemmas.Bool.Decides.{nat_tests}
+use Rattle.std.specs.Prelude.{ℤ, ◌+ℤ◌}
 use Rattle.std.proofs.lemmas.Int.{to_z-of_z}
 use mir.Syntax.{w32, w64}
 use mir.Val.{SFits}
@@ -33,8 +33,7 @@ returns-clause-answer c = search (rules, to_z-of_z, meets-all, found)
 -- what an answer means
 kept : (result : Result DateTime ParseError) (value : DateAndTime) (offset : ℤ) (instant : Instant) → instant.second ≡ utc_second value +ℤ offset
     → IfOk result (λ moved. IsShownAt (Some offset) instant (parts moved)) → IfOk result (λ moved. utc_second (parts moved) ≡ utc_second value)
-kept (Ok moved) value offset instant sum shown = instant-kept value (parts moved) offset instant.second sum shown.second (ap (λ given. unwrap_or given (pos 0)) shown.attached)
-kept (Err fault) value offset instant sum shown = tt
+kept result value offset instant sum shown = grind (arith, nat_tests, instant-kept)
 
 pub returns-clause-instant : goal.returns-clause-instant
 returns-clause-instant c =

@@ -1,4 +1,4 @@
-use Rattle.std.proofs.Common.{◌≡◌, ◌∙◌, ap₂, sym, refl, Result, rules}
+use Rattle.std.proofs.Common.{◌≡◌, ◌∙◌, sym, refl, Result, rules}
 use Rattle.std.specs.Prelude.{Option, ℤ}
 use Rattle.speedate_base.specs.declared.config.MicrosecondsPrecisionOverflowBehavior.{MicrosecondsPrecisionOverflowBehavior}
 use Rattle.speedate_base.specs.declared.config.TimestampUnit.{TimestampUnit}
@@ -15,8 +15,7 @@ use Rattle.speedate_civil.proofs.datetime.DateTime.parse_timestamp.Goals as goal
 known : (unit : TimestampUnit) (behavior : MicrosecondsPrecisionOverflowBehavior) (offset : Option ℤ) (first second : Number) (one two : Result DateAndTime ParseError)
     → first ≡ second → one ≡ two
     → or_number (date_time_number_answer unit behavior offset first) one ≡ or_number (date_time_number_answer unit behavior offset second) two
-known unit behavior offset first second one two same_number same =
-    ap₂ (λ number answer. or_number (date_time_number_answer unit behavior offset number) answer) same_number same
+known unit behavior offset first second one two same_number same = search rules
 
 pub returns-then-not-may_be_number-clause-answer : goal.returns-then-not-may_be_number-clause-answer
 returns-then-not-may_be_number-clause-answer c =

@@ -1,4 +1,4 @@
-use Rattle.std.proofs.Common.{◌≡◌, ◌∙◌, ap, sym, refl, ℕ, zero, suc, ◌+◌, ◌≤◌, Bool, true, false, List, [], ◌∷◌, take, drop, min, replicate, arith}
+use Rattle.std.proofs.Common.{rules, ◌≡◌, ◌∙◌, ap, sym, refl, ℕ, zero, suc, ◌+◌, ◌≤◌, Bool, true, false, List, [], ◌∷◌, take, drop, min, replicate, arith}
 use Rattle.std.specs.Prelude.{if◌then◌else◌}
 use Rattle.std.specs.Char.{is_ascii_digit}
 use Rattle.std.specs.List.{prefix_len}
@@ -16,15 +16,7 @@ first (suc count) [] = 0 ∷ first count []
 first (suc count) (byte ∷ text) = byte ∷ first count text
 
 eight-first : (text : List ℕ) → eight_at text 0 ≡ first 8 text
-eight-first [] = refl
-eight-first (a ∷ []) = refl
-eight-first (a ∷ b ∷ []) = refl
-eight-first (a ∷ b ∷ c ∷ []) = refl
-eight-first (a ∷ b ∷ c ∷ d ∷ []) = refl
-eight-first (a ∷ b ∷ c ∷ d ∷ e ∷ []) = refl
-eight-first (a ∷ b ∷ c ∷ d ∷ e ∷ f ∷ []) = refl
-eight-first (a ∷ b ∷ c ∷ d ∷ e ∷ f ∷ g ∷ []) = refl
-eight-first (a ∷ b ∷ c ∷ d ∷ e ∷ f ∷ g ∷ h ∷ more) = refl
+eight-first text = search rules
 
 -- a run goes as far in them as in the text
 first-run : (count : ℕ) (text : List ℕ) → fit_length (replicate count 48) (first count text) ≡ min count (prefix_len is_ascii_digit text)
