@@ -3,7 +3,7 @@ use Rattle.std.proofs.lemmas.Grind.{common_steps}
 use Rattle.std.proofs.lemmas.Bool.Decides.{nat_tests}
 use Rattle.std.specs.Prelude.{◌≡◌, ◌↔◌, ℕ, ◌+◌, ◌≤◌, ◌<◌, Bool, true, false, ◌==◌, List, ◌∷◌, ◌++◌, length, drop, slice_index, None, IfOk, Ok, refl}
 use Rattle.std.specs.Char.{is_ascii_digit}
-use Rattle.std.proofs.Common.{rules, arith, ◌∙◌, ap, ap₂, sym}
+use Rattle.std.proofs.Common.{rules, arith, ◌∙◌, ap, sym}
 use Rattle.speedate_base.specs.declared.config.MicrosecondsPrecisionOverflowBehavior.{MicrosecondsPrecisionOverflowBehavior}
 use Rattle.speedate_base.specs.Ascii.{colon, full_stop}
 use Rattle.speedate_base.specs.DigitRuns.{run_length}
@@ -47,10 +47,9 @@ ends-at behavior time rest text size text_is long left without stops read =
     read-value (λ (found : TimeOfDay × ℕ). ◌≡◌ {A = TimeOfDay × ℕ} found front → is_after_time time rest ≡ true) (time_front behavior text) front
     (ap (time_front behavior) (sym text_is) ∙ read)
     (read-then _ _ (clock_front behavior text) (λ clock clocked. read-then _ _ (offset_front (drop clock.size text)) (λ offset after is.
-    let both : clock.size + offset.1 ≡ length (time_text time) = ap (λ (found : TimeOfDay × ℕ). found.1) is in
-    let stopped = stops clock clocked (omega (arith, both, long)) in
-    let here : offset_front rest ≡ Ok offset = ap offset_front (sym left ∙ ap (λ (n : ℕ). drop n text) (sym stopped.1)) ∙ after in
-    let begins = read-value _ (offset_front rest) offset here (begins-none rest) (ap (λ (found : TimeOfDay × ℕ). found.0.offset) is ∙ without) in
+    let stopped = stops clock clocked (search rules) in
+    let here : offset_front rest ≡ Ok offset = search rules in
+    let begins = read-value _ (offset_front rest) offset here (begins-none rest) (search rules) in
     rw (without, stopped.0, begins) refl))) refl
 
 ends : (behavior : MicrosecondsPrecisionOverflowBehavior) (time : TimeOfDay) (rest : List ℕ) (none : Bool) → IsTime time → (time.microsecond == 0) ≡ none → time.offset ≡ None
@@ -80,7 +79,5 @@ date_time_text-front-iff behavior value rest valid whole = (
       let Is = λ (found : DateAndTime × ℕ). ◌≡◌ {A = DateAndTime × ℕ} found front → is_after_time value.time rest ≡ true in
       read-value Is (date_time_front behavior text) front read (read-then Is _ (date_front text)
       (λ date dated. read-then Is _ (meets (separator_table text) (time_front behavior (drop 11 text))) (λ time timed is.
-      let count : time.1 ≡ length (time_text value.time) = omega (arith, ap (λ (found : DateAndTime × ℕ). found.1) is) in
-      (time_text-front-iff behavior value.time rest valid.time whole).1
-      (timed ∙ ap₂ (λ (found : TimeOfDay) (n : ℕ). Ok (found, n)) (ap (λ (found : DateAndTime × ℕ). found.0.time) is) count)))) refl,
+      (time_text-front-iff behavior value.time rest valid.time whole).1 (search rules)))) refl,
 )

@@ -42,16 +42,11 @@ bytes-taken count place (suc number) text within =
 cut : (text : List ℕ) (count place : ℕ) (test : ℕ → Bool) → test 0 ≡ false → test (slice_index text place) ≡ false → test (slice_index (take count text) place) ≡ false
 cut text count place test none other = grind (arith, common_steps)
 
-run_first : (run taken count : ℕ) (test : Bool) → (run ≤ count → taken ≡ run) → (if test then 1 + run else 0) ≤ suc count
-    → (if test then 1 + taken else 0) ≡ (if test then 1 + run else 0)
-run_first run taken count test same within = search rules
-
 -- a run of digits that ends within a front is that of the text
 run-taken : (count : ℕ) (text : List ℕ) → prefix_len is_ascii_digit text ≤ count → prefix_len is_ascii_digit (take count text) ≡ prefix_len is_ascii_digit text
 run-taken zero text within = omega (arith, within)
 run-taken (suc count) [] within = refl
-run-taken (suc count) (byte ∷ text) within =
-    run_first (prefix_len is_ascii_digit text) (prefix_len is_ascii_digit (take count text)) count (is_ascii_digit byte) (run-taken count text) within
+run-taken (suc count) (byte ∷ text) within = grind (arith, run-taken count text)
 
 -- how many bytes a clock takes from its minute on
 abbrev pub minute_size : Bool → Bool → ℕ → ℕ

@@ -1,9 +1,7 @@
-use Rattle.std.proofs.Common.{rules, ◌≡◌, ◌≤◌, arith, ◌∙◌}
-use Rattle.std.proofs.lemmas.Bool.Decides.{nat_tests}
+use Rattle.std.proofs.Common.{rules, ◌≡◌, ◌≤◌, arith}
 use Rattle.speedate_civil.proofs.DayNumberLemmas.{year_length-is, leap_day-small}
 use Rattle.speedate_civil.proofs.MonthLemmas.{long_day, long_day-small, ordinal-at}
 use Rattle.speedate_civil.proofs.date.day_number.day_of_year.Goals as goal
-use Rattle.speedate_civil.proofs.date.day_number.day_of_year.Goals.{then-day-february, else-day-february}
 
 pub overflow_add-long_day : goal.overflow_add-long_day
 overflow_add-long_day c = grind (arith, year_length-is, leap_day-small)
@@ -30,10 +28,4 @@ invariant_of-result c =
 
 pub returns-clause-day : goal.returns-clause-day
 returns-clause-day c =
-    let february = c.from-february.ensures ∙ c.month_length.ensures.length in
-    let is : c.if-day-february.long_day ≡ long_day c.args.year c.args.day =
-    elim c.if-day-february.branch [
-      | then-day-february w ↦ grind (arith, nat_tests)
-      | else-day-february w ↦ grind (arith, nat_tests)
-    ] in
-    (ordinal-at c.args.year c.args.day c.if-day-february.long_day c.requires.day is).ordinal
+    (ordinal-at c.args.year c.args.day c.if-day-february.long_day c.requires.day (search rules)).ordinal
