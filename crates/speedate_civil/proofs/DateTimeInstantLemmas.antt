@@ -54,8 +54,7 @@ date_time_timestamp-instant unit offset microseconds timestamp =
     let sum = meets-value (sum_table microseconds instant) (later_instant microseconds instant) later after in
     instant_date_time-holds (λ (n : ℤ). n ≡ meant_microsecond unit microseconds timestamp) offset later
     (ap instant_microsecond (sym sum.1) ∙ later-is microseconds instant
-    ∙ ap (λ (n : ℤ). n +ℤ pos microseconds)
-    (ap instant_microsecond (sym at.1) ∙ instant_at-microsecond (timestamp_microsecond unit timestamp)))))
+    ∙ rw (sym at.1, instant_at-microsecond (timestamp_microsecond unit timestamp)) refl)))
 
 -- that of a decimal timestamp lies at the microsecond that is nearest to it
 pub date_time_decimal-nearest : (unit : TimestampUnit) (offset : Option ℤ) (decimal : DecimalParts)

@@ -29,7 +29,7 @@ use Rattle.speedate_civil.specs.DateAndTime.{DateAndTime}
 use Rattle.speedate_civil.specs.DateText.{date_front, date_table, date_text}
 use Rattle.speedate_civil.proofs.DateLemmas.{date_text-front}
 use Rattle.speedate_civil.specs.DateTime.{parts as date_time_parts}
-use Rattle.speedate_civil.specs.DateTimeText.{date_time_answer, date_time_front, is_separator, separator_table}
+use Rattle.speedate_civil.specs.DateTimeText.{date_time_answer, date_time_front, separator_table}
 use Rattle.speedate_civil.proofs.FrontLemmas.{ClockRead, bytes_from, clock-read, clock-size, date_time_front-is, minute_size, time_front-is}
 use Rattle.speedate_civil.specs.OffsetText.{end_fault, is_plus_or_minus, offset_digits, offset_front, offset_ranges, signed_front}
 use Rattle.speedate_civil.proofs.OffsetLemmas.{offset-cases}

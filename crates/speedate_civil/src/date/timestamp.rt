@@ -121,7 +121,10 @@ impl Date {
     {
         let seconds = (second - FIRST_SECOND) as u64;
         let per_day = u64::from(SECONDS_PER_DAY);
-        (Self::numbered((seconds / per_day) as u32), (seconds % per_day) as u32)
+        (
+            Self::numbered((seconds / per_day) as u32),
+            (seconds % per_day) as u32,
+        )
     }
 }
 
