@@ -4,7 +4,7 @@ use Rattle.std.proofs.lemmas.Grind.{common_steps}
 use Rattle.std.specs.Prelude.{◌≡◌, ℕ, zero, suc, ◌+◌, ◌-◌, ◌≤◌, Bool, true, false, ◌&&◌, ◌==◌, List, [], ◌∷◌, length, take, drop, slice_index, if◌then◌else◌, Option, ℤ, IfOk, Result, Ok, refl}
 use Rattle.std.specs.Char.{is_ascii_digit}
 use Rattle.std.specs.List.{prefix_len}
-use Rattle.std.proofs.Common.{rules, arith, lit<, ap, ap₂, sym, ◌∙◌}
+use Rattle.std.proofs.Common.{rules, arith, ap, ap₂, sym, ◌∙◌}
 use Rattle.std.proofs.lemmas.Bool.{le-leb}
 use Rattle.std.proofs.lemmas.List.{drop-take, length-drop, length-take-le, get_or-take, take-take}
 use Rattle.speedate_base.specs.declared.config.MicrosecondsPrecisionOverflowBehavior.{MicrosecondsPrecisionOverflowBehavior}
@@ -19,7 +19,7 @@ use Rattle.speedate_civil.specs.Calendar.{Ymd}
 use Rattle.speedate_civil.specs.ClockText.{Clock, at_hour, is_decimal_mark, clock_answer, clock_front, hour_table, hour_range, minute_clock, minute_digits, minute_table, has_second, has_point}
 use Rattle.speedate_civil.specs.DateAndTime.{DateAndTime}
 use Rattle.speedate_civil.specs.DateText.{date_front, date_answer, date_numbers, date_table}
-use Rattle.speedate_civil.specs.DateTimeText.{date_time_answer, date_time_front, is_separator, separator_table}
+use Rattle.speedate_civil.specs.DateTimeText.{date_time_answer, date_time_front, separator_table}
 use Rattle.speedate_civil.specs.OffsetText.{end_fault, offset_digits_length, offset_front, signed_front}
 use Rattle.speedate_civil.proofs.OffsetLemmas.{offset-cases}
 use Rattle.speedate_civil.proofs.ReadLemmas.{read-map, read-rows, read-then, read-value}
@@ -98,9 +98,8 @@ signed-taken west sign rest is = grind (arith, nat_tests, drop-take, meets-all, 
 offset-taken : (rest : List ℕ) → OffsetTaken rest (offset_front rest)
 offset-taken rest =
     offset-cases (OffsetTaken rest) rest
-    (λ some. signed-taken (slice_index rest 0 == hyphen) 1 rest
-    (let same = get_or-take (1 + offset_digits_length (drop 1 rest)) rest 0 0 (omega arith) in rw (same, some) refl))
-    (λ none utc. let same = get_or-take 1 rest 0 0 (lit< tt) in rw (same, none, utc) refl)
+    (λ some. signed-taken (slice_index rest 0 == hyphen) 1 rest (grind (arith, get_or-take)))
+    (λ none utc. grind (arith, get_or-take))
     (λ none other there. signed-taken true 3 rest
     (let count : ℕ = 3 + offset_digits_length (drop 3 rest) in
     rw (get_or-take count rest 0 0 (omega arith), get_or-take count rest 1 0 (omega arith), get_or-take count rest 2 0 (omega arith), none, other, there) refl))
@@ -179,8 +178,7 @@ date_time_front-taken behavior text =
     read-then _ _ (date_front text) (λ date dated. read-then _ _ (meets (separator_table text) (time_front behavior (drop 11 text))) (λ time read inside.
     let after = meets-ok (separator_table text) _ time read in
     let count : ℕ = 11 + time.1 in
-    let separator : is_separator (slice_index (take count text) 10) ≡ true = ap (is_separator) (get_or-take count text 10 0 (omega arith)) ∙ after.0.0 in
-    date_time_front-is behavior (take count text) date time (date-taken text count (omega arith) inside ∙ dated) (separator, tt)
+    date_time_front-is behavior (take count text) date time (date-taken text count (omega arith) inside ∙ dated) (rw (get_or-take count text 10 0 (omega arith)) after.0)
     (ap (time_front behavior) (drop-take 11 time.1 text)
     ∙ read-value _ _ time after.1 (time_front-taken behavior (drop 11 text)) (omega (arith, inside, length-drop 11 text)))))
 
