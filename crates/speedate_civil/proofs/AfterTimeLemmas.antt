@@ -1,14 +1,13 @@
 -- A printed time at the front of a text is read as itself if and only if what follows is no part of it. So is a printed date-time.
-use Rattle.std.specs.Prelude.{◌≡◌, ◌↔◌, ℕ, ◌+◌, ◌≤◌, ◌<◌, Bool, true, false, ◌==◌, List, [], ◌∷◌, ◌++◌, length, drop, slice_index, if◌then◌else◌, Option, Some, None, ℤ, IfOk, Ok, refl}
+use Rattle.std.proofs.lemmas.Grind.{common_steps}
+use Rattle.std.proofs.lemmas.Bool.Decides.{nat_tests}
+use Rattle.std.specs.Prelude.{◌≡◌, ◌↔◌, ℕ, ◌≤◌, ◌<◌, Bool, true, false, ◌==◌, List, ◌∷◌, ◌++◌, length, drop, slice_index, None, IfOk, Ok, refl}
 use Rattle.std.specs.Char.{is_ascii_digit}
-use Rattle.std.specs.List.{prefix_len}
-use Rattle.std.proofs.Common.{arith, ◌∙◌, ap, ap₂, sym}
+use Rattle.std.proofs.Common.{rules, arith, ◌∙◌, ap, sym}
 use Rattle.speedate_base.specs.declared.config.MicrosecondsPrecisionOverflowBehavior.{MicrosecondsPrecisionOverflowBehavior}
-use Rattle.speedate_base.specs.Ascii.{colon, full_stop, hyphen}
+use Rattle.speedate_base.specs.Ascii.{colon, full_stop}
 use Rattle.speedate_base.specs.DigitRuns.{run_length}
-use Rattle.speedate_base.proofs.DigitRunLemmas.{run_length-append}
 use Rattle.speedate_base.specs.Digits.{six_digit_text, two_digit_text}
-use Rattle.speedate_base.proofs.DigitLemmas.{six_digits-printed}
 use Rattle.speedate_base.specs.Offset.{IsWholeMinutes}
 use Rattle.speedate_base.specs.Requirement.{meets}
 use Rattle.speedate_civil.specs.ClockText.{Clock, clock_front, is_decimal_mark, minute_text}
@@ -16,55 +15,27 @@ use Rattle.speedate_civil.specs.DateAndTime.{DateAndTime, IsDateAndTime}
 use Rattle.speedate_civil.specs.DateText.{date_front}
 use Rattle.speedate_civil.specs.DateTimeText.{date_time_front, date_time_text, separator_table}
 use Rattle.speedate_civil.proofs.DateTimeLemmas.{date_time_text-front}
-use Rattle.speedate_civil.proofs.FrontLemmas.{clock-size}
-use Rattle.speedate_civil.specs.OffsetText.{begins_offset, offset_digits, offset_front, offset_ranges, signed_front}
-use Rattle.speedate_civil.proofs.OffsetLemmas.{offset-cases}
-use Rattle.speedate_civil.proofs.ReadLemmas.{read-rows, read-then, read-value}
+use Rattle.speedate_civil.specs.OffsetText.{begins_offset, offset_front}
+use Rattle.speedate_civil.proofs.ReadLemmas.{read-then, read-value}
 use Rattle.speedate_civil.specs.TimeOfDay.{TimeOfDay, IsTime}
 use Rattle.speedate_civil.specs.TimeText.{clock_text, continues_fraction, is_after_time, time_front, time_text}
 use Rattle.speedate_civil.proofs.TimeLemmas.{time_text-front}
 
--- a text after which no offset was read begins none
-signed-some : (west : Bool) (sign : ℕ) (numbers rest : List ℕ)
-    → IfOk (signed_front west sign numbers) (λ front. front.0 ≡ None → begins_offset rest ≡ false)
-signed-some west sign numbers rest =
-    read-rows _ (offset_digits numbers) _ (λ digits. read-rows _ (offset_ranges numbers) _ (λ ranges none. absurd (cc)))
-
 begins-none : (rest : List ℕ) → IfOk (offset_front rest) (λ front. front.0 ≡ None → begins_offset rest ≡ false)
-begins-none rest =
-    offset-cases (λ answer. IfOk answer (λ front. front.0 ≡ None → begins_offset rest ≡ false)) rest
-    (λ some. signed-some (slice_index rest 0 == hyphen) 1 (drop 1 rest) rest) (λ no_sign utc none. absurd (cc))
-    (λ no_sign no_utc there. signed-some true 3 (drop 3 rest) rest) (λ no_sign no_utc no_minus none. rw (no_sign, no_utc, no_minus) refl)
-
--- a clock in print that takes no more bytes does not go on with a decimal mark
-no-more : (mark : Bool) (run size : ℕ) → 3 + (if mark then 6 + run else 5) ≡ size → size ≤ 8 → (mark ≡ false) × (size ≡ 8)
-no-more true run size is small = absurd (omega (arith, is, small))
-no-more false run size is small = (refl, sym is)
+begins-none rest = search rules
 
 second-ends : (behavior : MicrosecondsPrecisionOverflowBehavior) (hour minute second : ℕ) (rest : List ℕ) (clock : Clock)
     → clock_front behavior (two_digit_text hour ++ colon ∷ minute_text minute second ++ rest) ≡ Ok clock → clock.size ≤ 8
     → (is_decimal_mark (slice_index rest 0) ≡ false) × (clock.size ≡ 8)
-second-ends behavior hour minute second rest clock read small =
-    let text = two_digit_text hour ++ colon ∷ minute_text minute second ++ rest in
-    no-more (is_decimal_mark (slice_index rest 0)) (run_length (drop 3 text) 6) clock.size (clock-size behavior text clock read) small
-
--- nor, after six digits, with a digit
-no-first : (digit : Bool) (run : ℕ) → (if digit then 1 + run else 0) ≡ 0 → digit ≡ false
-no-first true run none = absurd (omega (arith, none))
-no-first false run none = refl
+second-ends behavior hour minute second rest clock read small = grind (arith, nat_tests)
 
 no-digit : (rest : List ℕ) → run_length rest 0 ≡ 0 → is_ascii_digit (slice_index rest 0) ≡ false
-no-digit [] none = refl
-no-digit (byte ∷ rest) none = no-first (is_ascii_digit byte) (prefix_len is_ascii_digit rest) none
+no-digit rest none = grind (arith, common_steps)
 
 fraction-ends : (behavior : MicrosecondsPrecisionOverflowBehavior) (hour minute second microsecond : ℕ) (rest : List ℕ) (clock : Clock) → microsecond < 1000000
     → clock_front behavior (two_digit_text hour ++ colon ∷ minute_text minute second ++ full_stop ∷ six_digit_text microsecond ++ rest) ≡ Ok clock
     → clock.size ≤ 15 → (is_ascii_digit (slice_index rest 0) ≡ false) × (clock.size ≡ 15)
-fraction-ends behavior hour minute second microsecond rest clock few read small =
-    let text = two_digit_text hour ++ colon ∷ minute_text minute second ++ full_stop ∷ six_digit_text microsecond ++ rest in
-    let size : 3 + (6 + run_length (six_digit_text microsecond ++ rest) 0) ≡ clock.size = clock-size behavior text clock read in
-    let run : run_length (six_digit_text microsecond ++ rest) 0 ≡ 6 + run_length rest 0 = run_length-append (six_digit_text microsecond) rest (six_digits-printed microsecond few) in
-    (no-digit rest (omega (arith, size, run, small)), omega (arith, size, run, small))
+fraction-ends behavior hour minute second microsecond rest clock few read small = grind (arith, common_steps, no-digit)
 
 -- so what follows a time without an offset, that was read as itself, is no part of it
 ends-at : (behavior : MicrosecondsPrecisionOverflowBehavior) (time : TimeOfDay) (rest text : List ℕ) (size : ℕ) → time_text time ++ rest ≡ text
@@ -76,10 +47,9 @@ ends-at behavior time rest text size text_is long left without stops read =
     read-value (λ (found : TimeOfDay × ℕ). ◌≡◌ {A = TimeOfDay × ℕ} found front → is_after_time time rest ≡ true) (time_front behavior text) front
     (ap (time_front behavior) (sym text_is) ∙ read)
     (read-then _ _ (clock_front behavior text) (λ clock clocked. read-then _ _ (offset_front (drop clock.size text)) (λ offset after is.
-    let both : clock.size + offset.1 ≡ length (time_text time) = ap (λ (found : TimeOfDay × ℕ). found.1) is in
-    let stopped = stops clock clocked (omega (arith, both, long)) in
-    let here : offset_front rest ≡ Ok offset = ap offset_front (sym left ∙ ap (λ (n : ℕ). drop n text) (sym stopped.1)) ∙ after in
-    let begins = read-value _ (offset_front rest) offset here (begins-none rest) (ap (λ (found : TimeOfDay × ℕ). found.0.offset) is ∙ without) in
+    let stopped = stops clock clocked (search rules) in
+    let here : offset_front rest ≡ Ok offset = search rules in
+    let begins = read-value _ (offset_front rest) offset here (begins-none rest) (search rules) in
     rw (without, stopped.0, begins) refl))) refl
 
 ends : (behavior : MicrosecondsPrecisionOverflowBehavior) (time : TimeOfDay) (rest : List ℕ) (none : Bool) → IsTime time → (time.microsecond == 0) ≡ none → time.offset ≡ None
@@ -93,18 +63,10 @@ ends behavior time rest false valid some without =
     let stopped = fraction-ends behavior time.hour time.minute time.second time.microsecond rest clock (omega (arith, valid.microsecond)) is small in
     (rw some stopped.0, stopped.1))
 
-after-read : (behavior : MicrosecondsPrecisionOverflowBehavior) (time : TimeOfDay) (rest : List ℕ) (offset : Option ℤ) → time.offset ≡ offset
-    → IsTime time → time_front behavior (time_text time ++ rest) ≡ Ok (time, length (time_text time)) → is_after_time time rest ≡ true
-after-read behavior time rest (Some seconds) is valid read = rw (is) refl
-after-read behavior time rest None is valid read = ends behavior time rest (time.microsecond == 0) valid refl is read
-
 -- where its offset is whole minutes, that is the one condition
 pub time_text-front-iff : (behavior : MicrosecondsPrecisionOverflowBehavior) (time : TimeOfDay) (rest : List ℕ) → IsTime time → IsWholeMinutes time.offset
     → (is_after_time time rest ≡ true) ↔ (time_front behavior (time_text time ++ rest) ≡ Ok (time, length (time_text time)))
-time_text-front-iff behavior time rest valid whole = (
-  λ after. time_text-front behavior time rest valid whole after,
-  λ read. after-read behavior time rest time.offset refl valid read,
-)
+time_text-front-iff behavior time rest valid whole = grind (arith, time_text-front, ends)
 
 pub date_time_text-front-iff : (behavior : MicrosecondsPrecisionOverflowBehavior) (value : DateAndTime) (rest : List ℕ) → IsDateAndTime value
     → IsWholeMinutes value.time.offset
@@ -117,7 +79,5 @@ date_time_text-front-iff behavior value rest valid whole = (
       let Is = λ (found : DateAndTime × ℕ). ◌≡◌ {A = DateAndTime × ℕ} found front → is_after_time value.time rest ≡ true in
       read-value Is (date_time_front behavior text) front read (read-then Is _ (date_front text)
       (λ date dated. read-then Is _ (meets (separator_table text) (time_front behavior (drop 11 text))) (λ time timed is.
-      let count : time.1 ≡ length (time_text value.time) = omega (arith, ap (λ (found : DateAndTime × ℕ). found.1) is) in
-      (time_text-front-iff behavior value.time rest valid.time whole).1
-      (timed ∙ ap₂ (λ (found : TimeOfDay) (n : ℕ). Ok (found, n)) (ap (λ (found : DateAndTime × ℕ). found.0.time) is) count)))) refl,
+      (time_text-front-iff behavior value.time rest valid.time whole).1 (search rules)))) refl,
 )

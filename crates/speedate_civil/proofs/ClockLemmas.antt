@@ -1,8 +1,9 @@
 -- A printed clock is read as itself, from its minute on.
-use Rattle.std.specs.Prelude.{◌≡◌, ℕ, ◌+◌, ◌<◌, ◌≤◌, Bool, true, false, List, [], ◌∷◌, ◌++◌, length, nat_le, slice_index, Ok, refl}
+use Rattle.std.proofs.lemmas.Grind.{common_steps}
+use Rattle.std.specs.Prelude.{◌≡◌, ℕ, ◌+◌, ◌<◌, ◌≤◌, Bool, true, false, List, ◌∷◌, ◌++◌, length, nat_le, slice_index, Ok, refl}
 use Rattle.std.specs.Char.{is_ascii_digit}
 use Rattle.std.specs.List.{list_all, prefix_len}
-use Rattle.std.proofs.Common.{arith, ◌∙◌, ap, take}
+use Rattle.std.proofs.Common.{rules, arith, ◌∙◌, ap, take}
 use Rattle.std.proofs.Math.Seq.{take-append_seam}
 use Rattle.std.proofs.lemmas.Bool.{le-leb, lt-ltb}
 use Rattle.speedate_base.specs.declared.config.MicrosecondsPrecisionOverflowBehavior.{MicrosecondsPrecisionOverflowBehavior}
@@ -20,19 +21,14 @@ pub clock-whole : (behavior : MicrosecondsPrecisionOverflowBehavior) (minute sec
     → minute ≤ 59 → second ≤ 59 → is_decimal_mark (slice_index tail 0) ≡ false
     → clock_answer behavior (minute_text minute second ++ tail)
     ≡ Ok (record { hour = 0; minute = minute; second = second; microsecond = 0; size = 5 })
-clock-whole behavior minute second tail small_minute small_second plain =
-    let minute_is = two_digit_value-printed minute in
-    let second_is = two_digit_value-printed second in
-    rw (minute_is, second_is, plain, le-leb minute 59 small_minute, le-leb second 59 small_second, two_digits-printed second (omega arith)) refl
+clock-whole behavior minute second tail small_minute small_second plain = search rules
 
 -- where no digit stands, none follows
 pub run_length-none : (tail : List ℕ) → is_ascii_digit (slice_index tail 0) ≡ false → run_length tail 0 ≡ 0
-run_length-none [] other = refl
-run_length-none (byte ∷ tail) other = rw other refl
+run_length-none tail other = grind (arith, common_steps)
 
 few-holds : (refuses : Bool) (count : ℕ) → (refuses ≡ true → count ≤ 6) → (refuses implies nat_le count 6) ≡ true
-few-holds true count few = le-leb count 6 (few refl)
-few-holds false count few = refl
+few-holds refuses count few = search rules
 
 -- a fraction of any digits is read as it
 pub clock-secfrac : (behavior : MicrosecondsPrecisionOverflowBehavior) (minute second : ℕ) (digits tail : List ℕ) → minute ≤ 59 → second ≤ 59
@@ -53,7 +49,4 @@ pub clock-fraction : (behavior : MicrosecondsPrecisionOverflowBehavior) (minute 
     → minute ≤ 59 → second ≤ 59 → microsecond < 1000000 → is_ascii_digit (slice_index tail 0) ≡ false
     → clock_answer behavior (minute_text minute second ++ full_stop ∷ six_digit_text microsecond ++ tail)
     ≡ Ok (record { hour = 0; minute = minute; second = second; microsecond = microsecond; size = 12 })
-clock-fraction behavior minute second microsecond tail small_minute small_second small other =
-    clock-secfrac behavior minute second (six_digit_text microsecond) tail small_minute small_second (six_digits-printed microsecond small) (omega arith)
-    (λ refuses. omega arith) other
-    ∙ ap (λ (n : ℕ). Ok (record { hour = 0; minute = minute; second = second; microsecond = n; size = 12 })) (fraction_value-printed microsecond)
+clock-fraction behavior minute second microsecond tail small_minute small_second small other = search (rules, six_digits-printed, fraction_value-printed, clock-secfrac)

@@ -1,30 +1,22 @@
 -- The text by which a date is printed is read as the date, whatever follows it.
-use Rattle.std.specs.Prelude.{◌≡◌, ℕ, List, [], ◌++◌, ◌≤◌, true, length, Ok}
+use Rattle.std.specs.Prelude.{◌≡◌, ℕ, List, ◌++◌, ◌≤◌, true, length, Ok}
 use Rattle.std.specs.Int.{is_in_range, IsInRange}
-use Rattle.std.proofs.Common.{arith, ap, sym, subst}
+use Rattle.std.proofs.Common.{rules, arith, ap, sym, subst}
 use Rattle.std.proofs.lemmas.Bool.{le-leb}
-use Rattle.std.proofs.lemmas.Bool.Decides.{nat_tests}
-use Rattle.speedate_base.specs.declared.faults.ParseError.TheVariants as fault
-use Rattle.speedate_base.proofs.DigitLemmas.{two_digits-printed, four_digits-printed, two_digit_value-printed, four_digit_value-printed}
-use Rattle.speedate_base.specs.Requirement.{alone, result_and_then}
-use Rattle.speedate_base.proofs.TextLemmas.{text-distinct}
+use Rattle.speedate_base.proofs.DigitLemmas.{two_digits-printed, four_digits-printed}
 use Rattle.speedate_civil.specs.Calendar.{Ymd, IsDate, month_length}
 use Rattle.speedate_civil.specs.DateText.{date_text, date_front, date_answer, date_numbers}
 
 -- no month is longer than 31 days
 pub month_length-small : (year month : ℕ) → month_length year month ≤ 31
-month_length-small year month = grind (arith, nat_tests)
+month_length-small year month = grind arith
 
 is_in_range-true : (low high n : ℕ) → IsInRange low high n → is_in_range low high n ≡ true
-is_in_range-true low high n within = grind (arith, nat_tests)
+is_in_range-true low high n within = grind arith
 
 -- the numbers of a printed date stand at their places
 date_numbers-printed : (date : Ymd) (tail : List ℕ) → date_numbers (date_text date ++ tail) ≡ date
-date_numbers-printed date tail = λ i. record {
-  year = four_digit_value-printed date.year i;
-  month = two_digit_value-printed date.month i;
-  day = two_digit_value-printed date.day i;
-}
+date_numbers-printed date tail = search rules
 
 -- the text by which a date is printed, at the front of another, is read as that date
 pub date_text-front : (date : Ymd) (tail : List ℕ) → IsDate date → date_front (date_text date ++ tail) ≡ Ok (date, 10)
@@ -41,10 +33,4 @@ date_text-front date tail valid =
 
 -- and alone it is that date
 pub date_text-reads : (date : Ymd) → IsDate date → date_answer (date_text date) ≡ Ok date
-date_text-reads date valid =
-    ap (result_and_then (alone (λ date. fault.ExtraCharacters) (date_text date))) (date_text-front date [] valid)
-
--- two dates with the same text are equal
-pub date_text-distinct : (first second : Ymd) → IsDate first → IsDate second → date_text first ≡ date_text second → first ≡ second
-date_text-distinct first second one two =
-    text-distinct date_text date_answer first second (date_text-reads first one) (date_text-reads second two)
+date_text-reads date valid = search (rules, date_text-front)

@@ -1,7 +1,6 @@
 -- Each date of the years to 9999 is the date of its day number.
 use Rattle.std.specs.Prelude.{◌≡◌, ℕ, ◌≤◌, Some}
-use Rattle.std.proofs.Common.{arith, ◌∙◌, ap, sym}
-use Rattle.std.proofs.lemmas.Bool.{le-leb}
+use Rattle.std.proofs.Common.{arith}
 use Rattle.speedate_civil.specs.Calendar.{Ymd, IsDay}
 use Rattle.speedate_civil.proofs.DateOrderLemmas.{day_number-distinct}
 use Rattle.speedate_civil.specs.DayNumber.{day_number, date_after, date_numbered}
@@ -9,10 +8,7 @@ use Rattle.speedate_civil.proofs.DayNumberLemmas.{day_number-small, date_after-I
 
 -- so many steps as its day number counts lead to a date
 pub date_after-day_number : (date : Ymd) → IsDay date → date_after (day_number date) ≡ date
-date_after-day_number date valid =
-    day_number-distinct (date_after (day_number date)) date (date_after-IsDay (day_number date)) valid (day_number-date_after (day_number date))
+date_after-day_number date valid = grind (arith, day_number-distinct, date_after-IsDay, day_number-date_after)
 
 pub date_numbered-is : (number : ℕ) (date : Ymd) → IsDay date → date.year ≤ 9999 → day_number date ≡ number → date_numbered number ≡ Some date
-date_numbered-is number date valid small same =
-    let few : number ≤ 3652424 = omega (arith, day_number-small date valid small) in
-    rw (le-leb number 3652424 few) (ap Some (ap date_after (sym same) ∙ date_after-day_number date valid))
+date_numbered-is number date valid small same = grind (arith, day_number-small, date_after-day_number)

@@ -1,11 +1,10 @@
 -- Laws of the order of dates: it is that of the day numbers, and that of the texts.
 use Rattle.std.specs.Prelude.{◌≡◌, ℕ, ◌+◌, ◌-◌, ◌/◌, ◌%◌, ◌<◌, List, [], ◌++◌, refl}
-use Rattle.std.specs.Cmp.{ranks, nat_cmp_is}
 use Rattle.std.specs.Cmp.Lexicographic.{slice_cmp}
-use Rattle.std.specs.Ordering.{nat_cmp, ordering_then, MatchOrdering}
+use Rattle.std.specs.Ordering.{nat_cmp, ordering_then}
 use Rattle.std.specs.declared.cmp.Ordering.{Ordering}
-use Rattle.std.specs.declared.cmp.Ordering.TheVariants.{Less, Equal, Greater}
-use Rattle.std.proofs.Common.{arith, ◌∙◌, ap, sym}
+use Rattle.std.specs.declared.cmp.Ordering.TheVariants.{Equal}
+use Rattle.std.proofs.Common.{rules, arith, ◌∙◌, ap}
 use Rattle.std.proofs.lemmas.Bool.Decides.{nat_tests}
 use Rattle.speedate_base.specs.Digits.{digit}
 use Rattle.speedate_civil.specs.Calendar.{Ymd, IsDay}
@@ -32,104 +31,38 @@ earlier_month first second one two same less =
       one.day.1,
     )
 
--- and an earlier day of a month
-earlier_day : (first second : Ymd) → IsDay first → first.year ≡ second.year → first.month ≡ second.month → first.day < second.day → day_number first < day_number second
-earlier_day first second one same_year same_month less =
-    omega (
-      arith,
-      ap days_before_year same_year,
-      one.day.0,
-      ap (λ (year : ℕ). days_of_months year (first.month - 1)) same_year,
-      ap (λ (month : ℕ). days_of_months second.year (month - 1)) same_month,
-    )
-
--- an order tells how two dates' day numbers stand, and finds only one date equal to itself
-abbrev pub Ranked : Ymd → Ymd → Ordering → Type 0
-Ranked first second order = MatchOrdering order (day_number first < day_number second) (first ≡ second) (day_number second < day_number first)
-
--- two numbers of the dates do, if they are first in the order
-first-ranked : (first second : Ymd) (one two : ℕ) (next : Ordering)
-    → (one < two → day_number first < day_number second) → (one ≡ two → Ranked first second next) → (two < one → day_number second < day_number first)
-    → Ranked first second (ordering_then (nat_cmp one two) next)
-first-ranked first second one two next less same more =
-    elim (nat_cmp one two) as (λ order. MatchOrdering order (one < two) (one ≡ two) (two < one) → Ranked first second (ordering_then order next))
-    [ Less ↦ less | Equal ↦ same | Greater ↦ more ] (ranks one two)
-
--- or if they are last
-last-ranked : (first second : Ymd) (one two : ℕ)
-    → (one < two → day_number first < day_number second) → (one ≡ two → first ≡ second) → (two < one → day_number second < day_number first)
-    → Ranked first second (nat_cmp one two)
-last-ranked first second one two less same more =
-    elim (nat_cmp one two) as (λ order. MatchOrdering order (one < two) (one ≡ two) (two < one) → Ranked first second order)
-    [ Less ↦ less | Equal ↦ same | Greater ↦ more ] (ranks one two)
-
--- the order of dates does
-pub date_order-ranked : (first second : Ymd) → IsDay first → IsDay second → Ranked first second (date_order first second)
-date_order-ranked first second one two =
-    first-ranked first second first.year second.year _ (earlier_year first second one two)
-    (λ same_year. first-ranked first second first.month second.month _ (earlier_month first second one two same_year)
-    (λ same_month. last-ranked first second first.day second.day (earlier_day first second one same_year same_month)
-    (λ same_day i. record { year = same_year i; month = same_month i; day = same_day i })
-    (earlier_day second first two (sym same_year) (sym same_month)))
-    (earlier_month second first two one (sym same_year)))
-    (earlier_year second first two one)
-
 -- the order of dates is that of their day numbers
-order-ranked : (first second : Ymd) (order : Ordering) → Ranked first second order → order ≡ nat_cmp (day_number first) (day_number second)
-order-ranked first second Less less = nat_cmp_is (day_number first) (day_number second) Less less
-order-ranked first second Equal equal = nat_cmp_is (day_number first) (day_number second) Equal (ap day_number equal)
-order-ranked first second Greater more = nat_cmp_is (day_number first) (day_number second) Greater more
-
 pub date_order-day_number : (first second : Ymd) → IsDay first → IsDay second → date_order first second ≡ nat_cmp (day_number first) (day_number second)
-date_order-day_number first second one two = order-ranked first second (date_order first second) (date_order-ranked first second one two)
+date_order-day_number first second one two = grind (arith, nat_tests, earlier_year, earlier_month)
 
 -- dates with the same day number are equal
-same-ranked : (first second : Ymd) (order : Ordering) → Ranked first second order → day_number first ≡ day_number second → first ≡ second
-same-ranked first second Less less same = absurd (omega arith)
-same-ranked first second Equal equal same = equal
-same-ranked first second Greater more same = absurd (omega arith)
-
 pub day_number-distinct : (first second : Ymd) → IsDay first → IsDay second → day_number first ≡ day_number second → first ≡ second
-day_number-distinct first second one two = same-ranked first second (date_order first second) (date_order-ranked first second one two)
+day_number-distinct first second one two same = grind (arith, earlier_year, earlier_month)
 
 -- the tens and then the units of two numbers are ordered as the numbers
 pub digits-order : (first second : ℕ) (next : Ordering)
     → ordering_then (nat_cmp (digit (first / 10)) (digit (second / 10))) (ordering_then (nat_cmp (digit (first % 10)) (digit (second % 10))) next)
     ≡ ordering_then (nat_cmp first second) next
-digits-order first second next = grind (arith, nat_tests)
+digits-order first second next = grind arith
 
 -- and so are the hundreds and what is left
 pub hundreds-order : (first second : ℕ) (next : Ordering)
     → ordering_then (nat_cmp (first / 100) (second / 100)) (ordering_then (nat_cmp (first % 100) (second % 100)) next)
     ≡ ordering_then (nat_cmp first second) next
-hundreds-order first second next = grind (arith, nat_tests)
+hundreds-order first second next = grind arith
 
 -- a last order
 pub last-order : (order : Ordering) → ordering_then order Equal ≡ order
-last-order Less = refl
-last-order Equal = refl
-last-order Greater = refl
+last-order order = search rules
 
 -- three orders are joined from either end
 pub then-then : (one two three : Ordering) → ordering_then (ordering_then one two) three ≡ ordering_then one (ordering_then two three)
-then-then Less two three = refl
-then-then Equal two three = refl
-then-then Greater two three = refl
+then-then one two three = search rules
 
 -- two texts that begin with dates are ordered as the dates, and then as what follows
 pub date_text-front-order : (first second : Ymd) (one two : List ℕ)
     → slice_cmp nat_cmp (date_text first ++ one) (date_text second ++ two) ≡ ordering_then (date_order first second) (slice_cmp nat_cmp one two)
-date_text-front-order first second one two =
-    let rest : Ordering = slice_cmp nat_cmp one two in
-    let days : Ordering = nat_cmp first.day second.day in
-    let months : Ordering = nat_cmp first.month second.month in
-    let years : Ordering = nat_cmp first.year second.year in
-    digits-order (first.year / 100) (second.year / 100) _
-    ∙ ap (ordering_then (nat_cmp (first.year / 100) (second.year / 100))) (digits-order (first.year % 100) (second.year % 100) _)
-    ∙ hundreds-order first.year second.year _
-    ∙ ap (ordering_then years)
-    (digits-order first.month second.month _ ∙ ap (ordering_then months) (digits-order first.day second.day rest) ∙ sym (then-then months days rest))
-    ∙ sym (then-then years (ordering_then months days) rest)
+date_text-front-order first second one two = simp (digits-order, hundreds-order, then-then) refl
 
 -- two texts of dates are ordered as the dates
 pub date_text-order : (first second : Ymd) → slice_cmp nat_cmp (date_text first) (date_text second) ≡ date_order first second

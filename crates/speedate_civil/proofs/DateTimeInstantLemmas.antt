@@ -1,52 +1,26 @@
 -- The date-time of a timestamp lies as many microseconds after 1970-01-01T00:00:00 as the timestamp means.
-use Rattle.std.specs.Prelude.{◌≡◌, ℕ, suc, ◌≤◌, true, int_le, length, Option, ℤ, pos, negsuc, ◌+ℤ◌, ◌-ℤ◌, ◌*ℤ◌, unsigned_abs, IfOk, Result, Ok, Err, refl}
-use Rattle.std.specs.Int.{int_div_euclid, int_rem_euclid}
+use Rattle.std.specs.Prelude.{◌≡◌, ℕ, true, int_le, length, Option, ℤ, pos, ◌+ℤ◌, ◌*ℤ◌, IfOk, Ok, refl}
 use Rattle.std.proofs.Common.{arith, ◌∙◌, ap, sym, subst}
-use Rattle.std.proofs.lemmas.Bool.Decides.{nat_tests}
 use Rattle.std.proofs.lemmas.Int.{ints}
 use Rattle.speedate_base.specs.declared.config.TimestampUnit.{TimestampUnit}
 use Rattle.speedate_base.specs.DecimalTimestamp.{decimal_row, decimal_scale, decimal_size, decimal_microsecond, decimal_instant}
 use Rattle.speedate_base.specs.Nearest.{IsNearest}
 use Rattle.speedate_base.proofs.NearestLemmas.{nearest-is, scale-some}
 use Rattle.speedate_base.specs.Numbers.{DecimalParts}
-use Rattle.speedate_base.specs.declared.faults.ParseError.{ParseError}
-use Rattle.speedate_base.specs.Offset.{IsWholeMinutes, seconds_per_day}
 use Rattle.speedate_base.proofs.RequirementLemmas.{meets-value}
 use Rattle.speedate_base.specs.Timestamp.{Instant, timestamp_microsecond, instant_at, instant_answer, unit_table, first_second, range_table, range_answer}
 use Rattle.speedate_base.proofs.TimestampLemmas.{instant_microsecond, instant_at-microsecond}
-use Rattle.speedate_civil.specs.declared.datetime.DateTime.{DateTime}
 use Rattle.speedate_civil.specs.DateAndTime.{DateAndTime, local_second, local_microsecond}
-use Rattle.speedate_civil.specs.DateTime.{parts}
 use Rattle.speedate_civil.specs.DateTimeTimestamp.{IsShownAt, later_instant, later_answer, sum_table, date_time_at, instant_date_time, date_time_timestamp_answer, date_time_decimal_answer, meant_microsecond}
-use Rattle.speedate_civil.specs.DateTimestamp.{day_at, second_at}
-use Rattle.speedate_civil.specs.DayNumber.{epoch_day}
 use Rattle.speedate_civil.proofs.DayNumberLemmas.{day_number-date_after}
 use Rattle.speedate_civil.proofs.ReadLemmas.{read-map, read-rows, read-then, read-value}
-use Rattle.speedate_civil.specs.TimeOfDay.{second_of_day, time_at}
 
 later-is : (microseconds : ℕ) (instant : Instant) → instant_microsecond (later_instant microseconds instant) ≡ instant_microsecond instant +ℤ pos microseconds
 later-is microseconds instant = omega (arith, ints)
 
--- the second of a day number and of the second of that day
-second-joined : (at : ℤ) → int_le first_second at ≡ true
-    → (pos (unsigned_abs (int_div_euclid at (pos seconds_per_day) +ℤ pos epoch_day)) -ℤ pos epoch_day) *ℤ pos seconds_per_day
-    +ℤ pos (unsigned_abs (int_rem_euclid at (pos seconds_per_day))) ≡ at
-second-joined (pos n) after = omega (arith, ints)
-second-joined (negsuc n) after =
-    let low : suc n ≤ 62167219200 = grind (arith, ints, nat_tests) in
-    omega (arith, ints, low)
-
-second_of_day-time_at : (second microsecond : ℕ) (offset : Option ℤ) → second_of_day (time_at second microsecond offset) ≡ second
-second_of_day-time_at second microsecond offset = omega arith
-
 local-is : (offset : Option ℤ) (instant : Instant) → int_le first_second instant.second ≡ true
     → local_second (date_time_at offset instant) ≡ instant.second
-local-is offset instant after =
-    let day = day_at instant.second in
-    let second = second_at instant.second in
-    ap (λ (n : ℕ). (pos n -ℤ pos epoch_day) *ℤ pos seconds_per_day +ℤ pos (second_of_day (time_at second instant.microsecond offset))) (day_number-date_after day)
-    ∙ ap (λ (n : ℕ). (pos day -ℤ pos epoch_day) *ℤ pos seconds_per_day +ℤ pos n) (second_of_day-time_at second instant.microsecond offset)
-    ∙ second-joined instant.second after
+local-is offset instant after = grind (arith, ints, day_number-date_after)
 
 -- a clock shows an instant as the date-time at it
 pub date_time_at-shown : (offset : Option ℤ) (instant : Instant) → int_le first_second instant.second ≡ true
@@ -70,12 +44,6 @@ instant_date_time-shown offset instant value same =
     (read-map Is (date_time_at offset) (range_answer instant) (read-rows (λ (at : Instant). Is (date_time_at offset at)) (range_table instant) _
     (λ rows. date_time_at-shown offset instant rows.0)))
 
--- so it has the offset that was attached
-pub shown-minutes : (result : Result DateTime ParseError) (offset : Option ℤ) (instant : Instant) → IsWholeMinutes offset
-    → IfOk result (λ value. IsShownAt offset instant (parts value)) → IfOk result (λ value. IsWholeMinutes value.time.tz_offset)
-shown-minutes (Ok value) offset instant whole shown = subst IsWholeMinutes (sym shown.attached) whole
-shown-minutes (Err fault) offset instant whole shown = tt
-
 -- the date-time of a timestamp lies so many microseconds after 1970-01-01T00:00:00 as the timestamp says
 pub date_time_timestamp-instant : (unit : TimestampUnit) (offset : Option ℤ) (microseconds : ℕ) (timestamp : ℤ)
     → IfOk (date_time_timestamp_answer unit offset microseconds timestamp) (λ value. local_microsecond value ≡ meant_microsecond unit microseconds timestamp)
@@ -86,8 +54,7 @@ date_time_timestamp-instant unit offset microseconds timestamp =
     let sum = meets-value (sum_table microseconds instant) (later_instant microseconds instant) later after in
     instant_date_time-holds (λ (n : ℤ). n ≡ meant_microsecond unit microseconds timestamp) offset later
     (ap instant_microsecond (sym sum.1) ∙ later-is microseconds instant
-    ∙ ap (λ (n : ℤ). n +ℤ pos microseconds)
-    (ap instant_microsecond (sym at.1) ∙ instant_at-microsecond (timestamp_microsecond unit timestamp)))))
+    ∙ rw (sym at.1, instant_at-microsecond (timestamp_microsecond unit timestamp)) refl)))
 
 -- that of a decimal timestamp lies at the microsecond that is nearest to it
 pub date_time_decimal-nearest : (unit : TimestampUnit) (offset : Option ℤ) (decimal : DecimalParts)

@@ -4,12 +4,10 @@ use Rattle.std.specs.Prelude.{◌≡◌, ℕ, ◌+◌, true, List, [], ◌∷◌
 use Rattle.std.proofs.Common.{◌∙◌, ap, arith, sym}
 use Rattle.std.proofs.lemmas.List.{append-nil}
 use Rattle.speedate_base.specs.declared.config.MicrosecondsPrecisionOverflowBehavior.{MicrosecondsPrecisionOverflowBehavior}
-use Rattle.speedate_base.specs.declared.config.MicrosecondsPrecisionOverflowBehavior.TheVariants as behavior
 use Rattle.speedate_base.specs.Ascii.{capital_t}
 use Rattle.speedate_base.specs.Offset.{IsWholeMinutes}
 use Rattle.speedate_base.specs.Requirement.{alone, result_and_then}
 use Rattle.speedate_base.proofs.RequirementLemmas.{alone-whole}
-use Rattle.speedate_base.proofs.TextLemmas.{text-distinct}
 use Rattle.speedate_civil.specs.DateAndTime.{DateAndTime, IsDateAndTime}
 use Rattle.speedate_civil.proofs.DateLemmas.{date_text-front}
 use Rattle.speedate_civil.specs.DateTimeText.{date_time_front, date_time_answer, date_time_text}
@@ -36,11 +34,3 @@ date_time_text-reads behavior value valid whole =
     let front = sym (ap (date_time_front behavior) (append-nil text)) ∙ date_time_text-front behavior value [] valid whole (nothing-after value.time) in
     let fault = λ (read : DateAndTime). end_fault read.time.offset in
     ap (result_and_then (alone fault text)) front ∙ alone-whole fault text value (length text) refl
-
--- two such date-times with the same text are equal
-pub date_time_text-distinct : (first second : DateAndTime) → IsDateAndTime first → IsDateAndTime second
-    → IsWholeMinutes first.time.offset → IsWholeMinutes second.time.offset
-    → date_time_text first ≡ date_time_text second → first ≡ second
-date_time_text-distinct first second one two whole_one whole_two =
-    text-distinct date_time_text (date_time_answer behavior.Error) first second
-    (date_time_text-reads behavior.Error first one whole_one) (date_time_text-reads behavior.Error second two whole_two)

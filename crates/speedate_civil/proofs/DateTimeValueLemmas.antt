@@ -1,5 +1,5 @@
 -- What every `DateTime` is, and how large its seconds are.
-use Rattle.std.proofs.Common.{◌<◌, arith, lit<, Option, None, Some, refl}
+use Rattle.std.proofs.Common.{rules, ◌<◌, arith, Option}
 use Rattle.std.specs.Prelude.{ℤ, pos, ◌-ℤ◌, ◌≤ℤ◌, unsigned_abs}
 use Rattle.std.specs.Option.{ForSome, unwrap_or}
 use Rattle.std.proofs.lemmas.Int.{ints}
@@ -17,20 +17,17 @@ is_date_and_time value = record { date = is_date value.date; time = is_time valu
 
 -- an offset, or 0 for none
 pub offset-small : (offset : Option ℤ) → ForSome offset IsOffset → unsigned_abs (unwrap_or offset (pos 0)) < seconds_per_day
-offset-small None valid = lit< tt
-offset-small (Some offset) valid = valid offset refl
+offset-small offset valid = search rules
 
 pub local_second-small : (value : DateAndTime) → IsDateAndTime value → unsigned_abs (local_second value) < 300000000000
-local_second-small value valid =
-    omega (arith, ints, day_number-small value.date valid.date.day valid.date.year, valid.time.hour, valid.time.minute, valid.time.second)
+local_second-small value valid = grind (arith, day_number-small)
 
 -- a clock shows the years 0000 to 9999
 pub local_second-late : (value : DateAndTime) → IsDateAndTime value → first_second ≤ℤ local_second value
 local_second-late value valid = omega (arith, ints)
 
 pub local_second-early : (value : DateAndTime) → IsDateAndTime value → local_second value ≤ℤ last_second
-local_second-early value valid =
-    omega (arith, ints, day_number-small value.date valid.date.day valid.date.year, valid.time.hour, valid.time.minute, valid.time.second)
+local_second-early value valid = grind (arith, day_number-small)
 
 -- two sizes add up
 difference-small : (first second : ℤ) → unsigned_abs first < 300000000000 → unsigned_abs second < seconds_per_day
@@ -38,6 +35,4 @@ difference-small : (first second : ℤ) → unsigned_abs first < 300000000000 �
 difference-small first second small little = omega (arith, ints)
 
 pub utc_second-small : (value : DateAndTime) → IsDateAndTime value → unsigned_abs (utc_second value) < 400000000000
-utc_second-small value valid =
-    difference-small (local_second value) (unwrap_or value.time.offset (pos 0)) (local_second-small value valid)
-    (offset-small value.time.offset valid.time.offset)
+utc_second-small value valid = grind (arith, ints, local_second-small, difference-small)

@@ -1,10 +1,8 @@
 -- Laws of day numbers: how long years and months are, and that each day has one number more than the day before.
-use Rattle.std.specs.Prelude.{◌≡◌, ℕ, zero, suc, ◌+◌, ◌-◌, ◌*◌, ◌/◌, ◌<◌, ◌≤◌, true, false, if◌then◌else◌, nat_lt, refl}
-use Rattle.std.proofs.Common.{arith, ap, subst, add-one, add-zero, add-suc}
+use Rattle.std.specs.Prelude.{◌≡◌, ℕ, zero, suc, ◌+◌, ◌-◌, ◌*◌, ◌/◌, ◌≤◌, true, false, if◌then◌else◌, refl}
+use Rattle.std.proofs.Common.{rules, arith, subst, add-one, add-zero, add-suc}
 use Rattle.std.proofs.lemmas.Bool.Decides.{nat_tests}
-use borrow.Author.Tests.{ltb-true, ltb-false}
 use Rattle.speedate_civil.specs.Calendar.{Ymd, is_leap_year, february_length, month_length, IsDay}
-use Rattle.speedate_civil.proofs.ReadLemmas.{if_cases}
 use Rattle.speedate_civil.specs.DayNumber.{days_of_months, year_length, days_before_year, ordinal_day, day_number, day_after, date_after}
 
 -- the 29 February of a year, counted
@@ -12,14 +10,10 @@ abbrev pub leap_day : ℕ → ℕ
 leap_day year = if is_leap_year year then 1 else 0
 
 pub leap_day-small : (year : ℕ) → leap_day year ≤ 1
-leap_day-small year = grind (arith, nat_tests)
+leap_day-small year = grind arith
 
 pub february_length-is : (year : ℕ) → february_length year ≡ 28 + leap_day year
 february_length-is year = elim (is_leap_year year) as (λ leap. (if leap then 29 else 28) ≡ 28 + (if leap then 1 else 0)) [ true ↦ refl | false ↦ refl ]
-
--- each month has a first day
-pub month_length-large : (year month : ℕ) → 28 ≤ month_length year month
-month_length-large year month = grind (arith, nat_tests)
 
 days_of_months-none : (year : ℕ) → days_of_months year 0 ≡ 0
 unfolding days_of_months
@@ -28,8 +22,7 @@ days_of_months-none year = refl
 -- one month more
 pub days_of_months-next : (year month : ℕ) → 1 ≤ month → days_of_months year month ≡ days_of_months year (month - 1) + month_length year month
 unfolding days_of_months
-days_of_months-next year zero low = absurd (omega arith)
-days_of_months-next year (suc months) low = let same : suc months - 1 ≡ months = omega arith in rw same refl
+days_of_months-next year month low = search rules
 
 -- the days of a year, counted
 pub year_length-is : (year : ℕ) → year_length year ≡ 365 + leap_day year
@@ -39,7 +32,7 @@ year_length-is year = let february = february_length-is year in omega arith
 -- how many leap years there are
 leap_day-counts : (year : ℕ)
     → leap_day year + (year + 399) / 4 + (year + 400) / 100 + (year + 399) / 400 ≡ (year + 400) / 4 + (year + 399) / 100 + (year + 400) / 400
-leap_day-counts year = grind (arith, nat_tests)
+leap_day-counts year = grind arith
 
 -- the days before a year, by the 399 years that go before the year 0, so that a leap year ends each four
 pub days_before_year-is : (year : ℕ) → days_before_year year + 145731 + (year + 399) / 100 ≡ 365 * (year + 399) + (year + 399) / 4 + (year + 399) / 400
@@ -71,66 +64,29 @@ days_before_year-rises = rises days_before_year (λ year. omega arith)
 
 -- a day lies in its year
 pub ordinal_day-small : (date : Ymd) → IsDay date → ordinal_day date ≤ year_length date.year
-ordinal_day-small date valid =
-    omega (arith, days_of_months-next date.year date.month valid.month.0, days_of_months-rises date.year date.month 12 valid.month.1, valid.day.1)
+ordinal_day-small date valid = grind (arith, days_of_months-next)
 
 -- the years to 9999 have 3,652,425 days
 pub day_number-small : (date : Ymd) → IsDay date → date.year ≤ 9999 → day_number date ≤ 3652424
-day_number-small date valid small =
-    omega (
-      arith,
-      ordinal_day-small date valid,
-      year_length-is date.year,
-      leap_day-small date.year,
-      days_before_year-is date.year,
-      days_before_year-next date.year,
-      days_before_year-rises (date.year + 1) 10000 (omega arith),
-      days_before_year-is 10000,
-      valid.day.0,
-    )
-
--- what holds of each of the three days that may follow holds of the day after
-day_after-cases : (P : Ymd → Type 0) (date : Ymd)
-    → (date.day < month_length date.year date.month → P (record { year = date.year; month = date.month; day = date.day + 1 }))
-    → (month_length date.year date.month ≤ date.day → date.month < 12 → P (record { year = date.year; month = date.month + 1; day = 1 }))
-    → (month_length date.year date.month ≤ date.day → 12 ≤ date.month → P (record { year = date.year + 1; month = 1; day = 1 }))
-    → P (day_after date)
-day_after-cases P date day month year =
-    if_cases P (nat_lt date.day (month_length date.year date.month)) _ _ (λ before. day (ltb-true _ _ before))
-    (λ last. if_cases P (nat_lt date.month 12) _ _ (λ before. month (ltb-false _ _ last) (ltb-true _ _ before))
-    (λ december. year (ltb-false _ _ last) (ltb-false _ _ december)))
+day_number-small date valid small = grind (arith, nat_tests, leap_day-small, year_length-is, days_before_year-is, ordinal_day-small)
 
 -- the day after a day is a day
 pub day_after-IsDay : (date : Ymd) → IsDay date → IsDay (day_after date)
-day_after-IsDay date valid = day_after-cases IsDay date
-    (λ more. record { month = valid.month; day = (omega arith, omega arith) })
-    (λ last more. record { month = (omega arith, omega arith); day = (omega arith, omega (arith, month_length-large date.year (date.month + 1))) })
-    (λ last december. record { month = (omega arith, omega arith); day = (omega arith, omega (arith, month_length-large (date.year + 1) 1)) })
+day_after-IsDay date valid = search rules
 
 -- whose number is one more: at the end of a month
 pub day_number-next_month : (date : Ymd) → IsDay date → month_length date.year date.month ≤ date.day
     → day_number (record { year = date.year; month = date.month + 1; day = 1 }) ≡ day_number date + 1
-day_number-next_month date valid last =
-    let same : date.month + 1 - 1 ≡ date.month = omega arith in
-    omega (arith, ap (days_of_months date.year) same, days_of_months-next date.year date.month valid.month.0)
+day_number-next_month date valid last = grind (arith, days_of_months-next)
 
 -- at the end of a year
 pub day_number-next_year : (date : Ymd) → IsDay date → month_length date.year date.month ≤ date.day → 12 ≤ date.month
     → day_number (record { year = date.year + 1; month = 1; day = 1 }) ≡ day_number date + 1
-day_number-next_year date valid last end =
-    let december : date.month ≡ 12 = omega arith in
-    omega (
-      arith,
-      ap (days_of_months date.year) december,
-      days_of_months-next date.year date.month valid.month.0,
-      days_before_year-next date.year,
-      days_of_months-none (date.year + 1),
-    )
+day_number-next_year date valid last end = grind (arith, days_of_months-none, days_of_months-next, days_before_year-next)
 
 -- and anywhere
 pub day_number-day_after : (date : Ymd) → IsDay date → day_number (day_after date) ≡ day_number date + 1
-day_number-day_after date valid = day_after-cases (λ next. day_number next ≡ day_number date + 1) date
-    (λ more. omega (arith, valid.day.0)) (λ last more. day_number-next_month date valid last) (day_number-next_year date valid)
+day_number-day_after date valid = grind (arith, nat_tests, day_number-next_month, days_of_months-none, days_of_months-next, days_before_year-next)
 
 -- the steps from 0000-01-01 lead to days
 pub date_after-IsDay : (days : ℕ) → IsDay (date_after days)

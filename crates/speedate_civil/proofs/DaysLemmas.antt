@@ -1,24 +1,16 @@
 -- Days that are added to a date and counted again, and their order.
-use Rattle.std.specs.Prelude.{◌≡◌, ℕ, ℤ, pos, ◌+ℤ◌, ◌-ℤ◌, Option, Some, None, IfSome}
+use Rattle.std.specs.Prelude.{◌≡◌, ℕ, ℤ, pos, ◌+ℤ◌, ◌-ℤ◌, Option, IfSome}
 use Rattle.std.specs.Ordering.{int_cmp, nat_cmp}
-use Rattle.std.proofs.Common.{arith, ◌∙◌, ap}
-use Rattle.std.proofs.lemmas.Int.{ints}
+use Rattle.std.proofs.Common.{rules}
 use Rattle.speedate_civil.specs.declared.date.Date.{Date}
 use Rattle.speedate_civil.specs.Date.{parts}
 use Rattle.speedate_civil.specs.DayNumber.{day_number}
-use Rattle.speedate_civil.proofs.InstantOrderLemmas.{pos-order, left-order}
 
 -- a number of days leads to a day number, so it is the days up to it
 pub days-counted : (result : Option Date) (first number : ℕ) (days : ℤ) → pos number ≡ pos first +ℤ days
     → IfSome result (λ date. day_number (parts date) ≡ number) → IfSome result (λ date. pos (day_number (parts date)) -ℤ pos first ≡ days)
-days-counted None first number days sum same = tt
-days-counted (Some date) first number days sum same = ap (λ (n : ℕ). pos n -ℤ pos first) same ∙ omega (arith, ints, sum)
+days-counted result first number days sum same = search rules
 
 -- a difference is negative, none or positive as the numbers are in order
-pub difference-order : (first second : ℤ) → int_cmp (first -ℤ second) (pos 0) ≡ int_cmp first second
-difference-order first second =
-    let none : pos 0 ≡ second -ℤ second = omega (arith, ints) in
-    ap (int_cmp (first -ℤ second)) none ∙ left-order first second second
-
 pub day-difference-order : (first second : ℕ) → int_cmp (pos first -ℤ pos second) (pos 0) ≡ nat_cmp first second
-day-difference-order first second = difference-order (pos first) (pos second) ∙ pos-order first second
+day-difference-order first second = search rules

@@ -1,10 +1,12 @@
 -- What is read at the front of a text is the same without the bytes after it.
-use Rattle.std.specs.Prelude.{◌≡◌, ℕ, zero, suc, ◌+◌, ◌-◌, ◌≤◌, Bool, true, false, ◌&&◌, ◌==◌, List, [], ◌∷◌, length, take, drop, nat_le, slice_index, if◌then◌else◌, Option, ℤ, IfOk, Result, Ok, refl}
+use Rattle.std.proofs.lemmas.Bool.Decides.{nat_tests}
+use Rattle.std.proofs.lemmas.Grind.{common_steps}
+use Rattle.std.specs.Prelude.{◌≡◌, ℕ, zero, suc, ◌+◌, ◌-◌, ◌≤◌, Bool, true, false, ◌&&◌, ◌==◌, List, [], ◌∷◌, length, take, drop, slice_index, if◌then◌else◌, Option, ℤ, IfOk, Result, Ok, refl}
 use Rattle.std.specs.Char.{is_ascii_digit}
 use Rattle.std.specs.List.{prefix_len}
-use Rattle.std.proofs.Common.{arith, lit<, ap, ap₂, sym, ◌∙◌, inl, inr}
-use Rattle.std.proofs.lemmas.Bool.{cases_lt, le-leb}
-use Rattle.std.proofs.lemmas.List.{drop-take, length-drop, length-take, length-take-le, get_or-take, get_or_past, take-take}
+use Rattle.std.proofs.Common.{rules, arith, ap, ap₂, sym, ◌∙◌}
+use Rattle.std.proofs.lemmas.Bool.{le-leb}
+use Rattle.std.proofs.lemmas.List.{drop-take, length-drop, length-take-le, get_or-take, take-take}
 use Rattle.speedate_base.specs.declared.config.MicrosecondsPrecisionOverflowBehavior.{MicrosecondsPrecisionOverflowBehavior}
 use Rattle.speedate_base.specs.declared.faults.ParseError.{ParseError}
 use Rattle.speedate_base.specs.declared.faults.ParseError.TheVariants as fault
@@ -12,15 +14,15 @@ use Rattle.speedate_base.specs.Ascii.{colon, hyphen}
 use Rattle.speedate_base.specs.DigitRuns.{run_length, run_digits}
 use Rattle.speedate_base.specs.Digits.{two_digit_value}
 use Rattle.speedate_base.specs.Requirement.{AllHold, alone, meets, result_and_then}
-use Rattle.speedate_base.proofs.RequirementLemmas.{alone-whole, meets-all, meets-ok, meets-value}
+use Rattle.speedate_base.proofs.RequirementLemmas.{meets-all, meets-ok, meets-value}
 use Rattle.speedate_civil.specs.Calendar.{Ymd}
 use Rattle.speedate_civil.specs.ClockText.{Clock, at_hour, is_decimal_mark, clock_answer, clock_front, hour_table, hour_range, minute_clock, minute_digits, minute_table, has_second, has_point}
 use Rattle.speedate_civil.specs.DateAndTime.{DateAndTime}
 use Rattle.speedate_civil.specs.DateText.{date_front, date_answer, date_numbers, date_table}
-use Rattle.speedate_civil.specs.DateTimeText.{date_time_answer, date_time_front, is_separator, separator_table}
-use Rattle.speedate_civil.specs.OffsetText.{end_fault, offset_digits, offset_digits_length, offset_front, offset_ranges, signed_front}
+use Rattle.speedate_civil.specs.DateTimeText.{date_time_answer, date_time_front, separator_table}
+use Rattle.speedate_civil.specs.OffsetText.{end_fault, offset_digits_length, offset_front, signed_front}
 use Rattle.speedate_civil.proofs.OffsetLemmas.{offset-cases}
-use Rattle.speedate_civil.proofs.ReadLemmas.{read-map, read-rows, read-then, read-value, steps-read}
+use Rattle.speedate_civil.proofs.ReadLemmas.{read-map, read-rows, read-then, read-value}
 use Rattle.speedate_civil.specs.TimeOfDay.{TimeOfDay}
 use Rattle.speedate_civil.specs.TimeText.{time_front, time_answer, time_of}
 
@@ -38,22 +40,13 @@ bytes-taken count place (suc number) text within =
 
 -- a byte of the front of a text is that of the text, or 0 after its end
 cut : (text : List ℕ) (count place : ℕ) (test : ℕ → Bool) → test 0 ≡ false → test (slice_index text place) ≡ false → test (slice_index (take count text) place) ≡ false
-cut text count place test none other = elim (cases_lt place count) [
-  | inl within ↦ ap test (get_or-take count text place 0 within) ∙ other
-  | inr past ↦ ap test (get_or_past (take count text) place 0 (omega (arith, past, length-take count text))) ∙ none
-]
-
-run_first : (run taken count : ℕ) (test : Bool) → (run ≤ count → taken ≡ run) → (if test then 1 + run else 0) ≤ suc count
-    → (if test then 1 + taken else 0) ≡ (if test then 1 + run else 0)
-run_first run taken count true same within = ap (λ (n : ℕ). 1 + n) (same (omega (arith, within)))
-run_first run taken count false same within = refl
+cut text count place test none other = grind (arith, common_steps)
 
 -- a run of digits that ends within a front is that of the text
 run-taken : (count : ℕ) (text : List ℕ) → prefix_len is_ascii_digit text ≤ count → prefix_len is_ascii_digit (take count text) ≡ prefix_len is_ascii_digit text
 run-taken zero text within = omega (arith, within)
 run-taken (suc count) [] within = refl
-run-taken (suc count) (byte ∷ text) within =
-    run_first (prefix_len is_ascii_digit text) (prefix_len is_ascii_digit (take count text)) count (is_ascii_digit byte) (run-taken count text) within
+run-taken (suc count) (byte ∷ text) within = grind (arith, run-taken count text)
 
 -- how many bytes a clock takes from its minute on
 abbrev pub minute_size : Bool → Bool → ℕ → ℕ
@@ -80,30 +73,17 @@ minute-taken behavior rest count true true there point long =
     cc
 
 minute_size-two : (second point : Bool) (run : ℕ) → 2 ≤ minute_size second point run
-minute_size-two true true run = omega arith
-minute_size-two true false run = omega arith
-minute_size-two false point run = omega arith
+minute_size-two second point run = search rules
 
 -- the clock from its hour on
 clock-taken : (behavior : MicrosecondsPrecisionOverflowBehavior) (text : List ℕ) (count : ℕ) → 3 + (minute_clock (drop 3 text)).size ≤ count → count ≤ length text
     → clock_front behavior (take count text) ≡ clock_front behavior text
-clock-taken behavior text count within inside =
-    let rest = drop 3 text in
-    let two = minute_size-two (has_second rest) (has_point rest) (run_length rest 6) in
-    let left : 3 + (count - 3) ≡ count = omega (arith, within, two) in
-    let dropped : drop 3 (take count text) ≡ take (count - 3) rest = ap (λ (n : ℕ). drop 3 (take n text)) (sym left) ∙ drop-take 3 (count - 3) text in
-    let long : nat_le 5 (length (take count text)) ≡ true = le-leb 5 _ (omega (arith, within, two, length-take-le count text inside)) in
-    let enough : nat_le 5 (length text) ≡ true = le-leb 5 (length text) (omega (arith, within, two, inside)) in
-    let clock = minute-taken behavior rest (count - 3) (has_second rest) (has_point rest) refl refl (omega (arith, within)) in
-    let bytes = bytes-taken count 0 3 text (omega (arith, within, two)) in
-    let digits = bytes-taken (count - 3) 0 2 rest (omega (arith, within, two)) in
-    rw (dropped, clock, long, enough) cc
+clock-taken behavior text count within inside = grind (arith, le-leb, drop-take, length-take-le, minute-taken, minute_size-two)
 
 -- the digits of an offset
 digits-taken : (west : Bool) (sign : ℕ) (numbers : List ℕ) (there : Bool) → (slice_index numbers 2 == colon) ≡ there
     → signed_front west sign (take (offset_digits_length numbers) numbers) ≡ signed_front west sign numbers
-digits-taken west sign numbers true there = let bytes = bytes-taken 5 0 5 numbers (omega arith) in rw there cc
-digits-taken west sign numbers false there = let bytes = bytes-taken 4 0 4 numbers (omega arith) in rw there cc
+digits-taken west sign numbers there is = grind (arith, nat_tests, bytes-taken, get_or-take)
 
 -- the offset, by what it begins with
 abbrev OffsetTaken : List ℕ → Result (Option ℤ × ℕ) ParseError → Type 0
@@ -113,18 +93,13 @@ signed-taken : (west : Bool) (sign : ℕ) (rest : List ℕ)
     → (offset_front (take (sign + offset_digits_length (drop sign rest)) rest)
     ≡ signed_front west sign (drop sign (take (sign + offset_digits_length (drop sign rest)) rest)))
     → OffsetTaken rest (signed_front west sign (drop sign rest))
-signed-taken west sign rest is =
-    let numbers : List ℕ = drop sign rest in
-    read-rows _ (offset_digits numbers) _ (λ digits. read-rows _ (offset_ranges numbers) _ (λ ranges.
-    is ∙ ap (signed_front west sign) (drop-take sign (offset_digits_length numbers) rest) ∙ digits-taken west sign numbers _ refl
-    ∙ meets-all (offset_digits numbers) _ digits ∙ meets-all (offset_ranges numbers) _ ranges))
+signed-taken west sign rest is = grind (arith, nat_tests, drop-take, meets-all, digits-taken)
 
 offset-taken : (rest : List ℕ) → OffsetTaken rest (offset_front rest)
 offset-taken rest =
     offset-cases (OffsetTaken rest) rest
-    (λ some. signed-taken (slice_index rest 0 == hyphen) 1 rest
-    (let same = get_or-take (1 + offset_digits_length (drop 1 rest)) rest 0 0 (omega arith) in rw (same, some) refl))
-    (λ none utc. let same = get_or-take 1 rest 0 0 (lit< tt) in rw (same, none, utc) refl)
+    (λ some. signed-taken (slice_index rest 0 == hyphen) 1 rest (grind (arith, get_or-take)))
+    (λ none utc. grind (arith, get_or-take))
     (λ none other there. signed-taken true 3 rest
     (let count : ℕ = 3 + offset_digits_length (drop 3 rest) in
     rw (get_or-take count rest 0 0 (omega arith), get_or-take count rest 1 0 (omega arith), get_or-take count rest 2 0 (omega arith), none, other, there) refl))
@@ -157,9 +132,7 @@ clock-size behavior text clock read = ap (λ (found : Clock). found.size) (clock
 pub time_front-is : (behavior : MicrosecondsPrecisionOverflowBehavior) (text : List ℕ) (clock : Clock) (offset : Option ℤ × ℕ)
     → clock_front behavior text ≡ Ok clock → offset_front (drop clock.size text) ≡ Ok offset
     → time_front behavior text ≡ Ok (time_of clock offset.0, clock.size + offset.1)
-time_front-is behavior text =
-    steps-read (λ (clock : Clock). offset_front (drop clock.size text)) (λ (clock : Clock) (offset : Option ℤ × ℕ). (time_of clock offset.0, clock.size + offset.1))
-    (clock_front behavior text)
+time_front-is behavior text clock offset read after = cc
 
 -- a time at the front of a text is that of its bytes alone
 time_front-taken : (behavior : MicrosecondsPrecisionOverflowBehavior) (text : List ℕ)
@@ -175,8 +148,7 @@ time_front-taken behavior text =
 taken-alone : {A : Type 0} (fault : A → ParseError) (text : List ℕ) (answer : Result (A × ℕ) ParseError) (front : A × ℕ)
     → front.1 ≤ length text → answer ≡ Ok front
     → result_and_then (alone fault (take front.1 text)) answer ≡ Ok front.0
-taken-alone fault text answer front inside read =
-    ap (result_and_then (alone fault (take front.1 text))) read ∙ alone-whole fault (take front.1 text) front.0 front.1 (length-take-le front.1 text inside)
+taken-alone fault text answer front inside read = search rules
 
 pub time_front-alone : (behavior : MicrosecondsPrecisionOverflowBehavior) (text : List ℕ) (front : TimeOfDay × ℕ)
     → time_front behavior text ≡ Ok front → front.1 ≤ length text → time_answer behavior (take front.1 text) ≡ Ok front.0
@@ -186,11 +158,7 @@ time_front-alone behavior text front read inside =
 
 -- a date at the front of a text is that of its bytes alone, and of any more
 date-taken : (text : List ℕ) (count : ℕ) → 10 ≤ count → count ≤ length text → date_front (take count text) ≡ date_front text
-date-taken text count ten inside =
-    let long : nat_le 10 (length (take count text)) ≡ true = le-leb 10 _ (omega (arith, ten, length-take-le count text inside)) in
-    let enough : nat_le 10 (length text) ≡ true = le-leb 10 (length text) (omega (arith, ten, inside)) in
-    let bytes = bytes-taken count 0 10 text ten in
-    rw (long, enough) cc
+date-taken text count ten inside = grind (arith, common_steps)
 
 pub date_front-alone : (text : List ℕ) (front : Ymd × ℕ) → date_front text ≡ Ok front → front.1 ≤ length text → date_answer (take front.1 text) ≡ Ok front.0
 date_front-alone text front read inside =
@@ -201,10 +169,7 @@ date_front-alone text front read inside =
 pub date_time_front-is : (behavior : MicrosecondsPrecisionOverflowBehavior) (text : List ℕ) (date : Ymd × ℕ) (time : TimeOfDay × ℕ)
     → date_front text ≡ Ok date → AllHold (separator_table text) → time_front behavior (drop 11 text) ≡ Ok time
     → date_time_front behavior text ≡ Ok (record { date = date.0; time = time.0 }, 11 + time.1)
-date_time_front-is behavior text date time dated parted timed =
-    steps-read (λ (date : Ymd × ℕ). meets (separator_table text) (time_front behavior (drop 11 text)))
-    (λ (date : Ymd × ℕ) (time : TimeOfDay × ℕ). (record { date = date.0; time = time.0 }, 11 + time.1)) (date_front text) date time dated
-    (meets-all (separator_table text) _ parted ∙ timed)
+date_time_front-is behavior text date time dated parted timed = cc
 
 -- so is a date-time
 date_time_front-taken : (behavior : MicrosecondsPrecisionOverflowBehavior) (text : List ℕ)
@@ -213,8 +178,7 @@ date_time_front-taken behavior text =
     read-then _ _ (date_front text) (λ date dated. read-then _ _ (meets (separator_table text) (time_front behavior (drop 11 text))) (λ time read inside.
     let after = meets-ok (separator_table text) _ time read in
     let count : ℕ = 11 + time.1 in
-    let separator : is_separator (slice_index (take count text) 10) ≡ true = ap (is_separator) (get_or-take count text 10 0 (omega arith)) ∙ after.0.0 in
-    date_time_front-is behavior (take count text) date time (date-taken text count (omega arith) inside ∙ dated) (separator, tt)
+    date_time_front-is behavior (take count text) date time (date-taken text count (omega arith) inside ∙ dated) (rw (get_or-take count text 10 0 (omega arith)) after.0)
     (ap (time_front behavior) (drop-take 11 time.1 text)
     ∙ read-value _ _ time after.1 (time_front-taken behavior (drop 11 text)) (omega (arith, inside, length-drop 11 text)))))
 

@@ -1,131 +1,64 @@
 -- Laws of the order by instants: it is total, among values with offsets and among those without; without offsets it is the
 -- order of the texts; and if the offsets are equal it is that of what clocks show.
-use Rattle.std.specs.Prelude.{◌≡◌, ℕ, ◌+◌, ◌*◌, ◌/◌, ◌%◌, ◌<◌, ◌<ℤ◌, Bool, true, false, ◌&&◌, ◌∷◌, ◌==◌, ℤ, pos, ◌+ℤ◌, ◌-ℤ◌, ◌*ℤ◌, Option, None, refl}
-use Rattle.std.specs.Cmp.{IsTotalOrder, int_ranks, int_cmp_is, upto, nat_cmp_total, int_cmp_total, on_total, then_total}
+use Rattle.std.specs.Prelude.{◌≡◌, ℕ, ◌<◌, Bool, true, false, ◌&&◌, ◌∷◌, ◌==◌, ℤ, ◌-ℤ◌, Option, None, refl}
+use Rattle.std.specs.Cmp.{IsTotalOrder, on_total}
 use Rattle.std.specs.Cmp.Lexicographic.{slice_cmp}
 use Rattle.std.specs.Option.{is_some}
-use Rattle.std.specs.Ordering.{nat_cmp, int_cmp, is_gt, ordering_then, ordering_reverse, MatchOrdering, on}
+use Rattle.std.specs.Ordering.{nat_cmp, int_cmp, ordering_then, ordering_reverse, on}
 use Rattle.std.specs.declared.cmp.Ordering.{Ordering}
-use Rattle.std.specs.declared.cmp.Ordering.TheVariants.{Less, Equal, Greater}
-use Rattle.std.proofs.Common.{arith, ◌∙◌, ap, sym}
+use Rattle.std.proofs.Common.{rules, arith, ◌∙◌, ap, sym}
 use Rattle.std.proofs.Math.Bool.{and_comm}
 use Rattle.std.proofs.lemmas.Bool.Decides.{nat_tests}
 use Rattle.std.proofs.lemmas.Int.{ints}
-use Rattle.std.proofs.lemmas.List.{append-nil}
 use Rattle.speedate_base.specs.Ascii.{capital_t}
-use Rattle.speedate_base.specs.Digits.{six_digit_text}
 use Rattle.speedate_base.specs.Offset.{seconds_per_day}
 use Rattle.speedate_base.specs.Timestamp.{Instant}
 use Rattle.speedate_civil.specs.ClockText.{fraction_text}
-use Rattle.speedate_civil.specs.DateAndTime.{DateAndTime, IsDateAndTime, local_second}
+use Rattle.speedate_civil.specs.DateAndTime.{DateAndTime, IsDateAndTime}
 use Rattle.speedate_civil.specs.DateOrder.{date_order}
-use Rattle.speedate_civil.proofs.DateOrderLemmas.{date_order-day_number, date_text-front-order, digits-order, hundreds-order, then-then}
+use Rattle.speedate_civil.proofs.DateOrderLemmas.{date_order-day_number, date_text-front-order, digits-order}
 use Rattle.speedate_civil.specs.DateTimeText.{date_time_text}
-use Rattle.speedate_civil.specs.DayNumber.{day_number, epoch_day}
 use Rattle.speedate_civil.specs.InstantOrder.{instant_order, by_instant, time_instant, time_instant_order, date_time_instant, date_time_instant_order, BothOrNeither, IsNotAfter}
 use Rattle.speedate_civil.specs.TimeOfDay.{TimeOfDay, IsTime, second_of_day}
 use Rattle.speedate_civil.specs.TimeText.{time_text}
 
 -- instants are ordered one after another
 pub instant_order-total : IsTotalOrder instant_order
-instant_order-total =
-    then_total (on_total (λ (instant : Instant). instant.second) int_cmp_total) (on_total (λ (instant : Instant). instant.microsecond) nat_cmp_total)
-
--- the order of whole numbers that are not negative
-pub pos-order : (first second : ℕ) → int_cmp (pos first) (pos second) ≡ nat_cmp first second
-pos-order first second = grind (arith, nat_tests)
+instant_order-total = search rules
 
 -- two numbers are ordered as what is left of them
-left-ranked : (first second less : ℤ) (order : Ordering) → MatchOrdering order (first <ℤ second) (first ≡ second) (second <ℤ first)
-    → order ≡ int_cmp (first -ℤ less) (second -ℤ less)
-left-ranked first second less Less before = int_cmp_is (first -ℤ less) (second -ℤ less) Less (omega (arith, ints))
-left-ranked first second less Equal same = int_cmp_is (first -ℤ less) (second -ℤ less) Equal (ap (λ (number : ℤ). number -ℤ less) same)
-left-ranked first second less Greater after = int_cmp_is (first -ℤ less) (second -ℤ less) Greater (omega (arith, ints))
-
 pub left-order : (first second less : ℤ) → int_cmp (first -ℤ less) (second -ℤ less) ≡ int_cmp first second
-left-order first second less = sym (left-ranked first second less (int_cmp first second) (int_ranks first second))
-
--- days and then seconds of the day are ordered as the seconds
-day-order : (first second one two : ℕ) → one < seconds_per_day → two < seconds_per_day
-    → nat_cmp (seconds_per_day * first + one) (seconds_per_day * second + two) ≡ ordering_then (nat_cmp first second) (nat_cmp one two)
-day-order first second one two small little = grind (arith, nat_tests)
+left-order first second less = search rules
 
 -- a clock's hours, minutes and seconds are ordered as its second of the day
 clock-order : (first second : TimeOfDay) → IsTime first → IsTime second → (next : Ordering)
     → ordering_then (nat_cmp first.hour second.hour) (ordering_then (nat_cmp first.minute second.minute) (ordering_then (nat_cmp first.second second.second) next))
     ≡ ordering_then (nat_cmp (second_of_day first) (second_of_day second)) next
-clock-order first second one two next = grind (arith, nat_tests, one.minute, one.second, two.minute, two.second)
+clock-order first second one two next = search rules
 
 -- what clocks show of times is ordered as the second of the day and the microsecond
 time_instant-order : (first second : TimeOfDay)
     → on (time_instant false) instant_order first second
     ≡ ordering_then (nat_cmp (second_of_day first) (second_of_day second)) (nat_cmp first.microsecond second.microsecond)
-time_instant-order first second =
-    ap (λ (order : Ordering). ordering_then order (nat_cmp first.microsecond second.microsecond)) (pos-order (second_of_day first) (second_of_day second))
-
--- the second of a date-time, from the year 0 on
-from_year_0 : (day second : ℕ)
-    → (pos day -ℤ pos epoch_day) *ℤ pos seconds_per_day +ℤ pos second ≡ pos (seconds_per_day * day + second) -ℤ pos (seconds_per_day * epoch_day)
-from_year_0 day second = omega (arith, ints)
+time_instant-order first second = grind arith
 
 -- what clocks show of date-times is ordered as the dates, and then as the times
-local_second-order : (first second : DateAndTime) → IsDateAndTime first → IsDateAndTime second
-    → int_cmp (local_second first) (local_second second)
-    ≡ ordering_then (date_order first.date second.date) (nat_cmp (second_of_day first.time) (second_of_day second.time))
-local_second-order first second one two =
-    let days : ℕ = day_number first.date in
-    let others : ℕ = day_number second.date in
-    let seconds : ℕ = second_of_day first.time in
-    let shown : ℕ = second_of_day second.time in
-    let small : second_of_day first.time < seconds_per_day = omega (arith, one.time.hour, one.time.minute, one.time.second) in
-    let little : second_of_day second.time < seconds_per_day = omega (arith, two.time.hour, two.time.minute, two.time.second) in
-    (λ i. int_cmp (from_year_0 days seconds i) (from_year_0 others shown i))
-    ∙ left-order (pos (seconds_per_day * days + seconds)) (pos (seconds_per_day * others + shown)) (pos (seconds_per_day * epoch_day))
-    ∙ pos-order (seconds_per_day * days + seconds) (seconds_per_day * others + shown)
-    ∙ day-order days others seconds shown small little
-    ∙ ap (λ (order : Ordering). ordering_then order (nat_cmp seconds shown)) (sym (date_order-day_number first.date second.date one.date.day two.date.day))
-
 date_time_instant-order : (first second : DateAndTime) → IsDateAndTime first → IsDateAndTime second
     → on (date_time_instant false) instant_order first second ≡ ordering_then (date_order first.date second.date) (on (time_instant false) instant_order first.time second.time)
 date_time_instant-order first second one two =
-    let dates : Ordering = date_order first.date second.date in
-    let seconds : Ordering = nat_cmp (second_of_day first.time) (second_of_day second.time) in
-    let microseconds : Ordering = nat_cmp first.time.microsecond second.time.microsecond in
-    ap (λ (order : Ordering). ordering_then order microseconds) (local_second-order first second one two)
-    ∙ then-then dates seconds microseconds
-    ∙ ap (ordering_then dates) (sym (time_instant-order first.time second.time))
-
--- the first digits of six and the last four are ordered as the number
-six_digits-order : (first second : ℕ)
-    → slice_cmp nat_cmp (six_digit_text first) (six_digit_text second) ≡ nat_cmp first second
-six_digits-order first second =
-    digits-order (first / 10000) (second / 10000) _
-    ∙ ap (ordering_then (nat_cmp (first / 10000) (second / 10000)))
-    (digits-order (first % 10000 / 100) (second % 10000 / 100) _
-    ∙ ap (ordering_then (nat_cmp (first % 10000 / 100) (second % 10000 / 100))) (digits-order (first % 10000 % 100) (second % 10000 % 100) Equal)
-    ∙ hundreds-order (first % 10000) (second % 10000) Equal)
-    ∙ grind (arith, nat_tests)
+    let small : second_of_day first.time < seconds_per_day = omega (arith, one.time.hour, one.time.minute, one.time.second) in
+    let little : second_of_day second.time < seconds_per_day = omega (arith, two.time.hour, two.time.minute, two.time.second) in
+    rw (date_order-day_number first.date second.date one.date.day two.date.day) (grind (arith, ints, nat_tests))
 
 -- two printed fractions are ordered as the microseconds
 fractions-order : (first second : ℕ) (one two : Bool) → (first == 0) ≡ one → (second == 0) ≡ two
     → slice_cmp nat_cmp (fraction_text first) (fraction_text second) ≡ nat_cmp first second
-fractions-order first second true true one two = rw (one, two) (grind (arith, nat_tests, one, two))
-fractions-order first second true false one two = rw (one, two) (grind (arith, nat_tests, one, two))
-fractions-order first second false true one two = rw (one, two) (grind (arith, nat_tests, one, two))
-fractions-order first second false false one two = rw (one, two) (six_digits-order first second)
+fractions-order first second one two first_is second_is = grind (arith, nat_tests)
 
 -- without offsets times are ordered as their texts
 pub time_text-order : (first second : TimeOfDay) → IsTime first → IsTime second → first.offset ≡ None → second.offset ≡ None
     → time_instant_order first second ≡ slice_cmp nat_cmp (time_text first) (time_text second)
-time_text-order first second one two none nothing =
-    let fractions : Ordering = nat_cmp first.microsecond second.microsecond in
-    let printed : Ordering = slice_cmp nat_cmp (fraction_text first.microsecond) (fraction_text second.microsecond) in
-    rw (none, nothing, append-nil (fraction_text first.microsecond), append-nil (fraction_text second.microsecond))
-    (time_instant-order first second
-    ∙ ap (ordering_then (nat_cmp (second_of_day first) (second_of_day second))) (sym (fractions-order first.microsecond second.microsecond _ _ refl refl))
-    ∙ sym (clock-order first second one two printed)
-    ∙ sym (digits-order first.hour second.hour _ ∙ ap (ordering_then (nat_cmp first.hour second.hour))
-    (digits-order first.minute second.minute _ ∙ ap (ordering_then (nat_cmp first.minute second.minute)) (digits-order first.second second.second printed))))
+time_text-order first second one two none nothing = grind (arith, ints, digits-order, clock-order, time_instant-order, fractions-order)
 
 -- and so are date-times
 pub date_time_text-order : (first second : DateAndTime) → IsDateAndTime first → IsDateAndTime second → first.time.offset ≡ None → second.time.offset ≡ None
@@ -140,22 +73,10 @@ date_time_text-order first second one two none nothing =
     ∙ ap (ordering_then (date_order first.date second.date)) (sym shown ∙ times)
     ∙ sym (date_text-front-order first.date second.date (capital_t ∷ time_text first.time) (capital_t ∷ time_text second.time))
 
--- what is not after is not greater, and the other way round
-not_greater : (order : Ordering) → IsNotAfter order → is_gt order ≡ false
-not_greater Less not_after = refl
-not_greater Equal not_after = refl
-not_greater Greater not_after = absurd (cc)
-
-not_after : (order : Ordering) → is_gt order ≡ false → IsNotAfter order
-not_after Less not_greater = refl
-not_after Equal not_greater = refl
-not_after Greater not_greater = absurd (cc)
-
 -- "not after" is transitive in a total order
 chain : {K : Type 0} {order : K → K → Ordering} → IsTotalOrder order → (first second third : K)
     → IsNotAfter (order first second) → IsNotAfter (order second third) → IsNotAfter (order first third)
-chain {K} {order} total first second third one two =
-    not_after (order first third) (upto total first second third (not_greater (order first second) one) (not_greater (order second third) two))
+chain total first second third one two = search rules
 
 -- an order by instants is total among values with offsets, and among those without
 module _ {K : Type 0} (offset : K → Option ℤ) (instant : Bool → K → Instant) where
@@ -176,8 +97,7 @@ module _ {K : Type 0} (offset : K → Option ℤ) (instant : Bool → K → Inst
       chained : (a b c : Bool) → a ≡ b → b ≡ c → IsNotAfter (on (instant (a && b)) instant_order first second)
           → IsNotAfter (on (instant (b && c)) instant_order second third) → IsNotAfter (on (instant (a && c)) instant_order first third)
       chained true true true one two = chain (total true) first second third
-      chained false false false one two = chain (total false) first second third
+      chained false false c one two = chain (total false) first second third
       chained true true false one two = absurd (cc)
       chained true false c one two = absurd (cc)
       chained false true c one two = absurd (cc)
-      chained false false true one two = absurd (cc)

@@ -19,5 +19,5 @@ mod TimeLemmas
 pub mod DateValueLemmas
 mod TimeValueLemmas
 pub mod DateTimeValueLemmas
-mod MonthLemmas
+pub mod MonthLemmas
 mod YearLemmas

@@ -1,11 +1,9 @@
 -- The month of a day of the year, and the days before a month, by a line through the months of a year whose February has 30 days.
-use Rattle.std.specs.Prelude.{◌≡◌, ℕ, ◌+◌, ◌-◌, ◌*◌, ◌/◌, ◌%◌, ◌<◌, ◌≤◌, ◌==◌, false, if◌then◌else◌, nat_lt, refl}
+use Rattle.std.specs.Prelude.{◌≡◌, ℕ, ◌+◌, ◌-◌, ◌*◌, ◌/◌, ◌%◌, ◌<◌, ◌≤◌, ◌==◌, if◌then◌else◌, nat_lt, refl}
 use Rattle.std.specs.Int.{IsInRange}
-use Rattle.std.proofs.Common.{arith, ap, subst, inl, inr}
-use Rattle.std.proofs.lemmas.Bool.{le-ltb, ne_eqb, cases_lt}
+use Rattle.std.proofs.Common.{arith}
 use Rattle.std.proofs.lemmas.Bool.Decides.{nat_tests}
 use borrow.Author.Count.{below_none, below_more}
-use borrow.Author.Tests.{ltb-true, ltb-false}
 use Rattle.speedate_civil.specs.Calendar.{february_length, month_length}
 use Rattle.speedate_civil.specs.DayNumber.{days_of_months, year_length}
 use Rattle.speedate_civil.proofs.DayNumberLemmas.{leap_day, leap_day-small, february_length-is, year_length-is}
@@ -37,10 +35,8 @@ month_is year =
     (omega arith, refl)) (omega arith, refl)) (omega arith, refl)) (omega arith, refl)) (omega arith, refl)) (omega arith, refl)
 
 -- the days before a month
-pub days_of_months-is : (year month : ℕ) → IsInRange 1 12 month → days_of_months year (month - 1) + missing year month ≡ long_days month
-days_of_months-is year month valid =
-    let same : month - 1 + 1 ≡ month = omega arith in
-    subst (λ (n : ℕ). days_of_months year (month - 1) + missing year n ≡ long_days n) same (month_is year (month - 1) (omega arith)).0
+pub days_of_months_is : (year month : ℕ) → IsInRange 1 12 month → days_of_months year (month - 1) + missing year month ≡ long_days month
+days_of_months_is year month valid = grind (arith, month_is)
 
 -- a day of the year, counted from 0, as if February had 30 days
 abbrev pub long_day : ℕ → ℕ → ℕ
@@ -61,69 +57,21 @@ pub record IsOrdinal (year day month day_of_month : ℕ) : Type 0 where
   pub ordinal : days_of_months year (month - 1) + day_of_month ≡ day + 1
 
 pub long_day-small : (year day : ℕ) → day < year_length year → long_day year day ≤ 366
-long_day-small year day few =
-    let length = year_length-is year in
-    let february = february_length-is year in
-    grind (arith, nat_tests)
+long_day-small year day few = grind (arith, year_length-is)
 
 -- in January and February the line through the months has what the months have
 ordinal-early : (year day : ℕ) → day < 31 + february_length year → IsOrdinal year day (long_month day) (day_in_month day)
-ordinal-early year day early =
-    let february : february_length year ≤ 29 = omega (arith, february_length-is year, leap_day-small year) in
-    elim (cases_lt day 31) [
-      | inl first ↦
-          let january : long_month day ≡ 1 = omega arith in
-          record {
-            month_in_range = (omega arith, omega arith);
-            day_in_range = (omega arith, omega (arith, ap (month_length year) january));
-            ordinal = omega (arith, days_of_months-is year (long_month day) (omega arith, omega arith), ap (missing year) january);
-          }
-      | inr other ↦
-          let second : long_month day ≡ 2 = omega arith in
-          record {
-            month_in_range = (omega arith, omega arith);
-            day_in_range = (omega arith, omega (arith, ap (month_length year) second));
-            ordinal = omega (arith, days_of_months-is year (long_month day) (omega arith, omega arith), ap (missing year) second);
-          }
-    ]
+ordinal-early year day early = grind (arith, days_of_months_is)
 
 -- from March on it lags by what February lacks
 late-month : (year month : ℕ) → IsInRange 3 12 month
     → (days_of_months year (month - 1) + 2 ≡ long_days month + leap_day year) × (long_days month + month_length year month ≡ long_days (month + 1))
-late-month year month valid =
-    let same : month - 1 + 1 ≡ month = omega arith in
-    let small = leap_day-small year in
-    let known = month_is year (month - 1) (omega arith) in
-    let lengths : long_days month + (if month - 1 == 1 then 30 else month_length year month) ≡ long_days (month + 1) =
-    subst (λ (n : ℕ). long_days n + (if month - 1 == 1 then 30 else month_length year n) ≡ long_days (n + 1)) same known.1 in
-    let later : (month - 1 == 1) ≡ false = ne_eqb (month - 1) 1 (λ is. absurd (omega arith)) in
-    let march : nat_lt month 3 ≡ false = le-ltb month 3 valid.0 in
-    let behind = rw march at (days_of_months-is year month (omega arith, omega arith)) in
-    (omega arith, rw later at lengths)
+late-month year month valid = grind (arith, month_is)
 
 ordinal-late : (year day days : ℕ) → days + february_length year ≡ day + 30 → IsInRange 61 366 days
     → IsOrdinal year day (long_month days) (day_in_month days)
-ordinal-late year day days moved valid =
-    let month = late-month year (long_month days) (omega arith, omega arith) in
-    let february = february_length-is year in
-    record {
-      month_in_range = (omega arith, omega arith);
-      day_in_range = (omega arith, omega arith);
-      ordinal = omega arith;
-    }
-
-pub ordinal-is : (year day : ℕ) → day < year_length year →
-    IsOrdinal year day (long_month (long_day year day)) (day_in_month (long_day year day))
-ordinal-is year day few =
-    let length = year_length-is year in
-    let february = february_length-is year in
-    let small = leap_day-small year in
-    if_cases (λ (days : ℕ). IsOrdinal year day (long_month days) (day_in_month days)) (nat_lt day (31 + february_length year)) day _
-    (λ early. ordinal-early year day (ltb-true _ _ early))
-    (λ late.
-    let from_march = ltb-false _ _ late in
-    ordinal-late year day (day + 30 - february_length year) (omega arith) (omega arith, omega arith))
+ordinal-late year day days moved valid = grind (arith, late-month)
 
 pub ordinal-at : (year day days : ℕ) → day < year_length year → days ≡ long_day year day
     → IsOrdinal year day (long_month days) (day_in_month days)
-ordinal-at year day days few is = rw is (ordinal-is year day few)
+ordinal-at year day days few is = grind (arith, nat_tests, leap_day-small, february_length-is, year_length-is, if_cases, ordinal-early, ordinal-late, days_of_months_is, late-month)

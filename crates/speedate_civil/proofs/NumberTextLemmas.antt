@@ -1,8 +1,9 @@
 -- No text that begins as a date is a number.
-use Rattle.std.specs.Prelude.{◌≡◌, ◌≢◌, ℕ, ◌<◌, Bool, true, false, ◌==◌, List, length, slice_index, nat_le, if◌then◌else◌, Option, Some, None, ℤ, Result, Ok, Err, refl}
+use Rattle.std.proofs.lemmas.Bool.Decides.{nat_tests}
+use Rattle.std.specs.Prelude.{◌≡◌, ◌≢◌, ℕ, ◌<◌, Bool, true, false, ◌==◌, List, length, slice_index, nat_le, if◌then◌else◌, Option, None, ℤ, Result, Ok, Err, refl}
 use Rattle.std.specs.Char.{is_ascii_digit}
-use Rattle.std.proofs.Common.{arith, ap, sym, ◌∙◌}
-use Rattle.std.proofs.lemmas.Bool.{eqb-true, leb-true, false≢true}
+use Rattle.std.proofs.Common.{rules, arith, ap}
+use Rattle.std.proofs.lemmas.Bool.{eqb-true, leb-true}
 use Rattle.speedate_base.specs.declared.faults.ParseError.{ParseError}
 use Rattle.speedate_base.specs.declared.faults.ParseError.TheVariants as fault
 use Rattle.speedate_base.specs.Ascii.{hyphen, full_stop}
@@ -17,10 +18,7 @@ use Rattle.speedate_civil.specs.Reader.{may_be_number}
 rows-met : {A : Type 0} (a b c : Bool) (first second third : ParseError) (next answer : Result A ParseError)
     → (if a then (if b then (if c then next else Err third) else Err second) else Err first) ≡ answer
     → answer ≢ Err first → answer ≢ Err second → answer ≢ Err third → (a ≡ true) × (c ≡ true)
-rows-met true true true first second third next answer same one two three = (refl, refl)
-rows-met true true false first second third next answer same one two three = absurd (three (sym same))
-rows-met true false c first second third next answer same one two three = absurd (two (sym same))
-rows-met false b c first second third next answer same one two three = absurd (one (sym same))
+rows-met a b c first second third next answer same one two three = search rules
 
 -- a text whose fifth byte is a hyphen is none
 hyphen-no_number : (text : List ℕ) → nat_le 10 (length text) ≡ true → (slice_index text 4 == hyphen) ≡ true → number_answer text ≡ NoNumber
@@ -38,9 +36,7 @@ number_answer-date text date read =
 
 other-fault : {A : Type 0} (refused fault : ParseError) (answer : Result A ParseError) → may_be_number refused ≡ false → may_be_number fault ≡ true
     → answer ≡ Err refused → answer ≢ Err fault
-other-fault refused fault answer behind number one two =
-    let same : refused ≡ fault = cc in
-    false≢true (sym behind ∙ ap may_be_number same ∙ number)
+other-fault refused fault answer behind number same = search rules
 
 -- and one that is refused by a fault after the first hyphen, in an answer that keeps the faults of a date at its front
 pub number_answer-refused : {A : Type 0} (text : List ℕ) (answer : Result A ParseError) (fault : ParseError)
@@ -56,12 +52,10 @@ number_answer-refused text answer refused keeps read behind =
 
 -- a text that is no number is no whole number
 no-whole : (whole : Option ℤ) (decimal : Number) → whole_or whole decimal ≡ NoNumber → whole ≡ None
-no-whole (Some number) decimal none = absurd (cc)
-no-whole None decimal none = refl
+no-whole whole decimal none = search rules
 
 pub whole_number-none : (text : List ℕ) → number_answer text ≡ NoNumber → whole_number text ≡ None
 whole_number-none text none = no-whole (whole_number text) (decimal_answer text) none
 
 pub whole_number-refused : (text : List ℕ) (fault : ParseError) → date_answer text ≡ Err fault → may_be_number fault ≡ false → whole_number text ≡ None
-whole_number-refused text refused read behind =
-    whole_number-none text (number_answer-refused text (date_answer text) refused (λ other is. rw is refl) read behind)
+whole_number-refused text refused read behind = grind (arith, nat_tests, number_answer-refused, whole_number-none, rows-met, hyphen-no_number, other-fault, no-whole)

@@ -1,16 +1,13 @@
 -- Offsets at the front of a text, by what they begin with; and a printed offset of whole minutes is read as itself.
-use Rattle.std.specs.Prelude.{◌≡◌, ℕ, zero, suc, ◌+◌, ◌*◌, ◌/◌, ◌%◌, ◌<◌, Bool, true, false, not, ◌||◌, List, ◌∷◌, ◌++◌, length, drop, ◌==◌, slice_index, Option, Some, None, ℤ, pos, negsuc, Result, Ok, refl}
+use Rattle.std.specs.Prelude.{◌≡◌, ℕ, zero, suc, ◌%◌, ◌<◌, Bool, true, false, not, ◌||◌, List, ◌∷◌, ◌++◌, length, drop, ◌==◌, slice_index, Option, Some, None, ℤ, pos, negsuc, Result, Ok, refl}
 use Rattle.std.specs.Option.{ForSome, is_some}
-use Rattle.std.proofs.Common.{arith}
-use Rattle.std.proofs.lemmas.Bool.{le-leb, lt-ltb, le-ltb, ne_eqb, not-true}
-use Rattle.std.proofs.lemmas.Bool.Decides.{nat_tests}
+use Rattle.std.proofs.Common.{rules, arith}
+use Rattle.std.proofs.lemmas.Bool.{le-ltb, ne_eqb}
 use Rattle.speedate_base.specs.declared.faults.ParseError.{ParseError}
 use Rattle.speedate_base.specs.Ascii.{plus_sign, hyphen, capital_z}
-use Rattle.speedate_base.proofs.DigitLemmas.{two_digits-printed, two_digit_value-printed}
 use Rattle.speedate_base.specs.Numbers.{with_sign}
 use Rattle.speedate_base.specs.Offset.{IsOffset, IsWholeMinutes, seconds_per_day}
 use Rattle.speedate_civil.specs.OffsetText.{begins_offset, has_minus_sign, is_plus_or_minus, is_utc, offset_front, offset_text, offset_size_text, signed_front}
-use Rattle.speedate_civil.proofs.ReadLemmas.{if_cases}
 
 -- what holds of the offset of a text by what it begins with, `+` or `-`, `Z` or `z`, U+2212 or none of them, holds of it
 pub offset-cases : (P : Result (Option ℤ × ℕ) ParseError → Type 0) (rest : List ℕ)
@@ -19,10 +16,7 @@ pub offset-cases : (P : Result (Option ℤ × ℕ) ParseError → Type 0) (rest 
     → (is_plus_or_minus (slice_index rest 0) ≡ false → is_utc (slice_index rest 0) ≡ false → has_minus_sign rest ≡ true → P (signed_front true 3 (drop 3 rest)))
     → (is_plus_or_minus (slice_index rest 0) ≡ false → is_utc (slice_index rest 0) ≡ false → has_minus_sign rest ≡ false → P (Ok (None, 0)))
     → P (offset_front rest)
-offset-cases P rest signed utc minus none =
-    if_cases P (is_plus_or_minus (slice_index rest 0)) _ _ signed
-    (λ no_sign. if_cases P (is_utc (slice_index rest 0)) _ _ (utc no_sign)
-    (λ no_utc. if_cases P (has_minus_sign rest) _ _ (minus no_sign no_utc) (none no_sign no_utc)))
+offset-cases P rest signed utc minus none = search rules
 
 -- an offset other than 0 is printed with a sign
 offset_text-west : (size : ℕ) → offset_text (Some (negsuc size)) ≡ hyphen ∷ offset_size_text (suc size)
@@ -34,23 +28,16 @@ offset_text-east size = rw (ne_eqb (suc size) 0 (λ same. absurd (omega arith)),
 -- a test that neither a sign nor `Z` passes tells of what follows only where no offset is printed
 pub offset_text-first : (test : ℕ → Bool) (offset : Option ℤ) (rest : List ℕ) → test capital_z ≡ false → test hyphen ≡ false → test plus_sign ≡ false
     → (is_some offset || not (test (slice_index rest 0))) ≡ true → test (slice_index (offset_text offset ++ rest) 0) ≡ false
-offset_text-first test None rest utc west east ends = not-true (test (slice_index rest 0)) ends
-offset_text-first test (Some (pos zero)) rest utc west east ends = utc
-offset_text-first test (Some (pos (suc size))) rest utc west east ends = rw (offset_text-east size) east
-offset_text-first test (Some (negsuc size)) rest utc west east ends = rw (offset_text-west size) west
+offset_text-first test offset rest utc west east ends = search rules
 
 -- the hours and minutes of an offset of whole minutes are read as its size
 signed-printed : (west : Bool) (size : ℕ) (rest : List ℕ) → size < seconds_per_day → size % 60 ≡ 0
     → signed_front west 1 (offset_size_text size ++ rest) ≡ Ok (Some (with_sign west size), 6)
-signed-printed west size rest small whole =
-    let hour_is = two_digit_value-printed (size / 3600) in
-    let minute_is = two_digit_value-printed (size / 60 % 60) in
-    let size_is : 3600 * (size / 3600) + 60 * (size / 60 % 60) ≡ size = omega arith in
-    rw (two_digits-printed (size / 3600) (omega arith), two_digits-printed (size / 60 % 60) (omega arith), hour_is, minute_is, size_is, le-leb (size / 60 % 60) 59 (omega arith), lt-ltb size seconds_per_day small) refl
+signed-printed west size rest small whole = search rules
 
 -- where no offset begins, none is read
 no_offset : (rest : List ℕ) → not (begins_offset rest) ≡ true → offset_front rest ≡ Ok (None, 0)
-no_offset rest none = grind (arith, nat_tests)
+no_offset rest none = grind arith
 
 -- a printed offset of whole minutes is read as itself, whatever follows it, and so is none where no offset follows
 pub offset_text-front : (offset : Option ℤ) (rest : List ℕ) → ForSome offset IsOffset → IsWholeMinutes offset

@@ -1,10 +1,9 @@
 -- What a clock at another offset shows.
 use Rattle.std.specs.Prelude.{◌≡◌, ℤ, pos, ◌+ℤ◌, ◌-ℤ◌, Ok}
 use Rattle.std.specs.Option.{unwrap_or}
-use Rattle.std.proofs.Common.{arith, sym}
+use Rattle.std.proofs.Common.{rules, arith}
 use Rattle.std.proofs.lemmas.Int.{ints}
 use Rattle.speedate_base.specs.Requirement.{AllHold, meets}
-use Rattle.speedate_base.proofs.RequirementLemmas.{meets-value}
 use Rattle.speedate_civil.specs.DateAndTime.{DateAndTime, local_second, utc_second}
 use Rattle.speedate_civil.specs.OffsetMove.{move_table}
 
@@ -13,10 +12,7 @@ pub second-moved : (value : DateAndTime) (offset shift local second : ℤ)
     → Ok shift ≡ meets (move_table offset value.time.offset) (Ok (offset -ℤ unwrap_or value.time.offset (pos 0)))
     → local ≡ local_second value → second ≡ local +ℤ shift
     → AllHold (move_table offset value.time.offset) × (second ≡ utc_second value +ℤ offset)
-second-moved value offset shift local second moved same sum =
-    let old = unwrap_or value.time.offset (pos 0) in
-    let held = meets-value (move_table offset value.time.offset) (offset -ℤ old) shift (sym moved) in
-    (held.0, omega (arith, ints, held.1, same, sum))
+second-moved value offset shift local second moved same sum = search rules
 
 -- and the instant is the same
 pub instant-kept : (value moved : DateAndTime) (offset second : ℤ) → second ≡ utc_second value +ℤ offset

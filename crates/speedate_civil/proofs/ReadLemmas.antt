@@ -1,13 +1,12 @@
 -- What holds of a value that was read by tables and by steps.
-use Rattle.std.specs.Prelude.{◌≡◌, Bool, true, false, if◌then◌else◌, List, [], ◌∷◌, IfOk, Result, Ok, Err, refl}
-use Rattle.std.proofs.Common.{sym, subst}
+use Rattle.std.specs.Prelude.{◌≡◌, Bool, true, false, if◌then◌else◌, List, [], ◌∷◌, IfOk, Result, Ok, Err}
+use Rattle.std.proofs.Common.{rules, subst}
 use Rattle.speedate_base.specs.declared.faults.ParseError.{ParseError}
 use Rattle.speedate_base.specs.Requirement.{Requirement, AllHold, meets, result_map, result_and_then}
 
 -- a choice by a test
 pub if_cases : {A : Type 0} (P : A → Type 0) (test : Bool) (one other : A) → (test ≡ true → P one) → (test ≡ false → P other) → P (if test then one else other)
-if_cases P true one other holds fails = holds refl
-if_cases P false one other holds fails = fails refl
+if_cases P test one other holds fails = search rules
 
 -- a table lets a value through where its rows hold
 pub read-rows : {A : Type 0} (P : A → Type 0) (rows : List Requirement) (next : Result A ParseError)
@@ -20,13 +19,11 @@ read-rows P (row ∷ rows) next held =
 -- a step is taken with what was read before
 pub read-then : {A B : Type 0} (P : B → Type 0) (next : A → Result B ParseError) (answer : Result A ParseError)
     → ((read : A) → answer ≡ Ok read → IfOk (next read) P) → IfOk (result_and_then next answer) P
-read-then P next (Ok read) held = held read refl
-read-then P next (Err fault) held = tt
+read-then P next answer held = search rules
 
 pub read-map : {A B : Type 0} (P : B → Type 0) (view : A → B) (answer : Result A ParseError)
     → IfOk answer (λ read. P (view read)) → IfOk (result_map view answer) P
-read-map P view (Ok read) held = held
-read-map P view (Err fault) held = tt
+read-map P view answer held = search rules
 
 -- of a value that is known
 pub read-value : {A : Type 0} (P : A → Type 0) (answer : Result A ParseError) (value : A) → answer ≡ Ok value → IfOk answer P → P value
@@ -35,11 +32,4 @@ read-value {A = A} P answer value is held = subst (λ (given : Result A ParseErr
 -- of a result whose value is seen as the one that was read
 pub read-result : {A B : Type 0} (view : A → B) (P : B → Type 0) (result : Result A ParseError) (answer : Result B ParseError)
     → result_map view result ≡ answer → IfOk answer P → IfOk result (λ value. P (view value))
-read-result view P (Ok value) answer is held = read-value P answer (view value) (sym is) held
-read-result view P (Err fault) answer is held = tt
-
--- where two steps read, what they are joined to is the answer
-pub steps-read : {A B C : Type 0} (next : A → Result B ParseError) (join : A → B → C) (answer : Result A ParseError) (first : A) (second : B)
-    → answer ≡ Ok first → next first ≡ Ok second
-    → result_and_then (λ (read : A). result_and_then (λ (after : B). Ok (join read after)) (next read)) answer ≡ Ok (join first second)
-steps-read next join answer first second one two = rw (one, two) refl
+read-result view P result answer is held = search rules

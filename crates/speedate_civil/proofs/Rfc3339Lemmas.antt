@@ -1,12 +1,11 @@
 -- The texts of RFC 3339 by its rules are those that the strict readers take.
-use Rattle.std.specs.Prelude.{◌≡◌, ◌⊎◌, ℕ, ◌+◌, ◌*◌, ◌/◌, ◌%◌, ◌≤◌, zero, suc, Bool, true, false, ◌||◌, ◌==◌, List, [], ◌∷◌, ◌++◌, length, take, drop, nat_le, nat_lt, slice_index, if◌then◌else◌, Option, Some, ℤ, IfOk, Result, Ok, Err, refl, ◌↔◌}
+use Rattle.std.specs.Prelude.{◌≡◌, ◌⊎◌, ℕ, ◌+◌, ◌*◌, ◌≤◌, zero, suc, Bool, true, false, ◌==◌, List, [], ◌∷◌, ◌++◌, length, take, drop, nat_le, nat_lt, slice_index, Option, Some, ℤ, pos, IfOk, Result, Ok, refl, ◌↔◌}
 use Rattle.std.specs.Char.{is_ascii_digit}
-use Rattle.std.specs.Int.{is_in_range, IsInRange}
 use Rattle.std.specs.List.{prefix_len}
 use Rattle.std.specs.Result.{IsOk}
-use Rattle.std.proofs.Common.{arith, ap, ap₂, subst, sym, ◌∙◌, inl, inr}
+use Rattle.std.proofs.Common.{rules, arith, ap, subst, sym, ◌∙◌, inl, inr}
 use Rattle.std.proofs.Math.Seq.{drop-append_seam}
-use Rattle.std.proofs.lemmas.Bool.{and_parts, or_cases, le-leb, lt-ltb, leb-true, ltb-true, eqb-true, not-true}
+use Rattle.std.proofs.lemmas.Bool.{leb-true, ltb-true, eqb-true, not-true}
 use Rattle.std.proofs.lemmas.Bool.Decides.{nat_tests}
 use Rattle.std.proofs.lemmas.List.{drop_more, get_or-drop, length-append, length-drop, length-take-le, nil_from_length, take_all, take-append-drop}
 use Rattle.std.proofs.lemmas.List.Sums.{prefix_len-le-length}
@@ -14,27 +13,25 @@ use Rattle.speedate_base.specs.declared.config.MicrosecondsPrecisionOverflowBeha
 use Rattle.speedate_base.specs.declared.faults.ParseError.{ParseError}
 use Rattle.speedate_base.specs.Ascii.{colon, comma, full_stop, hyphen, plus_sign, capital_t, capital_z, small_t, small_z}
 use Rattle.speedate_base.specs.DigitRuns.{run_length}
-use Rattle.speedate_base.proofs.DigitRunLemmas.{run_length-append, one_digit_value-le}
-use Rattle.speedate_base.specs.Digits.{digit, one_digit_value, two_digits_at, two_digit_text, two_digit_value, four_digit_text, four_digit_value}
-use Rattle.speedate_base.proofs.DigitLemmas.{two_digits-printed, two_digit_value-printed}
+use Rattle.speedate_base.proofs.DigitRunLemmas.{run_length-append}
+use Rattle.speedate_base.specs.Digits.{two_digits_at, two_digit_text, two_digit_value, four_digit_value}
 use Rattle.speedate_base.specs.Numbers.{with_sign}
 use Rattle.speedate_base.proofs.NumberLemmas.{run-digits}
-use Rattle.speedate_base.specs.Offset.{seconds_per_day}
 use Rattle.speedate_base.specs.Config.{refuses_digits}
 use Rattle.speedate_base.specs.Requirement.{Requirement, ◌implies◌, AllHold, alone, meets, result_map, result_and_then}
-use Rattle.speedate_base.proofs.RequirementLemmas.{alone-iff, alone-whole, and_then-ok, meets-all, meets-ok, meets-value}
+use Rattle.speedate_base.proofs.RequirementLemmas.{alone-iff, alone-whole, meets-all, meets-ok, meets-value}
 use Rattle.speedate_civil.specs.declared.datetime.DateTime.{DateTime}
 use Rattle.speedate_civil.specs.declared.time.Time.{Time}
-use Rattle.speedate_civil.specs.Calendar.{Ymd, IsDate, month_length}
+use Rattle.speedate_civil.specs.Calendar.{Ymd, IsDate}
 use Rattle.speedate_civil.specs.ClockText.{Clock, clock_front, has_point, has_second, is_decimal_mark, minute_text}
 use Rattle.speedate_civil.proofs.ClockLemmas.{run_length-none, clock-secfrac, clock-whole}
 use Rattle.speedate_civil.specs.DateAndTime.{DateAndTime}
 use Rattle.speedate_civil.specs.DateText.{date_front, date_table, date_text}
 use Rattle.speedate_civil.proofs.DateLemmas.{date_text-front}
 use Rattle.speedate_civil.specs.DateTime.{parts as date_time_parts}
-use Rattle.speedate_civil.specs.DateTimeText.{date_time_answer, date_time_front, is_separator, separator_table}
+use Rattle.speedate_civil.specs.DateTimeText.{date_time_answer, date_time_front, separator_table}
 use Rattle.speedate_civil.proofs.FrontLemmas.{ClockRead, bytes_from, clock-read, clock-size, date_time_front-is, minute_size, time_front-is}
-use Rattle.speedate_civil.specs.OffsetText.{end_fault, is_plus_or_minus, is_utc, offset_digits, offset_front, offset_ranges, signed_front}
+use Rattle.speedate_civil.specs.OffsetText.{end_fault, is_plus_or_minus, offset_digits, offset_front, offset_ranges, signed_front}
 use Rattle.speedate_civil.proofs.OffsetLemmas.{offset-cases}
 use Rattle.speedate_civil.proofs.ReadLemmas.{read-rows, read-then, read-value}
 use Rattle.speedate_civil.specs.Rfc3339Text.{IsFullDate, IsDateTime, IsTwoDigits, IsSecfrac, IsPartialTime, IsNumoffset, IsTimeOffset, IsFullTime}
@@ -56,50 +53,20 @@ split : (P : List ℕ → Type 0) (count : ℕ) (text : List ℕ) → count ≤ 
 split P count text within =
     subst P (ap (λ (front : List ℕ). front ++ drop count text) (sym (bytes-are count 0 text (omega (arith, within)))) ∙ take-append-drop count text)
 
--- two digits, each by itself
-both : (text : List ℕ) (place : ℕ) → two_digits_at text place ≡ true
-    → (is_ascii_digit (slice_index text place) ≡ true) × (is_ascii_digit (slice_index text (place + 1)) ≡ true)
-both text place digits = and_parts (is_ascii_digit (slice_index text place)) (is_ascii_digit (slice_index text (place + 1))) digits
-
-spelled-small : (text : List ℕ) (place : ℕ) → two_digits_at text place ≡ true → two_digit_value text place ≤ 99
-spelled-small text place digits =
-    let parts = both text place digits in
-    omega (arith, one_digit_value-le (slice_index text place) parts.0, one_digit_value-le (slice_index text (place + 1)) parts.1)
-
-digit-spelled : (byte : ℕ) → is_ascii_digit byte ≡ true → digit (one_digit_value byte) ≡ byte
-digit-spelled byte is = grind (arith, nat_tests)
-
 -- they are the text of the number that they spell
 spelled : (text : List ℕ) (place : ℕ) → two_digits_at text place ≡ true → two_digit_text (two_digit_value text place) ≡ bytes_from place 2 text
-spelled text place digits =
-    let first = slice_index text place in
-    let second = slice_index text (place + 1) in
-    let parts = both text place digits in
-    let low = one_digit_value-le second parts.1 in
-    let tens : two_digit_value text place / 10 ≡ one_digit_value first = omega (arith, low) in
-    let ones : two_digit_value text place % 10 ≡ one_digit_value second = omega (arith, low) in
-    rw (tens, ones, digit-spelled first parts.0, digit-spelled second parts.1) refl
+spelled text place digits = search rules
 
 -- so they are two digits of the rules where the number is in its range
 two-digits : (highest : ℕ) (text : List ℕ) (place : ℕ) → two_digits_at text place ≡ true → nat_le (two_digit_value text place) highest ≡ true
     → IsTwoDigits highest (bytes_from place 2 text)
-two-digits highest text place digits small =
-    record { number = two_digit_value text place; within = leb-true _ highest small; together = sym (spelled text place digits) }
+two-digits highest text place digits small = search (rules, leb-true, spelled)
 
 -- a fraction of all the digits that follow
 secfrac-of : (behavior : MicrosecondsPrecisionOverflowBehavior) (digits : List ℕ) → nat_lt 0 (prefix_len is_ascii_digit digits) ≡ true
     → (refuses_digits behavior implies nat_le (prefix_len is_ascii_digit digits) 6) ≡ true
     → IsSecfrac behavior (full_stop ∷ take (prefix_len is_ascii_digit digits) digits)
-secfrac-of behavior digits some few =
-    let run = prefix_len is_ascii_digit digits in
-    let long = length-take-le run digits (prefix_len-le-length is_ascii_digit digits) in
-    record {
-      digits = take run digits;
-      are_digits = run-digits digits;
-      some = omega (arith, ltb-true 0 run some, long);
-      few = λ refuses. omega (arith, leb-true run 6 (rw refuses at few), long);
-      together = refl;
-    }
+secfrac-of behavior digits some few = grind (arith, ltb-true, length-take-le, prefix_len-le-length, run-digits)
 
 -- a clock that was read is one of the rules if its second is there
 clock-of : (behavior : MicrosecondsPrecisionOverflowBehavior) (a b c d e f g h : ℕ) (more fraction : List ℕ) (clock : Clock)
@@ -107,8 +74,6 @@ clock-of : (behavior : MicrosecondsPrecisionOverflowBehavior) (a b c d e f g h :
     → IsPartialTime behavior (a ∷ b ∷ c ∷ d ∷ e ∷ f ∷ g ∷ h ∷ fraction)
 clock-of behavior a b c d e f g h more fraction clock rows second part =
     let text : List ℕ = a ∷ b ∷ c ∷ d ∷ e ∷ f ∷ g ∷ h ∷ more in
-    let digits = rw second at rows.minute.1.0 in
-    let small = rw second at rows.minute.1.1.0 in
     record {
       hour = a ∷ b ∷ [];
       minute = d ∷ e ∷ [];
@@ -116,9 +81,9 @@ clock-of behavior a b c d e f g h more fraction clock rows second part =
       fraction = fraction;
       is_hour = two-digits 23 text 0 rows.hour.1.0 rows.range.0;
       is_minute = two-digits 59 text 3 rows.digits.0 rows.minute.0;
-      is_second = two-digits 59 text 6 digits small;
+      is_second = two-digits 59 text 6 (search rules) (search rules);
       is_fraction = part;
-      together = ap₂ (λ (x y : ℕ). a ∷ b ∷ x ∷ d ∷ e ∷ y ∷ g ∷ h ∷ fraction) (eqb-true c colon rows.hour.1.1.0) (eqb-true f colon second);
+      together = search rules;
     }
 
 -- and its mark is no comma; the offset follows it
@@ -141,49 +106,26 @@ clock-parts behavior a b c d e f g h (mark ∷ digits) clock true there read sec
     let rows = clock-read behavior text clock read in
     let size : 3 + (6 + run) ≡ clock.size = rw (second, there) at (ap (λ (found : Clock). found.size) rows.is) in
     let long : suc (suc (suc (suc (suc (suc (suc (suc (suc run)))))))) ≡ clock.size = omega (arith, size) in
-    let some = rw (second, there) at rows.minute.1.1.1.0 in
-    let few = rw (second, there) at rows.minute.1.1.1.1.0 in
-    let part = subst (λ (byte : ℕ). IsSecfrac behavior (byte ∷ take run digits)) (sym (eqb-true mark full_stop there)) (secfrac-of behavior digits some few) in (
+    let part = subst (λ (byte : ℕ). IsSecfrac behavior (byte ∷ take run digits)) (sym (eqb-true mark full_stop there)) (secfrac-of behavior digits (search rules) (search rules)) in (
       subst (λ (n : ℕ). IsPartialTime behavior (take n text)) long (clock-of behavior a b c d e f g h (mark ∷ digits) (mark ∷ take run digits) clock rows second (inr part)),
       rw there (omega (arith, size)),
     )
-
--- one of two bytes
-one-of : (byte first second : ℕ) → ((byte == first) || (byte == second)) ≡ true → (byte ≡ first) ⊎ (byte ≡ second)
-one-of byte first second some = elim (or_cases (byte == first) (byte == second) some) [
-  | inl is ↦ inl (eqb-true byte first is)
-  | inr is ↦ inr (eqb-true byte second is)
-]
-
-either : (P : ℕ → Type 0) (byte first second : ℕ) → P first → P second → (byte ≡ first) ⊎ (byte ≡ second) → P byte
-either P byte first second one other (inl is) = subst P (sym is) one
-either P byte first second one other (inr is) = subst P (sym is) other
-
--- a sign is not UTC itself
-no_utc : (byte : ℕ) (other : Bool) → is_plus_or_minus byte ≡ true → (is_utc byte || other) ≡ true → other ≡ true
-no_utc byte other sign some = grind (arith, nat_tests)
 
 -- an offset with a sign is one of the rules if it has its `:` and takes all bytes
 numoffset : (byte : ℕ) (numbers : List ℕ) → is_plus_or_minus byte ≡ true → (slice_index numbers 2 == colon) ≡ true
     → IfOk (signed_front (byte == hyphen) 1 numbers) (λ front. front.1 ≡ length (byte ∷ numbers) → IsTimeOffset (byte ∷ numbers))
 numoffset byte numbers some there =
     read-rows _ (offset_digits numbers) _ (λ digits. read-rows _ (offset_ranges numbers) _ (λ ranges whole.
-    let minute_digits = rw there at digits.1.0 in
-    let minute_small = rw there at ranges.0 in
-    let small = rw there at ranges.1.0 in
-    let size = rw there at whole in
-    let five : length numbers ≡ 5 = omega (arith, size) in
-    let hour_small : two_digit_value numbers 0 ≤ 23 = omega (arith, ltb-true _ seconds_per_day small) in
+    let five : length numbers ≡ 5 = search rules in
     inr (inr (subst (λ (text : List ℕ). IsNumoffset (byte ∷ text)) (sym (bytes-are 5 0 numbers (omega (arith, five))) ∙ take_all 5 numbers (omega (arith, five)))
     (record {
       sign = byte;
       hour = bytes_from 0 2 numbers;
       minute = bytes_from 3 2 numbers;
-      is_sign = one-of byte plus_sign hyphen some;
-      is_hour = two-digits 23 numbers 0 digits.0 (le-leb _ 23 hour_small);
-      is_minute = two-digits 59 numbers 3 minute_digits minute_small;
-      together = ap (λ (x : ℕ). byte ∷ slice_index numbers 0 ∷ slice_index numbers 1 ∷ x ∷ slice_index numbers 3 ∷ slice_index numbers 4 ∷ [])
-          (eqb-true (slice_index numbers 2) colon there);
+      is_sign = search rules;
+      is_hour = two-digits 23 numbers 0 digits.0 (search rules);
+      is_minute = two-digits 59 numbers 3 (search rules) (search rules);
+      together = search rules;
     })))))
 
 -- an offset of the rules, by what it begins with
@@ -191,17 +133,13 @@ offset-all : (rest : List ℕ) → AllHold (standard_offset rest) → IfOk (offs
 offset-all [] rows = absurd (cc)
 offset-all (byte ∷ numbers) rows =
     offset-cases (λ answer. IfOk answer (λ front. front.1 ≡ length (byte ∷ numbers) → IsTimeOffset (byte ∷ numbers))) (byte ∷ numbers)
-    (λ some. numoffset byte numbers some (no_utc byte _ some rows.1.1.0))
+    (λ some. numoffset byte numbers some (search rules))
     (λ none utc one.
     let ended : numbers ≡ [] = nil_from_length numbers (omega (arith, one)) in
     subst (λ (left : List ℕ). IsTimeOffset (byte ∷ left)) (sym ended)
-    (either (λ (b : ℕ). IsTimeOffset (b ∷ [])) byte capital_z small_z (inl refl) (inr (inl refl)) (one-of byte capital_z small_z utc)))
+    (search rules))
     (λ none other there. let not_there = not-true _ rows.1.0 in absurd (cc))
     (λ none other nothing one. absurd (omega (arith, one)))
-
-size-five : (point : Bool) (run : ℕ) → 5 ≤ minute_size true point run
-size-five true run = omega arith
-size-five false run = omega arith
 
 partial-time-of : (behavior : MicrosecondsPrecisionOverflowBehavior) (text : List ℕ) (clock : Clock) → clock_front behavior text ≡ Ok clock
     → clock.size ≤ length text → (slice_index text 5 == colon) ≡ true → (slice_index text 8 == comma) ≡ false
@@ -209,7 +147,7 @@ partial-time-of : (behavior : MicrosecondsPrecisionOverflowBehavior) (text : Lis
 partial-time-of behavior text clock read inside second plain =
     let there : has_second (drop 3 text) ≡ true = ap (λ (byte : ℕ). byte == colon) (get_or-drop 3 text 2 0) ∙ second in
     let size = rw there at (clock-size behavior text clock read) in
-    let five = size-five (has_point (drop 3 text)) (run_length (drop 3 text) 6) in
+    let five : 5 ≤ minute_size true (has_point (drop 3 text)) (run_length (drop 3 text) 6) = search rules in
     split (λ (bytes : List ℕ). clock_front behavior bytes ≡ Ok clock → (slice_index bytes 5 == colon) ≡ true → (slice_index bytes 8 == comma) ≡ false
     → IsPartialTime behavior (take clock.size bytes) × (clock.size ≡ offset_place bytes)) 8 text (omega arith)
     (λ same there none. clock-parts behavior _ _ _ _ _ _ _ _ (drop 8 text) clock _ refl same there none) read second plain
@@ -238,38 +176,29 @@ record OffsetRead (text : List ℕ) : Type 0 where
   no_mark : is_decimal_mark (slice_index text 0) ≡ false
   standard : AllHold (standard_offset text)
 
-numoffset-read : (west : Bool) (hour minute : ℕ) → hour ≤ 23 → minute ≤ 59
-    → OffsetRead ((if west then hyphen else plus_sign) ∷ two_digit_text hour ++ colon ∷ two_digit_text minute)
-numoffset-read west hour minute small_hour small_minute =
-    let hour_is = two_digit_value-printed hour in
-    let minute_is = two_digit_value-printed minute in
-    let is : signed_front west 1 (two_digit_text hour ++ colon ∷ two_digit_text minute) ≡ Ok (Some (with_sign west (3600 * hour + 60 * minute)), 6) =
-    let hours = two_digits-printed hour (omega arith) in
-    let minutes = two_digits-printed minute (omega arith) in
-    rw (hours, minutes, hour_is, minute_is, le-leb minute 59 small_minute, lt-ltb (3600 * hour + 60 * minute) seconds_per_day (omega arith)) refl in
-    signed west is
-  where
-    signed : (negative : Bool)
-        → signed_front negative 1 (two_digit_text hour ++ colon ∷ two_digit_text minute) ≡ Ok (Some (with_sign negative (3600 * hour + 60 * minute)), 6)
-        → OffsetRead ((if negative then hyphen else plus_sign) ∷ two_digit_text hour ++ colon ∷ two_digit_text minute)
-    signed true is = record { front = _; read = is; whole = refl; no_digit = refl; no_mark = refl; standard = (refl, (refl, (refl, tt))) }
-    signed false is = record { front = _; read = is; whole = refl; no_digit = refl; no_mark = refl; standard = (refl, (refl, (refl, tt))) }
+numoffset-read : (sign hour minute : ℕ) → (sign ≡ plus_sign) ⊎ (sign ≡ hyphen) → hour ≤ 23 → minute ≤ 59
+    → OffsetRead (sign ∷ two_digit_text hour ++ colon ∷ two_digit_text minute)
+numoffset-read sign hour minute is small_hour small_minute = record {
+  front = (Some (with_sign (sign == hyphen) (3600 * hour + 60 * minute)), 6);
+  read = search rules;
+  whole = refl;
+  no_digit = search rules;
+  no_mark = search rules;
+  standard = search rules;
+}
 
-utc-read : (text : List ℕ) → (text ≡ capital_z ∷ []) ⊎ (text ≡ small_z ∷ []) → OffsetRead text
-utc-read text (inl is) =
-    subst OffsetRead (sym is)
-    (record { front = _; read = refl; whole = refl; no_digit = refl; no_mark = refl; standard = (refl, (refl, (refl, tt))) })
-utc-read text (inr is) =
-    subst OffsetRead (sym is)
-    (record { front = _; read = refl; whole = refl; no_digit = refl; no_mark = refl; standard = (refl, (refl, (refl, tt))) })
+utc-read : (byte : ℕ) → (byte ≡ capital_z) ⊎ (byte ≡ small_z) → OffsetRead (byte ∷ [])
+utc-read byte is = record {
+  front = (Some (pos 0), 1);
+  read = search rules;
+  whole = refl;
+  no_digit = search rules;
+  no_mark = search rules;
+  standard = search rules;
+}
 
 offset-read : (text : List ℕ) → IsTimeOffset text → OffsetRead text
-offset-read text (inl is) = utc-read text (inl is)
-offset-read text (inr (inl is)) = utc-read text (inr is)
-offset-read text (inr (inr is)) =
-    subst OffsetRead (sym (is.together ∙ ap₂ (λ (hour minute : List ℕ). is.sign ∷ hour ++ colon ∷ minute) is.is_hour.together is.is_minute.together))
-    (either (λ (byte : ℕ). OffsetRead (byte ∷ two_digit_text is.is_hour.number ++ colon ∷ two_digit_text is.is_minute.number)) is.sign plus_sign hyphen
-    (numoffset-read false _ _ is.is_hour.within is.is_minute.within) (numoffset-read true _ _ is.is_hour.within is.is_minute.within) is.is_sign)
+offset-read text is = grind (arith, nat_tests, numoffset-read, utc-read)
 
 -- a text that the strict reader takes
 abbrev Taken : MicrosecondsPrecisionOverflowBehavior → List ℕ → Type 0
@@ -283,43 +212,35 @@ taken-of behavior text offset clock after read rest long second plain place =
     let front : TimeOfDay × ℕ = (time_of clock after.front.0, clock.size + after.front.1) in
     let fault = λ (value : TimeOfDay). end_fault value.offset in
     let is : time_front behavior text ≡ Ok front = time_front-is behavior text clock after.front read (ap offset_front rest ∙ after.read) in
-    let there : drop (offset_place text) text ≡ offset = ap (λ (n : ℕ). drop n text) (sym place) ∙ rest in
-    let rows = subst (λ (left : List ℕ). AllHold (standard_offset left)) (sym there) after.standard in (
+    let rows : AllHold (standard_offset (drop (offset_place text) text)) = search rules in (
       front.0,
       (
         ap (result_and_then (alone fault text)) is ∙ alone-whole fault text front.0 front.1 (omega (arith, long, after.whole)),
-        (second, (rw (plain) refl, rows)),
+        (second, (search rules, rows)),
       ),
     )
-
--- what is no decimal mark is neither a point nor a comma
-neither : (byte : ℕ) → is_decimal_mark byte ≡ false → ((byte == full_stop) ≡ false) × ((byte == comma) ≡ false)
-neither byte none = (grind (arith, nat_tests), grind (arith, nat_tests))
 
 taken-parts : (behavior : MicrosecondsPrecisionOverflowBehavior) (hour minute second : ℕ) (fraction offset : List ℕ) → hour ≤ 23 → minute ≤ 59 → second ≤ 59
     → (fraction ≡ []) ⊎ IsSecfrac behavior fraction → OffsetRead offset
     → Taken behavior (two_digit_text hour ++ colon ∷ minute_text minute second ++ fraction ++ offset)
 taken-parts behavior hour minute second fraction offset small_hour small_minute small_second (inl none) after =
     let text = two_digit_text hour ++ colon ∷ minute_text minute second ++ offset in
-    let byte = neither (slice_index offset 0) after.no_mark in
     subst (λ (part : List ℕ). Taken behavior (two_digit_text hour ++ colon ∷ minute_text minute second ++ part ++ offset)) (sym none)
     (taken-of behavior text offset _ after
     (front-printed behavior hour minute second offset _ small_hour small_minute
-    (clock-whole behavior minute second offset small_minute small_second after.no_mark)) refl (omega arith) refl byte.1
-    (ap (λ (point : Bool). if point then 9 + run_length text 9 else 8) (sym byte.0)))
+    (clock-whole behavior minute second offset small_minute small_second after.no_mark)) refl (omega arith) refl (search rules) (search rules))
 taken-parts behavior hour minute second fraction offset small_hour small_minute small_second (inr part) after =
     let digits = part.digits in
     let text = two_digit_text hour ++ colon ∷ minute_text minute second ++ full_stop ∷ digits ++ offset in
     let size : 3 + (6 + length digits) ≡ suc (suc (suc (suc (suc (suc (suc (suc (suc (length digits))))))))) = omega arith in
     let rest : drop (3 + (6 + length digits)) text ≡ offset = ap (λ (n : ℕ). drop n text) size ∙ drop-append_seam digits offset in
-    let run : prefix_len is_ascii_digit (digits ++ offset) ≡ length digits =
-    run_length-append digits offset part.are_digits ∙ ap (λ (n : ℕ). length digits + n) (run_length-none offset after.no_digit) ∙ omega arith in
-    let place : 3 + (6 + length digits) ≡ 9 + prefix_len is_ascii_digit (digits ++ offset) = omega (arith, run) in
+    let run = run_length-append digits offset part.are_digits in
+    let none = run_length-none offset after.no_digit in
     subst (λ (cut : List ℕ). Taken behavior (two_digit_text hour ++ colon ∷ minute_text minute second ++ cut ++ offset)) (sym part.together)
     (taken-of behavior text offset _ after
     (front-printed behavior hour minute second (full_stop ∷ digits ++ offset) _ small_hour small_minute
     (clock-secfrac behavior minute second digits offset small_minute small_second part.are_digits part.some part.few after.no_digit)) rest
-    (omega (arith, length-append digits offset)) refl refl place)
+    (omega (arith, length-append digits offset)) refl refl (omega (arith, run, none)))
 
 -- and a time of the rules is taken
 full-time-taken : (behavior : MicrosecondsPrecisionOverflowBehavior) (text : List ℕ) → IsFullTime behavior text → Taken behavior text
@@ -333,30 +254,16 @@ full-time-taken behavior text is =
     (taken-parts behavior time.is_hour.number time.is_minute.number time.is_second.number time.fraction is.offset time.is_hour.within time.is_minute.within time.is_second.within
     time.is_fraction (offset-read is.offset is.is_offset))
 
--- the digits of a year
-year-spelled : (text : List ℕ) → two_digits_at text 0 ≡ true → two_digits_at text 2 ≡ true
-    → four_digit_text (four_digit_value text 0) ≡ bytes_from 0 4 text
-year-spelled text century year =
-    let small = spelled-small text 2 year in
-    let high : four_digit_value text 0 / 100 ≡ two_digit_value text 0 = omega (arith, small) in
-    let low : four_digit_value text 0 % 100 ≡ two_digit_value text 2 = omega (arith, small) in
-    rw (high, low) (ap₂ (λ (x y : List ℕ). x ++ y) (spelled text 0 century) (spelled text 2 year))
-
-in-range : (low high n : ℕ) → is_in_range low high n ≡ true → IsInRange low high n
-in-range low high n within = grind (arith, nat_tests)
-
 full-date-of : (text : List ℕ) → IfOk (date_front text) (λ front. IsFullDate (take 10 text))
 full-date-of text = read-rows (λ (front : Ymd × ℕ). IsFullDate (take 10 text)) (date_table text) _ (λ met.
-    let years = and_parts (two_digits_at text 0) (two_digits_at text 2) met.1.0 in
     subst IsFullDate (sym (bytes-are 10 0 text (leb-true 10 (length text) met.0))) (record {
       year = four_digit_value text 0;
       month = two_digit_value text 5;
       day = two_digit_value text 8;
-      is_year = omega (arith, spelled-small text 0 years.0, spelled-small text 2 years.1);
-      is_month = in-range 1 12 (two_digit_value text 5) met.1.1.1.1.1.1.0;
-      is_day = in-range 1 (month_length (four_digit_value text 0) (two_digit_value text 5)) (two_digit_value text 8) met.1.1.1.1.1.1.1.0;
-      together = λ k. (sym (year-spelled text years.0 years.1)) k ++ (eqb-true (slice_index text 4) hyphen met.1.1.0) k
-          ∷ (sym (spelled text 5 met.1.1.1.0)) k ++ (eqb-true (slice_index text 7) hyphen met.1.1.1.1.0) k ∷ (sym (spelled text 8 met.1.1.1.1.1.0)) k;
+      is_year = search rules;
+      is_month = search rules;
+      is_day = search rules;
+      together = search rules;
     }))
 
 -- what the strict reader takes as a date-time is one by the rules
@@ -371,7 +278,7 @@ date-time-of behavior text rows =
       separator = slice_index text 10;
       time = rest;
       is_date = read-value _ (date_front text) date dated (full-date-of text);
-      is_separator = one-of (slice_index text 10) capital_t small_t rows.0;
+      is_separator = search rules;
       is_time = read-value _ _ time read (full-time-of behavior rest rows.1) (omega (arith, whole, length-drop 11 text));
       together = sym (take-append-drop 10 text) ∙ ap (λ (left : List ℕ). take 10 text ++ left) (drop_more text 10 0 (omega (arith, whole)));
     }))
@@ -384,10 +291,8 @@ date-time-parts behavior date separator time valid parted value read =
     let whole : DateAndTime = record { date = date; time = value } in
     let fault_of = λ (read_value : DateAndTime). end_fault read_value.time.offset in
     let front = (alone-iff (λ (read_time : TimeOfDay). end_fault read_time.offset) time (time_front behavior time) value).0 read in
-    let long : length text ≡ 11 + length time = omega arith in
-    let separated : is_separator separator ≡ true = either (λ (byte : ℕ). is_separator byte ≡ true) separator capital_t small_t refl refl parted in
-    let is = date_time_front-is behavior text (date, 10) (value, length time) (date_text-front date (separator ∷ time) valid) (separated, tt) front in
-    ap (result_and_then (alone fault_of text)) is ∙ alone-whole fault_of text whole (11 + length time) long
+    let is = date_time_front-is behavior text (date, 10) (value, length time) (date_text-front date (separator ∷ time) valid) (search rules, tt) front in
+    ap (result_and_then (alone fault_of text)) is ∙ alone-whole fault_of text whole (11 + length time) (omega arith)
 
 -- a text that the strict reader takes as a date-time
 abbrev DateTimeTaken : MicrosecondsPrecisionOverflowBehavior → List ℕ → Type 0
@@ -405,7 +310,7 @@ date-time-taken behavior text is =
       value,
       (
         date-time-parts behavior date is.separator is.time valid is.is_separator taken.0 taken.1.0,
-        (either (λ (byte : ℕ). ((byte == capital_t) || (byte == small_t)) ≡ true) is.separator capital_t small_t refl refl is.is_separator, taken.1.1),
+        (search rules, taken.1.1),
       ),
     )
 
@@ -414,16 +319,7 @@ strict : {A B : Type 0} (view : A → B) (result : Result A ParseError) (rows : 
     → result_map view result ≡ result_and_then (λ (read : B). meets rows (Ok read)) answer
     → ((value : B) → answer ≡ Ok value → AllHold rows → IsOne)
     → (IsOne → (value : B) × ((answer ≡ Ok value) × AllHold rows)) → IsOk result ↔ IsOne
-strict {B = B} view (Ok value) rows answer IsOne is to from =
-    let read = and_then-ok (λ (found : B). meets rows (Ok found)) answer (view value) (sym is) in
-    (λ ok. to read.0 read.1 (meets-value rows read.0 (view value) read.2).0, λ one. refl)
-strict {B = B} view (Err refused) rows answer IsOne is to from = (
-  λ ok. absurd (cc),
-  λ one.
-      let taken = from one in
-      let never = is ∙ ap (result_and_then (λ (found : B). meets rows (Ok found))) taken.1.0 ∙ meets-all rows (Ok taken.0) taken.1.1 in
-      absurd (cc),
-)
+strict view result rows answer IsOne is to from = grind (arith, meets-all, meets-value)
 
 -- so a text is taken if and only if it is one of the rules
 pub time-standard : (behavior : MicrosecondsPrecisionOverflowBehavior) (text : List ℕ) (result : Result Time ParseError)

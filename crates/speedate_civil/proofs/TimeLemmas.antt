@@ -1,25 +1,20 @@
 -- The text by which a time is printed is read as the time, where its offset is absent or whole minutes, whatever follows
 -- it that is no part of it.
-use Rattle.std.specs.Prelude.{◌≡◌, ℕ, ◌+◌, ◌≤◌, Bool, true, false, not, ◌&&◌, ◌||◌, List, [], ◌∷◌, ◌++◌, length, slice_index, drop, ◌==◌, if◌then◌else◌, Option, ℤ, Result, Ok, refl}
+use Rattle.std.specs.Prelude.{◌≡◌, ℕ, ◌+◌, ◌≤◌, Bool, true, false, List, [], ◌∷◌, ◌++◌, length, drop, ◌==◌, Option, ℤ, Result, Ok, refl}
 use Rattle.std.specs.Char.{is_ascii_digit}
-use Rattle.std.specs.Option.{is_some}
-use Rattle.std.proofs.Common.{arith, ◌∙◌, ap, sym}
-use Rattle.std.proofs.Math.Bool.{or-and_distrib_left}
-use Rattle.std.proofs.lemmas.Bool.{and_parts, le-leb, eqb-true}
+use Rattle.std.proofs.Common.{rules, arith, ◌∙◌, ap, sym}
+use Rattle.std.proofs.lemmas.Bool.{eqb-true}
 use Rattle.std.proofs.lemmas.List.{append-nil}
 use Rattle.speedate_base.specs.declared.config.MicrosecondsPrecisionOverflowBehavior.{MicrosecondsPrecisionOverflowBehavior}
-use Rattle.speedate_base.specs.declared.config.MicrosecondsPrecisionOverflowBehavior.TheVariants as behavior
 use Rattle.speedate_base.specs.declared.faults.ParseError.{ParseError}
 use Rattle.speedate_base.specs.Ascii.{colon, full_stop}
 use Rattle.speedate_base.specs.Digits.{two_digit_text, six_digit_text}
-use Rattle.speedate_base.proofs.DigitLemmas.{two_digits-printed, two_digit_value-printed}
 use Rattle.speedate_base.specs.Offset.{IsWholeMinutes}
-use Rattle.speedate_base.specs.Requirement.{alone, result_map, result_and_then}
+use Rattle.speedate_base.specs.Requirement.{alone, result_and_then}
 use Rattle.speedate_base.proofs.RequirementLemmas.{alone-whole}
-use Rattle.speedate_base.proofs.TextLemmas.{text-distinct}
 use Rattle.speedate_civil.specs.ClockText.{Clock, at_hour, clock_answer, clock_front, is_decimal_mark, minute_text}
 use Rattle.speedate_civil.proofs.ClockLemmas.{clock-whole, clock-fraction}
-use Rattle.speedate_civil.specs.OffsetText.{begins_offset, end_fault, offset_front, offset_text}
+use Rattle.speedate_civil.specs.OffsetText.{end_fault, offset_front, offset_text}
 use Rattle.speedate_civil.proofs.OffsetLemmas.{offset_text-first, offset_text-front}
 use Rattle.speedate_civil.specs.TimeOfDay.{TimeOfDay, IsTime}
 use Rattle.speedate_civil.specs.TimeText.{time_front, time_answer, time_of, clock_text, time_text, is_after_time}
@@ -34,20 +29,7 @@ time_front-after behavior text clock offset read after = rw (sym read, after) re
 pub front-printed : (behavior : MicrosecondsPrecisionOverflowBehavior) (hour minute second : ℕ) (tail : List ℕ) (clock : Clock)
     → hour ≤ 23 → minute ≤ 59 → clock_answer behavior (minute_text minute second ++ tail) ≡ Ok clock
     → clock_front behavior (two_digit_text hour ++ colon ∷ minute_text minute second ++ tail) ≡ Ok (at_hour hour clock)
-front-printed behavior hour minute second tail clock small_hour small_minute answer =
-    let text = two_digit_text hour ++ colon ∷ minute_text minute second ++ tail in
-    let long : 5 ≤ length text = omega arith in
-    rw (le-leb 5 (length text) long, two_digits-printed hour (omega arith), two_digits-printed minute (omega arith), two_digit_value-printed hour, le-leb hour 23 small_hour)
-    (ap (result_map (at_hour hour)) answer)
-
--- what follows is neither
-neither : (some first second : Bool) → (some || (not first && not second)) ≡ true → ((some || not first) ≡ true) × ((some || not second) ≡ true)
-neither some first second ends = and_parts (some || not first) (some || not second) (sym (or-and_distrib_left some (not first) (not second)) ∙ ends)
-
-nothing : (some none : Bool) → (some || (not (if none then false else false) && true)) ≡ true
-nothing true none = refl
-nothing false true = refl
-nothing false false = refl
+front-printed behavior hour minute second tail clock small_hour small_minute answer = search rules
 
 text-front : (behavior : MicrosecondsPrecisionOverflowBehavior) (time : TimeOfDay) (rest : List ℕ) (none : Bool) → IsTime time → IsWholeMinutes time.offset
     → is_after_time time rest ≡ true → (time.microsecond == 0) ≡ none
@@ -55,20 +37,20 @@ text-front : (behavior : MicrosecondsPrecisionOverflowBehavior) (time : TimeOfDa
 text-front behavior time rest true valid whole after none =
     let tail = offset_text time.offset ++ rest in
     let zero_is : 0 ≡ time.microsecond = sym (eqb-true time.microsecond 0 none) in
-    let parted = neither (is_some time.offset) (is_decimal_mark (slice_index rest 0)) (begins_offset rest) (rw none at after) in
-    let plain = offset_text-first is_decimal_mark time.offset rest refl refl refl parted.0 in
+    let ended = rw none at after in
+    let plain = offset_text-first is_decimal_mark time.offset rest refl refl refl (search rules) in
     let front = front-printed behavior time.hour time.minute time.second tail _ valid.hour valid.minute
     (clock-whole behavior time.minute time.second tail valid.minute valid.second plain) in
     let long : 8 + length (offset_text time.offset) ≡ length (clock_text time ++ offset_text time.offset) = omega arith in
-    rw (none, front, offset_text-front time.offset rest valid.offset whole parted.1, zero_is) (ap (λ (size : ℕ). Ok (time, size)) long)
+    rw (none, front, offset_text-front time.offset rest valid.offset whole search rules, zero_is) (ap (λ (size : ℕ). Ok (time, size)) long)
 text-front behavior time rest false valid whole after some =
     let tail = offset_text time.offset ++ rest in
-    let parted = neither (is_some time.offset) (is_ascii_digit (slice_index rest 0)) (begins_offset rest) (rw some at after) in
-    let other = offset_text-first is_ascii_digit time.offset rest refl refl refl parted.0 in
+    let ended = rw some at after in
+    let other = offset_text-first is_ascii_digit time.offset rest refl refl refl (search rules) in
     let front = front-printed behavior time.hour time.minute time.second (full_stop ∷ six_digit_text time.microsecond ++ tail) _ valid.hour valid.minute
     (clock-fraction behavior time.minute time.second time.microsecond tail valid.minute valid.second (omega (arith, valid.microsecond)) other) in
     let long : 15 + length (offset_text time.offset) ≡ length (clock_text time ++ full_stop ∷ six_digit_text time.microsecond ++ offset_text time.offset) = omega arith in
-    rw (some, front, offset_text-front time.offset rest valid.offset whole parted.1) (ap (λ (size : ℕ). Ok (time, size)) long)
+    rw (some, front, offset_text-front time.offset rest valid.offset whole search rules) (ap (λ (size : ℕ). Ok (time, size)) long)
 
 pub time_text-front : (behavior : MicrosecondsPrecisionOverflowBehavior) (time : TimeOfDay) (rest : List ℕ) → IsTime time → IsWholeMinutes time.offset
     → is_after_time time rest ≡ true → time_front behavior (time_text time ++ rest) ≡ Ok (time, length (time_text time))
@@ -76,7 +58,7 @@ time_text-front behavior time rest valid whole after = text-front behavior time 
 
 -- nothing that follows is no part of a time
 pub nothing-after : (time : TimeOfDay) → is_after_time time [] ≡ true
-nothing-after time = nothing (is_some time.offset) (time.microsecond == 0)
+nothing-after time = search rules
 
 -- and alone it is that time
 pub time_text-reads : (behavior : MicrosecondsPrecisionOverflowBehavior) (time : TimeOfDay) → IsTime time → IsWholeMinutes time.offset
@@ -86,10 +68,3 @@ time_text-reads behavior time valid whole =
     let fault = λ (read : TimeOfDay). end_fault read.offset in
     let front = sym (ap (time_front behavior) (append-nil text)) ∙ time_text-front behavior time [] valid whole (nothing-after time) in
     ap (result_and_then (alone fault text)) front ∙ alone-whole fault text time (length text) refl
-
--- two such times with the same text are equal
-pub time_text-distinct : (first second : TimeOfDay) → IsTime first → IsTime second → IsWholeMinutes first.offset → IsWholeMinutes second.offset
-    → time_text first ≡ time_text second → first ≡ second
-time_text-distinct first second one two whole_one whole_two =
-    text-distinct time_text (time_answer behavior.Error) first second
-    (time_text-reads behavior.Error first one whole_one) (time_text-reads behavior.Error second two whole_two)

@@ -1,10 +1,8 @@
 -- The year of a day number, by cycles of 400 years, centuries, four years and years.
 use Rattle.std.specs.Prelude.{◌≡◌, ℕ, ◌+◌, ◌*◌, ◌/◌, ◌%◌, ◌<◌, ◌≤◌, min}
-use Rattle.std.proofs.Common.{arith, inl, inr}
-use Rattle.std.proofs.lemmas.Bool.{cases_lt}
-use Rattle.std.proofs.lemmas.Bool.Decides.{nat_tests}
+use Rattle.std.proofs.Common.{arith}
 use Rattle.speedate_civil.specs.DayNumber.{year_length, days_before_year}
-use Rattle.speedate_civil.proofs.DayNumberLemmas.{leap_day, year_length-is, days_before_year-is}
+use Rattle.speedate_civil.proofs.DayNumberLemmas.{year_length-is, days_before_year-is}
 
 -- the days before a century of the first cycle
 pub days_before_century : (century : ℕ) → century ≤ 3 → days_before_year (100 * century) ≡ 36524 * century + min century 1
@@ -15,31 +13,17 @@ pub days_before_year-later : (century year : ℕ) → century ≤ 3 → year ≤
     → days_before_year (100 * century + year) ≡ 36524 * century + 365 * year + (year + 3) / 4
 days_before_year-later century year few small some = omega (arith, days_before_year-is (100 * century + year))
 
--- a year divisible by 4 is leap, unless it is one of three centuries
-leap_day-one : (year : ℕ) → year % 4 ≡ 0 → (year % 100 ≡ 0 → year % 400 ≡ 0) → leap_day year ≡ 1
-leap_day-one year four hundred = grind (arith, nat_tests)
-
 -- the calendar repeats after 400 years
 pub days_before_year-cycle : (cycle century year : ℕ) → days_before_year (400 * cycle + 100 * century + year) ≡ 146097 * cycle + days_before_year (100 * century + year)
 days_before_year-cycle cycle century year = omega (arith, days_before_year-is (400 * cycle + 100 * century + year), days_before_year-is (100 * century + year))
 
-leap_day-cycle : (cycle century year : ℕ) → leap_day (400 * cycle + 100 * century + year) ≡ leap_day (100 * century + year)
-leap_day-cycle cycle century year = grind (arith, nat_tests)
-
 pub year_length-cycle : (cycle century year : ℕ) → year_length (400 * cycle + 100 * century + year) ≡ year_length (100 * century + year)
-year_length-cycle cycle century year =
-    omega (arith, year_length-is (400 * cycle + 100 * century + year), year_length-is (100 * century + year), leap_day-cycle cycle century year)
+year_length-cycle cycle century year = grind (arith, year_length-is)
 
 -- a day of a century's first year is one of that year's days
 pub first_day-left : (century day : ℕ) → century ≤ 3 → day + min century 1 < 366 → day < year_length (100 * century + 0)
-first_day-left century day few within = grind (arith, nat_tests, year_length-is (100 * century + 0))
+first_day-left century day few within = grind (arith, year_length-is (100 * century + 0))
 
 -- and so is a day of a later year, if its year has a 366th day only where four years begin
 pub later_day-left : (century year day : ℕ) → century ≤ 3 → year ≤ 99 → 1 ≤ year → day ≤ 365 → (day ≡ 365 → year % 4 ≡ 0) → day < year_length (100 * century + year)
-later_day-left century year day few small some within full =
-    elim (cases_lt day 365) [
-      | inl less ↦ omega (arith, year_length-is (100 * century + year))
-      | inr whole ↦
-          let leap = leap_day-one (100 * century + year) (omega (arith, full (omega arith))) (λ hundred. omega arith) in
-          omega (arith, year_length-is (100 * century + year))
-    ]
+later_day-left century year day few small some within full = grind (arith, year_length-is)

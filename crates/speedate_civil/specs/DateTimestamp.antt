@@ -7,7 +7,7 @@ use Rattle.speedate_base.specs.declared.faults.ParseError.{ParseError}
 use Rattle.speedate_base.specs.declared.faults.ParseError.TheVariants as fault
 use Rattle.speedate_base.specs.Numbers.{whole_number}
 use Rattle.speedate_base.specs.Offset.{seconds_per_day}
-use Rattle.speedate_base.specs.Requirement.{Requirement, ◌else_fault◌, ◌implies◌, meets}
+use Rattle.speedate_base.specs.Requirement.{◌else_fault◌, ◌implies◌, meets}
 use Rattle.speedate_base.specs.Timestamp.{Instant, instant_answer, range_answer}
 use Rattle.speedate_civil.specs.Calendar.{Ymd}
 use Rattle.speedate_civil.specs.DateText.{date_answer}
@@ -23,17 +23,11 @@ day_at second = unsigned_abs (int_div_euclid second (pos seconds_per_day) +ℤ p
 abbrev pub second_at : ℤ → ℕ
 second_at second = unsigned_abs (int_rem_euclid second (pos seconds_per_day))
 
--- an instant is a midnight
-abbrev pub is_midnight : Instant → Bool
-is_midnight instant = (second_at instant.second == 0) && (instant.microsecond == 0)
-
--- what it has to meet to be an exact date, if that is asked for
-abbrev pub exact_table : Bool → Instant → List Requirement
-exact_table exact instant = ((exact implies is_midnight instant) else_fault fault.DateNotExact) ∷ []
-
--- the date of an instant, or the fault
+-- the date of an instant, or the fault of one that is no midnight, if an exact date is asked for
 abbrev pub instant_date : Bool → Instant → Result Ymd ParseError
-instant_date exact instant = meets (exact_table exact instant) (Ok (date_after (day_at instant.second)))
+instant_date exact instant =
+    let is_midnight = (second_at instant.second == 0) && (instant.microsecond == 0) in
+    meets (((exact implies is_midnight) else_fault fault.DateNotExact) ∷ []) (Ok (date_after (day_at instant.second)))
 
 -- the date of a timestamp, or the fault: the unit's comes first, then those of the years
 abbrev pub date_timestamp_answer : TimestampUnit → Bool → ℤ → Result Ymd ParseError

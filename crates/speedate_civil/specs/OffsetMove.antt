@@ -21,15 +21,13 @@ date_time_with_offset offset value = meets (offset_table offset) (Ok (record val
 abbrev pub move_table : ℤ → Option ℤ → List Requirement
 move_table offset old = offset_table (Some offset) ++ (is_some old else_fault fault.TzRequired) ∷ []
 
--- a time lies on the day that its clock shows
-abbrev pub second_table : ℤ → List Requirement
-second_table second = (int_le (pos 0) second && int_lt second (pos seconds_per_day) else_fault fault.TimeTooLarge) ∷ []
-
 -- the time at the same instant, as a clock at another offset shows it: it has no date that could change
 abbrev pub time_in_timezone : ℤ → TimeOfDay → Result TimeOfDay ParseError
 time_in_timezone offset time =
     let second = utc_second_of_day time +ℤ offset in
-    meets (move_table offset time.offset) (meets (second_table second) (Ok (time_at (unsigned_abs second) time.microsecond (Some offset))))
+    let is_second_of_day = int_le (pos 0) second && int_lt second (pos seconds_per_day) in
+    meets (move_table offset time.offset ++ (is_second_of_day else_fault fault.TimeTooLarge) ∷ [])
+    (Ok (time_at (unsigned_abs second) time.microsecond (Some offset)))
 
 -- the date-time at the same instant, as a clock at another offset shows it, if that is in the years 0000 to 9999
 abbrev pub date_time_in_timezone : ℤ → DateAndTime → Result DateAndTime ParseError

@@ -34,6 +34,7 @@ const YEAR_STARTS: [u32; 4] = [0, 366, 731, 1_096];
 
 /// The days of the months before a month of a year.
 #[inline]
+#[tactic(auto, using(crate::proofs::MonthLemmas::days_of_months_is))]
 fn days_before_month(year: u16, month: u8) -> u16
     requires { IsInRange 1 12 month }
     ensures { result ≡ days_of_months year (month - 1) }

@@ -1,13 +1,12 @@
 //! Dates from timestamps, and from texts that are a timestamp instead of a date.
 
-ghost use Rattle.std.specs.Prelude.{◌≡◌, ◌≤◌, ◌==◌, ◌&&◌, Err, IsTrue, int_le};
+ghost use Rattle.std.specs.Prelude.{◌≡◌, ◌==◌, ◌&&◌, Err, IsTrue, int_le};
 ghost use Rattle.speedate_base.specs.Requirement.{result_map, ◌implies◌};
-ghost use Rattle.speedate_base.specs.Timestamp.{IsInYears, first_second, last_second};
-ghost use Rattle.speedate_base.specs.UnixTime.{parts as instant_parts};
+ghost use Rattle.speedate_base.specs.Timestamp.{first_second, last_second};
 ghost use Rattle.speedate_base.specs.declared.config.TimestampUnit.TheVariants as unit;
 ghost use Rattle.speedate_civil.specs.Date.{parts};
 ghost use Rattle.speedate_civil.specs.DateText.{date_answer};
-ghost use Rattle.speedate_civil.specs.DateTimestamp.{day_at, second_at, instant_date, date_timestamp_answer, date_or_timestamp};
+ghost use Rattle.speedate_civil.specs.DateTimestamp.{day_at, second_at, date_timestamp_answer, date_or_timestamp};
 ghost use Rattle.speedate_civil.specs.DayNumber.{date_after};
 ghost use Rattle.speedate_civil.specs.Reader.{may_be_number};
 
@@ -15,7 +14,7 @@ use super::Date;
 use speedate_base::config::DateConfig;
 use speedate_base::faults::ParseError;
 use speedate_base::numbers::int_parse_bytes;
-use speedate_base::util::{FIRST_SECOND, SECONDS_PER_DAY, UnixTime, timestamp_to_seconds_micros};
+use speedate_base::util::{FIRST_SECOND, SECONDS_PER_DAY, timestamp_to_seconds_micros};
 use std::str::FromStr;
 
 impl Date {
@@ -104,17 +103,8 @@ impl Date {
     {
         let time = timestamp_to_seconds_micros(timestamp, config.timestamp_unit)?;
         let within = time.in_years()?;
-        Self::from_instant(within, require_exact)
-    }
-
-    /// The date of the day in which an instant lies.
-    #[inline]
-    fn from_instant(time: UnixTime, require_exact: bool) -> Result<Self, ParseError>
-        requires within { IsInYears (instant_parts time) }
-        ensures date { result_map parts result ≡ instant_date require_exact (instant_parts time) }
-    {
-        let (date, second) = Self::at_second(time.second);
-        if !is_taken(require_exact, second, time.microsecond) {
+        let (date, second) = Self::at_second(within.second);
+        if !is_taken(require_exact, second, within.microsecond) {
             return Err(ParseError::DateNotExact);
         }
         Ok(date)
@@ -129,8 +119,12 @@ impl Date {
         ensures date { parts result.0 ≡ date_after (day_at second) }
         ensures second { result.1 ≡ second_at second }
     {
-        let (number, second) = day_and_second(second);
-        (Self::numbered(number), second)
+        let seconds = (second - FIRST_SECOND) as u64;
+        let per_day = u64::from(SECONDS_PER_DAY);
+        (
+            Self::numbered((seconds / per_day) as u32),
+            (seconds % per_day) as u32,
+        )
     }
 }
 
@@ -144,20 +138,6 @@ impl FromStr for Date {
     fn from_str(text: &str) -> Result<Self, ParseError> {
         Self::parse_str(text)
     }
-}
-
-/// The day number of a second of the years 0000 to 9999, and the second of that day.
-#[inline]
-fn day_and_second(second: i64) -> (u32, u32)
-    requires after { IsTrue (int_le first_second second) }
-    requires before { IsTrue (int_le second last_second) }
-    ensures day { result.0 ≡ day_at second }
-    ensures second { result.1 ≡ second_at second }
-    ensures small { result.0 ≤ 3652424 }
-{
-    let seconds = (second - FIRST_SECOND) as u64;
-    let per_day = u64::from(SECONDS_PER_DAY);
-    ((seconds / per_day) as u32, (seconds % per_day) as u32)
 }
 
 /// Whether an instant is taken for a date, by the second of its day and its microsecond.

@@ -2,8 +2,11 @@
 
 ghost use Rattle.std.specs.Prelude.{◌≡◌, ◌↔◌, ◌≤◌, ◌==◌, ◌||◌, IfOk, IsOk, IsTrue, Ok, length, slice_index};
 ghost use Rattle.speedate_base.specs.Ascii.{capital_t, small_t};
-ghost use Rattle.speedate_base.specs.Requirement.{meets};
-ghost use Rattle.speedate_civil.specs.StrictText.{standard_date_time};
+ghost use Rattle.speedate_base.specs.Requirement.{meets, result_map};
+ghost use Rattle.speedate_civil.specs.StrictText.{standard_date_time, strict_date_time_answer};
+ghost use Rattle.speedate_base.specs.Offset.{IsWholeMinutes};
+ghost use Rattle.speedate_civil.specs.DateTime.{parts};
+ghost use Rattle.speedate_civil.specs.Rfc3339Text.{IsDateTime};
 
 use crate::datetime::{DateTime, TIME_PLACE};
 use crate::time::require_standard;
@@ -12,12 +15,6 @@ use speedate_base::faults::ParseError;
 use speedate_base::numbers::byte_at;
 
 impl DateTime {
-    ghost use Rattle.speedate_base.specs.Offset.{IsWholeMinutes};
-    ghost use Rattle.speedate_base.specs.Requirement.{result_map};
-    ghost use Rattle.speedate_civil.specs.DateTime.{parts};
-    ghost use Rattle.speedate_civil.specs.Rfc3339Text.{IsDateTime};
-    ghost use Rattle.speedate_civil.specs.StrictText.{strict_date_time_answer};
-
     /// Reads a date-time from bytes that are a date-time of RFC 3339 5.6, and no timestamp: 12:13:14 on
     /// 29 February 2020 in UTC from `b"2020-02-29T12:13:14Z"`. The bytes need not be text.
     ///

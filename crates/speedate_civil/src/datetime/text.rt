@@ -1,6 +1,16 @@
 //! The text of a date-time.
 
-ghost use Rattle.std.specs.Prelude.{Some};
+ghost use Rattle.std.specs.Prelude.{Some, ℕ, ◌≡◌, ◌≤◌, ◌+◌, ◌++◌, ◌↔◌, IsTrue, List, Ok, length};
+ghost use Rattle.arrayvec.specs.ArrayString.{array_string_len};
+ghost use Rattle.speedate_base.specs.declared.config.TimeConfig.{TimeConfig};
+ghost use Rattle.speedate_base.specs.declared.config.date_time.DateTimeConfig.{DateTimeConfig};
+ghost use Rattle.speedate_base.specs.Offset.{IsWholeMinutes};
+ghost use Rattle.speedate_base.specs.Requirement.{result_map};
+ghost use Rattle.speedate_civil.specs.declared.datetime.DateTime.{DateTime};
+ghost use Rattle.speedate_civil.specs.DateTime.{parts};
+ghost use Rattle.speedate_civil.specs.DateTimeText.{date_time_answer, date_time_front, date_time_text};
+ghost use Rattle.speedate_civil.specs.DateTimeTimestamp.{date_time_or_timestamp};
+ghost use Rattle.speedate_civil.specs.TimeText.{is_after_time};
 
 use crate::datetime::DateTime;
 use arrayvec::ArrayString;
@@ -10,18 +20,6 @@ use std::fmt;
 const TEXT_MAX: usize = 32;
 
 impl DateTime {
-    ghost use Rattle.std.specs.Prelude.{ℕ, ◌≡◌, ◌≤◌, ◌+◌, ◌++◌, ◌↔◌, IsTrue, List, Ok, length};
-    ghost use Rattle.arrayvec.specs.ArrayString.{array_string_len};
-    ghost use Rattle.speedate_base.specs.declared.config.TimeConfig.{TimeConfig};
-    ghost use Rattle.speedate_base.specs.declared.config.date_time.DateTimeConfig.{DateTimeConfig};
-    ghost use Rattle.speedate_base.specs.Offset.{IsWholeMinutes};
-    ghost use Rattle.speedate_base.specs.Requirement.{result_map};
-    ghost use Rattle.speedate_civil.specs.declared.datetime.DateTime.{DateTime};
-    ghost use Rattle.speedate_civil.specs.DateTime.{parts};
-    ghost use Rattle.speedate_civil.specs.DateTimeText.{date_time_answer, date_time_front, date_time_text};
-    ghost use Rattle.speedate_civil.specs.DateTimeTimestamp.{date_time_or_timestamp};
-    ghost use Rattle.speedate_civil.specs.TimeText.{is_after_time};
-
     /// The canonical text, `YYYY-MM-DDTHH:MM:SS`, then `.` and six digits if the microsecond is not 0,
     /// then the offset if there is one: `2020-02-29T12:13:14.500000+01:30`. It is not allocated;
     /// `.as_str()` is the text.
@@ -69,9 +67,6 @@ impl DateTime {
 }
 
 impl fmt::Display for DateTime {
-    ghost use Rattle.speedate_civil.specs.DateTime.{parts};
-    ghost use Rattle.speedate_civil.specs.DateTimeText.{date_time_text};
-
     ghost output = { λ value. Some (date_time_text (parts value)) };
 
     ghost styled_output = { λ value _. Some (date_time_text (parts value)) };

@@ -2,6 +2,9 @@
 
 ghost use Rattle.std.specs.Prelude.{◌≡◌, ◌<◌, ◌+ℤ◌, IfOk, Some, unsigned_abs};
 ghost use Rattle.speedate_base.specs.Requirement.{result_map};
+ghost use Rattle.speedate_civil.specs.DateAndTime.{utc_second};
+ghost use Rattle.speedate_civil.specs.DateTime.{parts};
+ghost use Rattle.speedate_civil.specs.OffsetMove.{date_time_with_offset, date_time_in_timezone};
 
 use super::DateTime;
 use crate::time::clock_shift;
@@ -9,10 +12,6 @@ use speedate_base::faults::ParseError;
 use speedate_base::util::UnixTime;
 
 impl DateTime {
-    ghost use Rattle.speedate_civil.specs.DateAndTime.{utc_second};
-    ghost use Rattle.speedate_civil.specs.DateTime.{parts};
-    ghost use Rattle.speedate_civil.specs.OffsetMove.{date_time_with_offset, date_time_in_timezone};
-
     /// The same date and clock with another offset, in seconds, or with none: 2020-01-01T12:00:00-01:00
     /// for 2020-01-01T12:00:00Z and `Some(-3600)`. Fails with `OutOfRangeTz` if the offset is 24 hours
     /// or more.

@@ -1,8 +1,11 @@
 //! Times that are read from the texts of RFC 3339 alone.
 
 ghost use Rattle.std.specs.Prelude.{◌≡◌, ◌↔◌, IfOk, IsOk, Ok, drop};
-ghost use Rattle.speedate_base.specs.Requirement.{meets};
-ghost use Rattle.speedate_civil.specs.StrictText.{standard_offset, standard_time};
+ghost use Rattle.speedate_base.specs.Requirement.{meets, result_map};
+ghost use Rattle.speedate_civil.specs.StrictText.{standard_offset, standard_time, strict_time_answer};
+ghost use Rattle.speedate_base.specs.Offset.{IsWholeMinutes};
+ghost use Rattle.speedate_civil.specs.Rfc3339Text.{IsFullTime};
+ghost use Rattle.speedate_civil.specs.Time.{parts};
 
 use crate::time::Time;
 use crate::time::offset::{has_minus_sign, is_utc};
@@ -11,12 +14,6 @@ use speedate_base::faults::ParseError;
 use speedate_base::numbers::{byte_at, run_end};
 
 impl Time {
-    ghost use Rattle.speedate_base.specs.Offset.{IsWholeMinutes};
-    ghost use Rattle.speedate_base.specs.Requirement.{result_map};
-    ghost use Rattle.speedate_civil.specs.Rfc3339Text.{IsFullTime};
-    ghost use Rattle.speedate_civil.specs.StrictText.{strict_time_answer};
-    ghost use Rattle.speedate_civil.specs.Time.{parts};
-
     /// Reads a time from bytes that are a full-time of RFC 3339 5.6: 12:13:14 and a half, an hour east
     /// of UTC, from `b"12:13:14.5+01:00"`. The bytes need not be text.
     ///

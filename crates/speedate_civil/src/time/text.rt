@@ -1,6 +1,13 @@
 //! The text of a time of day.
 
-ghost use Rattle.std.specs.Prelude.{◌≡◌, ◌≤◌, Some};
+ghost use Rattle.std.specs.Prelude.{◌≡◌, ◌≤◌, Some, ℕ, ◌+◌, ◌++◌, ◌↔◌, IsTrue, List, Ok, length};
+ghost use Rattle.arrayvec.specs.ArrayString.{array_string_len};
+ghost use Rattle.speedate_base.specs.declared.config.TimeConfig.{TimeConfig};
+ghost use Rattle.speedate_base.specs.Offset.{IsWholeMinutes};
+ghost use Rattle.speedate_base.specs.Requirement.{result_map};
+ghost use Rattle.speedate_civil.specs.declared.time.Time.{Time};
+ghost use Rattle.speedate_civil.specs.Time.{parts};
+ghost use Rattle.speedate_civil.specs.TimeText.{time_answer, time_front, clock_text, time_text, is_after_time};
 
 use crate::text::{push_six_digits, two_digit_text};
 use crate::time::Time;
@@ -12,15 +19,6 @@ use std::fmt;
 const TEXT_MAX: usize = 21;
 
 impl Time {
-    ghost use Rattle.std.specs.Prelude.{ℕ, ◌+◌, ◌++◌, ◌↔◌, IsTrue, List, Ok, length};
-    ghost use Rattle.arrayvec.specs.ArrayString.{array_string_len};
-    ghost use Rattle.speedate_base.specs.declared.config.TimeConfig.{TimeConfig};
-    ghost use Rattle.speedate_base.specs.Offset.{IsWholeMinutes};
-    ghost use Rattle.speedate_base.specs.Requirement.{result_map};
-    ghost use Rattle.speedate_civil.specs.declared.time.Time.{Time};
-    ghost use Rattle.speedate_civil.specs.Time.{parts};
-    ghost use Rattle.speedate_civil.specs.TimeText.{time_answer, time_front, clock_text, time_text, is_after_time};
-
     /// The canonical text, `HH:MM:SS`, then `.` and six digits if the microsecond is not 0, then the
     /// offset if there is one, `Z`, or a sign, hours and minutes: `12:13:14.500000+01:30`. It is not
     /// allocated; `.as_str()` is the text.
@@ -81,9 +79,6 @@ impl Time {
 }
 
 impl fmt::Display for Time {
-    ghost use Rattle.speedate_civil.specs.Time.{parts};
-    ghost use Rattle.speedate_civil.specs.TimeText.{time_text};
-
     ghost output = { λ time. Some (time_text (parts time)) };
 
     ghost styled_output = { λ time _. Some (time_text (parts time)) };

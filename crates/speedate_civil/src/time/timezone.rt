@@ -3,6 +3,9 @@
 ghost use Rattle.std.specs.Prelude.{◌≡◌, ◌&&◌, IfOk, Some, pos, int_le, int_lt};
 ghost use Rattle.speedate_base.specs.Offset.{seconds_per_day};
 ghost use Rattle.speedate_base.specs.Requirement.{result_map};
+ghost use Rattle.speedate_civil.specs.OffsetMove.{time_with_offset, time_in_timezone};
+ghost use Rattle.speedate_civil.specs.Time.{parts};
+ghost use Rattle.speedate_civil.specs.TimeOfDay.{utc_second_of_day};
 
 use super::Time;
 use super::offset::clock_shift;
@@ -11,10 +14,6 @@ use speedate_base::faults::ParseError;
 use speedate_base::util::SECONDS_PER_DAY;
 
 impl Time {
-    ghost use Rattle.speedate_civil.specs.OffsetMove.{time_with_offset, time_in_timezone};
-    ghost use Rattle.speedate_civil.specs.Time.{parts};
-    ghost use Rattle.speedate_civil.specs.TimeOfDay.{utc_second_of_day};
-
     /// The same clock with another offset, in seconds, or with none: 12:00:00-01:00 for 12:00:00Z and
     /// `Some(-3600)`. Fails with `OutOfRangeTz` if the offset is 24 hours or more.
     #[inline]

@@ -1,4 +1,4 @@
-use Rattle.std.proofs.Common.{◌≡◌, ◌∙◌, ap, sym, refl, ℕ, ◌+◌, ◌*◌, ◌-◌, ◌<◌, List, [], map, get_or, take, drop, arith}
+use Rattle.std.proofs.Common.{rules, ◌≡◌, ◌∙◌, ap, sym, refl, ℕ, ◌+◌, ◌*◌, ◌-◌, ◌<◌, List, [], map, get_or, take, drop, arith}
 use Rattle.std.specs.Prelude.{nat_lt}
 use Rattle.std.proofs.Common.{inl, inr}
 use borrow.Author.Tests.{ltb-true}
@@ -35,10 +35,10 @@ plain i = elim (cases_lt i 200) [
 ]
 
 pub range-requires-clause-start_boundary : goal.range-requires-clause-start_boundary
-range-requires-clause-start_boundary c inside = IsCharBoundary-from_ascii table (2 * c.from-place.result) plain (omega (arith, c.from-place.ensures, c.requires.small))
+range-requires-clause-start_boundary c inside = search (rules, IsCharBoundary-from_ascii, plain)
 
 pub range-requires-clause-end_boundary : goal.range-requires-clause-end_boundary
-range-requires-clause-end_boundary c = IsCharBoundary-from_ascii table (2 * c.from-place.result + 2) plain (omega (arith, c.from-place.ensures, c.requires.small))
+range-requires-clause-end_boundary c = search (rules, IsCharBoundary-from_ascii, plain)
 
 pub returns : goal.returns
 returns c =

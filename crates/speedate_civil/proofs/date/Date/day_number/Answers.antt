@@ -6,9 +6,7 @@ use Rattle.speedate_civil.proofs.DateValueLemmas.{is_day}
 use Rattle.speedate_civil.proofs.date.Date.day_number.Goals as goal
 
 pub returns-clause-number : goal.returns-clause-number
-returns-clause-number c =
-    let date = c.args.self.now in
-    omega (arith, days_before_year-is date.year, date.day_in_range.0)
+returns-clause-number c = grind (arith, days_before_year-is)
 
 pub returns-clause-numbered : goal.returns-clause-numbered
 returns-clause-numbered c =

@@ -1,5 +1,4 @@
-use Rattle.std.proofs.Common.{◌≡◌, ◌∙◌, ap, sym, rules, arith}
-use Rattle.std.proofs.lemmas.Int.{ints}
+use Rattle.std.proofs.Common.{◌≡◌, ◌∙◌, ap, sym, rules}
 use Rattle.std.specs.Prelude.{ℤ, pos, ◌-ℤ◌}
 use Rattle.std.specs.Ordering.{int_cmp}
 use mir.Syntax.{w32}
@@ -8,7 +7,6 @@ use Rattle.speedate_civil.specs.Date.{parts}
 use Rattle.speedate_civil.specs.DayNumber.{days_between, day_number}
 use Rattle.speedate_civil.proofs.DateOrderLemmas.{date_order-day_number}
 use Rattle.speedate_civil.proofs.DateValueLemmas.{is_day}
-use Rattle.speedate_civil.proofs.DayNumberLemmas.{day_number-small}
 use Rattle.speedate_civil.proofs.DaysLemmas.{day-difference-order}
 use Rattle.speedate_civil.proofs.date.Date.days_since.Goals as goal
 
@@ -20,16 +18,3 @@ returns-clause-order c =
     ap (λ (days : ℤ). int_cmp days (pos 0)) counted
     ∙ day-difference-order (day_number later) (day_number earlier)
     ∙ sym (date_order-day_number later earlier (is_day c.args.self.now) (is_day c.args.earlier.now))
-
-pub returns-clause-small : goal.returns-clause-small
-returns-clause-small c =
-    let later = c.args.self.now in
-    let earlier = c.args.earlier.now in
-    omega (
-      arith,
-      ints,
-      c.day_number.ensures.number,
-      c.day_number-2.ensures.number,
-      day_number-small (parts later) (is_day later) later.year_in_range,
-      day_number-small (parts earlier) (is_day earlier) earlier.year_in_range,
-    )

@@ -1,6 +1,6 @@
-use Rattle.std.proofs.Common.{◌≡◌, ◌+◌, ◌*◌, ◌/◌, ℕ, arith, ◌∙◌, ap, sym}
+use Rattle.std.proofs.Common.{rules, ◌≡◌, arith, ◌∙◌, ap, sym}
 use Rattle.speedate_civil.specs.Date.{parts}
-use Rattle.speedate_civil.specs.DayNumber.{date_after, day_number, days_before_year}
+use Rattle.speedate_civil.specs.DayNumber.{date_after, day_number}
 use Rattle.speedate_civil.proofs.DateNumberedLemmas.{date_after-day_number}
 use Rattle.speedate_civil.proofs.DateValueLemmas.{is_day}
 use Rattle.speedate_civil.proofs.DayNumberLemmas.{year_length-is, leap_day-small}
@@ -8,18 +8,13 @@ use Rattle.speedate_civil.proofs.YearLemmas.{days_before_year-cycle, year_length
 use Rattle.speedate_civil.proofs.date.Date.numbered.Goals as goal
 
 pub overflow_cast-day : goal.overflow_cast-day
-overflow_cast-day c =
-    let year : ℕ = 100 * c.century-century.result.0 + c.year_of_century-year.result.0 in
-    omega (arith, year_length-is year, leap_day-small year)
+overflow_cast-day c = grind (arith, year_length-is, leap_day-small)
 
 pub day_of_year-requires-clause-day : goal.day_of_year-requires-clause-day
-day_of_year-requires-clause-day c =
-    omega (arith, year_length-cycle (c.args.number / 146097) c.century-century.result.0 c.year_of_century-year.result.0)
+day_of_year-requires-clause-day c = grind (arith, year_length-cycle)
 
 number-is : (c : goal.After-day_of_year) → day_number (parts c.day_of_year.result) ≡ c.args.number
-number-is c =
-    let before = ap days_before_year c.day_of_year.ensures.year in
-    omega (arith, days_before_year-cycle (c.args.number / 146097) c.century-century.result.0 c.year_of_century-year.result.0, c.day_of_year.result.day_in_range.0)
+number-is c = search (rules, days_before_year-cycle)
 
 pub returns-clause-date : goal.returns-clause-date
 returns-clause-date c =

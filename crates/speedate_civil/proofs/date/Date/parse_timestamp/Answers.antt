@@ -1,9 +1,6 @@
 use Rattle.std.proofs.Common.{◌≡◌, ◌∙◌, ap₂, sym, true, Result, rules}
 use Rattle.std.specs.Prelude.{Option, ℤ}
 use Rattle.std.specs.Option.{option_map}
-use Rattle.std.proofs.lemmas.Int.{to_z-of_z}
-use mir.Syntax.{w64}
-use mir.Val.{SFits}
 use Rattle.speedate_base.specs.declared.faults.ParseError.{ParseError}
 use Rattle.speedate_civil.specs.Calendar.{Ymd}
 use Rattle.speedate_civil.specs.DateTimestamp.{date_timestamp_answer}
@@ -23,7 +20,4 @@ returns-then-not-may_be_number c =
     record { answer = sym (known (date_timestamp_answer c.args.config.now.timestamp_unit true) _ _ _ _ none c.requires) }
 
 pub returns-in-Some : goal.returns-in-Some
-returns-in-Some c =
-    let number = sym c.in-Some.ensures.answer in
-    let fits : SFits w64 c.in-Some.timestamp = search rules in
-    record { answer = (simp to_z-of_z at c.from_timestamp.ensures.answer) ∙ sym (known (date_timestamp_answer c.args.config.now.timestamp_unit true) _ _ _ _ number c.requires) }
+returns-in-Some c = search rules

@@ -1,4 +1,4 @@
-use Rattle.std.proofs.Common.{◌∙◌, sym, ap, true, ℕ, List}
+use Rattle.std.proofs.Common.{◌∙◌, ap, true, ℕ, List}
 use Rattle.std.specs.Option.{option_map}
 use Rattle.speedate_civil.specs.Date.{parts}
 use Rattle.speedate_base.specs.Numbers.{whole_number}
@@ -6,7 +6,7 @@ use Rattle.speedate_civil.specs.DateText.{date_answer, date_text}
 use Rattle.speedate_civil.specs.DateTimestamp.{date_timestamp_answer, date_or_timestamp}
 use Rattle.speedate_civil.specs.NumberText.{or_number}
 use Rattle.speedate_base.proofs.TextLemmas.{text-alone, text-canonical}
-use Rattle.speedate_civil.proofs.DateLemmas.{date_text-front, date_text-reads, date_text-distinct}
+use Rattle.speedate_civil.proofs.DateLemmas.{date_text-front, date_text-reads}
 use Rattle.speedate_civil.proofs.DateValueLemmas.{is_date}
 use Rattle.speedate_civil.proofs.date.Date.to_text.Goals as goal
 
@@ -25,12 +25,6 @@ returns-clause-reads_back_with_config c config =
 pub returns-clause-canonical : goal.returns-clause-canonical
 returns-clause-canonical c config =
     text-canonical date_text _ _ _ (text-alone _ _ _ c.new-text.ensures c.push_onto.ensures.text) (returns-clause-reads_back_with_config c config)
-
-pub returns-clause-distinct : goal.returns-clause-distinct
-returns-clause-distinct c other =
-    let date = c.args.self.now in
-    let bytes = text-alone _ _ _ c.new-text.ensures c.push_onto.ensures.text in
-    (λ same. date_text-distinct (parts date) (parts other) (is_date date) (is_date other) (sym bytes ∙ same), λ one. bytes ∙ ap date_text one)
 
 pub returns-clause-reads_front : goal.returns-clause-reads_front
 returns-clause-reads_front c rest =

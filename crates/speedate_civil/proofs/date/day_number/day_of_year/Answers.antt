@@ -1,32 +1,25 @@
-use Rattle.std.proofs.Common.{◌≡◌, ◌≤◌, arith, ◌∙◌}
-use Rattle.std.proofs.lemmas.Bool.Decides.{nat_tests}
+use Rattle.std.proofs.Common.{rules, ◌≡◌, ◌≤◌, arith}
 use Rattle.speedate_civil.proofs.DayNumberLemmas.{year_length-is, leap_day-small}
 use Rattle.speedate_civil.proofs.MonthLemmas.{long_day, long_day-small, ordinal-at}
 use Rattle.speedate_civil.proofs.date.day_number.day_of_year.Goals as goal
-use Rattle.speedate_civil.proofs.date.day_number.day_of_year.Goals.{then-day-february, else-day-february}
 
 pub overflow_add-long_day : goal.overflow_add-long_day
-overflow_add-long_day c = omega (arith, year_length-is c.args.year, leap_day-small c.args.year)
+overflow_add-long_day c = grind (arith, year_length-is, leap_day-small)
 
 long_day-is : (c : goal.After-row_known-1) → c.if-day-february.long_day ≡ long_day c.args.year c.args.day
-long_day-is c =
-    let february = c.from-february.ensures ∙ c.month_length.ensures.length in
-    elim c.if-day-february.branch [
-      | then-day-february w ↦ grind (arith, nat_tests)
-      | else-day-february w ↦ grind (arith, nat_tests)
-    ]
+long_day-is c = search rules
 
 small : (c : goal.After-row_known-1) → c.if-day-february.long_day ≤ 366
 small c = omega (arith, long_day-is c, long_day-small c.args.year c.args.day c.requires.day)
 
 pub overflow_mul-scaled : goal.overflow_mul-scaled
-overflow_mul-scaled c = omega (arith, small c)
+overflow_mul-scaled c = search (rules, small)
 
 pub overflow_add-scaled : goal.overflow_add-scaled
-overflow_add-scaled c = omega (arith, small c)
+overflow_add-scaled c = search (rules, small)
 
 pub overflow_cast-result : goal.overflow_cast-result
-overflow_cast-result c = omega (arith, small c)
+overflow_cast-result c = search (rules, small)
 
 pub invariant_of-result : goal.invariant_of-result
 invariant_of-result c =
@@ -35,10 +28,4 @@ invariant_of-result c =
 
 pub returns-clause-day : goal.returns-clause-day
 returns-clause-day c =
-    let february = c.from-february.ensures ∙ c.month_length.ensures.length in
-    let is : c.if-day-february.long_day ≡ long_day c.args.year c.args.day =
-    elim c.if-day-february.branch [
-      | then-day-february w ↦ grind (arith, nat_tests)
-      | else-day-february w ↦ grind (arith, nat_tests)
-    ] in
-    (ordinal-at c.args.year c.args.day c.if-day-february.long_day c.requires.day is).ordinal
+    (ordinal-at c.args.year c.args.day c.if-day-february.long_day c.requires.day (search rules)).ordinal

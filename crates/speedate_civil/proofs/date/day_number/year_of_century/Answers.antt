@@ -8,12 +8,7 @@ returns-then-year-eq0-clause-within c =
     first_day-left c.args.century c.args.day c.requires.century (omega arith)
 
 pub returns-else-year-eq0-clause-day : goal.returns-else-year-eq0-clause-day
-returns-else-year-eq0-clause-day c =
-    let last : ℕ = c.saturating_sub-last.result / 365 in
-    let year : ℕ = 4 * c.four_years-four_years.result.0 + last in
-    let first = days_before_century c.args.century c.requires.century in
-    let later = days_before_year-later c.args.century year c.requires.century (omega arith) (omega arith) in
-    grind (arith, common_steps)
+returns-else-year-eq0-clause-day c = grind (arith, days_before_century, days_before_year-later)
 
 pub returns-else-year-eq0-clause-within : goal.returns-else-year-eq0-clause-within
 returns-else-year-eq0-clause-within c =

@@ -1,6 +1,6 @@
-use Rattle.std.proofs.Common.{◌≡◌, ◌∙◌, ap, sym, rules, Result, Ok, Err, Some, IfOk}
-use Rattle.std.specs.Prelude.{ℤ, pos, ◌+ℤ◌}
-use Rattle.std.specs.Option.{unwrap_or}
+use Rattle.std.proofs.Common.{arith, ◌≡◌, rules, Result, Some, IfOk}
+use Rattle.std.proofs.lemmas.Bool.Decides.{nat_tests}
+use Rattle.std.specs.Prelude.{ℤ, ◌+ℤ◌}
 use Rattle.std.proofs.lemmas.Int.{to_z-of_z}
 use mir.Syntax.{w32, w64}
 use mir.Val.{SFits}
@@ -11,15 +11,10 @@ use Rattle.speedate_base.specs.Timestamp.{Instant}
 use Rattle.speedate_civil.specs.declared.datetime.DateTime.{DateTime}
 use Rattle.speedate_civil.specs.DateAndTime.{DateAndTime, utc_second}
 use Rattle.speedate_civil.specs.DateTime.{parts}
-use Rattle.speedate_civil.specs.DateTimeTimestamp.{IsShownAt, instant_date_time}
+use Rattle.speedate_civil.specs.DateTimeTimestamp.{IsShownAt}
 use Rattle.speedate_civil.specs.OffsetMove.{move_table}
 use Rattle.speedate_civil.proofs.OffsetMoveLemmas.{second-moved, instant-kept}
 use Rattle.speedate_civil.proofs.datetime.DateTime.in_timezone.Goals as goal
-
-pub shifted-requires : goal.shifted-requires
-shifted-requires c =
-    let fits : SFits w64 c.timestamp.result = search rules in
-    rw (to_z-of_z w64 c.timestamp.result fits) c.timestamp.ensures.small
 
 -- the offset can be had, and the second is the one that its clock shows
 found : (c : goal.After-of_instant)
@@ -33,21 +28,12 @@ found c =
     second-moved (parts c.args.self.now) c.args.tz_offset c.in_ok-shift.shift c.timestamp.result c.shifted.result moved c.timestamp.ensures.second sum
 
 pub returns-clause-answer : goal.returns-clause-answer
-returns-clause-answer c =
-    let value = parts c.args.self.now in
-    let offset = c.args.tz_offset in
-    let second : SFits w64 c.shifted.result = search rules in
-    let given : SFits w32 offset = search rules in
-    let answer = simp to_z-of_z at c.of_instant.ensures.answer in
-    answer
-    ∙ ap (λ (second : ℤ). instant_date_time (Some offset) (record { second = second; microsecond = value.time.microsecond })) (found c).1
-    ∙ sym (meets-all (move_table offset value.time.offset) _ (found c).0)
+returns-clause-answer c = search (rules, to_z-of_z, meets-all, found)
 
 -- what an answer means
 kept : (result : Result DateTime ParseError) (value : DateAndTime) (offset : ℤ) (instant : Instant) → instant.second ≡ utc_second value +ℤ offset
     → IfOk result (λ moved. IsShownAt (Some offset) instant (parts moved)) → IfOk result (λ moved. utc_second (parts moved) ≡ utc_second value)
-kept (Ok moved) value offset instant sum shown = instant-kept value (parts moved) offset instant.second sum shown.second (ap (λ given. unwrap_or given (pos 0)) shown.attached)
-kept (Err fault) value offset instant sum shown = tt
+kept result value offset instant sum shown = grind (arith, nat_tests, instant-kept)
 
 pub returns-clause-instant : goal.returns-clause-instant
 returns-clause-instant c =

@@ -1,20 +1,11 @@
-use Rattle.std.proofs.Common.{◌≡◌, ◌∙◌, ap, arith, sym}
-use Rattle.std.specs.Prelude.{length, Err}
-use Rattle.std.proofs.lemmas.Bool.Decides.{nat_tests}
+use Rattle.std.proofs.Common.{◌∙◌, ap, sym}
+use Rattle.std.specs.Prelude.{Err}
 use Rattle.speedate_base.specs.Requirement.{alone, result_and_then}
-use Rattle.speedate_base.proofs.RequirementLemmas.{alone-whole, alone-longer}
+use Rattle.speedate_base.proofs.RequirementLemmas.{alone-longer}
 use Rattle.speedate_civil.specs.OffsetText.{end_fault}
 use Rattle.speedate_civil.specs.DateTime.{parts}
 use Rattle.speedate_civil.specs.DateAndTime.{DateAndTime}
 use Rattle.speedate_civil.proofs.datetime.DateTime.parse_bytes_rfc3339_with_config.Goals as goal
-
-pub returns-clause-answer : goal.returns-clause-answer
-returns-clause-answer c =
-    let bytes = c.args.bytes.now in
-    let value = parts c.in_ok-value.value in
-    let fault = λ (read : DateAndTime). end_fault read.time.offset in
-    let same : length bytes ≡ c.in_ok-value.size = grind (arith, nat_tests) in
-    sym (alone-whole fault bytes value c.in_ok-value.size same) ∙ ap (result_and_then (alone fault bytes)) c.in_ok-value.ensures.answer
 
 pub returns-then-size-bytes-clause-answer : goal.returns-then-size-bytes-clause-answer
 returns-then-size-bytes-clause-answer c =

@@ -1,8 +1,5 @@
-use Rattle.std.proofs.Common.{◌≡◌, ◌∙◌, ap₂, sym, refl, Result, rules}
+use Rattle.std.proofs.Common.{◌≡◌, ◌∙◌, sym, refl, Result, rules}
 use Rattle.std.specs.Prelude.{Option, ℤ}
-use Rattle.std.proofs.lemmas.Int.{to_z-of_z}
-use mir.Syntax.{w64}
-use mir.Val.{SFits}
 use Rattle.speedate_base.specs.declared.config.MicrosecondsPrecisionOverflowBehavior.{MicrosecondsPrecisionOverflowBehavior}
 use Rattle.speedate_base.specs.declared.config.TimestampUnit.{TimestampUnit}
 use Rattle.speedate_base.specs.declared.faults.ParseError.{ParseError}
@@ -18,8 +15,7 @@ use Rattle.speedate_civil.proofs.datetime.DateTime.parse_timestamp.Goals as goal
 known : (unit : TimestampUnit) (behavior : MicrosecondsPrecisionOverflowBehavior) (offset : Option ℤ) (first second : Number) (one two : Result DateAndTime ParseError)
     → first ≡ second → one ≡ two
     → or_number (date_time_number_answer unit behavior offset first) one ≡ or_number (date_time_number_answer unit behavior offset second) two
-known unit behavior offset first second one two same_number same =
-    ap₂ (λ number answer. or_number (date_time_number_answer unit behavior offset number) answer) same_number same
+known unit behavior offset first second one two same_number same = search rules
 
 pub returns-then-not-may_be_number-clause-answer : goal.returns-then-not-may_be_number-clause-answer
 returns-then-not-may_be_number-clause-answer c =
@@ -31,26 +27,4 @@ returns-then-not-may_be_number-clause-answer c =
     sym (known config.timestamp_unit behavior config.time_config.unix_timestamp_offset _ _ _ _ none c.requires)
 
 pub returns-in-Int-clause-answer : goal.returns-in-Int-clause-answer
-returns-in-Int-clause-answer c =
-    let config = c.args.config.now in
-    let behavior = config.time_config.microseconds_precision_overflow_behavior in
-    let offset = config.time_config.unix_timestamp_offset in
-    let number = sym c.in-Int.ensures.answer in
-    let fits : SFits w64 c.in-Int.timestamp = search rules in
-    (simp to_z-of_z at c.from_timestamp_with_config.ensures.answer) ∙ sym (known config.timestamp_unit behavior offset _ _ _ _ number c.requires)
-
-pub returns-in-Float-clause-answer : goal.returns-in-Float-clause-answer
-returns-in-Float-clause-answer c =
-    let config = c.args.config.now in
-    let behavior = config.time_config.microseconds_precision_overflow_behavior in
-    let offset = config.time_config.unix_timestamp_offset in
-    let number = sym c.in-Float.ensures.answer in
-    c.parse_decimal.ensures.answer ∙ sym (known config.timestamp_unit behavior offset _ _ _ _ number c.requires)
-
-pub returns-in-Err-clause-answer : goal.returns-in-Err-clause-answer
-returns-in-Err-clause-answer c =
-    let config = c.args.config.now in
-    let behavior = config.time_config.microseconds_precision_overflow_behavior in
-    let offset = config.time_config.unix_timestamp_offset in
-    let number = sym c.in-Err.ensures.answer in
-    sym (known config.timestamp_unit behavior offset _ _ _ _ number c.requires)
+returns-in-Int-clause-answer c = search rules

@@ -1,12 +1,12 @@
-use Rattle.std.proofs.Common.{◌≡◌, ◌∙◌, ap, ℕ, List, [], ◌∷◌, ◌++◌, append_assoc, lit<}
+use Rattle.std.proofs.Common.{arith, ◌≡◌, ℕ, List, [], ◌∷◌, ◌++◌, lit<}
+use Rattle.std.proofs.lemmas.Grind.{common_steps}
 use Rattle.speedate_base.specs.Ascii.{capital_t}
 use Rattle.speedate_civil.proofs.datetime.DateTime.push_onto.Goals as goal
 
 -- three pieces that were appended one after another
 joined : (old first second third date time : List ℕ) → first ≡ old ++ date → second ≡ first ++ capital_t ∷ [] → third ≡ second ++ time
     → third ≡ old ++ (date ++ capital_t ∷ time)
-joined old first second third date time one two three =
-    three ∙ ap (λ (bytes : List ℕ). bytes ++ time) (two ∙ ap (λ (bytes : List ℕ). bytes ++ capital_t ∷ []) one) ∙ simp append_assoc
+joined old first second third date time one two three = grind (arith, common_steps)
 
 pub returns : goal.returns
 returns g c = record {

@@ -1,4 +1,4 @@
-use Rattle.std.proofs.Common.{◌≡◌, ◌∙◌, ◌<◌, ap, sym, subst, arith, Option, None, Ok}
+use Rattle.std.proofs.Common.{rules, ◌≡◌, ◌∙◌, ◌<◌, ap, sym, subst, arith, None, Ok}
 use Rattle.std.specs.Prelude.{ℤ, unsigned_abs}
 use Rattle.std.proofs.lemmas.Int.{ints}
 use Rattle.speedate_base.specs.declared.config.TimestampUnit.TheVariants as unit
@@ -12,9 +12,7 @@ use Rattle.speedate_civil.proofs.datetime.DateTime.timestamp.Goals as goal
 -- without an offset none is attached
 leads-back : (value : DateAndTime) → IsDateAndTime value → value.time.offset ≡ None
     → date_time_timestamp_answer unit.Second None value.time.microsecond (local_second value) ≡ Ok value
-leads-back value valid none =
-    ap (λ (offset : Option ℤ). date_time_timestamp_answer unit.Second offset value.time.microsecond (local_second value)) (sym none)
-    ∙ date_time_timestamp-leads_back value valid
+leads-back value valid none = search (rules, date_time_timestamp-leads_back)
 
 pub overflow_add-result : goal.overflow_add-result
 overflow_add-result c =

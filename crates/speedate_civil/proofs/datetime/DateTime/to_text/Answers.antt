@@ -1,11 +1,11 @@
-use Rattle.std.proofs.Common.{◌∙◌, sym, ap}
+use Rattle.std.proofs.Common.{◌∙◌, ap}
 use Rattle.speedate_base.specs.Numbers.{number_answer}
 use Rattle.speedate_base.proofs.TextLemmas.{text-alone, text-canonical}
 use Rattle.speedate_civil.specs.DateTime.{parts}
 use Rattle.speedate_civil.specs.DateTimeText.{date_time_answer, date_time_text}
 use Rattle.speedate_civil.specs.DateTimeTimestamp.{date_time_number_answer, date_time_or_timestamp}
 use Rattle.speedate_civil.proofs.AfterTimeLemmas.{date_time_text-front-iff}
-use Rattle.speedate_civil.proofs.DateTimeLemmas.{date_time_text-reads, date_time_text-distinct}
+use Rattle.speedate_civil.proofs.DateTimeLemmas.{date_time_text-reads}
 use Rattle.speedate_civil.specs.NumberText.{or_number}
 use Rattle.speedate_civil.proofs.DateTimeValueLemmas.{is_date_and_time}
 use Rattle.speedate_civil.proofs.datetime.DateTime.to_text.Goals as goal
@@ -39,11 +39,3 @@ pub returns-clause-canonical : goal.returns-clause-canonical
 returns-clause-canonical c whole config =
     let bytes = text-alone _ _ _ c.new-text.ensures c.push_onto.ensures.text in
     text-canonical date_time_text _ _ _ bytes (returns-clause-reads_back_with_config c whole config)
-
-pub returns-clause-distinct : goal.returns-clause-distinct
-returns-clause-distinct c whole other other_whole =
-    let value = c.args.self.now in
-    let bytes = text-alone _ _ _ c.new-text.ensures c.push_onto.ensures.text in (
-      λ same. date_time_text-distinct (parts value) (parts other) (is_date_and_time value) (is_date_and_time other) whole other_whole (sym bytes ∙ same),
-      λ one. bytes ∙ ap date_time_text one,
-    )

@@ -1,4 +1,4 @@
-use Rattle.std.proofs.Common.{◌∙◌, ap, sym, ℕ, ◌+◌, List, Ok, drop}
+use Rattle.std.proofs.Common.{rules, ◌∙◌, ap, sym, ℕ, ◌+◌, List, Ok, drop}
 use Rattle.std.proofs.lemmas.List.{drop-drop}
 use Rattle.std.proofs.lemmas.Result.{err_from_is_err_and}
 use Rattle.speedate_civil.specs.OffsetText.{offset_front}
@@ -25,4 +25,4 @@ returns-clause-answer c =
     (c.in_ok-tz_offset.ensures.answer ∙ ap offset_front (sym (drop-drop clock.size c.args.place c.args.bytes.now)))
 
 pub returns-clause-minutes : goal.returns-clause-minutes
-returns-clause-minutes c = c.at_offset.ensures.minutes c.in_ok-tz_offset.ensures.minutes
+returns-clause-minutes c = search rules

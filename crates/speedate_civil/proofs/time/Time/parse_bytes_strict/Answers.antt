@@ -1,4 +1,4 @@
-use Rattle.std.proofs.Common.{ap, Ok, Err}
+use Rattle.std.proofs.Common.{arith, ap, Ok, Err}
 use Rattle.std.proofs.lemmas.Result.{err_from_is_err_and}
 use Rattle.speedate_base.specs.Requirement.{meets, result_and_then}
 use Rattle.speedate_base.proofs.RequirementLemmas.{meets-read}
@@ -14,7 +14,7 @@ returns-in_err-require_standard-clause-answer c =
     rw (p.1, p.2) (meets-read (standard_time c.args.bytes.now) (parts c.in_ok-time.time) _ _ c.in_ok-time.ensures.answer c.in_err-require_standard.ensures.answer)
 
 pub returns-clause-answer : goal.returns-clause-answer
-returns-clause-answer c = meets-read (standard_time c.args.bytes.now) (parts c.in_ok-time.time) _ _ c.in_ok-time.ensures.answer c.in_ok-require_standard.ensures.answer
+returns-clause-answer c = grind (arith, meets-read)
 
 pub returns-in_err-time-clause-standard : goal.returns-in_err-time-clause-standard
 returns-in_err-time-clause-standard c =

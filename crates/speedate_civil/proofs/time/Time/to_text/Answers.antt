@@ -1,9 +1,9 @@
-use Rattle.std.proofs.Common.{◌∙◌, sym, ap}
+use Rattle.std.proofs.Common.{◌∙◌, ap}
 use Rattle.speedate_civil.specs.Time.{parts}
 use Rattle.speedate_base.proofs.TextLemmas.{text-alone, text-canonical}
 use Rattle.speedate_civil.specs.TimeText.{time_answer, time_text}
 use Rattle.speedate_civil.proofs.AfterTimeLemmas.{time_text-front-iff}
-use Rattle.speedate_civil.proofs.TimeLemmas.{time_text-reads, time_text-distinct}
+use Rattle.speedate_civil.proofs.TimeLemmas.{time_text-reads}
 use Rattle.speedate_civil.proofs.TimeValueLemmas.{is_time}
 use Rattle.speedate_civil.proofs.time.Time.to_text.Goals as goal
 
@@ -25,11 +25,3 @@ pub returns-clause-canonical : goal.returns-clause-canonical
 returns-clause-canonical c whole config =
     let bytes = text-alone _ _ _ c.new-text.ensures c.push_onto.ensures.text in
     text-canonical time_text _ _ _ bytes (returns-clause-reads_back c whole config)
-
-pub returns-clause-distinct : goal.returns-clause-distinct
-returns-clause-distinct c whole other other_whole =
-    let time = c.args.self.now in
-    let bytes = text-alone _ _ _ c.new-text.ensures c.push_onto.ensures.text in (
-      λ same. time_text-distinct (parts time) (parts other) (is_time time) (is_time other) whole other_whole (sym bytes ∙ same),
-      λ one. bytes ∙ ap time_text one,
-    )

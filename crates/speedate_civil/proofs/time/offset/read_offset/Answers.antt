@@ -1,4 +1,4 @@
-use Rattle.std.proofs.Common.{◌≡◌, ◌∙◌, add-zero, ap, ap₂, sym, refl, ℕ, List, drop, true}
+use Rattle.std.proofs.Common.{rules, ◌≡◌, ◌∙◌, add-zero, ap, ap₂, sym, ℕ, List, drop, true}
 use Rattle.std.specs.Prelude.{◌==◌, slice_index}
 use Rattle.std.proofs.lemmas.List.{drop-drop, get_or-drop}
 use Rattle.speedate_base.specs.Ascii.{hyphen}
@@ -16,9 +16,7 @@ returns-then-is_plus_or_minus-clause-answer c =
     ∙ ap₂ (λ (b : ℕ) (numbers : List ℕ). signed_front (b == hyphen) 1 numbers) (sym byte) (sym (drop-drop 1 c.args.place c.args.bytes.now)))
 
 pub returns-then-is_utc-clause-answer : goal.returns-then-is_utc-clause-answer
-returns-then-is_utc-clause-answer c =
-    let byte = first c.args.bytes.now c.args.place _ c.byte_at-first.ensures.byte in
-    rw (ap is_plus_or_minus byte ∙ sym c.if-is_plus_or_minus.ensures.value, ap is_utc byte ∙ sym c.if-is_utc.ensures.value) refl
+returns-then-is_utc-clause-answer c = search (rules, first)
 
 pub returns-then-has_minus_sign-clause-answer : goal.returns-then-has_minus_sign-clause-answer
 returns-then-has_minus_sign-clause-answer c =
@@ -27,6 +25,4 @@ returns-then-has_minus_sign-clause-answer c =
     (c.signed_offset-then-has_minus_sign.ensures.answer ∙ ap (signed_front true 3) (sym (drop-drop 3 c.args.place c.args.bytes.now)))
 
 pub returns-clause-answer : goal.returns-clause-answer
-returns-clause-answer c =
-    let byte = first c.args.bytes.now c.args.place _ c.byte_at-first.ensures.byte in
-    rw (ap is_plus_or_minus byte ∙ sym c.if-is_plus_or_minus.ensures.value, ap is_utc byte ∙ sym c.if-is_utc.ensures.value, sym c.if-has_minus_sign.ensures.value) refl
+returns-clause-answer c = search (rules, first)

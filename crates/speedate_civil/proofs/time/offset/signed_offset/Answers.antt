@@ -1,13 +1,13 @@
-use Rattle.std.proofs.Common.{◌≡◌, ◌∙◌, ap, sym, refl, ℕ, ◌+◌, ◌*◌, Bool, true, false, List, [], ◌∷◌, drop, Ok, Option, Some, w32, arith, rules}
-use Rattle.std.specs.Prelude.{ℤ, Result, nat_le, nat_lt, ◌==◌, slice_index, if◌then◌else◌}
+use Rattle.std.proofs.Common.{◌≡◌, ◌∙◌, ap, sym, ℕ, ◌+◌, ◌*◌, Bool, List, [], ◌∷◌, drop, Ok, Option, Some, w32, arith, rules}
+use Rattle.std.proofs.lemmas.Grind.{common_steps}
+use Rattle.std.specs.Prelude.{ℤ, Result, nat_le, nat_lt}
 use Rattle.std.proofs.lemmas.Bool.Decides.{nat_tests}
 use Rattle.std.proofs.lemmas.Int.{to_z-of_z}
 use Rattle.std.proofs.lemmas.Result.{err_from_is_err_and}
 use mir.Val.{SFits}
 use Rattle.speedate_base.specs.declared.faults.ParseError.{ParseError}
 use Rattle.speedate_base.specs.declared.faults.ParseError.TheVariants as fault
-use Rattle.speedate_base.specs.Ascii.{colon}
-use Rattle.speedate_base.specs.Digits.{two_digits_at, two_digit_value}
+use Rattle.speedate_base.specs.Digits.{two_digit_value}
 use Rattle.speedate_base.specs.Numbers.{with_sign}
 use Rattle.speedate_base.specs.Offset.{seconds_per_day}
 use Rattle.speedate_base.specs.Pattern.{eight_at}
@@ -21,21 +21,9 @@ use Rattle.speedate_civil.proofs.time.offset.signed_offset.Goals as goal
 abbrev numbers_of : List ℕ → Result (ℕ × ℕ × ℕ) ParseError
 numbers_of rest = meets (offset_digits rest) (Ok (two_digit_value rest 0, offset_minute rest, offset_digits_length rest))
 
--- the same, with the minute at a place
-abbrev numbers_at : ℕ → List ℕ → Result (ℕ × ℕ × ℕ) ParseError
-numbers_at minute rest =
-    meets ((two_digits_at rest 0 else_fault fault.InvalidCharTzHour) ∷ (two_digits_at rest minute else_fault fault.InvalidCharTzMinute) ∷ [])
-    (Ok (two_digit_value rest 0, two_digit_value rest minute, minute + 2))
-
 -- eight bytes have them all
 eight-enough : (rest : List ℕ) → numbers_of (eight_at rest 0) ≡ numbers_of rest
-eight-enough rest =
-    let step : (test : Bool) → numbers_at (if test then 3 else 2) (eight_at rest 0) ≡ numbers_at (if test then 3 else 2) rest =
-    λ test. elim test as (λ (t : Bool). numbers_at (if t then 3 else 2) (eight_at rest 0) ≡ numbers_at (if t then 3 else 2) rest) [
-      | true ↦ refl
-      | false ↦ refl
-    ] in
-    step (slice_index rest 2 == colon)
+eight-enough rest = grind (arith, common_steps)
 
 read : (text front : List ℕ) (place : ℕ) (answer : Result (ℕ × ℕ × ℕ) ParseError) → front ≡ eight_at text place → answer ≡ numbers_of front
     → answer ≡ numbers_of (drop place text)

@@ -1,5 +1,4 @@
-use Rattle.std.proofs.Common.{◌≡◌, ◌∙◌, ap, sym, refl, ℕ, zero, suc, ◌+◌, ◌≤◌, Bool, true, false, List, [], ◌∷◌, take, drop, min, replicate, arith}
-use Rattle.std.specs.Prelude.{if◌then◌else◌}
+use Rattle.std.proofs.Common.{rules, ◌≡◌, ◌∙◌, ap, sym, refl, ℕ, zero, suc, ◌≤◌, List, [], ◌∷◌, take, drop, min, replicate, arith}
 use Rattle.std.specs.Char.{is_ascii_digit}
 use Rattle.std.specs.List.{prefix_len}
 use Rattle.std.proofs.lemmas.List.{take-take}
@@ -16,40 +15,20 @@ first (suc count) [] = 0 ∷ first count []
 first (suc count) (byte ∷ text) = byte ∷ first count text
 
 eight-first : (text : List ℕ) → eight_at text 0 ≡ first 8 text
-eight-first [] = refl
-eight-first (a ∷ []) = refl
-eight-first (a ∷ b ∷ []) = refl
-eight-first (a ∷ b ∷ c ∷ []) = refl
-eight-first (a ∷ b ∷ c ∷ d ∷ []) = refl
-eight-first (a ∷ b ∷ c ∷ d ∷ e ∷ []) = refl
-eight-first (a ∷ b ∷ c ∷ d ∷ e ∷ f ∷ []) = refl
-eight-first (a ∷ b ∷ c ∷ d ∷ e ∷ f ∷ g ∷ []) = refl
-eight-first (a ∷ b ∷ c ∷ d ∷ e ∷ f ∷ g ∷ h ∷ more) = refl
+eight-first text = search rules
 
 -- a run goes as far in them as in the text
 first-run : (count : ℕ) (text : List ℕ) → fit_length (replicate count 48) (first count text) ≡ min count (prefix_len is_ascii_digit text)
 first-run zero text = omega arith
 first-run (suc count) [] = omega arith
-first-run (suc count) (byte ∷ text) =
-    let step : (test : Bool) → (if test then 1 + fit_length (replicate count 48) (first count text) else 0) ≡ min (suc count) (if test then 1 + prefix_len is_ascii_digit text else 0) =
-    λ test. elim test as (λ (t : Bool). (if t then 1 + fit_length (replicate count 48) (first count text) else 0) ≡ min (suc count) (if t then 1 + prefix_len is_ascii_digit text else 0)) [
-      | true ↦ omega (arith, first-run count text)
-      | false ↦ omega arith
-    ] in
-    step (is_ascii_digit byte)
+first-run (suc count) (byte ∷ text) = grind (arith, first-run count text)
 
 -- and its digits are the same
 first-digits : (count places : ℕ) (text : List ℕ) → count ≤ places → count ≤ prefix_len is_ascii_digit text → take count (first places text) ≡ take count text
 first-digits zero places text few enough = refl
 first-digits (suc count) zero text few enough = absurd (omega arith)
 first-digits (suc count) (suc places) [] few enough = absurd (omega arith)
-first-digits (suc count) (suc places) (byte ∷ text) few enough =
-    let step : (test : Bool) → suc count ≤ (if test then 1 + prefix_len is_ascii_digit text else 0) → count ≤ prefix_len is_ascii_digit text =
-    λ test. elim test as (λ (t : Bool). suc count ≤ (if t then 1 + prefix_len is_ascii_digit text else 0) → count ≤ prefix_len is_ascii_digit text) [
-      | true ↦ λ more. omega arith
-      | false ↦ λ more. absurd (omega arith)
-    ] in
-    ap (λ (rest : List ℕ). byte ∷ rest) (first-digits count places text (omega arith) (step (is_ascii_digit byte) enough))
+first-digits (suc count) (suc places) (byte ∷ text) few enough = grind (arith, first-digits count places text)
 
 -- what is known of the eight bytes from a place on
 record Known (text front : List ℕ) (place count : ℕ) : Type 0 where

@@ -1,6 +1,7 @@
-use Rattle.std.proofs.Common.{◌≡◌, ◌∙◌, ap, sym, subst, refl, ℕ, ◌+◌, ◌≤◌, true, List, length, get_or, take, drop, ◌-◌, Ok, arith}
+use Rattle.std.proofs.Common.{rules, ◌≡◌, ◌∙◌, ap, sym, subst, ℕ, ◌+◌, ◌≤◌, true, List, length, get_or, take, drop, ◌-◌, Ok, arith}
+use Rattle.std.proofs.lemmas.Grind.{common_steps}
 use Rattle.std.specs.Prelude.{slice_index, ◌==◌, codes}
-use Rattle.std.proofs.lemmas.Bool.{and_from, le-leb}
+use Rattle.std.proofs.lemmas.Bool.{and_from}
 use Rattle.std.proofs.lemmas.List.{get_or-drop, take_rest}
 use Rattle.std.proofs.lemmas.Result.{err_from_is_err_and}
 use Rattle.speedate_base.specs.declared.config.MicrosecondsPrecisionOverflowBehavior.{MicrosecondsPrecisionOverflowBehavior}
@@ -8,9 +9,8 @@ use Rattle.speedate_base.specs.Ascii.{colon}
 use Rattle.speedate_base.specs.Digits.{two_digits_at, two_digit_value}
 use Rattle.speedate_base.specs.Pattern.{eight_at, fit_length, fit_digits, neighbours}
 use Rattle.speedate_base.specs.Requirement.{result_map}
-use Rattle.speedate_base.proofs.RequirementLemmas.{meets-all}
 use Rattle.speedate_base.proofs.PatternLemmas.{fit_length-all}
-use Rattle.speedate_civil.specs.ClockText.{Clock, at_hour, clock_answer, clock_front, hour_table, minute_digits, hour_range}
+use Rattle.speedate_civil.specs.ClockText.{Clock, at_hour, clock_answer, clock_front}
 use Rattle.speedate_civil.specs.PureTime.{parts}
 use Rattle.speedate_civil.proofs.time.pure.PureTime.parse.Goals as goal
 
@@ -26,14 +26,7 @@ record Front (text numbers : List ℕ) : Type 0 where
   hour_is : get_or numbers 0 0 ≡ two_digit_value text 0
 
 front_is : (text : List ℕ) → 5 ≤ fit_length pattern (eight_at text 0) → Front text (neighbours (fit_digits 5 pattern (eight_at text 0)))
-front_is text fits =
-    let all = fit_length-all 5 pattern (eight_at text 0) fits in
-    record {
-      hour = and_from _ _ all.0 all.1.0;
-      separator = all.1.1.0;
-      minute = simp (get_or-drop) (and_from _ _ all.1.1.1.0 all.1.1.1.1.0);
-      hour_is = refl;
-    }
+front_is text fits = grind (arith, common_steps, and_from, get_or-drop, fit_length-all)
 
 read : (text front numbers : List ℕ) (fits : ℕ) → front ≡ eight_at text 0 → fits ≡ fit_length pattern front → 5 ≤ fits
     → numbers ≡ neighbours (fit_digits 5 pattern front) → Front text numbers
@@ -44,22 +37,12 @@ read text front numbers fits from counted enough spelled =
 -- the rows of the hour and the minute hold, so the clock after them decides
 decided : (behavior : MicrosecondsPrecisionOverflowBehavior) (text numbers : List ℕ) → Front text numbers → 5 ≤ length text → get_or numbers 0 0 ≤ 23
     → clock_front behavior text ≡ result_map (at_hour (get_or numbers 0 0)) (clock_answer behavior (drop 3 text))
-decided behavior text numbers front long early =
-    meets-all (hour_table text) _ (le-leb 5 (length text) long, (front.hour, (front.separator, tt)))
-    ∙ meets-all (minute_digits (drop 3 text)) _ (front.minute, tt)
-    ∙ meets-all (hour_range text) _ (le-leb (two_digit_value text 0) 23 (omega (arith, front.hour_is, early)), tt)
-    ∙ ap (λ (hour : ℕ). result_map (at_hour hour) (clock_answer behavior (drop 3 text))) (sym front.hour_is)
+decided behavior text numbers front long early = search rules
 
 -- a clock with another name for its minute
 renamed : (hour : ℕ) (clock : Clock) (minute : ℕ) → clock.minute ≡ minute
     → record { hour = hour; minute = minute; second = clock.second; microsecond = clock.microsecond; size = 3 + clock.size } ≡ at_hour hour clock
-renamed hour clock minute same = λ i. record {
-  hour = hour;
-  minute = (sym same) i;
-  second = clock.second;
-  microsecond = clock.microsecond;
-  size = 3 + clock.size;
-}
+renamed hour clock minute same = search rules
 
 pub returns-in_err-time-clause-answer : goal.returns-in_err-time-clause-answer
 returns-in_err-time-clause-answer c =
