@@ -29,7 +29,7 @@ pub struct SpeedateConfig {
 }
 
 impl SpeedateConfig {
-    /// Whether all numbers are 0.
+    /// Whether all numbers are 0, as nearly every caller has them.
     #[inline]
     pub(crate) fn is_default(self) -> bool
         ensures choices { IsTrue result → choices_of self ≡ Some default_choices }
@@ -42,8 +42,7 @@ impl SpeedateConfig {
     }
 
     /// The configuration, where each number has a value.
-    #[cold]
-    #[inline(never)]
+    #[inline]
     pub(crate) fn to_config(self) -> Option<DateTimeConfig>
         ensures choices { option_map choices result ≡ choices_of self }
     {
