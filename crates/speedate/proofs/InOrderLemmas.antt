@@ -94,7 +94,7 @@ unsigned-both asked behavior text true = iso-both 0 (no_sums asked) (drop 1 text
 unsigned-both asked behavior text false = inl refl
 
 -- so the answer in any order is the lax one, or the text is refused for its order
-duration-both : (asked : IsoOrder) (behavior : MicrosecondsPrecisionOverflowBehavior) (text : List ℕ)
+pub duration-both : (asked : IsoOrder) (behavior : MicrosecondsPrecisionOverflowBehavior) (text : List ℕ)
     → IsLaxOrRefused (duration_answer order.Lax behavior text) (duration_answer asked behavior text)
 unfolding unsigned_answer
 duration-both asked behavior text =
