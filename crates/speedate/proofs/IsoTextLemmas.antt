@@ -56,34 +56,28 @@ more-worth : (value kept whole few few_more many many_more : ℕ) → few_more �
 more-worth value kept whole few few_more many many_more few_is many_is same = rw (few_is, many_is) (grind (arith, same))
 
 -- zeros at the end of a fraction's digits do not change its worth
-kept-worth : (digit : ℕ) (test : Bool) (kept digits : List ℕ) → (digit == digit_zero) ≡ test
-    → digits_value kept * 10 ^ length digits ≡ digits_value digits * 10 ^ length kept
+kept-worth : (digit : ℕ) (kept digits : List ℕ) → digits_value kept * 10 ^ length digits ≡ digits_value digits * 10 ^ length kept
     → digits_value (kept_digit digit kept) * 10 ^ length (digit ∷ digits) ≡ digits_value (digit ∷ digits) * 10 ^ length (kept_digit digit kept)
-kept-worth digit true [] digits is same = rw is (grind (arith, eqb-true digit digit_zero is, same))
-kept-worth digit false [] digits is same =
-    rw is (more-worth (one_digit_value digit) 0 (digits_value digits) 1 10 (10 ^ length digits) _ refl (pow-succ' 10 (length digits)) same)
-kept-worth digit test (next ∷ kept) digits is same =
+kept-worth digit [] digits same = grind (arith, nat_tests, same, pow-succ' 10 (length digits))
+kept-worth digit (next ∷ kept) digits same =
     more-worth (one_digit_value digit) (digits_value (next ∷ kept)) (digits_value digits) (10 ^ length (next ∷ kept)) _ (10 ^ length digits) _
     (pow-succ' 10 (length (next ∷ kept))) (pow-succ' 10 (length digits)) same
 
 without-worth : (digits : List ℕ)
     → digits_value (without_last_zeros digits) * 10 ^ length digits ≡ digits_value digits * 10 ^ length (without_last_zeros digits)
 without-worth [] = refl
-without-worth (digit ∷ digits) =
-    kept-worth digit (digit == digit_zero) (without_last_zeros digits) digits refl (without-worth digits)
+without-worth (digit ∷ digits) = kept-worth digit (without_last_zeros digits) digits (without-worth digits)
 
 -- what stays of digits is digits
-kept-digits : (digit : ℕ) (test : Bool) (kept : List ℕ) → (digit == digit_zero) ≡ test → is_ascii_digit digit ≡ true
-    → AreDigits kept → AreDigits (kept_digit digit kept)
-kept-digits digit true [] is one all = rw is refl
-kept-digits digit false [] is one all = rw is (and_from _ _ one refl)
-kept-digits digit test (next ∷ kept) is one all = and_from _ _ one all
+kept-digits : (digit : ℕ) (kept : List ℕ) → is_ascii_digit digit ≡ true → AreDigits kept → AreDigits (kept_digit digit kept)
+kept-digits digit [] one all = grind (arith, nat_tests, one)
+kept-digits digit (next ∷ kept) one all = and_from _ _ one all
 
 without-digits : (digits : List ℕ) → AreDigits digits → AreDigits (without_last_zeros digits)
 without-digits [] all = refl
 without-digits (digit ∷ digits) all =
     let tests = and_parts (is_ascii_digit digit) _ all in
-    kept-digits digit (digit == digit_zero) (without_last_zeros digits) refl tests.0 (without-digits digits tests.1)
+    kept-digits digit (without_last_zeros digits) tests.0 (without-digits digits tests.1)
 
 -- no fraction is no seconds and no microseconds
 no-seconds : (unit : DurationUnit) → fraction_seconds unit [] ≡ 0
@@ -203,19 +197,14 @@ seconds-read next some false number microsecond day second other comes few small
 
 -- the units that may still come
 days-come : (years : Bool) → is_some (unit_in (if years then units false else units_after capital_y (units false)) capital_d) ≡ true
-days-come true = refl
-days-come false = refl
+days-come years = grind (arith, nat_tests)
 
 minutes-come : (hours : Bool) → is_some (unit_in (if hours then units true else units_after capital_h (units true)) capital_m) ≡ true
-minutes-come true = refl
-minutes-come false = refl
+minutes-come hours = grind (arith, nat_tests)
 
 seconds-come : (hours minutes : Bool) → (let next = if hours then units true else units_after capital_h (units true) in
     is_some (unit_in (if minutes then next else units_after capital_m next) capital_s)) ≡ true
-seconds-come true true = refl
-seconds-come true false = refl
-seconds-come false true = refl
-seconds-come false false = refl
+seconds-come hours minutes = grind (arith, nat_tests)
 
 -- there are days if and only if years or days of one are printed, and otherwise there is something after the `T`
 days-some : (day : ℕ) → (if day % 365 == 0 then (if day / 365 == 0 then false else true) else true) ≡ not (day == 0)
