@@ -1,12 +1,12 @@
 -- What is printed of a duration is short.
-use Rattle.std.specs.Prelude.{◌≡◌, ℕ, suc, ◌+◌, ◌/◌, ◌%◌, ◌^◌, ◌<◌, ◌≤◌, Bool, true, false, ◌==◌, List, [], ◌∷◌, ◌++◌, length, if◌then◌else◌, refl}
+use Rattle.std.specs.Prelude.{ℕ, suc, ◌+◌, ◌/◌, ◌%◌, ◌^◌, ◌<◌, ◌≤◌, Bool, true, false, ◌==◌, List, [], ◌∷◌, ◌++◌, length, if◌then◌else◌}
 use Rattle.std.specs.Fmt.{decimal}
 use Rattle.std.proofs.Common.{arith, lit<}
 use Rattle.std.proofs.lemmas.Bool.Decides.{nat_tests}
 use Rattle.std.proofs.lemmas.List.{length-append}
 use Rattle.std.proofs.lemmas.Fmt.{length-decimal-le}
 use Rattle.std.proofs.lemmas.Str.{encode_ascii}
-use Rattle.speedate_base.specs.Ascii.{digit_zero, full_stop, capital_d, capital_h, capital_m, capital_y}
+use Rattle.speedate_base.specs.Ascii.{full_stop, capital_d, capital_h, capital_m, capital_y}
 use Rattle.speedate_base.specs.Digits.{six_digit_text}
 use Rattle.speedate.specs.DurationText.{counted_text, kept_digit, without_last_zeros, short_fraction_text, start_text}
 

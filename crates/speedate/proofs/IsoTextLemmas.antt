@@ -10,13 +10,13 @@ use Rattle.std.proofs.lemmas.Bool.Decides.{nat_tests}
 use Rattle.std.proofs.lemmas.Fmt.{digits_decimal, digits_value-decimal, decimal_nonempty, decimal_digit}
 use Rattle.std.proofs.lemmas.List.{append-nil}
 use Rattle.std.proofs.lemmas.Str.Parse.{IsDigitsTest, IsNumeralModel, numerals_by_weight}
-use Rattle.std.proofs.Math.Nat.{pow-succ', div-eq_of_lt}
+use Rattle.std.proofs.Math.Nat.{pow-succ', div-eq_of_lt, zero-mul}
 use Rattle.speedate_base.specs.declared.config.IsoOrder.{IsoOrder}
 use Rattle.speedate_base.specs.declared.config.IsoOrder.TheVariants as order
 use Rattle.speedate_base.specs.declared.config.MicrosecondsPrecisionOverflowBehavior.{MicrosecondsPrecisionOverflowBehavior}
 use Rattle.speedate_base.specs.declared.config.MicrosecondsPrecisionOverflowBehavior.TheVariants as behavior
-use Rattle.speedate_base.specs.Ascii.{digit_zero, full_stop, capital_d, capital_h, capital_m, capital_s, capital_t, capital_y}
-use Rattle.speedate_base.specs.Digits.{one_digit_value, six_digit_text}
+use Rattle.speedate_base.specs.Ascii.{full_stop, capital_d, capital_h, capital_m, capital_s, capital_t, capital_y}
+use Rattle.speedate_base.specs.Digits.{six_digit_text}
 use Rattle.speedate_base.proofs.DigitLemmas.{six_digits-printed}
 use Rattle.speedate_base.specs.DigitRuns.{digits_value}
 use Rattle.speedate_base.proofs.DigitRunLemmas.{digits_value-lt}
@@ -50,18 +50,12 @@ digits_test = record {
 digits_model : IsNumeralModel AreDigits digits_value
 digits_model = numerals_by_weight AreDigits digits_test digits_value (record { empty = refl; more = λ c cs range. refl })
 
--- one more digit before two fractions of one worth
-more-worth : (value kept whole few few_more many many_more : ℕ) → few_more ≡ 10 * few → many_more ≡ 10 * many → kept * many ≡ whole * few
-    → (value * few + kept) * many_more ≡ (value * many + whole) * few_more
-more-worth value kept whole few few_more many many_more few_is many_is same = rw (few_is, many_is) (grind (arith, same))
-
 -- zeros at the end of a fraction's digits do not change its worth
 kept-worth : (digit : ℕ) (kept digits : List ℕ) → digits_value kept * 10 ^ length digits ≡ digits_value digits * 10 ^ length kept
     → digits_value (kept_digit digit kept) * 10 ^ length (digit ∷ digits) ≡ digits_value (digit ∷ digits) * 10 ^ length (kept_digit digit kept)
 kept-worth digit [] digits same = grind (arith, nat_tests, same, pow-succ' 10 (length digits))
 kept-worth digit (next ∷ kept) digits same =
-    more-worth (one_digit_value digit) (digits_value (next ∷ kept)) (digits_value digits) (10 ^ length (next ∷ kept)) _ (10 ^ length digits) _
-    (pow-succ' 10 (length (next ∷ kept))) (pow-succ' 10 (length digits)) same
+    rw (pow-succ' 10 (length (next ∷ kept)), pow-succ' 10 (length digits)) (grind (arith, same))
 
 without-worth : (digits : List ℕ)
     → digits_value (without_last_zeros digits) * 10 ^ length digits ≡ digits_value digits * 10 ^ length (without_last_zeros digits)
@@ -85,8 +79,7 @@ no-seconds unit = omega arith
 
 no-microseconds : (unit : DurationUnit) → fraction_microseconds unit [] ≡ 0
 no-microseconds unit =
-    let none : 0 * (1000000 * unit_seconds unit) ≡ 0 = omega arith in
-    rw (none, no-seconds unit) refl
+    rw (zero-mul (1000000 * unit_seconds unit), no-seconds unit) refl
 
 -- digits that are so many millionths, as a fraction of a second
 second-seconds : (digits : List ℕ) → AreDigits digits → fraction_seconds (unit capital_s 0 1) digits ≡ 0
@@ -98,10 +91,8 @@ second-microseconds : (digits : List ℕ) (microsecond : ℕ) → AreDigits digi
     → digits_value digits * 1000000 ≡ microsecond * 10 ^ length digits → fraction_microseconds (unit capital_s 0 1) digits ≡ microsecond
 second-microseconds digits microsecond all same =
     let scale = 10 ^ length digits in
-    let exact : nearest (pos (digits_value digits * 1000000)) scale ≡ pos microsecond =
-    ap (λ (n : ℕ). nearest (pos n) scale) same ∙ nearest-exact false microsecond scale (scale-some (length digits)) in
-    ap (λ z. unsigned_abs z - 1000000 * fraction_seconds (unit capital_s 0 1) digits) exact
-    ∙ ap (λ (n : ℕ). microsecond - 1000000 * n) (second-seconds digits all) ∙ omega arith
+    let exact = ap (λ (n : ℕ). nearest (pos n) scale) same ∙ nearest-exact false microsecond scale (scale-some (length digits)) in
+    (λ i. unsigned_abs (exact i) - 1000000 * second-seconds digits all i) ∙ omega arith
 
 -- sums in the order of the standard, with no fraction so far
 abbrev at : List DurationUnit → Bool → Bool → ℕ → ℕ → Sums
