@@ -3,7 +3,7 @@ use Rattle.std.specs.Prelude.{◌≡◌, ℕ, ◌-◌, ◌^◌, ◌<◌, min, Bo
 use Rattle.std.specs.Char.{is_ascii_digit}
 use Rattle.std.specs.List.{list_all}
 use Rattle.std.proofs.Common.{arith, ◌∙◌, ap, sym, get_or, inl, inr}
-use Rattle.std.proofs.lemmas.Bool.{cases_lt, eqb-true, and_parts, false≢true}
+use Rattle.std.proofs.lemmas.Bool.{cases_lt, eqb-true}
 use Rattle.std.proofs.lemmas.Bool.Decides.{nat_tests}
 use Rattle.std.proofs.lemmas.List.{get_or_past}
 use Rattle.std.proofs.lemmas.List.Sums.{position_or_len_is, passes_at_first, prefix_len_passes}
@@ -24,10 +24,7 @@ colon-no_digit byte same = grind (arith, nat_tests)
 pub colon_place-run : (text : List ℕ) → get_or text (run_length text 0) 0 ≡ colon → (run_length text 0 < length text) × (colon_place text ≡ run_length text 0)
 colon_place-run text ends =
     let end = run_length text 0 in
-    let within : end < length text = elim (cases_lt end (length text)) [
-      | inl within ↦ within
-      | inr past ↦ omega (arith, ends, get_or_past text end 0 past)
-    ] in (
+    let within : end < length text = grind (arith, ends, get_or_past text end 0) in (
       within,
       position_or_len_is (λ byte. byte == colon) text end 0 (omega (arith, within))
           (λ k before. digit-no_colon (get_or text k 0) (prefix_len_passes is_ascii_digit text k 0 before)) (λ _. ap (λ byte. byte == colon) ends),
@@ -43,32 +40,13 @@ hours-run text some digits =
 pub hours-are_run : (text : List ℕ) → run_length text 0 ≡ colon_place text → list_all is_ascii_digit (hours text) ≡ true
 hours-are_run text same = ap (λ (n : ℕ). list_all is_ascii_digit (take n text)) (sym same) ∙ run-digits text
 
--- otherwise no hours begin the text
-has_hours-none : (text : List ℕ) (has : Bool) → has_hours text ≡ has → (get_or text (run_length text 0) 0 == colon) ≡ false → has ≡ false
-has_hours-none text false same other = refl
-has_hours-none text true same other =
-    let front = nat_lt (colon_place text) (length text) in
-    let few = nat_le (colon_place text) 10 in
-    let parts = and_parts (front && few) (list_all is_ascii_digit (hours text)) same in
-    let ends = hours-run text (and_parts front few parts.0).0 parts.1 in
-    let within : colon_place text < length text = grind (arith, nat_tests, (and_parts front few parts.0).0) in
-    absurd (false≢true (sym other ∙ ap (λ (n : ℕ). get_or text n 0 == colon) ends ∙ passes_at_first (λ byte. byte == colon) text 0 within))
-
-last-two : (within few whole : Bool) → within ≡ true → whole ≡ true → (within && few && whole) ≡ few
-last-two true true true one two = refl
-last-two true false true one two = refl
-last-two false few whole one two = absurd (cc)
-last-two true few false one two = absurd (cc)
-
 -- so hours begin a text where `:` follows its first digits, and these are at most ten
 pub has_hours-run : (text : List ℕ) (ends : Bool) → (get_or text (run_length text 0) 0 == colon) ≡ ends → has_hours text ≡ (ends && nat_le (run_length text 0) 10)
-has_hours-run text false other = has_hours-none text (has_hours text) refl other
+has_hours-run text false other =
+    grind (arith, nat_tests, other, hours-run text, passes_at_first (λ byte. byte == colon) text 0)
 has_hours-run text true ends =
-    let end = run_length text 0 in
     let run = colon_place-run text (eqb-true _ _ ends) in
-    let within : nat_lt (colon_place text) (length text) ≡ true = grind (arith, nat_tests, run.0, run.1) in
-    let same = hours-are_run text (sym run.1) in
-    last-two _ (nat_le (colon_place text) 10) _ within same ∙ ap (λ (n : ℕ). nat_le n 10) run.1
+    grind (arith, nat_tests, run.0, run.1, hours-are_run text (sym run.1))
 
 -- a number of hours that does not fit 64 bits is refused like the largest that does
 pub after_hours-saturated : (behavior : MicrosecondsPrecisionOverflowBehavior) (hours : ℕ) (rest : List ℕ)

@@ -3,7 +3,7 @@ use Rattle.std.specs.Prelude.{◌≡◌, ℕ, ◌+◌, ◌<◌, Bool, true, fals
 use Rattle.std.specs.Char.{is_ascii_digit}
 use Rattle.std.specs.List.{list_all, list_any, prefix_len}
 use Rattle.std.proofs.Common.{arith, ap, ap₂, sym, ◌∙◌}
-use Rattle.std.proofs.lemmas.Bool.{and_parts, false≢true}
+use Rattle.std.proofs.lemmas.Bool.{and_parts}
 use Rattle.std.proofs.lemmas.Bool.Decides.{nat_tests}
 use Rattle.std.proofs.lemmas.List.{take-append-drop, drop_more}
 use Rattle.std.proofs.lemmas.List.Folds.{list_any-append}
@@ -48,42 +48,35 @@ letter-after_digits text =
     sym (ap (λ (one : Bool). one || list_any is_day_letter rest) none) ∙ sym (list_any-append is_day_letter front rest)
     ∙ ap (list_any is_day_letter) (take-append-drop (run_length text 0) text)
 
+-- digits that end a text, after a point
+after-point : (a b c d e p : ℕ) (last : List ℕ) (point : Bool) → ((p == 46) || (p == 44)) ≡ point
+    → ((if point then 6 + prefix_len is_ascii_digit last else 5) == length (a ∷ b ∷ c ∷ d ∷ e ∷ p ∷ last)) ≡ true → list_any is_day_letter (p ∷ last) ≡ false
+after-point a b c d e p last true is sized =
+    let whole : (prefix_len is_ascii_digit last == length last) ≡ true = grind (arith, nat_tests, sized) in
+    rw (point-no_letter p is) (digits-no_letter last (sym (run-whole last) ∙ whole))
+after-point a b c d e p last false is sized = absurd (grind (arith, nat_tests, sized))
+
 -- what follows the minute of a clock that takes all of a text
 after-minute : (a b c : ℕ) (more : List ℕ) (second : Bool)
     → (second implies two_digits_at (a ∷ b ∷ c ∷ more) 3) ≡ true
     → ((if second && has_point (a ∷ b ∷ c ∷ more) then 6 + run_length (a ∷ b ∷ c ∷ more) 6 else (if second then 5 else 2)) == length (a ∷ b ∷ c ∷ more)) ≡ true
     → (second ≡ true) × (list_any is_day_letter more ≡ false)
 after-minute a b c more false asked sized = absurd (grind (arith, nat_tests, sized))
-after-minute a b c [] true asked sized = absurd (false≢true asked)
-after-minute a b c (d ∷ []) true asked sized = absurd (false≢true (and_parts _ _ asked).1)
-after-minute a b c (d ∷ e ∷ []) true asked sized =
-    let parts = and_parts (is_ascii_digit d) (is_ascii_digit e) asked in
-    (refl, rw (digit-no_letter d parts.0, digit-no_letter e parts.1) refl)
+after-minute a b c [] true asked sized = (refl, refl)
+after-minute a b c (d ∷ []) true asked sized = (refl, grind (arith, nat_tests, asked))
+after-minute a b c (d ∷ e ∷ []) true asked sized = (refl, grind (arith, nat_tests, asked))
 after-minute a b c (d ∷ e ∷ p ∷ last) true asked sized =
-    let parts = and_parts (is_ascii_digit d) (is_ascii_digit e) asked in
-    let ends : (point : Bool) → ((p == 46) || (p == 44)) ≡ point → ((if point then 6 + prefix_len is_ascii_digit last else 5) == length (a ∷ b ∷ c ∷ d ∷ e ∷ p ∷ last)) ≡ true
-    → list_any is_day_letter (p ∷ last) ≡ false =
-    λ point. elim point as (λ (point : Bool). ((p == 46) || (p == 44)) ≡ point → ((if point then 6 + prefix_len is_ascii_digit last else 5) == length (a ∷ b ∷ c ∷ d ∷ e ∷ p ∷ last)) ≡ true
-    → list_any is_day_letter (p ∷ last) ≡ false) [
-      | true ↦ λ is all.
-          let whole : (prefix_len is_ascii_digit last == length last) ≡ true = grind (arith, nat_tests, all) in
-          rw (point-no_letter p is) (digits-no_letter last (sym (run-whole last) ∙ whole))
-      | false ↦ λ is all. absurd (grind (arith, nat_tests, all))
-    ] in
-    (refl, rw (digit-no_letter d parts.0, digit-no_letter e parts.1) (ends _ refl sized))
+    (refl, grind (arith, nat_tests, asked, after-point a b c d e p last _ refl sized))
 
 -- no letter stands in a clock, from its minute on, that takes all of a text
-pub minute-no_letter : (rest : List ℕ) → two_digits_at rest 0 ≡ true → (has_second rest implies two_digits_at rest 3) ≡ true
+minute-no_letter : (rest : List ℕ) → two_digits_at rest 0 ≡ true → (has_second rest implies two_digits_at rest 3) ≡ true
     → ((minute_clock rest).size == length rest) ≡ true → list_any is_day_letter rest ≡ false
 minute-no_letter [] minute asked sized = refl
-minute-no_letter (a ∷ []) minute asked sized = absurd (false≢true (and_parts _ _ minute).1)
-minute-no_letter (a ∷ b ∷ []) minute asked sized =
-    let parts = and_parts (is_ascii_digit a) (is_ascii_digit b) minute in
-    rw (digit-no_letter a parts.0, digit-no_letter b parts.1) refl
+minute-no_letter (a ∷ []) minute asked sized = grind (arith, nat_tests, minute)
+minute-no_letter (a ∷ b ∷ []) minute asked sized = grind (arith, nat_tests, minute)
 minute-no_letter (a ∷ b ∷ c ∷ more) minute asked sized =
-    let parts = and_parts (is_ascii_digit a) (is_ascii_digit b) minute in
     let after = after-minute a b c more (c == colon) asked sized in
-    rw (digit-no_letter a parts.0, digit-no_letter b parts.1, colon-no_letter c after.0) after.1
+    grind (arith, nat_tests, minute, after.0, after.1)
 
 -- no letter stands in a clock, and it has five bytes at least
 pub clock-no_letter : (behavior : MicrosecondsPrecisionOverflowBehavior) (text : List ℕ) (value : UnsignedDuration) → clock_form behavior text ≡ Ok value
