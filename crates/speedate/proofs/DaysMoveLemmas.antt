@@ -1,8 +1,7 @@
 -- The date so many days after another: the same days lead back.
-use Rattle.std.specs.Prelude.{◌≡◌, ℕ, Bool, true, false, not, [], ◌∷◌, ℤ, pos, ◌+ℤ◌, ◌-ℤ◌, Result, Ok, Err, IfOk, refl}
+use Rattle.std.specs.Prelude.{◌≡◌, ℕ, Bool, true, false, not, [], ◌∷◌, ℤ, pos, ◌+ℤ◌, ◌-ℤ◌, Ok, refl}
 use Rattle.std.proofs.Common.{arith, ◌∙◌, ap}
 use Rattle.std.proofs.lemmas.Int.{ints}
-use Rattle.speedate_base.specs.declared.faults.ParseError.{ParseError}
 use Rattle.speedate_base.specs.declared.faults.ParseError.TheVariants as fault
 use Rattle.speedate_base.specs.Numbers.{with_sign}
 use Rattle.speedate_base.specs.Requirement.{◌else_fault◌}
@@ -23,7 +22,7 @@ days-back : (positive : Bool) (day start end : ℕ) → pos end -ℤ pos start �
 days-back true day start end same = omega (arith, ints, same)
 days-back false day start end same = omega (arith, ints, same)
 
-date-back : (numbers : DurationNumbers) (start : Date) (end : Ymd) → is_whole_days numbers ≡ true
+pub date-back : (numbers : DurationNumbers) (start : Date) (end : Ymd) → is_whole_days numbers ≡ true
     → days_between (date_parts start) end ≡ signed_days numbers → date_after_days (negated numbers) end ≡ Ok (date_parts start)
 date-back numbers start end whole moved =
     let date = date_parts start in
@@ -32,20 +31,8 @@ date-back numbers start end whole moved =
     ∙ ap (λ (n : ℤ). date_or_fault back (date_counted n)) (days-back numbers.positive numbers.day (day_number date) (day_number end) moved)
     ∙ ap (date_or_fault back) (date_numbered-is (day_number date) date (is_day start) start.year_in_range refl)
 
-pub ends-date-back : (result : Result Date ParseError) (numbers : DurationNumbers) (start : Date) → is_whole_days numbers ≡ true
-    → IfOk result (λ end. days_between (date_parts start) (date_parts end) ≡ signed_days numbers)
-    → IfOk result (λ end. date_after_days (negated numbers) (date_parts end) ≡ Ok (date_parts start))
-ends-date-back (Ok end) numbers start whole moved = date-back numbers start (date_parts end) whole moved
-ends-date-back (Err fault) numbers start whole moved = tt
-
 -- days the other way are the negative ones
-turned : (positive : Bool) (day start end : ℕ) → pos end -ℤ pos start ≡ with_sign (not (not positive)) day
+pub turned : (positive : Bool) (day start end : ℕ) → pos end -ℤ pos start ≡ with_sign (not (not positive)) day
     → pos start -ℤ pos end ≡ with_sign (not positive) day
 turned true day start end same = omega (arith, ints, same)
 turned false day start end same = omega (arith, ints, same)
-
-pub begins-days : (result : Result Date ParseError) (numbers : DurationNumbers) (start : Ymd)
-    → IfOk result (λ end. days_between start (date_parts end) ≡ signed_days (negated numbers))
-    → IfOk result (λ end. days_between (date_parts end) start ≡ signed_days numbers)
-begins-days (Ok end) numbers start same = turned numbers.positive numbers.day (day_number start) (day_number (date_parts end)) same
-begins-days (Err fault) numbers start same = tt

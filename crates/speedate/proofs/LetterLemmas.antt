@@ -3,7 +3,6 @@ use Rattle.std.specs.Prelude.{◌≡◌, ℕ, ◌+◌, ◌<◌, Bool, true, fals
 use Rattle.std.specs.Char.{is_ascii_digit}
 use Rattle.std.specs.List.{list_all, list_any, prefix_len}
 use Rattle.std.proofs.Common.{arith, ap, ap₂, sym, ◌∙◌}
-use Rattle.std.proofs.lemmas.Bool.{and_parts}
 use Rattle.std.proofs.lemmas.Bool.Decides.{nat_tests}
 use Rattle.std.proofs.lemmas.List.{take-append-drop, drop_more}
 use Rattle.std.proofs.lemmas.List.Folds.{list_any-append}
@@ -24,20 +23,9 @@ use Rattle.speedate.specs.DayForm.{is_day_letter}
 use Rattle.speedate.specs.DurationForm.{has_days}
 use Rattle.speedate.specs.DurationNumbers.{UnsignedDuration}
 
-digit-no_letter : (byte : ℕ) → is_ascii_digit byte ≡ true → is_day_letter byte ≡ false
-digit-no_letter byte digit = grind (arith, nat_tests)
-
-colon-no_letter : (byte : ℕ) → (byte == colon) ≡ true → is_day_letter byte ≡ false
-colon-no_letter byte same = grind (arith, nat_tests)
-
-point-no_letter : (byte : ℕ) → ((byte == 46) || (byte == 44)) ≡ true → is_day_letter byte ≡ false
-point-no_letter byte same = grind (arith, nat_tests)
-
 digits-no_letter : (text : List ℕ) → list_all is_ascii_digit text ≡ true → list_any is_day_letter text ≡ false
 digits-no_letter [] all = refl
-digits-no_letter (byte ∷ text) all =
-    let parts = and_parts (is_ascii_digit byte) (list_all is_ascii_digit text) all in
-    rw (digit-no_letter byte parts.0) (digits-no_letter text parts.1)
+digits-no_letter (byte ∷ text) all = grind (arith, nat_tests, all, digits-no_letter text)
 
 -- so the letter stands in a text if and only if it stands after the first digits
 pub letter-after_digits : (text : List ℕ) → list_any is_day_letter (drop (run_length text 0) text) ≡ list_any is_day_letter text
@@ -53,7 +41,7 @@ after-point : (a b c d e p : ℕ) (last : List ℕ) (point : Bool) → ((p == 46
     → ((if point then 6 + prefix_len is_ascii_digit last else 5) == length (a ∷ b ∷ c ∷ d ∷ e ∷ p ∷ last)) ≡ true → list_any is_day_letter (p ∷ last) ≡ false
 after-point a b c d e p last true is sized =
     let whole : (prefix_len is_ascii_digit last == length last) ≡ true = grind (arith, nat_tests, sized) in
-    rw (point-no_letter p is) (digits-no_letter last (sym (run-whole last) ∙ whole))
+    grind (arith, nat_tests, is, digits-no_letter last (sym (run-whole last) ∙ whole))
 after-point a b c d e p last false is sized = absurd (grind (arith, nat_tests, sized))
 
 -- what follows the minute of a clock that takes all of a text
@@ -77,6 +65,9 @@ minute-no_letter (a ∷ b ∷ []) minute asked sized = grind (arith, nat_tests, 
 minute-no_letter (a ∷ b ∷ c ∷ more) minute asked sized =
     let after = after-minute a b c more (c == colon) asked sized in
     grind (arith, nat_tests, minute, after.0, after.1)
+
+colon-no_letter : (byte : ℕ) → (byte == colon) ≡ true → is_day_letter byte ≡ false
+colon-no_letter byte same = grind (arith, nat_tests)
 
 -- no letter stands in a clock, and it has five bytes at least
 pub clock-no_letter : (behavior : MicrosecondsPrecisionOverflowBehavior) (text : List ℕ) (value : UnsignedDuration) → clock_form behavior text ≡ Ok value
