@@ -41,12 +41,17 @@ pub hours-are_run : (text : List ℕ) → run_length text 0 ≡ colon_place text
 hours-are_run text same = ap (λ (n : ℕ). list_all is_ascii_digit (take n text)) (sym same) ∙ run-digits text
 
 -- so hours begin a text where `:` follows its first digits, and these are at most ten
-pub has_hours-run : (text : List ℕ) (ends : Bool) → (get_or text (run_length text 0) 0 == colon) ≡ ends → has_hours text ≡ (ends && nat_le (run_length text 0) 10)
-has_hours-run text false other =
-    grind (arith, nat_tests, other, hours-run text, passes_at_first (λ byte. byte == colon) text 0)
-has_hours-run text true ends =
+has_hours-of : (text : List ℕ) (ends : Bool) → (get_or text (run_length text 0) 0 == colon) ≡ ends → has_hours text ≡ (ends && nat_le (run_length text 0) 10)
+has_hours-of text false other = grind (arith, nat_tests, other, hours-run text, passes_at_first (λ byte. byte == colon) text 0)
+has_hours-of text true ends =
     let run = colon_place-run text (eqb-true _ _ ends) in
     grind (arith, nat_tests, run.0, run.1, hours-are_run text (sym run.1))
+
+pub has_hours-run : (text : List ℕ) → has_hours text ≡ ((get_or text (run_length text 0) 0 == colon) && nat_le (run_length text 0) 10)
+has_hours-run text = has_hours-of text _ refl
+
+-- what the reader of hours cites
+pub ruleset hours_rules = (nat_tests, has_hours-run, colon_place-run)
 
 -- a number of hours that does not fit 64 bits is refused like the largest that does
 pub after_hours-saturated : (behavior : MicrosecondsPrecisionOverflowBehavior) (hours : ℕ) (rest : List ℕ)
