@@ -90,6 +90,9 @@ digits-after text false = refl
 pub fraction-digits : (text : List ℕ) → list_all is_ascii_digit (drop 1 (take (fraction_length text) text)) ≡ true
 fraction-digits text = digits-after text (is_decimal_mark (slice_index text 0))
 
+-- what the reader of a component cites
+pub ruleset component_rules = (nat_tests, fraction-digits)
+
 -- what has the length of a fraction is one
 fraction-front : (text : List ℕ) (has_mark : Bool) → is_decimal_mark (slice_index text 0) ≡ has_mark → IsFraction (take (if has_mark then 1 + run_length text 1 else 0) text)
 fraction-front text false same = tt

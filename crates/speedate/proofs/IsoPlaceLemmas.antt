@@ -19,3 +19,6 @@ unit-from false (suc (suc (suc (suc passed)))) designator has = rw (drop-nil {A 
 unit-from true (suc zero) designator has = grind (arith, nat_tests, has)
 unit-from true (suc (suc zero)) designator has = grind (arith, nat_tests, has)
 unit-from true (suc (suc (suc passed))) designator has = rw (drop-nil {A = DurationUnit} passed) (grind (arith, nat_tests, has))
+
+-- what the test of a unit's place cites
+pub ruleset place_rules = (nat_tests, unit-from)

@@ -4,7 +4,7 @@ use Rattle.std.specs.Char.{is_ascii_digit}
 use Rattle.std.specs.List.{list_all, list_any, prefix_len}
 use Rattle.std.proofs.Common.{arith, ap, ap₂, sym, ◌∙◌}
 use Rattle.std.proofs.lemmas.Bool.Decides.{nat_tests}
-use Rattle.std.proofs.lemmas.List.{take-append-drop, drop_more}
+use Rattle.std.proofs.lemmas.List.{take-append-drop, drop_more, take_rest}
 use Rattle.std.proofs.lemmas.List.Folds.{list_any-append}
 use Rattle.std.proofs.lemmas.List.Sums.{passes_at_first}
 use Rattle.speedate_base.specs.declared.config.MicrosecondsPrecisionOverflowBehavior.{MicrosecondsPrecisionOverflowBehavior}
@@ -35,6 +35,9 @@ letter-after_digits text =
     let none = digits-no_letter front (run-digits text) in
     sym (ap (λ (one : Bool). one || list_any is_day_letter rest) none) ∙ sym (list_any-append is_day_letter front rest)
     ∙ ap (list_any is_day_letter) (take-append-drop (run_length text 0) text)
+
+-- what the search for the letter cites
+pub ruleset letter_rules = (nat_tests, take_rest, letter-after_digits)
 
 -- digits that end a text, after a point
 after-point : (a b c d e p : ℕ) (last : List ℕ) (point : Bool) → ((p == 46) || (p == 44)) ≡ point
