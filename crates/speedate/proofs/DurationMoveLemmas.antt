@@ -1,5 +1,6 @@
--- The duration between two values, and the value a duration after another: lengths with their sign, and the instants that they lead to.
-use Rattle.std.specs.Prelude.{◌≡◌, ℕ, zero, suc, ◌+◌, ◌*◌, ◌<◌, ◌≤◌, Bool, true, false, not, ◌||◌, ◌==◌, ℤ, pos, negsuc, neg_ℤ, ◌+ℤ◌, ◌-ℤ◌, ◌*ℤ◌, ◌≤ℤ◌, Option, Result, Ok, Err, IfOk, unsigned_abs, refl}
+-- The duration between two values, and the value a duration after another: lengths with their sign, and the instants and dates
+-- that they lead to.
+use Rattle.std.specs.Prelude.{◌≡◌, ℕ, zero, suc, ◌+◌, ◌*◌, ◌<◌, ◌≤◌, Bool, true, false, not, ◌||◌, ◌==◌, ℤ, pos, negsuc, neg_ℤ, ◌+ℤ◌, ◌-ℤ◌, ◌*ℤ◌, ◌≤ℤ◌, Option, Result, Ok, Err, IfOk, unsigned_abs, refl, [], ◌∷◌}
 use Rattle.std.specs.Option.{unwrap_or}
 use Rattle.std.specs.Ordering.{int_cmp}
 use Rattle.std.proofs.Common.{arith, ◌∙◌, ap, sym}
@@ -20,8 +21,18 @@ use Rattle.speedate_civil.proofs.DateTimeTimestampLemmas.{instant_date_time-loca
 use Rattle.speedate_civil.proofs.DateTimeValueLemmas.{is_date_and_time, offset-small, local_second-late, local_second-early}
 use Rattle.speedate_civil.proofs.InstantOrderLemmas.{left-order}
 use Rattle.speedate.proofs.DurationLemmas.{of_length-only}
-use Rattle.speedate.specs.DurationMove.{signed_length, duration_of_length, with_positive_zero, duration_between, date_time_after}
+use Rattle.speedate.specs.DurationMove.{signed_length, duration_of_length, with_positive_zero, duration_between, date_time_after, negated, date_or_fault, signed_days, date_after_days}
 use Rattle.speedate.specs.DurationNumbers.{DurationNumbers, IsDuration, length_seconds, length_microseconds, of_length, signed_seconds, signed_microsecond}
+use Rattle.speedate_base.specs.declared.faults.ParseError.TheVariants as fault
+use Rattle.speedate_base.specs.Requirement.{◌else_fault◌}
+use Rattle.speedate_base.proofs.RequirementLemmas.{meets-all}
+use Rattle.speedate_civil.specs.declared.date.Date.{Date}
+use Rattle.speedate_civil.specs.Calendar.{Ymd}
+use Rattle.speedate_civil.specs.Date.{parts as date_parts}
+use Rattle.speedate_civil.specs.DayNumber.{day_number, date_counted, days_between}
+use Rattle.speedate_civil.proofs.DateNumberedLemmas.{date_numbered-is}
+use Rattle.speedate_civil.proofs.DateValueLemmas.{is_day}
+use Rattle.speedate.specs.DurationText.{is_whole_days}
 
 -- seconds and microseconds with one sign, joined
 signs-joined : (negative : Bool) (seconds microseconds : ℕ)
@@ -160,3 +171,24 @@ between-days earlier later valid other =
     (local_second-late later other) (local_second-early later other) (local_second-late earlier valid) (local_second-early earlier valid)
     (offset-small later.time.offset other.time.offset) (offset-small earlier.time.offset valid.time.offset)
     other.time.microsecond valid.time.microsecond)
+
+-- the same days the other way lead back
+days-back : (positive : Bool) (day start end : ℕ) → pos end -ℤ pos start ≡ with_sign (not positive) day
+    → pos end +ℤ with_sign (not (not positive)) day ≡ pos start
+days-back true day start end same = omega (arith, ints, same)
+days-back false day start end same = omega (arith, ints, same)
+
+pub date-back : (numbers : DurationNumbers) (start : Date) (end : Ymd) → is_whole_days numbers ≡ true
+    → days_between (date_parts start) end ≡ signed_days numbers → date_after_days (negated numbers) end ≡ Ok (date_parts start)
+date-back numbers start end whole moved =
+    let date = date_parts start in
+    let back = not numbers.positive in
+    meets-all ((is_whole_days numbers else_fault fault.DateNotExact) ∷ []) _ (whole, tt)
+    ∙ ap (λ (n : ℤ). date_or_fault back (date_counted n)) (days-back numbers.positive numbers.day (day_number date) (day_number end) moved)
+    ∙ ap (date_or_fault back) (date_numbered-is (day_number date) date (is_day start) start.year_in_range refl)
+
+-- days the other way are the negative ones
+pub turned : (positive : Bool) (day start end : ℕ) → pos end -ℤ pos start ≡ with_sign (not (not positive)) day
+    → pos start -ℤ pos end ≡ with_sign (not positive) day
+turned true day start end same = omega (arith, ints, same)
+turned false day start end same = omega (arith, ints, same)

@@ -1,11 +1,11 @@
--- Items of ISO 8601 durations and the texts that begin with them.
-use Rattle.std.specs.Prelude.{◌≡◌, ℕ, suc, ◌+◌, ◌-◌, ◌<◌, ◌≤◌, Bool, true, false, not, List, [], ◌∷◌, ◌++◌, length, take, drop, slice_index, nat_lt, ◌==◌, if◌then◌else◌, Option, Some, None, Result, Ok, refl}
+-- Items of ISO 8601 durations and the texts that begin with them, and the places of their units.
+use Rattle.std.specs.Prelude.{◌≡◌, ℕ, suc, ◌+◌, ◌-◌, ◌<◌, ◌≤◌, Bool, true, false, not, List, [], ◌∷◌, ◌++◌, length, take, drop, slice_index, nat_lt, ◌==◌, if◌then◌else◌, Option, Some, None, Result, Ok, refl, zero, nat_le}
 use Rattle.std.specs.Char.{is_ascii_digit}
 use Rattle.std.specs.List.{list_all, prefix_len}
 use Rattle.std.specs.Option.{is_some}
 use Rattle.std.proofs.Common.{arith, ap, ap₂, sym, ◌∙◌, append_assoc, get_or, subst}
-use Rattle.std.proofs.Math.Seq.{take-append_seam, drop-append_seam, get_or-append_seam}
-use Rattle.std.proofs.lemmas.Bool.{and_parts, eqb-true, false≢true}
+use Rattle.std.proofs.Math.Seq.{take-append_seam, drop-append_seam, get_or-append_seam, drop-nil}
+use Rattle.std.proofs.lemmas.Bool.{and_parts, eqb-true, false≢true, le-leb}
 use Rattle.std.proofs.lemmas.Bool.Decides.{nat_tests}
 use Rattle.std.proofs.lemmas.List.{drop-take, drop-drop, drop_more, take-append-drop, get_or_past, get_or-drop, length-append, length-take-le}
 use Rattle.std.proofs.lemmas.List.Sums.{prefix_len-le-length}
@@ -17,7 +17,7 @@ use Rattle.speedate_base.proofs.NumberLemmas.{run-digits}
 use Rattle.speedate_base.specs.Requirement.{AllHold}
 use Rattle.speedate_base.proofs.RequirementLemmas.{meets-all}
 use Rattle.speedate.specs.IsoForm.{DurationUnit, units, unit_in, ComponentText, Item, TimeDesignator, Component, item_text, is_decimal_mark, IsFraction, IsItem, fraction_length, component_at, item_at, Sums, with_amount, with_component, with_item, item_table, are_counted}
-use Rattle.speedate.specs.Reader.{item_front}
+use Rattle.speedate.specs.Reader.{item_front, unit_place}
 
 -- the designator of a unit is no digit and no decimal mark
 unit-designator : (is_time : Bool) (designator : ℕ) → is_some (unit_in (units is_time) designator) ≡ true → (is_ascii_digit designator ≡ false) × (is_decimal_mark designator ≡ false)
@@ -129,11 +129,11 @@ parted text n m within =
     simp append_assoc (sym (take-append-drop n text) ∙ ap (λ (end : List ℕ). take n text ++ end) (sym (take-append-drop m rest) ∙ cut))
 
 -- what begins a text as an item and meets the table is an item, and the text is its text and the rest
+abbrev IsFront : Sums → ℕ → List ℕ → Item → Type 0
+IsFront sums byte rest item = AllHold (item_table sums item) → IsItem item × (byte ∷ rest ≡ item_text item ++ drop (length (item_text item) - 1) rest)
+
 front-of : (sums : Sums) (byte : ℕ) (rest : List ℕ) (is_time : Bool) → (byte == capital_t) ≡ is_time
-    → AllHold (item_table sums (if is_time then TimeDesignator else Component (component_at (byte ∷ rest))))
-    → IsItem (if is_time then TimeDesignator else Component (component_at (byte ∷ rest)))
-    × (byte ∷ rest ≡ item_text (if is_time then TimeDesignator else Component (component_at (byte ∷ rest)))
-    ++ drop (length (item_text (if is_time then TimeDesignator else Component (component_at (byte ∷ rest)))) - 1) rest)
+    → IsFront sums byte rest (if is_time then TimeDesignator else Component (component_at (byte ∷ rest)))
 front-of sums byte rest true same hold = (tt, ap (λ (byte : ℕ). byte ∷ rest) (eqb-true byte capital_t same))
 front-of sums byte rest false same hold =
     let text : List ℕ = byte ∷ rest in
@@ -146,8 +146,7 @@ front-of sums byte rest false same hold =
       parted text count size within ∙ ap (λ (n : ℕ). item_text (Component (component_at text)) ++ drop n text) sized,
     )
 
-pub item-front : (sums : Sums) (byte : ℕ) (rest : List ℕ) → AllHold (item_table sums (item_at (byte ∷ rest)))
-    → IsItem (item_at (byte ∷ rest)) × (byte ∷ rest ≡ item_text (item_at (byte ∷ rest)) ++ drop (length (item_text (item_at (byte ∷ rest))) - 1) rest)
+pub item-front : (sums : Sums) (byte : ℕ) (rest : List ℕ) → IsFront sums byte rest (item_at (byte ∷ rest))
 item-front sums byte rest = front-of sums byte rest (byte == capital_t) refl
 
 -- a number of few digits, as it was read
@@ -182,3 +181,18 @@ short-front sums next text number end designator few unit read some small there 
     let sized : length (item_text (Component component)) ≡ end + 1 =
     omega (arith, parts.1, long, length-append (take count text ++ []) (designator ∷ []), length-append (take count text) []) in
     sym (ap (item_front sums) item ∙ meets-all (item_table sums (Component component)) _ all ∙ ap₂ (λ (sums : Sums) (size : ℕ). Ok (sums, size)) same sized)
+
+-- a unit is among those from a place on if and only if its own place is none before that
+pub unit-from : (is_time : Bool) (passed designator : ℕ) → is_some (unit_in (units is_time) designator) ≡ true
+    → is_some (unit_in (drop passed (units is_time)) designator) ≡ nat_le passed (unit_place designator (units is_time))
+unit-from is_time zero designator has = has ∙ sym (le-leb zero (unit_place designator (units is_time)) (omega arith))
+unit-from false (suc zero) designator has = grind (arith, nat_tests, has)
+unit-from false (suc (suc zero)) designator has = grind (arith, nat_tests, has)
+unit-from false (suc (suc (suc zero))) designator has = grind (arith, nat_tests, has)
+unit-from false (suc (suc (suc (suc passed)))) designator has = rw (drop-nil {A = DurationUnit} passed) (grind (arith, nat_tests, has))
+unit-from true (suc zero) designator has = grind (arith, nat_tests, has)
+unit-from true (suc (suc zero)) designator has = grind (arith, nat_tests, has)
+unit-from true (suc (suc (suc passed))) designator has = rw (drop-nil {A = DurationUnit} passed) (grind (arith, nat_tests, has))
+
+-- what the test of a unit's place cites
+pub ruleset place_rules = (nat_tests, unit-from)

@@ -1,6 +1,5 @@
 mod ClockFormLemmas
 mod DurationAnswerLemmas
-mod StandardFacts
 mod DurationLemmas
 mod DurationMoveLemmas
 mod DurationOrderLemmas
@@ -9,9 +8,5 @@ mod ExchangedLemmas
 mod InOrderLemmas
 mod IsoFormLemmas
 mod IsoItemLemmas
-mod IsoPlaceLemmas
 mod IsoTextLemmas
 mod DecimalTextLemmas
-mod DurationValueLemmas
-mod LetterLemmas
-mod DaysMoveLemmas

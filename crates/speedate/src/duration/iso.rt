@@ -222,7 +222,7 @@ impl Sums {
     }
 
     /// Whether a unit of this side may still come.
-    #[tactic(auto, using(crate::proofs::IsoPlaceLemmas::place_rules))]
+    #[tactic(auto, using(crate::proofs::IsoItemLemmas::place_rules))]
     #[inline(always)]
     fn takes(&self, unit: &DurationUnit) -> bool
         requires { IsUnitOf self.now.is_time unit.now }

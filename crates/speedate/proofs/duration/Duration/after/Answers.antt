@@ -6,7 +6,7 @@ use Rattle.speedate_civil.specs.DateTimeTimestamp.{IsShownAt}
 use Rattle.speedate.specs.Duration.{parts}
 use Rattle.speedate.specs.DurationMove.{signed_length}
 use Rattle.speedate.proofs.DurationMoveLemmas.{shown-later, between-exact, ends-order, ends-back}
-use Rattle.speedate.proofs.DurationValueLemmas.{is_duration}
+use Rattle.speedate.proofs.DurationLemmas.{is_duration}
 use Rattle.speedate.proofs.duration.Duration.after.Goals as goal
 
 pub returns-clause-ends : goal.returns-clause-ends

@@ -4,7 +4,7 @@ use Rattle.speedate_civil.specs.DateTime.{parts as date_time_parts}
 use Rattle.speedate.specs.Duration.{parts}
 use Rattle.speedate.specs.DurationMove.{signed_length}
 use Rattle.speedate.proofs.DurationMoveLemmas.{opposite, opposite-apart, between-exact, ends-order, ends-back}
-use Rattle.speedate.proofs.DurationValueLemmas.{is_duration}
+use Rattle.speedate.proofs.DurationLemmas.{is_duration}
 use Rattle.speedate.proofs.duration.Duration.before.Goals as goal
 
 pub returns-clause-between : goal.returns-clause-between

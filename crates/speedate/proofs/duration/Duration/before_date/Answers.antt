@@ -3,7 +3,7 @@ use Rattle.std.proofs.lemmas.Result.{IfOk-weaker}
 use Rattle.speedate_civil.specs.Date.{parts as date_parts}
 use Rattle.speedate_civil.specs.DayNumber.{day_number}
 use Rattle.speedate.specs.DurationMove.{signed_days}
-use Rattle.speedate.proofs.DaysMoveLemmas.{turned}
+use Rattle.speedate.proofs.DurationMoveLemmas.{turned}
 use Rattle.speedate.proofs.duration.Duration.before_date.Goals as goal
 
 pub returns-clause-days : goal.returns-clause-days

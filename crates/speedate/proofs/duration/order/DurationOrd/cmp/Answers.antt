@@ -2,7 +2,7 @@ use Rattle.std.proofs.Common.{◌≡◌, ◌∙◌, sym}
 use Rattle.speedate.specs.Duration.{parts}
 use Rattle.speedate.specs.DurationOrder.{size_order, signed_order, duration_order}
 use Rattle.speedate.proofs.DurationOrderLemmas.{duration_order-length}
-use Rattle.speedate.proofs.DurationValueLemmas.{is_duration}
+use Rattle.speedate.proofs.DurationLemmas.{is_duration}
 use Rattle.speedate.proofs.duration.order.DurationOrd.cmp.Goals as goal
 
 -- of two negative durations the longer one comes first
