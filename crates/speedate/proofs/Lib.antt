@@ -2,7 +2,6 @@ mod ClockFormLemmas
 mod DurationAnswerLemmas
 mod DurationLemmas
 mod DurationMoveLemmas
-mod DurationOrderLemmas
 pub mod DurationTextLemmas
 mod ExchangedLemmas
 mod InOrderLemmas
