@@ -186,6 +186,7 @@ impl Duration {
     }
 
     /// Reads a duration, with or without a sign.
+    #[tactic(auto, using(std::proofs::lemmas::List::take_rest))]
     #[inline(always)]
     fn parse(
         bytes: &[u8],
