@@ -1,18 +1,27 @@
--- Where the hours of a clock end.
-use Rattle.std.specs.Prelude.{◌≡◌, ℕ, ◌-◌, ◌^◌, ◌<◌, min, Bool, true, false, List, length, take, ◌==◌, ◌&&◌, nat_lt, nat_le, refl}
+-- Where the hours of a clock end, and where no letter of a day stands: among digits, and in a clock.
+use Rattle.std.specs.Prelude.{◌≡◌, ℕ, ◌-◌, ◌^◌, ◌<◌, min, Bool, true, false, List, length, take, ◌==◌, ◌&&◌, nat_lt, nat_le, refl, ◌+◌, ◌||◌, [], ◌∷◌, drop, if◌then◌else◌, Ok}
 use Rattle.std.specs.Char.{is_ascii_digit}
-use Rattle.std.specs.List.{list_all}
-use Rattle.std.proofs.Common.{arith, ◌∙◌, ap, sym, get_or, inl, inr}
-use Rattle.std.proofs.lemmas.Bool.{cases_lt, eqb-true, and_parts, false≢true}
+use Rattle.std.specs.List.{list_all, list_any, prefix_len}
+use Rattle.std.proofs.Common.{arith, ◌∙◌, ap, sym, get_or, inl, inr, ap₂}
+use Rattle.std.proofs.lemmas.Bool.{cases_lt, eqb-true}
 use Rattle.std.proofs.lemmas.Bool.Decides.{nat_tests}
-use Rattle.std.proofs.lemmas.List.{get_or_past}
+use Rattle.std.proofs.lemmas.List.{get_or_past, take-append-drop, drop_more, take_rest}
 use Rattle.std.proofs.lemmas.List.Sums.{position_or_len_is, passes_at_first, prefix_len_passes}
 use Rattle.speedate_base.specs.declared.config.MicrosecondsPrecisionOverflowBehavior.{MicrosecondsPrecisionOverflowBehavior}
 use Rattle.speedate_base.specs.Ascii.{colon}
-use Rattle.speedate_base.specs.DigitRuns.{run_length}
-use Rattle.speedate_base.proofs.DigitRunLemmas.{run_length-ended}
+use Rattle.speedate_base.specs.DigitRuns.{run_length, digits_value}
+use Rattle.speedate_base.proofs.DigitRunLemmas.{run_length-ended, run-whole}
 use Rattle.speedate_base.proofs.NumberLemmas.{run-digits}
-use Rattle.speedate.specs.ClockForm.{hours, colon_place, has_hours, after_hours}
+use Rattle.speedate.specs.ClockForm.{hours, colon_place, has_hours, after_hours, from_minute, hours_table, hours_range, clock_numbers, whole_clock, clock_form}
+use Rattle.std.proofs.lemmas.List.Folds.{list_any-append}
+use Rattle.speedate_base.specs.declared.faults.ParseError.TheVariants as fault
+use Rattle.speedate_base.specs.Digits.{two_digits_at}
+use Rattle.speedate_base.specs.Requirement.{◌else_fault◌, ◌implies◌, meets}
+use Rattle.speedate_base.proofs.RequirementLemmas.{and_then-ok, meets-ok, meets-value}
+use Rattle.speedate_civil.specs.ClockText.{Clock, has_point, has_second, minute_clock, minute_digits, minute_table, minute_front, clock_answer}
+use Rattle.speedate.specs.DayForm.{is_day_letter}
+use Rattle.speedate.specs.DurationForm.{has_days}
+use Rattle.speedate.specs.DurationNumbers.{UnsignedDuration}
 
 digit-no_colon : (byte : ℕ) → is_ascii_digit byte ≡ true → (byte == colon) ≡ false
 digit-no_colon byte digit = grind (arith, nat_tests)
@@ -24,10 +33,7 @@ colon-no_digit byte same = grind (arith, nat_tests)
 pub colon_place-run : (text : List ℕ) → get_or text (run_length text 0) 0 ≡ colon → (run_length text 0 < length text) × (colon_place text ≡ run_length text 0)
 colon_place-run text ends =
     let end = run_length text 0 in
-    let within : end < length text = elim (cases_lt end (length text)) [
-      | inl within ↦ within
-      | inr past ↦ omega (arith, ends, get_or_past text end 0 past)
-    ] in (
+    let within : end < length text = grind (arith, ends, get_or_past text end 0) in (
       within,
       position_or_len_is (λ byte. byte == colon) text end 0 (omega (arith, within))
           (λ k before. digit-no_colon (get_or text k 0) (prefix_len_passes is_ascii_digit text k 0 before)) (λ _. ap (λ byte. byte == colon) ends),
@@ -43,32 +49,18 @@ hours-run text some digits =
 pub hours-are_run : (text : List ℕ) → run_length text 0 ≡ colon_place text → list_all is_ascii_digit (hours text) ≡ true
 hours-are_run text same = ap (λ (n : ℕ). list_all is_ascii_digit (take n text)) (sym same) ∙ run-digits text
 
--- otherwise no hours begin the text
-has_hours-none : (text : List ℕ) (has : Bool) → has_hours text ≡ has → (get_or text (run_length text 0) 0 == colon) ≡ false → has ≡ false
-has_hours-none text false same other = refl
-has_hours-none text true same other =
-    let front = nat_lt (colon_place text) (length text) in
-    let few = nat_le (colon_place text) 10 in
-    let parts = and_parts (front && few) (list_all is_ascii_digit (hours text)) same in
-    let ends = hours-run text (and_parts front few parts.0).0 parts.1 in
-    let within : colon_place text < length text = grind (arith, nat_tests, (and_parts front few parts.0).0) in
-    absurd (false≢true (sym other ∙ ap (λ (n : ℕ). get_or text n 0 == colon) ends ∙ passes_at_first (λ byte. byte == colon) text 0 within))
-
-last-two : (within few whole : Bool) → within ≡ true → whole ≡ true → (within && few && whole) ≡ few
-last-two true true true one two = refl
-last-two true false true one two = refl
-last-two false few whole one two = absurd (cc)
-last-two true few false one two = absurd (cc)
-
 -- so hours begin a text where `:` follows its first digits, and these are at most ten
-pub has_hours-run : (text : List ℕ) (ends : Bool) → (get_or text (run_length text 0) 0 == colon) ≡ ends → has_hours text ≡ (ends && nat_le (run_length text 0) 10)
-has_hours-run text false other = has_hours-none text (has_hours text) refl other
-has_hours-run text true ends =
-    let end = run_length text 0 in
+has_hours-of : (text : List ℕ) (ends : Bool) → (get_or text (run_length text 0) 0 == colon) ≡ ends → has_hours text ≡ (ends && nat_le (run_length text 0) 10)
+has_hours-of text false other = grind (arith, nat_tests, other, hours-run text, passes_at_first (λ byte. byte == colon) text 0)
+has_hours-of text true ends =
     let run = colon_place-run text (eqb-true _ _ ends) in
-    let within : nat_lt (colon_place text) (length text) ≡ true = grind (arith, nat_tests, run.0, run.1) in
-    let same = hours-are_run text (sym run.1) in
-    last-two _ (nat_le (colon_place text) 10) _ within same ∙ ap (λ (n : ℕ). nat_le n 10) run.1
+    grind (arith, nat_tests, run.0, run.1, hours-are_run text (sym run.1))
+
+pub has_hours-run : (text : List ℕ) → has_hours text ≡ ((get_or text (run_length text 0) 0 == colon) && nat_le (run_length text 0) 10)
+has_hours-run text = has_hours-of text _ refl
+
+-- what the reader of hours cites
+pub ruleset hours_rules = (nat_tests, has_hours-run, colon_place-run)
 
 -- a number of hours that does not fit 64 bits is refused like the largest that does
 pub after_hours-saturated : (behavior : MicrosecondsPrecisionOverflowBehavior) (hours : ℕ) (rest : List ℕ)
@@ -80,3 +72,76 @@ after_hours-saturated behavior hours rest = elim (cases_lt hours (2 ^ 64)) [
       let two : nat_le hours 2400000000 ≡ false = grind (arith, nat_tests, past) in
       rw (one, two) refl
 ]
+
+digits-no_letter : (text : List ℕ) → list_all is_ascii_digit text ≡ true → list_any is_day_letter text ≡ false
+digits-no_letter [] all = refl
+digits-no_letter (byte ∷ text) all = grind (arith, nat_tests, all, digits-no_letter text)
+
+-- so the letter stands in a text if and only if it stands after the first digits
+pub letter-after_digits : (text : List ℕ) → list_any is_day_letter (drop (run_length text 0) text) ≡ list_any is_day_letter text
+letter-after_digits text =
+    let front : List ℕ = take (run_length text 0) text in
+    let rest : List ℕ = drop (run_length text 0) text in
+    let none = digits-no_letter front (run-digits text) in
+    sym (ap (λ (one : Bool). one || list_any is_day_letter rest) none) ∙ sym (list_any-append is_day_letter front rest)
+    ∙ ap (list_any is_day_letter) (take-append-drop (run_length text 0) text)
+
+-- what the search for the letter cites
+pub ruleset letter_rules = (nat_tests, take_rest, letter-after_digits)
+
+-- digits that end a text, after a point
+after-point : (a b c d e p : ℕ) (last : List ℕ) (point : Bool) → ((p == 46) || (p == 44)) ≡ point
+    → ((if point then 6 + prefix_len is_ascii_digit last else 5) == length (a ∷ b ∷ c ∷ d ∷ e ∷ p ∷ last)) ≡ true → list_any is_day_letter (p ∷ last) ≡ false
+after-point a b c d e p last true is sized =
+    let whole : (prefix_len is_ascii_digit last == length last) ≡ true = grind (arith, nat_tests, sized) in
+    grind (arith, nat_tests, is, digits-no_letter last (sym (run-whole last) ∙ whole))
+after-point a b c d e p last false is sized = absurd (grind (arith, nat_tests, sized))
+
+-- what follows the minute of a clock that takes all of a text
+after-minute : (a b c : ℕ) (more : List ℕ) (second : Bool)
+    → (second implies two_digits_at (a ∷ b ∷ c ∷ more) 3) ≡ true
+    → ((if second && has_point (a ∷ b ∷ c ∷ more) then 6 + run_length (a ∷ b ∷ c ∷ more) 6 else (if second then 5 else 2)) == length (a ∷ b ∷ c ∷ more)) ≡ true
+    → (second ≡ true) × (list_any is_day_letter more ≡ false)
+after-minute a b c more false asked sized = absurd (grind (arith, nat_tests, sized))
+after-minute a b c [] true asked sized = (refl, refl)
+after-minute a b c (d ∷ []) true asked sized = (refl, grind (arith, nat_tests, asked))
+after-minute a b c (d ∷ e ∷ []) true asked sized = (refl, grind (arith, nat_tests, asked))
+after-minute a b c (d ∷ e ∷ p ∷ last) true asked sized =
+    (refl, grind (arith, nat_tests, asked, after-point a b c d e p last _ refl sized))
+
+-- no letter stands in a clock, from its minute on, that takes all of a text
+minute-no_letter : (rest : List ℕ) → two_digits_at rest 0 ≡ true → (has_second rest implies two_digits_at rest 3) ≡ true
+    → ((minute_clock rest).size == length rest) ≡ true → list_any is_day_letter rest ≡ false
+minute-no_letter [] minute asked sized = refl
+minute-no_letter (a ∷ []) minute asked sized = grind (arith, nat_tests, minute)
+minute-no_letter (a ∷ b ∷ []) minute asked sized = grind (arith, nat_tests, minute)
+minute-no_letter (a ∷ b ∷ c ∷ more) minute asked sized =
+    let after = after-minute a b c more (c == colon) asked sized in
+    grind (arith, nat_tests, minute, after.0, after.1)
+
+colon-no_letter : (byte : ℕ) → (byte == colon) ≡ true → is_day_letter byte ≡ false
+colon-no_letter byte same = grind (arith, nat_tests)
+
+-- no letter stands in a clock, and it has five bytes at least
+pub clock-no_letter : (behavior : MicrosecondsPrecisionOverflowBehavior) (text : List ℕ) (value : UnsignedDuration) → clock_form behavior text ≡ Ok value
+    → has_days text ≡ false
+unfolding clock_form
+clock-no_letter behavior text value same =
+    let first = colon_place text in
+    let rest : List ℕ = from_minute text in
+    let count = digits_value (hours text) in
+    let ends = λ (clock : Clock). (clock.size == length rest else_fault fault.ExtraCharacters) ∷ [] in
+    let front = meets-ok (hours_table text) (after_hours behavior count rest) value same in
+    let ranges = meets-ok (hours_range behavior count rest) (whole_clock behavior count rest) value front.1 in
+    let read = and_then-ok (λ (clock : Clock). meets (ends clock) (Ok (clock_numbers count clock))) (minute_front behavior rest) value ranges.1 in
+    let minute = meets-ok (minute_digits rest) (clock_answer behavior rest) read.0 read.1 in
+    let clock = meets-value (minute_table behavior rest) (minute_clock rest) read.0 minute.1 in
+    let whole = meets-ok (ends read.0) (Ok (clock_numbers count read.0)) value read.2 in
+    let sized = ap (λ (clock : Clock). clock.size == length rest) clock.1 ∙ whole.0.0 in
+    let none = minute-no_letter rest minute.0.0 clock.0.1.0 sized in
+    let within : first < length text = grind (arith, nat_tests, front.0.1.0) in
+    let at_colon = passes_at_first (λ byte. byte == colon) text 0 within in
+    let long : nat_lt (length text) 5 ≡ false = grind (arith, nat_tests, front.0.0) in
+    let letters = sym (letter-after_digits text) ∙ ap (λ (n : ℕ). list_any is_day_letter (drop n text)) (hours-run text front.0.1.0 front.0.1.1.1.0)
+    ∙ ap (list_any is_day_letter) (drop_more text first 0 within) ∙ ap₂ (λ (one others : Bool). one || others) (colon-no_letter _ at_colon) none in
+    ap₂ (λ (one others : Bool). one || others) long letters

@@ -40,20 +40,11 @@ iso_from-step sums (byte ∷ rest) some =
     ap (meets (item_table sums item)) (iso_after-skipped (size - 1) (with_item item sums) rest ∙ ap (λ (n : ℕ). iso_from (with_item item sums) (drop n (byte ∷ rest))) one)
 
 -- so its answer goes on from the sums and the place after that item, or is its fault
-from-front : (sums : Sums) (text : List ℕ) (front : Result (Sums × ℕ) ParseError) → 0 < length text → front ≡ item_front sums (item_at text)
+pub iso_from-front : (sums : Sums) (text : List ℕ) (front : Result (Sums × ℕ) ParseError) → 0 < length text → front ≡ item_front sums (item_at text)
     → result_and_then (λ next. iso_from next.0 (drop next.1 text)) front ≡ iso_from sums text
-from-front sums text front some same =
+iso_from-front sums text front some same =
     let after = λ (next : Sums × ℕ). iso_from next.0 (drop next.1 text) in
     ap (result_and_then after) same ∙ meets-and_then after (item_table sums (item_at text)) _ ∙ sym (iso_from-step sums text some)
-
-pub iso_from-after : (sums next : Sums) (text : List ℕ) (size : ℕ) → 0 < length text
-    → ◌≡◌ {A = Result (Sums × ℕ) ParseError} (Ok (next, size)) (item_front sums (item_at text))
-    → iso_from next (drop size text) ≡ iso_from sums text
-iso_from-after sums next text size some = from-front sums text (Ok (next, size)) some
-
-pub iso_from-refused : (sums : Sums) (text : List ℕ) (fault : ParseError) → 0 < length text → Err fault ≡ item_front sums (item_at text)
-    → Err fault ≡ iso_from sums text
-iso_from-refused sums text fault some = from-front sums text (Err fault) some
 
 -- and where nothing is left, it is what the items add up to
 pub iso_from-end : (sums : Sums) (text : List ℕ) → length text ≡ 0 → iso_from sums text ≡ (if sums.some then Ok (sums_length sums) else Err fault.TooShort)

@@ -1,10 +1,12 @@
--- Durations have one normal form.
+-- Durations are in their ranges, and have one normal form.
 use Rattle.std.specs.Prelude.{◌≡◌, ◌/◌, ◌%◌, ◌≤◌, true, nat_le, Ok}
 use Rattle.std.proofs.Common.{arith, ap, ◌∙◌}
 use Rattle.std.proofs.lemmas.Bool.Decides.{nat_tests}
 use Rattle.speedate_base.specs.Offset.{seconds_per_day}
 use Rattle.speedate_base.proofs.RequirementLemmas.{meets-all}
 use Rattle.speedate.specs.DurationNumbers.{DurationNumbers, IsDuration, length_seconds, length_microseconds, of_length, carried_second, carried_day, normal_table, normal_form}
+use Rattle.speedate.specs.declared.duration.Duration.{Duration}
+use Rattle.speedate.specs.Duration.{parts}
 
 -- numbers in their ranges are those of their length
 pub of_length-only : (numbers : DurationNumbers) → IsDuration numbers → of_length numbers.positive (length_microseconds numbers) ≡ numbers
@@ -23,3 +25,10 @@ normal_form-same numbers valid =
     let day : nat_le (carried_day numbers) 4294967295 ≡ true = grind (arith, nat_tests, few) in
     let last : nat_le (carried_day numbers) 999999999 ≡ true = grind (arith, nat_tests, few) in
     meets-all (normal_table numbers) _ (second, (day, (last, tt))) ∙ ap Ok (of_length-only numbers valid)
+
+pub is_duration : (duration : Duration) → IsDuration (parts duration)
+is_duration duration = record {
+  day = duration.day_in_range;
+  second = duration.second_in_range;
+  microsecond = duration.microsecond_in_range;
+}

@@ -1,24 +1,23 @@
 -- What is printed of a duration is short.
-use Rattle.std.specs.Prelude.{◌≡◌, ℕ, suc, ◌+◌, ◌/◌, ◌%◌, ◌^◌, ◌<◌, ◌≤◌, Bool, true, false, ◌==◌, List, [], ◌∷◌, ◌++◌, length, if◌then◌else◌, refl}
+use Rattle.std.specs.Prelude.{ℕ, suc, ◌+◌, ◌/◌, ◌%◌, ◌^◌, ◌<◌, ◌≤◌, Bool, true, false, ◌==◌, List, [], ◌∷◌, ◌++◌, length, if◌then◌else◌}
 use Rattle.std.specs.Fmt.{decimal}
 use Rattle.std.proofs.Common.{arith, lit<}
+use Rattle.std.proofs.lemmas.Bool.Decides.{nat_tests}
 use Rattle.std.proofs.lemmas.List.{length-append}
 use Rattle.std.proofs.lemmas.Fmt.{length-decimal-le}
 use Rattle.std.proofs.lemmas.Str.{encode_ascii}
-use Rattle.speedate_base.specs.Ascii.{digit_zero, full_stop, capital_d, capital_h, capital_m, capital_y}
+use Rattle.speedate_base.specs.Ascii.{full_stop, capital_d, capital_h, capital_m, capital_y}
 use Rattle.speedate_base.specs.Digits.{six_digit_text}
 use Rattle.speedate.specs.DurationText.{counted_text, kept_digit, without_last_zeros, short_fraction_text, start_text}
 
 -- what stays is no more than there was
-kept-length : (digit : ℕ) (test : Bool) (rest : List ℕ) → (digit == digit_zero) ≡ test → length (kept_digit digit rest) ≤ suc (length rest)
-kept-length digit true [] is = rw is (omega arith)
-kept-length digit false [] is = rw is (omega arith)
-kept-length digit test (next ∷ rest) is = omega arith
+kept-length : (digit : ℕ) (rest : List ℕ) → length (kept_digit digit rest) ≤ suc (length rest)
+kept-length digit [] = grind (arith, nat_tests)
+kept-length digit (next ∷ rest) = omega arith
 
 without-length : (digits : List ℕ) → length (without_last_zeros digits) ≤ length digits
 without-length [] = omega arith
-without-length (digit ∷ digits) =
-    omega (arith, kept-length digit (digit == digit_zero) (without_last_zeros digits) refl, without-length digits)
+without-length (digit ∷ digits) = omega (arith, kept-length digit (without_last_zeros digits), without-length digits)
 
 -- a number and its unit
 chosen-length : (none : Bool) (text : List ℕ) (most : ℕ) → length text ≤ most → length (if none then [] else text) ≤ most

@@ -1,11 +1,9 @@
 -- In the lax order the answer to a text of a duration does not depend on the order of two neighbouring components of one side.
-use Rattle.std.specs.Prelude.{◌≡◌, ℕ, ◌+◌, ◌≤◌, Bool, true, false, not, ◌&&◌, ◌||◌, List, [], ◌∷◌, ◌++◌, nat_le, if◌then◌else◌, Option, Some, None, Result, Err, refl}
+use Rattle.std.specs.Prelude.{◌≡◌, ℕ, ◌≤◌, Bool, true, false, not, ◌&&◌, ◌||◌, List, [], ◌∷◌, ◌++◌, nat_le, if◌then◌else◌, Option, Some, None, Result, Err, refl, codes}
 use Rattle.std.specs.Option.{is_some}
 use Rattle.std.specs.List.{flat_map}
-use Rattle.std.proofs.Common.{arith, ap, ap₂, sym, ◌∙◌, append_assoc}
-use Rattle.std.proofs.Math.Bool.{or_assoc, or_comm}
-use Rattle.std.proofs.Math.Nat.{add_right_comm}
-use Rattle.std.proofs.lemmas.Bool.{and_from, and_parts, or_from}
+use Rattle.std.proofs.Common.{arith, ap, ap₂, sym, ◌∙◌, append_assoc, inl}
+use Rattle.std.proofs.lemmas.Bool.{or_from}
 use Rattle.std.proofs.lemmas.Bool.Decides.{nat_tests}
 use Rattle.speedate_base.specs.declared.config.IsoOrder.{IsoOrder}
 use Rattle.speedate_base.specs.declared.config.IsoOrder.TheVariants as order
@@ -20,6 +18,7 @@ use Rattle.speedate.specs.DurationNumbers.{UnsignedDuration, signed_form}
 use Rattle.speedate.specs.Exchanged.{has_decimal_mark, IsWhole, AreWhole, IsPlain, AreExchanged}
 use Rattle.speedate.specs.IsoForm.{DurationUnit, units, unit_in, ComponentText, Item, TimeDesignator, Component, item_text, item_at, item_table, Sums, no_sums, next_units_after, with_component, with_item, with_items}
 use Rattle.speedate.proofs.IsoItemLemmas.{item_at-amount}
+use Rattle.speedate_base.specs.Ascii.{capital_d, capital_m, capital_y}
 
 abbrev Answer : Type 0
 Answer = Result UnsignedDuration ParseError
@@ -84,10 +83,7 @@ amount-grows (Some unit) component sums = (omega arith, omega arith)
 
 -- how sums of two components are exchanged, field by field
 or-swap : (a b c : Bool) → (a || b || c) ≡ (a || c || b)
-or-swap a b c = or_assoc a b c ∙ ap (λ (test : Bool). a || test) (or_comm b c) ∙ sym (or_assoc a c b)
-
-add-swap : (a b c d e : ℕ) → a + b + c + d + e ≡ a + d + e + b + c
-add-swap a b c d e = omega arith
+or-swap a b c = grind (arith, nat_tests)
 
 -- whatever their units are
 amounts-swap : (one two : Option DurationUnit) (first second : ComponentText) (sums : Sums) → IsFree sums
@@ -98,19 +94,12 @@ amounts-swap (Some one) (Some two) first second sums free =
     let later = λ (unit : DurationUnit) (next : List DurationUnit). ap (λ (order : IsoOrder). next_units_after order sums.is_time unit.designator next) free.0 in
     let both = later two (next_units_after sums.order sums.is_time one.designator sums.next_units) ∙ sym (later one (next_units_after sums.order sums.is_time two.designator sums.next_units)) in
     let fractions = or-swap sums.fraction (has_decimal_mark first) (has_decimal_mark second) in
-    let days = add-swap sums.day _ _ _ _ in
-    let seconds = add-swap sums.second _ _ _ _ in
-    let microseconds = add_right_comm sums.microsecond _ _ in
-    λ i. record {
-      order = sums.order;
-      next_units = both i;
-      is_time = sums.is_time;
-      fraction = fractions i;
-      some = true;
-      day = days i;
-      second = seconds i;
-      microsecond = microseconds i;
-    }
+    let front = with_component (Some two) second (with_component (Some one) first sums) in
+    let back = with_component (Some one) first (with_component (Some two) second sums) in
+    let days : front.day ≡ back.day = omega arith in
+    let seconds : front.second ≡ back.second = omega arith in
+    let microseconds : front.microsecond ≡ back.microsecond = omega arith in
+    λ i. record front { next_units = both i; fraction = fractions i; day = days i; second = seconds i; microsecond = microseconds i }
 
 -- the unit of the second does not depend on the first
 with_amount-next : (first second : ComponentText) (sums : Sums) → with_item (Component second) (with_item (Component first) sums)
@@ -134,29 +123,15 @@ plain-next sums first second one two =
     ((two.0.0, two.0.1, has), two.1, amount-fraction unit first sums one.1 one.2)
 
 -- where both fit in one order, they fit in the other
-fits-both : (sums : Sums) (first second : ComponentText) → IsFree sums → (fits sums first && fits (with_item (Component first) sums) second) ≡ true
-    → (fits sums second && fits (with_item (Component second) sums) first) ≡ true
-fits-both sums first second free both =
-    let front = with_item (Component second) sums in
-    let tests = and_parts (fits sums first) _ both in
-    let one = and_parts (nat_le (digits_value first.number) 4294967295) _ tests.0 in
-    let two = and_parts (nat_le (digits_value second.number) 4294967295) _ tests.1 in
-    let total = and_parts (nat_le (with_item (Component second) (with_item (Component first) sums)).day 4294967295) _ two.1 in
-    let day = ap (λ (sums : Sums). nat_le sums.day 4294967295) (sym (amounts-exchanged first second sums free)) ∙ total.0 in
-    let second_sum = ap (λ (sums : Sums). nat_le sums.second 4294967295) (sym (amounts-exchanged first second sums free)) ∙ total.1 in
-    let grows = amount-grows (unit_in (units front.is_time) first.designator) first front in
-    let few_days : nat_le front.day 4294967295 ≡ true = grind (arith, nat_tests, grows.0, day) in
-    let few_seconds : nat_le front.second 4294967295 ≡ true = grind (arith, nat_tests, grows.1, second_sum) in
-    and_from _ _ (and_from _ _ two.0 (and_from _ _ few_days few_seconds)) (and_from _ _ one.0 (and_from _ _ day second_sum))
-
-same-test : (one two : Bool) → (one ≡ true → two ≡ true) → (two ≡ true → one ≡ true) → one ≡ two
-same-test true two there back = sym (there refl)
-same-test false true there back = back refl
-same-test false false there back = refl
-
 fits-exchanged : (sums : Sums) (first second : ComponentText) → IsFree sums
     → (fits sums first && fits (with_item (Component first) sums) second) ≡ (fits sums second && fits (with_item (Component second) sums) first)
-fits-exchanged sums first second free = same-test _ _ (fits-both sums first second free) (fits-both sums second first free)
+fits-exchanged sums first second free =
+    let one = with_item (Component first) sums in
+    let two = with_item (Component second) sums in
+    let same = amounts-exchanged first second sums free in
+    let after_one = amount-grows (unit_in (units one.is_time) second.designator) second one in
+    let after_two = amount-grows (unit_in (units two.is_time) first.designator) first two in
+    grind (arith, nat_tests, ap (λ (sums : Sums). sums.day) same, ap (λ (sums : Sums). sums.second) same, after_one.0, after_one.1, after_two.0, after_two.1)
 
 -- the answer to two components and what follows: that after them where both fit
 pair-answer : (sums : Sums) (first second : ComponentText) (rest : List ℕ) → IsFree sums → IsPlain sums first → IsPlain sums second
@@ -211,3 +186,24 @@ duration_answer-exchanged asked behavior one two lax are =
     (ap read are.is_one ∙ duration_answer-iso order.Lax behavior are.negative are.sign body are.is_sign
     ∙ ap (result_and_then (signed_form (not are.negative))) same
     ∙ sym (ap read are.is_two ∙ duration_answer-iso order.Lax behavior are.negative are.sign exchanged are.is_sign))
+
+-- a component without a fraction
+abbrev whole : List ℕ → ℕ → ComponentText
+whole number designator = record { number = number; fraction = []; designator = designator }
+
+-- two components that change places after one that is too large
+exchanged-large : AreExchanged (codes "P99999999999Y1M2D") (codes "P99999999999Y2D1M")
+exchanged-large = record {
+  negative = false;
+  sign = [];
+  items = Component (whole (codes "99999999999") capital_y) ∷ [];
+  first = whole (codes "1") capital_m;
+  second = whole (codes "2") capital_d;
+  rest = [];
+  is_sign = inl refl;
+  are_whole = (((refl, tt), refl, refl), tt);
+  is_plain_first = (((refl, tt), refl, refl), refl, refl);
+  is_plain_second = (((refl, tt), refl, refl), refl, refl);
+  is_one = refl;
+  is_two = refl;
+}

@@ -2,8 +2,9 @@
 use Rattle.std.specs.Prelude.{◌≡◌, ℕ, zero, suc, ◌-◌, Bool, true, false, not, ◌&&◌, List, [], ◌∷◌, ◌++◌, length, take, drop, slice_index, nat_lt, ◌==◌, if◌then◌else◌, Option, Some, None, Result, Ok, Err, refl}
 use Rattle.std.specs.List.{flat_map}
 use Rattle.std.specs.Option.{is_some}
-use Rattle.std.proofs.Common.{ap, sym, ◌∙◌, subst, inl, inr}
+use Rattle.std.proofs.Common.{arith, ap, sym, ◌∙◌, subst, inl, inr}
 use Rattle.std.proofs.lemmas.Bool.{eqb-true, false≢true}
+use Rattle.std.proofs.lemmas.Bool.Decides.{nat_tests}
 use Rattle.std.proofs.lemmas.List.{append-nil, take-append-drop}
 use Rattle.speedate_base.specs.declared.config.IsoOrder.{IsoOrder}
 use Rattle.speedate_base.specs.declared.config.IsoOrder.TheVariants as order
@@ -21,7 +22,7 @@ use Rattle.speedate.specs.DurationAnswer.{iso_after, iso_from, iso_form, unsigne
 use Rattle.speedate.proofs.DurationAnswerLemmas.{iso_from-item, duration_answer-iso}
 use Rattle.speedate.specs.InOrder.{IsLaxOrRefused, IsAnswerInOrder, are_in_order, IsMadeOf, is_iso}
 use Rattle.speedate.specs.IsoForm.{DurationUnit, units, unit_in, ComponentText, Item, TimeDesignator, Component, item_text, item_at, item_table, units_after, are_counted, Sums, no_sums, with_component, with_item, with_items, AreGood, sums_length, Ends}
-use Rattle.speedate.proofs.IsoFormLemmas.{iso_form-is}
+use Rattle.speedate.proofs.IsoFormLemmas.{answer-only, iso_after-is}
 use Rattle.speedate.proofs.IsoItemLemmas.{item_at-text}
 
 abbrev Answer : Type 0
@@ -94,7 +95,7 @@ unsigned-both asked behavior text true = iso-both 0 (no_sums asked) (drop 1 text
 unsigned-both asked behavior text false = inl refl
 
 -- so the answer in any order is the lax one, or the text is refused for its order
-duration-both : (asked : IsoOrder) (behavior : MicrosecondsPrecisionOverflowBehavior) (text : List ℕ)
+pub duration-both : (asked : IsoOrder) (behavior : MicrosecondsPrecisionOverflowBehavior) (text : List ℕ)
     → IsLaxOrRefused (duration_answer order.Lax behavior text) (duration_answer asked behavior text)
 unfolding unsigned_answer
 duration-both asked behavior text =
@@ -102,17 +103,9 @@ duration-both asked behavior text =
     both-signed (not (has_minus text)) _ _ (unsigned-both asked behavior rest (slice_index rest 0 == capital_p))
 
 -- the unit of a designator has that designator
-found-designator : (test : Bool) (one : DurationUnit) (other : Option DurationUnit) (designator : ℕ) (unit : DurationUnit) → (designator == one.designator) ≡ test
-    → (other ≡ Some unit → unit.designator ≡ designator) → (if test then Some one else other) ≡ Some unit → unit.designator ≡ designator
-found-designator true one other designator unit test later same =
-    let is : one ≡ unit = cc in
-    sym (eqb-true designator one.designator test ∙ ap (λ (unit : DurationUnit). unit.designator) is)
-found-designator false one other designator unit test later same = later same
-
 unit-designator : (units : List DurationUnit) (designator : ℕ) (unit : DurationUnit) → unit_in units designator ≡ Some unit → unit.designator ≡ designator
 unit-designator [] designator unit same = absurd (cc)
-unit-designator (one ∷ units) designator unit same =
-    found-designator (designator == one.designator) one (unit_in units designator) designator unit refl (unit-designator units designator unit) same
+unit-designator (one ∷ units) designator unit same = grind (arith, nat_tests, same, unit-designator units designator unit)
 
 -- a component with a unit adds to the sums of the strict order what it adds to the others, and leaves what follows its unit
 component-strict : (unit : Option DurationUnit) (component : ComponentText) (next : List DurationUnit) (sums : Sums) → unit_in (units sums.is_time) component.designator ≡ unit
@@ -162,11 +155,9 @@ items-strict next sums (Component component ∷ items) good =
 
 -- and without the order they are what they add up to
 items-lax : (sums : Sums) (items : List Item) → AreGood sums items → iso_from sums (flat_map item_text items) ≡ lax_end (with_items items sums)
-unfolding iso_after
-items-lax sums [] good = refl
-items-lax sums (item ∷ items) good =
-    let rest = flat_map item_text items in
-    iso_from-item sums item rest (item_at-text sums item rest good.0 good.1) ∙ meets-all (item_table sums item) _ good.1 ∙ items-lax (with_item item sums) items good.2
+items-lax sums items good =
+    let text = flat_map item_text items in
+    answer-only sums text _ _ (iso_after-is 0 sums text) (items, [], sym (append-nil text), good, refl)
 
 chosen : (positive in_order : Bool) (lax : Answer)
     → result_and_then (signed_form positive) (if in_order then lax else Err fault.DurationUnitOrder)
@@ -223,7 +214,7 @@ answer-items behavior text numbers iso same =
     let is_sign = sign-of_text text in
     let begins : text ≡ sign ++ capital_p ∷ body = sym (take-append-drop (sign_length text) text) ∙ ap (λ (rest : List ℕ). sign ++ rest) (first-byte rest iso) in
     let read = sym same ∙ ap (duration_answer order.Lax behavior) begins ∙ duration_answer-iso order.Lax behavior (has_minus text) sign body is_sign in
-    let from = iso_form-is order.Lax body in
+    let from = iso_after-is 0 (no_sums order.Lax) body in
     let ended = ends-read (not (has_minus text)) (with_items from.0 (no_sums order.Lax)) from.1 (iso_form order.Lax body) numbers from.4 read in
     let is_body = from.2 ∙ ap (λ (end : List ℕ). flat_map item_text from.0 ++ end) ended.0 ∙ append-nil (flat_map item_text from.0) in
     let is_made : IsMadeOf text from.0 = record {

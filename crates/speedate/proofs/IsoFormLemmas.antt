@@ -89,7 +89,7 @@ from-step sums byte rest (Err fault) next met from =
     ([], byte ∷ rest, refl, tt, (fault, met, sym (meets-next (item_table sums (item_at (byte ∷ rest))) (sums_length sums) (Err fault) next (sym met))))
 
 -- so every text has an answer, which the function gives
-iso_after-is : (skipped : ℕ) (sums : Sums) (text : List ℕ) → IsAnswerFrom sums (drop skipped text) (iso_after skipped sums text)
+pub iso_after-is : (skipped : ℕ) (sums : Sums) (text : List ℕ) → IsAnswerFrom sums (drop skipped text) (iso_after skipped sums text)
 unfolding iso_after
 iso_after-is skipped sums [] = rw (drop-nil {A = ℕ} skipped) ([], [], refl, tt, refl)
 iso_after-is zero sums (byte ∷ rest) =
@@ -97,13 +97,10 @@ iso_after-is zero sums (byte ∷ rest) =
     from-step sums byte rest _ _ refl (iso_after-is (length (item_text item) - 1) (with_item item sums) rest)
 iso_after-is (suc skipped) sums (byte ∷ rest) = iso_after-is skipped sums rest
 
-pub iso_form-is : (order : IsoOrder) (text : List ℕ) → IsIsoAnswer order text (iso_form order text)
-iso_form-is order text = iso_after-is 0 (no_sums order) text
-
 form-is : (order : IsoOrder) (behavior : MicrosecondsPrecisionOverflowBehavior) (text : List ℕ) (iso : Bool)
     → MatchBool iso (IsIsoAnswer order (drop 1 text) (if iso then iso_form order (drop 1 text) else form_answer behavior text))
     ((if iso then iso_form order (drop 1 text) else form_answer behavior text) ≡ form_answer behavior text)
-form-is order behavior text true = iso_form-is order (drop 1 text)
+form-is order behavior text true = iso_after-is 0 (no_sums order) (drop 1 text)
 form-is order behavior text false = refl
 
 form-only : (order : IsoOrder) (text : List ℕ) (iso : Bool) (form first second : Answer)

@@ -1,11 +1,11 @@
--- Items of ISO 8601 durations and the texts that begin with them.
-use Rattle.std.specs.Prelude.{◌≡◌, ℕ, suc, ◌+◌, ◌-◌, ◌<◌, ◌≤◌, Bool, true, false, not, List, [], ◌∷◌, ◌++◌, length, take, drop, slice_index, nat_lt, ◌==◌, if◌then◌else◌, Option, Some, None, Result, Ok, refl}
+-- Items of ISO 8601 durations and the texts that begin with them, and the places of their units.
+use Rattle.std.specs.Prelude.{◌≡◌, ℕ, suc, ◌+◌, ◌-◌, ◌<◌, ◌≤◌, Bool, true, false, not, List, [], ◌∷◌, ◌++◌, length, take, drop, slice_index, nat_lt, ◌==◌, if◌then◌else◌, Option, Some, None, Result, Ok, refl, zero, nat_le}
 use Rattle.std.specs.Char.{is_ascii_digit}
 use Rattle.std.specs.List.{list_all, prefix_len}
 use Rattle.std.specs.Option.{is_some}
-use Rattle.std.proofs.Common.{arith, ap, ap₂, sym, ◌∙◌, append_assoc, get_or, inl, inr, subst}
-use Rattle.std.proofs.Math.Seq.{take-append_seam, drop-append_seam, get_or-append_seam}
-use Rattle.std.proofs.lemmas.Bool.{and_parts, cases_lt, eqb-true, false≢true}
+use Rattle.std.proofs.Common.{arith, ap, ap₂, sym, ◌∙◌, append_assoc, get_or, subst}
+use Rattle.std.proofs.Math.Seq.{take-append_seam, drop-append_seam, get_or-append_seam, drop-nil}
+use Rattle.std.proofs.lemmas.Bool.{and_parts, eqb-true, false≢true, le-leb}
 use Rattle.std.proofs.lemmas.Bool.Decides.{nat_tests}
 use Rattle.std.proofs.lemmas.List.{drop-take, drop-drop, drop_more, take-append-drop, get_or_past, get_or-drop, length-append, length-take-le}
 use Rattle.std.proofs.lemmas.List.Sums.{prefix_len-le-length}
@@ -17,7 +17,7 @@ use Rattle.speedate_base.proofs.NumberLemmas.{run-digits}
 use Rattle.speedate_base.specs.Requirement.{AllHold}
 use Rattle.speedate_base.proofs.RequirementLemmas.{meets-all}
 use Rattle.speedate.specs.IsoForm.{DurationUnit, units, unit_in, ComponentText, Item, TimeDesignator, Component, item_text, is_decimal_mark, IsFraction, IsItem, fraction_length, component_at, item_at, Sums, with_amount, with_component, with_item, item_table, are_counted}
-use Rattle.speedate.specs.Reader.{item_front}
+use Rattle.speedate.specs.Reader.{item_front, unit_place}
 
 -- the designator of a unit is no digit and no decimal mark
 unit-designator : (is_time : Bool) (designator : ℕ) → is_some (unit_in (units is_time) designator) ≡ true → (is_ascii_digit designator ≡ false) × (is_decimal_mark designator ≡ false)
@@ -46,7 +46,7 @@ number-end number [] designator rest all is digit = run-end number designator re
 number-end number (mark ∷ digits) designator rest all is digit = run-end number mark (digits ++ designator ∷ rest) all (mark-no_digit mark is.0)
 
 -- digits begin with no `T`
-pub number-no_designator : (number rest : List ℕ) → nat_lt 0 (length number) ≡ true → list_all is_ascii_digit number ≡ true
+number-no_designator : (number rest : List ℕ) → nat_lt 0 (length number) ≡ true → list_all is_ascii_digit number ≡ true
     → (slice_index (number ++ rest) 0 == capital_t) ≡ false
 number-no_designator [] rest some all = absurd (cc)
 number-no_designator (digit ∷ number) rest some all = grind (arith, nat_tests, (and_parts (is_ascii_digit digit) _ all).0)
@@ -90,6 +90,9 @@ digits-after text false = refl
 pub fraction-digits : (text : List ℕ) → list_all is_ascii_digit (drop 1 (take (fraction_length text) text)) ≡ true
 fraction-digits text = digits-after text (is_decimal_mark (slice_index text 0))
 
+-- what the reader of a component cites
+pub ruleset component_rules = (nat_tests, fraction-digits)
+
 -- what has the length of a fraction is one
 fraction-front : (text : List ℕ) (has_mark : Bool) → is_decimal_mark (slice_index text 0) ≡ has_mark → IsFraction (take (if has_mark then 1 + run_length text 1 else 0) text)
 fraction-front text false same = tt
@@ -99,7 +102,7 @@ fraction-front (mark ∷ text) true same =
     subst (λ (n : ℕ). IsFraction (take n (mark ∷ text))) (sym more) (same, run-digits text)
 
 -- how many bytes a component has, from the lengths of its parts
-pub component-size : (text : List ℕ) → fraction_length (drop (run_length text 0) text) ≤ length (drop (run_length text 0) text)
+component-size : (text : List ℕ) → fraction_length (drop (run_length text 0) text) ≤ length (drop (run_length text 0) text)
     → length (item_text (Component (component_at text))) ≡ run_length text 0 + fraction_length (drop (run_length text 0) text) + 1
 component-size text within =
     let count = run_length text 0 in
@@ -109,16 +112,10 @@ component-size text within =
     let fraction = length-take-le size rest within in
     omega (arith, number, fraction, length-append (take count text ++ take size rest) (slice_index rest size ∷ []), length-append (take count text) (take size rest))
 
-no-unit : (is_time : Bool) → is_some (unit_in (units is_time) 0) ≡ false
-no-unit true = refl
-no-unit false = refl
-
 -- a designator with a unit stands within its text
 designator-within : (is_time : Bool) (text : List ℕ) (place : ℕ) → is_some (unit_in (units is_time) (slice_index text place)) ≡ true → place < length text
-designator-within is_time text place some = elim (cases_lt place (length text)) [
-  | inl within ↦ within
-  | inr past ↦ absurd (false≢true (sym (no-unit is_time) ∙ sym (ap (λ (designator : ℕ). is_some (unit_in (units is_time) designator)) (get_or_past text place 0 past)) ∙ some))
-]
+designator-within true text place some = grind (arith, nat_tests, some, get_or_past text place 0)
+designator-within false text place some = grind (arith, nat_tests, some, get_or_past text place 0)
 
 -- a text by its parts
 parted : (text : List ℕ) (n m : ℕ) → m < length (drop n text)
@@ -132,11 +129,11 @@ parted text n m within =
     simp append_assoc (sym (take-append-drop n text) ∙ ap (λ (end : List ℕ). take n text ++ end) (sym (take-append-drop m rest) ∙ cut))
 
 -- what begins a text as an item and meets the table is an item, and the text is its text and the rest
+abbrev IsFront : Sums → ℕ → List ℕ → Item → Type 0
+IsFront sums byte rest item = AllHold (item_table sums item) → IsItem item × (byte ∷ rest ≡ item_text item ++ drop (length (item_text item) - 1) rest)
+
 front-of : (sums : Sums) (byte : ℕ) (rest : List ℕ) (is_time : Bool) → (byte == capital_t) ≡ is_time
-    → AllHold (item_table sums (if is_time then TimeDesignator else Component (component_at (byte ∷ rest))))
-    → IsItem (if is_time then TimeDesignator else Component (component_at (byte ∷ rest)))
-    × (byte ∷ rest ≡ item_text (if is_time then TimeDesignator else Component (component_at (byte ∷ rest)))
-    ++ drop (length (item_text (if is_time then TimeDesignator else Component (component_at (byte ∷ rest)))) - 1) rest)
+    → IsFront sums byte rest (if is_time then TimeDesignator else Component (component_at (byte ∷ rest)))
 front-of sums byte rest true same hold = (tt, ap (λ (byte : ℕ). byte ∷ rest) (eqb-true byte capital_t same))
 front-of sums byte rest false same hold =
     let text : List ℕ = byte ∷ rest in
@@ -149,17 +146,8 @@ front-of sums byte rest false same hold =
       parted text count size within ∙ ap (λ (n : ℕ). item_text (Component (component_at text)) ++ drop n text) sized,
     )
 
-pub item-front : (sums : Sums) (byte : ℕ) (rest : List ℕ) → AllHold (item_table sums (item_at (byte ∷ rest)))
-    → IsItem (item_at (byte ∷ rest)) × (byte ∷ rest ≡ item_text (item_at (byte ∷ rest)) ++ drop (length (item_text (item_at (byte ∷ rest))) - 1) rest)
+pub item-front : (sums : Sums) (byte : ℕ) (rest : List ℕ) → IsFront sums byte rest (item_at (byte ∷ rest))
 item-front sums byte rest = front-of sums byte rest (byte == capital_t) refl
-
--- a text that begins with digits begins with no `T`
-number-first : (text : List ℕ) → 0 < run_length text 0 → (slice_index text 0 == capital_t) ≡ false
-number-first text some =
-    let count = run_length text 0 in
-    let long : length (take count text) ≡ count = length-take-le count text (prefix_len-le-length is_ascii_digit text) in
-    subst (λ (text : List ℕ). (slice_index text 0 == capital_t) ≡ false) (take-append-drop count text)
-    (number-no_designator (take count text) (drop count text) (grind (arith, nat_tests, some, long)) (run-digits text))
 
 -- a number of few digits, as it was read
 few-parts : (number value end count : ℕ) (few : Bool)
@@ -178,22 +166,33 @@ pub short-front : (sums next : Sums) (text : List ℕ) (number end designator : 
 short-front sums next text number end designator few unit read some small there none is comes added counted =
     let parts = few-parts number (run_value text 0) end (0 + run_length text 0) few read in
     let count = run_length text 0 in
-    let rest : List ℕ = drop count text in
     let component : ComponentText = record { number = take count text; fraction = []; designator = designator } in
-    let first : slice_index rest 0 ≡ designator = get_or-drop count text 0 0 ∙ ap (slice_index text) (omega (arith, parts.1)) ∙ sym there in
-    let mark = ap is_decimal_mark first ∙ (unit-designator sums.is_time designator (ap is_some (sym is))).1 in
-    let whole : component_at text ≡ component =
-    ap (λ (mark : Bool). let size = if mark then 1 + run_length rest 1 else 0 in record { number = take count text; fraction = take size rest; designator = slice_index rest size }) mark
-    ∙ ap (λ (byte : ℕ). record component { designator = byte }) first in
-    let item : item_at text ≡ Component component = ap (λ (is_time : Bool). if is_time then TimeDesignator else Component (component_at text)) (number-first text (omega (arith, some, parts.1)))
-    ∙ ap Component whole in
+    let first : designator ≡ slice_index (drop count text) 0 = there ∙ ap (slice_index text) (omega (arith, parts.1)) ∙ sym (get_or-drop count text 0 0) in
+    let has = ap is_some (sym is) in
+    let within = designator-within sums.is_time (drop count text) 0 (ap (λ (byte : ℕ). is_some (unit_in (units sums.is_time) byte)) (sym first) ∙ has) in
+    let long : length (take count text) ≡ count = length-take-le count text (prefix_len-le-length is_ascii_digit text) in
+    let digits : nat_lt 0 (length (take count text)) ≡ true = grind (arith, nat_tests, some, parts.1, long) in
+    let item = ap item_at (parted text count 0 within ∙ ap (λ (byte : ℕ). (take count text ++ [] ++ byte ∷ []) ++ drop (count + 0 + 1) text) (sym first))
+    ∙ item_at-amount sums.is_time component (drop (count + 0 + 1) text) (run-digits text, tt) digits has in
     let same : with_item (Component component) sums ≡ next = ap (λ (unit : Option DurationUnit). with_component unit component sums) (sym is)
     ∙ ap (λ (n : ℕ). with_amount unit n [] sums) (sym parts.0) ∙ sym added in
-    let long : length (take count text) ≡ count = length-take-le count text (prefix_len-le-length is_ascii_digit text) in
-    let all : AllHold (item_table sums (Component component)) = (
-      grind (arith, nat_tests, some, parts.1, long),
-      (grind (arith, nat_tests, small, parts.0), (ap not none, (ap is_some (sym is), (comes, (ap are_counted (same ∙ added) ∙ counted, tt))))),
-    ) in
+    let all : AllHold (item_table sums (Component component)) =
+    (digits, (grind (arith, nat_tests, small, parts.0), (ap not none, (has, (comes, (ap are_counted (same ∙ added) ∙ counted, tt)))))) in
     let sized : length (item_text (Component component)) ≡ end + 1 =
     omega (arith, parts.1, long, length-append (take count text ++ []) (designator ∷ []), length-append (take count text) []) in
     sym (ap (item_front sums) item ∙ meets-all (item_table sums (Component component)) _ all ∙ ap₂ (λ (sums : Sums) (size : ℕ). Ok (sums, size)) same sized)
+
+-- a unit is among those from a place on if and only if its own place is none before that
+pub unit-from : (is_time : Bool) (passed designator : ℕ) → is_some (unit_in (units is_time) designator) ≡ true
+    → is_some (unit_in (drop passed (units is_time)) designator) ≡ nat_le passed (unit_place designator (units is_time))
+unit-from is_time zero designator has = has ∙ sym (le-leb zero (unit_place designator (units is_time)) (omega arith))
+unit-from false (suc zero) designator has = grind (arith, nat_tests, has)
+unit-from false (suc (suc zero)) designator has = grind (arith, nat_tests, has)
+unit-from false (suc (suc (suc zero))) designator has = grind (arith, nat_tests, has)
+unit-from false (suc (suc (suc (suc passed)))) designator has = rw (drop-nil {A = DurationUnit} passed) (grind (arith, nat_tests, has))
+unit-from true (suc zero) designator has = grind (arith, nat_tests, has)
+unit-from true (suc (suc zero)) designator has = grind (arith, nat_tests, has)
+unit-from true (suc (suc (suc passed))) designator has = rw (drop-nil {A = DurationUnit} passed) (grind (arith, nat_tests, has))
+
+-- what the test of a unit's place cites
+pub ruleset place_rules = (nat_tests, unit-from)

@@ -1,17 +1,11 @@
 mod ClockFormLemmas
 mod DurationAnswerLemmas
-mod StandardFacts
 mod DurationLemmas
 mod DurationMoveLemmas
-mod DurationOrderLemmas
 pub mod DurationTextLemmas
 mod ExchangedLemmas
 mod InOrderLemmas
 mod IsoFormLemmas
 mod IsoItemLemmas
-mod IsoPlaceLemmas
 mod IsoTextLemmas
 mod DecimalTextLemmas
-mod DurationValueLemmas
-mod LetterLemmas
-mod DaysMoveLemmas

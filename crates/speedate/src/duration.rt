@@ -1,6 +1,6 @@
 //! Durations: days, seconds and microseconds, with a sign.
 
-ghost use Rattle.std.specs.Prelude.{◌≡◌, ℕ, ◌<◌, ◌≤◌, IfOk, List};
+ghost use Rattle.std.specs.Prelude.{◌≡◌, ℕ, ◌<◌, ◌≤◌, IfOk, List, unsigned_abs};
 ghost use Rattle.speedate_base.specs.Requirement.{result_map};
 ghost use Rattle.speedate.specs.DurationAnswer.{duration_answer};
 ghost use Rattle.speedate.specs.DurationForm.{IsGrammarAnswer};
@@ -186,6 +186,7 @@ impl Duration {
     }
 
     /// Reads a duration, with or without a sign.
+    #[tactic(auto, using(std::proofs::lemmas::List::take_rest))]
     #[inline(always)]
     fn parse(
         bytes: &[u8],
@@ -220,6 +221,7 @@ impl Duration {
     #[inline]
     pub fn signed_total_seconds(&self) -> i64
         ensures second { result ≡ signed_seconds (parts self.now) }
+        ensures small { unsigned_abs result < 86400000000000 }
     {
         with_sign(!self.positive, self.seconds())
     }
@@ -238,6 +240,7 @@ impl Duration {
     #[inline]
     pub fn signed_microseconds(&self) -> i32
         ensures microsecond { result ≡ signed_microsecond (parts self.now) }
+        ensures small { unsigned_abs result < 1000000 }
     {
         let microseconds = self.microsecond as i32;
         if self.positive {

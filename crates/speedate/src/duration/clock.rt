@@ -101,6 +101,7 @@ fn hours_end(bytes: &[u8], end: usize) -> Result<usize, ParseError>
 }
 
 /// Whether the digits at the front, which end at `end`, are at most ten, and `:` follows them.
+#[tactic(auto, using(crate::proofs::ClockFormLemmas::hours_rules))]
 #[inline(always)]
 fn has_hours(bytes: &[u8], end: usize) -> bool
     requires { end ≡ run_length bytes.now 0 }

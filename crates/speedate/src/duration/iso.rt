@@ -222,6 +222,7 @@ impl Sums {
     }
 
     /// Whether a unit of this side may still come.
+    #[tactic(auto, using(crate::proofs::IsoItemLemmas::place_rules))]
     #[inline(always)]
     fn takes(&self, unit: &DurationUnit) -> bool
         requires { IsUnitOf self.now.is_time unit.now }
@@ -316,6 +317,7 @@ impl Sums {
     }
 
     /// The sums with the component that begins a text, and how many bytes it has.
+    #[tactic(auto, using(crate::proofs::IsoItemLemmas::component_rules))]
     #[inline(always)]
     fn with_component(self, text: &[u8]) -> Result<(Self, usize), ParseError>
         ensures item { result_map (with_size sums_parts) result ≡ item_front (sums_parts self) (Component (component_at text.now)) }

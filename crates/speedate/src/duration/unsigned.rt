@@ -82,6 +82,7 @@ impl UnsignedDuration {
 
 /// Whether a text has days, whose first digits end at `end`: the letter of a day stands anywhere in it,
 /// or it is too short for a clock.
+#[tactic(auto, using(crate::proofs::ClockFormLemmas::letter_rules))]
 #[inline]
 fn has_days(bytes: &[u8], end: usize) -> bool
     requires end { end ≡ run_length bytes.now 0 }

@@ -4,7 +4,7 @@ use Rattle.speedate.specs.Duration.{parts}
 use Rattle.speedate.specs.DurationAnswer.{duration_answer}
 use Rattle.speedate.specs.DurationText.{duration_text}
 use Rattle.speedate.proofs.IsoTextLemmas.{duration_text-reads, duration_text-distinct}
-use Rattle.speedate.proofs.DurationValueLemmas.{is_duration}
+use Rattle.speedate.proofs.DurationLemmas.{is_duration}
 use Rattle.speedate.proofs.duration.Duration.to_text.Goals as goal
 
 pub returns-clause-reads_back : goal.returns-clause-reads_back

@@ -1,6 +1,6 @@
 use Rattle.std.proofs.Common.{List, ◌≡◌, ◌∙◌, sym, ap, ap₂, arith, pow-add, ℕ, ◌+◌, ◌-◌, ◌*◌, ◌/◌, ◌^◌, ◌≤◌, length}
 use Rattle.std.specs.Prelude.{unsigned_abs, pos, false}
-use Rattle.std.proofs.Math.Nat.{div-div-eq-div-mul, mul-div_left}
+use Rattle.std.proofs.Math.Nat.{mul-div-mul_right}
 use Rattle.speedate_base.specs.DigitRuns.{digits_value, fraction_value}
 use Rattle.speedate_base.proofs.DigitRunLemmas.{fraction_value-filled}
 use Rattle.speedate_base.specs.Nearest.{nearest}
@@ -10,30 +10,25 @@ use Rattle.speedate.specs.Reader.{unit_parts}
 use Rattle.speedate.proofs.duration.iso.DurationUnit.fraction.Goals as goal
 
 -- a million, by the digits that there are and those that are missing
-million : (count : ℕ) → count ≤ 6 → 10 ^ (6 - count) * 10 ^ count ≡ 1000000
+million : (count : ℕ) → count ≤ 6 → 1000000 ≡ 10 ^ count * 10 ^ (6 - count)
 million count few =
-    let all : 6 - count + count ≡ 6 = omega (arith, few) in
-    sym (pow-add 10 (6 - count) count) ∙ ap (λ (n : ℕ). 10 ^ n) all
+    let all : 6 ≡ count + (6 - count) = omega (arith, few) in
+    ap (λ (n : ℕ). 10 ^ n) all ∙ pow-add 10 count (6 - count)
 
 -- the whole seconds of the microseconds of a fraction
 whole-seconds : (value second count : ℕ) → count ≤ 6 → second * (value * 10 ^ (6 - count)) / 1000000 ≡ value * second / 10 ^ count
 whole-seconds value second count few =
-    let rest = 10 ^ (6 - count) in
-    let size = value * second in
-    let spread : second * (value * rest) ≡ size * rest = grind arith in
-    ap₂ (λ (n m : ℕ). n / m) spread (sym (million count few)) ∙ sym (div-div-eq-div-mul (size * rest) rest (10 ^ count))
-    ∙ ap (λ (n : ℕ). n / 10 ^ count) (mul-div_left size (scale-some (6 - count)))
+    let spread : second * (value * 10 ^ (6 - count)) ≡ value * second * 10 ^ (6 - count) = grind arith in
+    (λ i. spread i / million count few i) ∙ mul-div-mul_right (value * second) (10 ^ count) (scale-some (6 - count))
 
 -- its microseconds are whole
 whole-microseconds : (value second count : ℕ) → count ≤ 6
     → unsigned_abs (nearest (pos (value * (1000000 * second))) (10 ^ count)) ≡ second * (value * 10 ^ (6 - count))
 whole-microseconds value second count few =
-    let rest = 10 ^ (6 - count) in
     let scale = 10 ^ count in
-    let parted = ap (λ (n : ℕ). value * (n * second)) (sym (million count few)) in
-    let spread : value * (rest * scale * second) ≡ second * (value * rest) * scale = grind arith in
-    ap (λ (n : ℕ). unsigned_abs (nearest (pos n) scale)) (parted ∙ spread)
-    ∙ ap unsigned_abs (nearest-exact false (second * (value * rest)) scale (scale-some count))
+    let spread : value * (scale * 10 ^ (6 - count) * second) ≡ second * (value * 10 ^ (6 - count)) * scale = grind arith in
+    ap (λ (n : ℕ). unsigned_abs (nearest (pos n) scale)) (ap (λ (n : ℕ). value * (n * second)) (million count few) ∙ spread)
+    ∙ ap unsigned_abs (nearest-exact false (second * (value * 10 ^ (6 - count))) scale (scale-some count))
 
 -- what the first six places are, where there are no more
 filled : (digits : List ℕ) (microseconds : ℕ) → microseconds ≡ fraction_value 6 digits → length digits ≤ 6 → microseconds ≡ digits_value digits * 10 ^ (6 - length digits)

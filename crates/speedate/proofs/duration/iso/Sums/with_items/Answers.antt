@@ -1,10 +1,10 @@
-use Rattle.std.proofs.Common.{◌≡◌, ◌∙◌, ap, sym, arith, ◌<◌, length}
+use Rattle.std.proofs.Common.{◌≡◌, ◌∙◌, ap, sym, arith, ◌<◌, length, Ok}
 use Rattle.std.proofs.lemmas.Bool.Decides.{nat_tests}
 use Rattle.std.proofs.lemmas.List.{take_rest}
 use Rattle.std.proofs.lemmas.Result.{err_from_is_err_and}
 use Rattle.speedate.specs.DurationAnswer.{iso_from}
 use Rattle.speedate.specs.Reader.{sums_parts}
-use Rattle.speedate.proofs.DurationAnswerLemmas.{iso_from-after, iso_from-refused, iso_from-end}
+use Rattle.speedate.proofs.DurationAnswerLemmas.{iso_from-front, iso_from-end}
 use Rattle.speedate.proofs.duration.iso.Sums.with_items.Goals as goal
 
 pub returns-in_err-next : goal.returns-in_err-next
@@ -12,7 +12,7 @@ returns-in_err-next c =
     let rest = c.loop-rest.rest.now in
     let some : 0 < length rest = grind (arith, nat_tests, c.loop-rest-test.true, c.is_empty.ensures) in
     let p = err_from_is_err_and c.from_residual.result c.from_residual.ensures.1 in
-    rw (p.1, p.2) (record { answer = iso_from-refused (sums_parts c.loop-rest.sums) rest _ some c.in_err-next.ensures.item ∙ c.loop-rest.invariant })
+    rw (p.1, p.2) (record { answer = iso_from-front (sums_parts c.loop-rest.sums) rest _ some c.in_err-next.ensures.item ∙ c.loop-rest.invariant })
 
 pub loop-rest-preserved : goal.loop-rest-preserved
 loop-rest-preserved c =
@@ -20,7 +20,7 @@ loop-rest-preserved c =
     let next = sums_parts c.in_ok-next.next in
     let some : 0 < length rest = grind (arith, nat_tests, c.loop-rest-test.true, c.is_empty.ensures) in
     ap (iso_from next) (take_rest rest c.in_ok-next.size)
-    ∙ iso_from-after (sums_parts c.loop-rest.sums) next rest c.in_ok-next.size some c.in_ok-next.ensures.item ∙ c.loop-rest.invariant
+    ∙ iso_from-front (sums_parts c.loop-rest.sums) rest (Ok (next, c.in_ok-next.size)) some c.in_ok-next.ensures.item ∙ c.loop-rest.invariant
 
 pub returns : goal.returns
 returns c =

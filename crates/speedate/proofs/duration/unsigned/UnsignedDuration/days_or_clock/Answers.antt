@@ -7,7 +7,7 @@ use Rattle.speedate_base.specs.Requirement.{result_map}
 use Rattle.speedate.specs.declared.duration.unsigned.UnsignedDuration.{UnsignedDuration}
 use Rattle.speedate.specs.Duration.{unsigned_parts}
 use Rattle.speedate.specs.DurationForm.{form_answer}
-use Rattle.speedate.proofs.LetterLemmas.{clock-no_letter}
+use Rattle.speedate.proofs.ClockFormLemmas.{clock-no_letter}
 use Rattle.speedate.proofs.duration.unsigned.UnsignedDuration.days_or_clock.Goals as goal
 
 -- a value that was read is one in numbers too
