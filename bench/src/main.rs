@@ -1,7 +1,7 @@
 //! Times the calls of this library beside those of the Rust crate `speedate`, and beside other crates where they read
 //! the same texts: nanoseconds a call, over values and texts drawn at random, all in turns, the lowest of many rounds.
 
-mod moved;
+mod arithmetic;
 mod peers;
 mod print;
 mod read;
@@ -15,5 +15,5 @@ fn main() {
     let mut table = Table::new(prefix);
     read::rows(&mut table);
     print::rows(&mut table);
-    moved::rows(&mut table);
+    arithmetic::rows(&mut table);
 }

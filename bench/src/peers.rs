@@ -5,7 +5,7 @@
     allow(unused_mut, unused_imports, dead_code)
 )]
 
-use crate::moved::Moments;
+use crate::arithmetic::Moments;
 use crate::row::{Side, side};
 
 #[cfg(feature = "time")]

@@ -34,12 +34,12 @@ macro_rules! answer_or_return {
     };
 }
 
+mod arithmetic;
 mod code;
 mod config;
 mod date;
 mod datetime;
 mod duration;
-mod moved;
 mod text;
 mod time;
 

@@ -3,6 +3,8 @@
 #![tactic(auto)]
 
 #[cfg(test)]
+mod arithmetic;
+#[cfg(test)]
 mod calendar;
 #[cfg(test)]
 mod choices;
@@ -21,8 +23,6 @@ mod fractions;
 #[cfg(test)]
 mod fronts;
 pub mod laws;
-#[cfg(test)]
-mod moved;
 #[cfg(test)]
 mod numbers;
 #[cfg(test)]
