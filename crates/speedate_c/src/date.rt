@@ -99,19 +99,6 @@ pub extern "C" fn speedate_date_parse(
     ensures answer { (result, out.new) ≡ with_option (choices_of config) (config_out_of_range, out.old)
         (λ config. after_answer shown_date out.old (date_or_timestamp config.unit text.now)) }
 {
-    if config.is_default() {
-        return write_date(Date::parse_bytes(text), out);
-    }
-    parse_configured(text, config, out)
-}
-
-/// Reads a date under a configuration that is not the default.
-#[cold]
-#[inline(never)]
-fn parse_configured(text: &[u8], config: SpeedateConfig, out: &mut SpeedateDate) -> i32
-    ensures answer { (result, out.new) ≡ with_option (choices_of config) (config_out_of_range, out.old)
-        (λ config. after_answer shown_date out.old (date_or_timestamp config.unit text.now)) }
-{
     let config = config_or_return!(config);
     let config = DateConfig {
         timestamp_unit: config.timestamp_unit,

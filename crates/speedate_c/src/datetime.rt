@@ -84,20 +84,6 @@ pub extern "C" fn speedate_datetime_parse(
         (λ config. after_answer shown_date_time out.old
         (date_time_or_timestamp config.unit config.behavior config.offset text.now)) }
 {
-    if config.is_default() {
-        return write_date_time(DateTime::parse_bytes(text), out);
-    }
-    parse_configured(text, config, out)
-}
-
-/// Reads a date-time under a configuration that is not the default.
-#[cold]
-#[inline(never)]
-fn parse_configured(text: &[u8], config: SpeedateConfig, out: &mut SpeedateDateTime) -> i32
-    ensures answer { (result, out.new) ≡ with_option (choices_of config) (config_out_of_range, out.old)
-        (λ config. after_answer shown_date_time out.old
-        (date_time_or_timestamp config.unit config.behavior config.offset text.now)) }
-{
     let config = config_or_return!(config);
     write_date_time(DateTime::parse_bytes_with_config(text, &config), out)
 }

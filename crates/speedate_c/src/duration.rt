@@ -96,19 +96,6 @@ pub extern "C" fn speedate_duration_parse(
     ensures answer { (result, out.new) ≡ with_option (choices_of config) (config_out_of_range, out.old)
         (λ config. after_answer shown_duration out.old (duration_answer config.order config.behavior text.now)) }
 {
-    if config.is_default() {
-        return write_duration(Duration::parse_bytes(text), out);
-    }
-    parse_configured(text, config, out)
-}
-
-/// Reads a duration under a configuration that is not the default.
-#[cold]
-#[inline(never)]
-fn parse_configured(text: &[u8], config: SpeedateConfig, out: &mut SpeedateDuration) -> i32
-    ensures answer { (result, out.new) ≡ with_option (choices_of config) (config_out_of_range, out.old)
-        (λ config. after_answer shown_duration out.old (duration_answer config.order config.behavior text.now)) }
-{
     let config = config_or_return!(config);
     let answer = Duration::parse_bytes_with_config(text, &config.time_config);
     write_duration(answer, out)
