@@ -39,29 +39,17 @@ faults = map (λ (row : FaultRow). row.fault) fault_rows
 abbrev pub fault_of : ℤ → Option ParseError
 fault_of code = if int_le (pos 1) code then slice_get faults (unsigned_abs code - 1) else None
 
--- the names of the codes that are no faults
-abbrev pub refusal_name : ℤ → Option (List ℕ)
-refusal_name code =
-    if int_eq code value_out_of_range then Some (codes "value_out_of_range")
-    else (if int_eq code config_out_of_range then Some (codes "config_out_of_range")
-    else (if int_eq code buffer_too_small then Some (codes "buffer_too_small")
-    else (if int_eq code no_such_date then Some (codes "no_such_date") else None)))
+-- the name and the documentation text of a code that is no fault
+abbrev pub refusal_row : ℤ → Option (List ℕ × List ℕ)
+refusal_row code =
+    if int_eq code value_out_of_range then Some (codes "value_out_of_range", codes "a value or a flag is out of range")
+    else (if int_eq code config_out_of_range then Some (codes "config_out_of_range", codes "a number of the configuration is out of range")
+    else (if int_eq code buffer_too_small then Some (codes "buffer_too_small", codes "the buffer is too small for the text")
+    else (if int_eq code no_such_date then Some (codes "no_such_date", codes "the years 0000 to 9999 have no such date") else None)))
 
--- and their documentation texts
-abbrev pub refusal_documentation : ℤ → Option (List ℕ)
-refusal_documentation code =
-    if int_eq code value_out_of_range then Some (codes "a value or a flag is out of range")
-    else (if int_eq code config_out_of_range then Some (codes "a number of the configuration is out of range")
-    else (if int_eq code buffer_too_small then Some (codes "the buffer is too small for the text")
-    else (if int_eq code no_such_date then Some (codes "the years 0000 to 9999 have no such date") else None)))
-
--- the name of a code
-abbrev pub code_name : ℤ → Option (List ℕ)
-code_name code = option_or (option_map fault_name (fault_of code)) (refusal_name code)
-
--- its documentation text
-abbrev pub code_documentation : ℤ → Option (List ℕ)
-code_documentation code = option_or (option_map fault_documentation (fault_of code)) (refusal_documentation code)
+-- the name and the documentation text of a code
+abbrev pub code_row : ℤ → Option (List ℕ × List ℕ)
+code_row code = option_or (option_map (λ fault. (fault_name fault, fault_documentation fault)) (fault_of code)) (refusal_row code)
 
 -- the code of an answer
 abbrev pub answer_code : {A : Type 0} → Result A ParseError → ℤ

@@ -2,7 +2,7 @@
 
 ghost use Rattle.std.specs.Option.{option_map};
 ghost use Rattle.std.specs.Prelude.{◌≡◌, ◌≤◌, IfSome, Some, length, pos, slice_get};
-ghost use Rattle.speedate_c.specs.Code.{code_documentation, code_name, fault_code, fault_of, order_number, refusal_documentation, refusal_name};
+ghost use Rattle.speedate_c.specs.Code.{code_row, fault_code, fault_of, order_number, refusal_row};
 
 use speedate::ParseError;
 use std::cmp::Ordering;
@@ -22,51 +22,27 @@ pub(crate) const BUFFER_TOO_SMALL: i32 = 103;
 /// The years 0000 to 9999 have no such date.
 pub(crate) const NO_SUCH_DATE: i32 = 104;
 
+/// A list of faults by their names.
+macro_rules! faults {
+    ($($name:ident)*) => {
+        [$(ParseError::$name),*]
+    };
+}
+
 /// The faults in the order of their numbers.
-const FAULTS: [ParseError; 42] = [
-    ParseError::TooShort,
-    ParseError::ExtraCharacters,
-    ParseError::InvalidCharDateTimeSep,
-    ParseError::InvalidCharDateSep,
-    ParseError::DateNotExact,
-    ParseError::InvalidCharYear,
-    ParseError::InvalidCharMonth,
-    ParseError::InvalidCharDay,
-    ParseError::InvalidCharTimeSep,
-    ParseError::InvalidCharHour,
-    ParseError::InvalidCharMinute,
-    ParseError::InvalidCharSecond,
-    ParseError::InvalidCharSecondFraction,
-    ParseError::InvalidCharTzSign,
-    ParseError::InvalidCharTzHour,
-    ParseError::InvalidCharTzMinute,
-    ParseError::OutOfRangeTzMinute,
-    ParseError::OutOfRangeTz,
-    ParseError::TzRequired,
-    ParseError::SystemTimeError,
-    ParseError::OutOfRangeMonth,
-    ParseError::OutOfRangeDay,
-    ParseError::OutOfRangeHour,
-    ParseError::OutOfRangeMinute,
-    ParseError::OutOfRangeSecond,
-    ParseError::SecondFractionTooLong,
-    ParseError::SecondFractionMissing,
-    ParseError::MillisecondFractionTooLong,
-    ParseError::DurationInvalidNumber,
-    ParseError::DurationTRepeated,
-    ParseError::DurationInvalidFraction,
-    ParseError::DurationInvalidTimeUnit,
-    ParseError::DurationInvalidDateUnit,
-    ParseError::DurationInvalidDays,
-    ParseError::DurationValueTooLarge,
-    ParseError::DurationHourValueTooLarge,
-    ParseError::DurationDaysTooLarge,
-    ParseError::DateTooSmall,
-    ParseError::DateTooLarge,
-    ParseError::TimeTooLarge,
-    ParseError::DurationUnitOrder,
-    ParseError::MicrosecondFractionTooLong,
-];
+const FAULTS: [ParseError; 42] = faults! {
+    TooShort ExtraCharacters InvalidCharDateTimeSep InvalidCharDateSep DateNotExact
+    InvalidCharYear InvalidCharMonth InvalidCharDay
+    InvalidCharTimeSep InvalidCharHour InvalidCharMinute InvalidCharSecond InvalidCharSecondFraction
+    InvalidCharTzSign InvalidCharTzHour InvalidCharTzMinute OutOfRangeTzMinute OutOfRangeTz
+    TzRequired SystemTimeError
+    OutOfRangeMonth OutOfRangeDay OutOfRangeHour OutOfRangeMinute OutOfRangeSecond
+    SecondFractionTooLong SecondFractionMissing MillisecondFractionTooLong
+    DurationInvalidNumber DurationTRepeated DurationInvalidFraction
+    DurationInvalidTimeUnit DurationInvalidDateUnit DurationInvalidDays
+    DurationValueTooLarge DurationHourValueTooLarge DurationDaysTooLarge
+    DateTooSmall DateTooLarge TimeTooLarge DurationUnitOrder MicrosecondFractionTooLong
+};
 
 /// The code of a fault, its place in the enum, counted from 1: 1 for `TooShort`.
 #[inline]
@@ -96,54 +72,32 @@ fn fault_at(faults: &[ParseError], place: usize) -> Option<ParseError>
     faults.get(place).copied()
 }
 
-/// The name of a code.
-pub(crate) fn code_name(code: i32) -> Option<&'static str>
-    ensures name { option_map (λ name. name.now) result ≡ code_name code }
-    ensures short { IfSome result (λ name. length name.now ≤ 63) }
+/// The name and the documentation text of a code.
+pub(crate) fn code_row(code: i32) -> Option<(&'static str, &'static str)>
+    ensures row { option_map (λ row. (row.0.now, row.1.now)) result ≡ code_row code }
+    ensures short { IfSome result (λ row. (length row.0.now ≤ 63) × (length row.1.now ≤ 63)) }
 {
     match fault_of(code) {
-        Some(fault) => Some(fault.name()),
-        None => refusal_name(code),
+        Some(fault) => Some((fault.name(), fault.get_documentation()?)),
+        None => refusal_row(code),
     }
 }
 
-/// The name of a code that is no fault.
-fn refusal_name(code: i32) -> Option<&'static str>
-    ensures name { option_map (λ name. name.now) result ≡ refusal_name code }
-    ensures short { IfSome result (λ name. length name.now ≤ 63) }
+/// The name and the documentation text of a code that is no fault.
+fn refusal_row(code: i32) -> Option<(&'static str, &'static str)>
+    ensures row { option_map (λ row. (row.0.now, row.1.now)) result ≡ refusal_row code }
+    ensures short { IfSome result (λ row. (length row.0.now ≤ 63) × (length row.1.now ≤ 63)) }
 {
-    match code {
-        VALUE_OUT_OF_RANGE => Some("value_out_of_range"),
-        CONFIG_OUT_OF_RANGE => Some("config_out_of_range"),
-        BUFFER_TOO_SMALL => Some("buffer_too_small"),
-        NO_SUCH_DATE => Some("no_such_date"),
-        _ => None,
-    }
-}
-
-/// The documentation text of a code.
-pub(crate) fn code_documentation(code: i32) -> Option<&'static str>
-    ensures text { option_map (λ text. text.now) result ≡ code_documentation code }
-    ensures short { IfSome result (λ text. length text.now ≤ 63) }
-{
-    match fault_of(code) {
-        Some(fault) => fault.get_documentation(),
-        None => refusal_documentation(code),
-    }
-}
-
-/// The documentation text of a code that is no fault.
-fn refusal_documentation(code: i32) -> Option<&'static str>
-    ensures text { option_map (λ text. text.now) result ≡ refusal_documentation code }
-    ensures short { IfSome result (λ text. length text.now ≤ 63) }
-{
-    match code {
-        VALUE_OUT_OF_RANGE => Some("a value or a flag is out of range"),
-        CONFIG_OUT_OF_RANGE => Some("a number of the configuration is out of range"),
-        BUFFER_TOO_SMALL => Some("the buffer is too small for the text"),
-        NO_SUCH_DATE => Some("the years 0000 to 9999 have no such date"),
-        _ => None,
-    }
+    Some(match code {
+        VALUE_OUT_OF_RANGE => ("value_out_of_range", "a value or a flag is out of range"),
+        CONFIG_OUT_OF_RANGE => (
+            "config_out_of_range",
+            "a number of the configuration is out of range",
+        ),
+        BUFFER_TOO_SMALL => ("buffer_too_small", "the buffer is too small for the text"),
+        NO_SUCH_DATE => ("no_such_date", "the years 0000 to 9999 have no such date"),
+        _ => return None,
+    })
 }
 
 /// The number of an order: -1, 0 or 1.

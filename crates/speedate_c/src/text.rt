@@ -2,9 +2,9 @@
 
 ghost use Rattle.std.specs.Prelude.{◌≡◌, ◌≢◌, ◌+◌, ◌<◌, ◌≤◌, ◌∷◌, ◌++◌, drop, length};
 ghost use Rattle.speedate_c.specs.After.{after_text, with_option};
-ghost use Rattle.speedate_c.specs.Code.{buffer_too_small, code_documentation, code_name, success, value_out_of_range};
+ghost use Rattle.speedate_c.specs.Code.{buffer_too_small, code_row, success, value_out_of_range};
 
-use crate::code::{BUFFER_TOO_SMALL, SUCCESS, VALUE_OUT_OF_RANGE, code_documentation, code_name};
+use crate::code::{BUFFER_TOO_SMALL, SUCCESS, VALUE_OUT_OF_RANGE, code_row};
 
 /// Writes a text and a zero byte after it into a buffer, and its length beside it, and gives the
 /// code.
@@ -39,11 +39,11 @@ fn fill(text: &str, buffer: &mut [u8])
 /// has no room for the name and a zero byte.
 #[unsafe(no_mangle)]
 pub extern "C" fn speedate_code_name(code: i32, buffer: &mut [u8], text_length: &mut usize) -> i32
-    ensures answer { (result, buffer.new, text_length.new) ≡ with_option (code_name code) (value_out_of_range, buffer.old, text_length.old)
-        (λ name. after_text name buffer.old text_length.old) }
+    ensures answer { (result, buffer.new, text_length.new) ≡ with_option (code_row code) (value_out_of_range, buffer.old, text_length.old)
+        (λ row. after_text row.0 buffer.old text_length.old) }
     ensures room { 64 ≤ length buffer.old → result ≢ buffer_too_small }
 {
-    let Some(name) = code_name(code) else {
+    let Some((name, _)) = code_row(code) else {
         return VALUE_OUT_OF_RANGE;
     };
     write_text(name, buffer, text_length)
@@ -58,12 +58,12 @@ pub extern "C" fn speedate_code_documentation(
     buffer: &mut [u8],
     text_length: &mut usize,
 ) -> i32
-    ensures answer { (result, buffer.new, text_length.new) ≡ with_option (code_documentation code) (value_out_of_range, buffer.old, text_length.old)
-        (λ text. after_text text buffer.old text_length.old) }
+    ensures answer { (result, buffer.new, text_length.new) ≡ with_option (code_row code) (value_out_of_range, buffer.old, text_length.old)
+        (λ row. after_text row.1 buffer.old text_length.old) }
     ensures room { 64 ≤ length buffer.old → result ≢ buffer_too_small }
 {
-    let Some(text) = code_documentation(code) else {
+    let Some((_, documentation)) = code_row(code) else {
         return VALUE_OUT_OF_RANGE;
     };
-    write_text(text, buffer, text_length)
+    write_text(documentation, buffer, text_length)
 }

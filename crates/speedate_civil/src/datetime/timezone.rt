@@ -20,10 +20,7 @@ impl DateTime {
         ensures answer { result_map parts result ≡ date_time_with_offset tz_offset (parts self.now) }
     {
         let time = self.time.with_timezone_offset(tz_offset)?;
-        Ok(DateTime {
-            date: self.date,
-            time,
-        })
+        Ok(DateTime { time, ..*self })
     }
 
     /// The date-time at the same instant, as a clock at another offset, in seconds, shows it:
