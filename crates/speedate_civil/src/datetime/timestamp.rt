@@ -153,7 +153,7 @@ impl DateTime {
     ///   together, or if the seconds and those carried exceed `i64::MAX`;
     /// - `DateTooSmall` if the sum lies before the year 0000;
     /// - `DateTooLarge` if it lies after the year 9999.
-    #[inline]
+    #[inline(always)]
     pub fn from_timestamp_with_config(
         timestamp: i64,
         timestamp_microsecond: u32,
