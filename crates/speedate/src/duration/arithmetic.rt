@@ -42,7 +42,7 @@ impl Duration {
     /// offset: 2020-03-01T00:30:00+01:00 for an hour and 2020-02-29T23:30:00+01:00. `DateTooSmall`
     /// where the date that a clock at the offset shows is before the year 0000, `DateTooLarge` where it
     /// is after the year 9999. [`Duration::before`] leads back.
-    #[inline]
+    #[inline(always)]
     pub fn after(&self, start: &DateTime) -> Result<DateTime, ParseError>
         ensures answer { result_map date_time_parts result ≡ date_time_after (signed_length (parts self.now)) (date_time_parts start.now) }
         ensures ends { IfOk result (λ end. utc_microsecond (date_time_parts end)

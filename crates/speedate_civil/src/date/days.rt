@@ -13,7 +13,7 @@ impl Date {
     /// The date so many days later, or earlier if the number is negative: 2020-03-01 for 2020-02-28 and
     /// 2. `None` if that is before 0000-01-01 or after 9999-12-31. [`Date::days_since`] leads back to
     /// the number.
-    #[inline]
+    #[inline(always)]
     pub fn checked_add_days(&self, days: i32) -> Option<Self>
         ensures date { option_map parts result ≡ date_added days (parts self.now) }
         ensures counted { IfSome result (λ date. days_between (parts self.now) (parts date) ≡ days) }

@@ -92,7 +92,7 @@ impl Date {
     ///   the year 0000;
     /// - `DateTooLarge` if it lies after the year 9999;
     /// - `DateNotExact` if an exact date is required, and the timestamp is not a midnight.
-    #[inline]
+    #[inline(always)]
     pub fn from_timestamp(
         timestamp: i64,
         require_exact: bool,

@@ -43,7 +43,7 @@ impl Time {
 }
 
 /// Refuses a text that is read as a time, but is none of RFC 3339.
-#[inline]
+#[inline(always)]
 pub(crate) fn require_standard(text: &[u8]) -> Result<(), ParseError>
     ensures answer { result ≡ meets (standard_time text.now) (Ok tt) }
 {
