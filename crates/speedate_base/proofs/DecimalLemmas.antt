@@ -2,7 +2,7 @@
 use Rattle.std.specs.Prelude.{◌≡◌, ◌≢◌, ℕ, zero, suc, ◌+◌, ◌*◌, ◌/◌, ◌^◌, ◌<◌, ◌≤◌, ◌==◌, Bool, true, false, nat_le, if◌then◌else◌, List, [], ◌∷◌, ◌++◌, length, get_or, ℤ, pos, negsuc, int_le, Err, refl}
 use Rattle.std.specs.Char.{is_ascii_digit}
 use Rattle.std.specs.List.{list_all}
-use Rattle.std.proofs.Common.{arith, ap, sym, ◌∙◌, lit<}
+use Rattle.std.proofs.Common.{arith, rules, ap, sym, ◌∙◌, lit<}
 use Rattle.std.proofs.lemmas.Bool.{and_parts}
 use Rattle.std.proofs.lemmas.Bool.Decides.{nat_tests}
 use Rattle.std.proofs.lemmas.Int.{ints}
@@ -32,26 +32,20 @@ digits_value-large (digit ∷ digits) all many other =
 -- how a decimal compares with the largest timestamp in seconds
 pub same-whole : (whole fraction : List ℕ) → digits_value whole ≡ inferred_seconds_max
     → nat_le (digits_value (whole ++ fraction)) (inferred_seconds_max * 10 ^ length fraction) ≡ (digits_value fraction == 0)
-same-whole whole fraction same =
-    let sum = digits_value-append whole fraction ∙ ap (λ (n : ℕ). n * 10 ^ length fraction + digits_value fraction) same in
-    grind (arith, nat_tests, sum)
+same-whole whole fraction same = grind (arith, nat_tests, digits_value-append)
 
 pub less-whole : (whole fraction : List ℕ) → list_all is_ascii_digit fraction ≡ true → digits_value whole < inferred_seconds_max
     → nat_le (digits_value (whole ++ fraction)) (inferred_seconds_max * 10 ^ length fraction) ≡ true
 less-whole whole fraction all less =
-    let product = mul-le-mul_right (10 ^ length fraction) less in
-    grind (arith, nat_tests, digits_value-append whole fraction, digits_value-lt fraction all, product)
+    grind (arith, nat_tests, digits_value-append, digits_value-lt, mul-le-mul_right (10 ^ length fraction) less)
 
 pub more-whole : (whole fraction : List ℕ) → inferred_seconds_max < digits_value whole
     → nat_le (digits_value (whole ++ fraction)) (inferred_seconds_max * 10 ^ length fraction) ≡ false
-more-whole whole fraction more =
-    let product = mul-le-mul_right (10 ^ length fraction) more in
-    grind (arith, nat_tests, digits_value-append whole fraction, scale-some (length fraction), product)
+more-whole whole fraction more = grind (arith, nat_tests, digits_value-append, scale-some, mul-le-mul_right (10 ^ length fraction) more)
 
 -- a size with its sign is one size
 with_sign-only : (negative : Bool) (first second : ℕ) → with_sign negative first ≡ with_sign negative second → first ≡ second
-with_sign-only false first second same = grind (arith, ints, same)
-with_sign-only true first second same = grind (arith, ints, same)
+with_sign-only negative first second same = grind (arith, ints)
 
 -- the microseconds of the whole part, and those of the fraction to the nearest, are those of the decimal to the nearest
 pub decimal_microsecond-sum : (row : UnitRow) (decimal : DecimalParts) (part : ℕ)
@@ -74,13 +68,7 @@ decimal_microsecond-sum row decimal part is =
 -- an instant far from 1970 lies outside the years
 far-range : (negative : Bool) (size : ℕ) → 2 ^ 60 < size
     → range_answer (instant_at (with_sign negative size)) ≡ Err (if negative then fault.DateTooSmall else fault.DateTooLarge)
-far-range false size far =
-    let late : int_le (pos (size / 1000000)) last_second ≡ false = grind (arith, ints, nat_tests) in
-    rw late refl
-far-range true zero far = absurd (omega arith)
-far-range true (suc size) far =
-    let early : int_le first_second (negsuc (size / 1000000)) ≡ false = grind (arith, ints, nat_tests) in
-    rw early refl
+far-range negative size far = search rules
 
 -- so does that of a decimal whose whole part is far
 pub decimal-far : (row : UnitRow) (decimal : DecimalParts) → 2 ^ 60 < digits_value decimal.whole * row.microseconds

@@ -2,7 +2,7 @@
 use Rattle.std.specs.Prelude.{◌≡◌, ℕ, zero, suc, ◌+◌, ◌-◌, ◌*◌, ◌^◌, ◌<◌, ◌≤◌, ◌==◌, ◌&&◌, Bool, true, false, if◌then◌else◌, List, [], ◌∷◌, ◌++◌, length, take, drop, refl}
 use Rattle.std.specs.Char.{is_ascii_digit}
 use Rattle.std.specs.List.{prefix_len, list_all}
-use Rattle.std.proofs.Common.{arith, lit<, ap, sym, ◌∙◌, get_or, inl, inr}
+use Rattle.std.proofs.Common.{arith, rules, lit<, ap, sym, ◌∙◌, get_or, inl, inr}
 use Rattle.std.proofs.lemmas.List.{length-append, length-take-le, take_more, get_or-take, get_or_past}
 use Rattle.std.proofs.lemmas.List.Sums.{prefix_len_is, prefix_len-drop_no, prefix_len-drop_all, AllPass-from_list_all}
 use Rattle.std.proofs.lemmas.List.Folds.{list_all-append, prefix_len-append}
@@ -17,10 +17,7 @@ use Rattle.speedate_base.specs.DigitRuns.{run_length, digits_value, fraction_val
 
 -- a digit stands within its text
 pub digit-within : (bytes : List ℕ) (place : ℕ) → is_ascii_digit (get_or bytes place 0) ≡ true → place < length bytes
-digit-within bytes place is = elim (cases_lt place (length bytes)) [
-  | inl within ↦ within
-  | inr past ↦ absurd (false≢true (ap is_ascii_digit (sym (get_or_past bytes place 0 past)) ∙ is))
-]
+digit-within bytes place is = grind (arith, nat_tests, cases_lt, get_or_past)
 
 -- a digit stands for nine at most
 pub one_digit_value-le : (byte : ℕ) → is_ascii_digit byte ≡ true → one_digit_value byte ≤ 9
@@ -36,21 +33,16 @@ digits_value-lt (digit ∷ digits) all =
 
 -- what is below a power of ten is below a larger one
 pub below-power : (most count value : ℕ) → count ≤ most → value < 10 ^ count → value < 10 ^ most
-below-power most count value few small =
-    let power : 10 ^ count ≤ 10 ^ most = pow-le-pow_right {n = 10} (lit< tt) few in
-    omega (arith, power, small)
+below-power most count value few small = search (rules, pow-le-pow_right)
 
 -- few digits fit 64 bits
 pub digits_value-fits : (digits : List ℕ) → length digits ≤ 19 → list_all is_ascii_digit digits ≡ true → digits_value digits < 2 ^ 64
-digits_value-fits digits few all = omega (arith, below-power 19 (length digits) _ few (digits_value-lt digits all))
+digits_value-fits digits few all = search (rules, below-power, digits_value-lt)
 
 -- digits after others
 pub digits_value-append : (digits more : List ℕ) → digits_value (digits ++ more) ≡ digits_value digits * 10 ^ length more + digits_value more
 digits_value-append [] more = omega arith
-digits_value-append (first ∷ digits) more =
-    let long : length (digits ++ more) ≡ length digits + length more = omega (arith, length-append digits more) in
-    let power = ap (λ (n : ℕ). one_digit_value first * 10 ^ n) long ∙ ap (λ (p : ℕ). one_digit_value first * p) (pow-add 10 (length digits) (length more)) in
-    grind (arith, power, digits_value-append digits more)
+digits_value-append (first ∷ digits) more = search (rules, length-append, pow-add, digits_value-append digits more)
 
 -- one more digit
 pub digits_value-front-more : (bytes : List ℕ) (count : ℕ) → count < length bytes
@@ -73,30 +65,22 @@ run_length-ended bytes count within all ended =
 
 -- where no digit stands there is no run
 pub run-none : (text : List ℕ) (place : ℕ) → is_ascii_digit (get_or text place 0) ≡ false → run_length text place ≡ 0
-run-none text place other = elim (cases_lt place (length text)) [
-  | inl within ↦ prefix_len-drop_no is_ascii_digit text place 0 within other
-  | inr past ↦ prefix_len-drop_all is_ascii_digit text place past
-]
-
-whole-first : (count long : ℕ) (test all : Bool) → (count == long) ≡ all → ((if test then 1 + count else 0) == suc long) ≡ (test && all)
-whole-first count long test all same = grind (arith, nat_tests)
+run-none text place other = search (rules, cases_lt, prefix_len-drop_no, prefix_len-drop_all)
 
 -- a run ends with the bytes if and only if all of them are digits
 pub run-whole : (bytes : List ℕ) → (prefix_len is_ascii_digit bytes == length bytes) ≡ list_all is_ascii_digit bytes
 run-whole [] = refl
-run-whole (byte ∷ bytes) = whole-first _ _ (is_ascii_digit byte) _ (run-whole bytes)
+run-whole (byte ∷ bytes) = grind (arith, nat_tests, run-whole bytes)
 
 -- digits before a run belong to it
 pub run_length-append : (digits rest : List ℕ) → list_all is_ascii_digit digits ≡ true
     → prefix_len is_ascii_digit (digits ++ rest) ≡ length digits + prefix_len is_ascii_digit rest
-run_length-append digits rest all = rw (prefix_len-append is_ascii_digit digits rest, run-whole digits ∙ all) refl
+run_length-append digits rest all = search (rules, prefix_len-append, run-whole)
 
 -- where the digits go on, so does the front
 pub list_all-more : (bytes : List ℕ) (place count : ℕ) → list_all is_ascii_digit (take place bytes) ≡ true
     → list_all is_ascii_digit (take count (drop place bytes)) ≡ true → list_all is_ascii_digit (take (place + count) bytes) ≡ true
-list_all-more bytes place count first next =
-    ap (list_all is_ascii_digit) (take-add place count bytes) ∙ list_all-append is_ascii_digit (take place bytes) (take count (drop place bytes))
-    ∙ and_from _ _ first next
+list_all-more bytes place count first next = search (rules, take-add, list_all-append, and_from)
 
 -- a fraction is what its digits spell, and zeros in the places that they leave
 pub fraction_value-filled : (places : ℕ) (digits : List ℕ) → length digits ≤ places
@@ -115,5 +99,4 @@ fraction_value-filled (suc places) (digit ∷ digits) few =
 pub fraction_value-take : (places : ℕ) (digits : List ℕ) → fraction_value places (take places digits) ≡ fraction_value places digits
 fraction_value-take zero digits = refl
 fraction_value-take (suc places) [] = refl
-fraction_value-take (suc places) (digit ∷ digits) =
-    ap (λ (value : ℕ). one_digit_value digit * 10 ^ places + value) (fraction_value-take places digits)
+fraction_value-take (suc places) (digit ∷ digits) = search (rules, fraction_value-take places digits)

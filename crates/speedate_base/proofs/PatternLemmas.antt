@@ -1,6 +1,6 @@
 -- What is known of bytes that are as a pattern has them.
 use Rattle.std.specs.Prelude.{◌≡◌, ℕ, zero, suc, ◌+◌, ◌≤◌, Bool, true, false, if◌then◌else◌, List, [], ◌∷◌, length, drop, refl}
-use Rattle.std.proofs.Common.{add-zero, arith}
+use Rattle.std.proofs.Common.{arith, rules}
 use Rattle.std.proofs.lemmas.List.{get_or-drop}
 use Rattle.std.proofs.lemmas.Bool.Decides.{nat_tests}
 use Rattle.speedate_base.specs.Pattern.{eight_at, fits_byte, fit_length}
@@ -33,8 +33,7 @@ AllFit (suc count) (form ∷ forms) (byte ∷ bytes) = (fits_byte form byte ≡ 
 
 -- where one more byte fits, the first one does, and the others behind it
 pub first-fits : (count rest : ℕ) (test : Bool) → suc count ≤ (if test then 1 + rest else 0) → (test ≡ true) × (count ≤ rest)
-first-fits count rest true enough = (refl, omega arith)
-first-fits count rest false enough = absurd (omega arith)
+first-fits count rest test enough = search rules
 
 -- where so many bytes fit, each of them does
 pub fit_length-all : (count : ℕ) (forms bytes : List ℕ) → count ≤ fit_length forms bytes → AllFit count forms bytes
@@ -47,14 +46,4 @@ fit_length-all (suc count) (form ∷ forms) (byte ∷ bytes) enough =
 
 -- eight bytes of a text are the first eight of what begins at their place
 pub eight_at-drop : (place : ℕ) (text : List ℕ) → eight_at text place ≡ eight_at (drop place text) 0
-eight_at-drop place text = cc (
-  get_or-drop place text 0 0,
-  get_or-drop place text 1 0,
-  get_or-drop place text 2 0,
-  get_or-drop place text 3 0,
-  get_or-drop place text 4 0,
-  get_or-drop place text 5 0,
-  get_or-drop place text 6 0,
-  get_or-drop place text 7 0,
-  add-zero place,
-)
+eight_at-drop place text = search (rules, get_or-drop)

@@ -2,8 +2,9 @@
 use Rattle.std.specs.Prelude.{◌≡◌, ℕ, ◌+◌, ◌-◌, ◌*◌, ◌^◌, ◌<◌, ◌≤◌, Bool, true, List, ◌++◌, length, take, drop}
 use Rattle.std.specs.Char.{is_ascii_digit}
 use Rattle.std.specs.List.{list_all}
-use Rattle.std.proofs.Common.{arith, ap, sym, ◌∙◌, lit<}
+use Rattle.std.proofs.Common.{arith, rules, ap, sym, ◌∙◌, lit<}
 use Rattle.std.proofs.lemmas.Bool.{and_parts}
+use Rattle.std.proofs.lemmas.Bool.Decides.{nat_tests}
 use Rattle.std.proofs.lemmas.List.{take-append-drop}
 use Rattle.std.proofs.lemmas.List.Folds.{list_all-append}
 use Rattle.std.proofs.lemmas.Nat.{pow-add}
@@ -24,13 +25,7 @@ parts-all digits count all =
 pub filled-small : (digits : List ℕ) (count : ℕ) → length digits ≤ count → list_all is_ascii_digit digits ≡ true
     → digits_value digits * 10 ^ (count - length digits) < 10 ^ count
 filled-small digits count few all =
-    let sum : length digits + (count - length digits) ≡ count = omega arith in
-    let power : 10 ^ count ≡ 10 ^ length digits * 10 ^ (count - length digits) =
-    sym (ap (λ (n : ℕ). 10 ^ n) sum) ∙ pow-add 10 (length digits) (count - length digits) in
-    let next : digits_value digits + 1 ≤ 10 ^ length digits = omega (arith, digits_value-lt digits all) in
-    let product = mul-le-mul_right (10 ^ (count - length digits)) next in
-    let more : (digits_value digits + 1) * 10 ^ (count - length digits) ≡ digits_value digits * 10 ^ (count - length digits) + 10 ^ (count - length digits) = grind arith in
-    omega (arith, power, product, more, scale-some (count - length digits))
+    grind (arith, nat_tests, pow-add 10 (length digits) (count - length digits), digits_value-lt digits all, mul-le-mul_right, scale-some)
 
 -- the last block, with zeros after its digits
 pub filled-taken : (up : Bool) (unit count value twice : ℕ) → count ≤ 8
