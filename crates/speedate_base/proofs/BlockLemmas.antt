@@ -45,9 +45,9 @@ pub block-all : (bytes : List ℕ) (place count : ℕ) → place + 8 ≤ length 
 block-all bytes place count within is full = search rules
 
 -- and the run goes on after them
-pub block-on : (bytes : List ℕ) (place count : ℕ) → place + 8 ≤ length bytes → count ≡ prefix_len is_ascii_digit (block bytes place) → 8 ≤ count
+pub block_on : (bytes : List ℕ) (place count : ℕ) → place + 8 ≤ length bytes → count ≡ prefix_len is_ascii_digit (block bytes place) → 8 ≤ count
     → run_length bytes place ≡ 8 + run_length bytes (place + 8)
-block-on bytes place count within is full =
+block_on bytes place count within is full =
     run-on (drop place bytes) 8 (omega (arith, length-drop place bytes, within)) (block-all bytes place count within is full)
     ∙ ap (λ (rest : List ℕ). 8 + prefix_len is_ascii_digit rest) (drop-drop 8 place bytes)
 
@@ -65,8 +65,8 @@ block-more bytes place within = search (rules, take-add, digits_value-append, bl
 abbrev pub number_or_place : List ℕ → ℕ → Result ℕ ℕ
 number_or_place digits number = if run_length digits 0 == length digits then Ok number else Err (run_length digits 0)
 
-pub is-number : (digits : List ℕ) (number : ℕ) → list_all is_ascii_digit digits ≡ true → number_or_place digits number ≡ Ok number
-is-number digits number all = search (rules, run-whole)
+pub is_number : (digits : List ℕ) (number : ℕ) → list_all is_ascii_digit digits ≡ true → number_or_place digits number ≡ Ok number
+is_number digits number all = search (rules, run-whole)
 
 pub is-place : (digits : List ℕ) (number place : ℕ) → run_length digits 0 ≡ place → place < length digits → number_or_place digits number ≡ Err place
 is-place digits number place is within = search rules

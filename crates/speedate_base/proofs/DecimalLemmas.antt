@@ -11,7 +11,7 @@ use Rattle.speedate_base.specs.declared.faults.ParseError.TheVariants as fault
 use Rattle.speedate_base.specs.DecimalTimestamp.{decimal_digits, decimal_scale, decimal_microsecond, decimal_instant}
 use Rattle.speedate_base.specs.Digits.{one_digit_value}
 use Rattle.speedate_base.specs.DigitRuns.{digits_value}
-use Rattle.speedate_base.proofs.DigitRunLemmas.{digits_value-append, digits_value-lt}
+use Rattle.speedate_base.proofs.DigitRunLemmas.{below-power, digits_value-append, digits_value-lt}
 use Rattle.speedate_base.specs.Nearest.{nearest, quotient}
 use Rattle.speedate_base.proofs.NearestLemmas.{halved, nearest-halved, quotient-whole, halved-whole}
 use Rattle.speedate_base.specs.Numbers.{DecimalParts, with_sign}
@@ -29,6 +29,10 @@ digits_value-large (digit ∷ digits) all many other =
     let power : 10 ^ 11 ≤ 10 ^ length digits = pow-le-pow_right {n = 10} (lit< tt) rest in
     omega (arith, mul-le-mul_right (10 ^ length digits) more, power)
 
+-- few digits spell a small one
+pub digits_value-small : (digits : List ℕ) → list_all is_ascii_digit digits ≡ true → length digits ≤ 10 → digits_value digits < inferred_seconds_max
+digits_value-small digits all few = omega (arith, below-power 10 (length digits) _ few (digits_value-lt digits all))
+
 -- how a decimal compares with the largest timestamp in seconds
 pub same-whole : (whole fraction : List ℕ) → digits_value whole ≡ inferred_seconds_max
     → nat_le (digits_value (whole ++ fraction)) (inferred_seconds_max * 10 ^ length fraction) ≡ (digits_value fraction == 0)
@@ -42,6 +46,8 @@ less-whole whole fraction all less =
 pub more-whole : (whole fraction : List ℕ) → inferred_seconds_max < digits_value whole
     → nat_le (digits_value (whole ++ fraction)) (inferred_seconds_max * 10 ^ length fraction) ≡ false
 more-whole whole fraction more = grind (arith, nat_tests, digits_value-append, scale-some, mul-le-mul_right (10 ^ length fraction) more)
+
+pub ruleset inferred_rules = (nat_tests, digits_value-large, digits_value-small, same-whole, less-whole, more-whole)
 
 -- a size with its sign is one size
 with_sign-only : (negative : Bool) (first second : ℕ) → with_sign negative first ≡ with_sign negative second → first ≡ second

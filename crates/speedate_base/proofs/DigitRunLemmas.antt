@@ -3,8 +3,8 @@ use Rattle.std.specs.Prelude.{◌≡◌, ℕ, zero, suc, ◌+◌, ◌-◌, ◌*�
 use Rattle.std.specs.Char.{is_ascii_digit}
 use Rattle.std.specs.List.{prefix_len, list_all}
 use Rattle.std.proofs.Common.{arith, rules, lit<, ap, sym, ◌∙◌, get_or, inl, inr}
-use Rattle.std.proofs.lemmas.List.{length-append, length-take-le, take_more, get_or-take, get_or_past}
-use Rattle.std.proofs.lemmas.List.Sums.{prefix_len_is, prefix_len-drop_no, prefix_len-drop_all, AllPass-from_list_all}
+use Rattle.std.proofs.lemmas.List.{length-drop, get_or-drop, length-append, length-take-le, take_more, get_or-take, get_or_past}
+use Rattle.std.proofs.lemmas.List.Sums.{prefix_len_is, prefix_len-drop_yes, prefix_len-drop_no, prefix_len-drop_all, AllPass-from_list_all}
 use Rattle.std.proofs.lemmas.List.Folds.{list_all-append, prefix_len-append}
 use Rattle.std.proofs.lemmas.List.Elements.{All-get_or}
 use Rattle.std.proofs.lemmas.Bool.{and_from, and_parts, cases_lt, false≢true}
@@ -50,6 +50,17 @@ pub digits_value-front-more : (bytes : List ℕ) (count : ℕ) → count < lengt
 digits_value-front-more bytes count within =
     let digit = get_or bytes count 0 in
     ap digits_value (take_more bytes count 0 within) ∙ omega (arith, digits_value-append (take count bytes) (digit ∷ []))
+
+-- the same from a place on
+pub digits_value-next : (bytes : List ℕ) (place end : ℕ) → place ≤ end → end < length bytes
+    → digits_value (take (end + 1 - place) (drop place bytes))
+    ≡ 10 * digits_value (take (end - place) (drop place bytes)) + one_digit_value (get_or bytes end 0)
+digits_value-next bytes place end from within =
+    let next : end + 1 - place ≡ end - place + 1 = omega arith in
+    let there : place + (end - place) ≡ end = omega arith in
+    grind (arith, next, there, digits_value-front-more (drop place bytes) (end - place), get_or-drop place bytes (end - place) 0, length-drop place bytes)
+
+pub ruleset one_more_digit = (nat_tests, prefix_len-drop_yes, pow-succ', one_digit_value-le, digit-within, digits_value-front-more)
 
 -- a run ends at the first byte that is no digit, or with the bytes
 pub run_length-ended : (bytes : List ℕ) (count : ℕ) → count ≤ length bytes → list_all is_ascii_digit (take count bytes) ≡ true

@@ -1,7 +1,8 @@
 -- The whole number that is nearest to a fraction is found by rounding down what is twice the fraction.
 use Rattle.std.specs.Prelude.{zero, suc, ◌≡◌, ℕ, ◌+◌, ◌-◌, ◌*◌, ◌/◌, ◌^◌, ◌<◌, ◌≤◌, Bool, true, false, if◌then◌else◌, ℤ, pos, negsuc, neg_ℤ, ◌+ℤ◌, ◌-ℤ◌, ◌*ℤ◌, int_le, int_lt}
 use Rattle.std.specs.Int.{int_div_euclid}
-use Rattle.std.proofs.Common.{arith, rules, lit<}
+use Rattle.std.proofs.Common.{◌∙◌, ap, sym, arith, rules, lit<}
+use Rattle.std.proofs.lemmas.Nat.{pow-add}
 use Rattle.std.proofs.lemmas.Bool.{cases_lt}
 use Rattle.std.proofs.lemmas.Bool.Decides.{nat_tests}
 use Rattle.std.proofs.lemmas.Int.{ints}
@@ -31,6 +32,8 @@ pub nearest-halved : (negative : Bool) (n d : ℕ) → 0 < d
 nearest-halved false n d some = grind (arith, ints, add-mul-div_right (2 * n) 1 some, div-div-eq-div-mul (2 * n + d) d 2)
 nearest-halved true n d some = grind (arith, down n d some, div-div-eq-div-mul (2 * n + (d - 1)) d 2)
 
+pub ruleset nearest_rules = (nearest-halved, scale-some)
+
 -- a quotient of a part that was rounded in the same way first
 pub quotient-carried : (up : Bool) (a b c d : ℕ) → 0 < c → 0 < d → quotient up (a + quotient up b c) d ≡ quotient up (b + a * c) (c * d)
 quotient-carried up a b c zero some_c some_d = absurd (omega arith)
@@ -53,3 +56,12 @@ quotient-multiple up n d some = grind (arith, add-mul-div_right 0 n some, add-mu
 -- a fraction whose digits are whole numbers of what it is counted in is not rounded
 pub nearest-exact : (negative : Bool) (n d : ℕ) → 0 < d → nearest (with_sign negative (n * d)) d ≡ with_sign negative n
 nearest-exact negative n d some = grind (arith, ints, nat_tests)
+
+-- so a fraction of no more digits than are whole numbers is filled up with zeros
+pub nearest_filled : (negative : Bool) (worth places count value filled : ℕ) → count ≤ places → worth ≡ 10 ^ places
+    → filled ≡ value * 10 ^ (places - count) → with_sign negative filled ≡ nearest (with_sign negative (value * worth)) (10 ^ count)
+nearest_filled negative worth places count value filled few is_worth is =
+    let sum : (places - count) + count ≡ places = omega arith in
+    let power : 10 ^ (places - count) * 10 ^ count ≡ 10 ^ places = sym (pow-add 10 (places - count) count) ∙ ap (λ (n : ℕ). 10 ^ n) sum in
+    let product : value * worth ≡ filled * 10 ^ count = rw (is_worth, is) (grind (arith, power)) in
+    rw product (sym (nearest-exact negative filled (10 ^ count) (scale-some count)))

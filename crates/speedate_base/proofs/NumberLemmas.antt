@@ -6,7 +6,7 @@ use Rattle.std.proofs.Common.{arith, rules, ap, sym, subst, ◌∙◌, inl, inr,
 use Rattle.std.proofs.lemmas.Bool.{cases_lt, eqb-true, and_parts, false≢true, false_from_ne_true}
 use Rattle.std.proofs.lemmas.Bool.Decides.{nat_tests}
 use Rattle.std.proofs.lemmas.List.Sums.{prefix_len_passes, take_while-cons}
-use Rattle.std.proofs.lemmas.List.{get_or-drop, take-append-drop, drop-drop, drop_more, take_all, length-drop}
+use Rattle.std.proofs.lemmas.List.{get_or-drop, take-append-drop, drop-drop, drop_more, take_all, length-drop, length-take-le}
 use Rattle.speedate_base.specs.Ascii.{plus_sign, hyphen, full_stop}
 use Rattle.speedate_base.specs.DigitRuns.{run_length, run_digits, run_value}
 use Rattle.speedate_base.specs.Numbers.{has_minus, sign_length, point_place, is_decimal, decimal_answer, decimal_parts, IsSign, JoinsTo, DecimalParts, Fractional, NoNumber, whole_or, whole_number, number_answer, with_sign, fits_i64}
@@ -18,6 +18,11 @@ use Rattle.speedate_base.specs.declared.numbers.int_float.IntFloat.TheVariants a
 pub run-digits : (bytes : List ℕ) → list_all is_ascii_digit (take (prefix_len is_ascii_digit bytes) bytes) ≡ true
 run-digits [] = refl
 run-digits (byte ∷ bytes) = grind (arith, take_while-cons is_ascii_digit byte bytes, run-digits bytes)
+
+pub front_digits : (bytes : List ℕ) (count : ℕ) → count ≡ prefix_len is_ascii_digit bytes → list_all is_ascii_digit (take count bytes) ≡ true
+front_digits bytes count is = rw is (run-digits bytes)
+
+pub ruleset part_rules = (front_digits, length-drop, length-take-le)
 
 -- a text begins with its sign
 pub sign-of_text : (text : List ℕ) → IsSign (has_minus text) (take (sign_length text) text)

@@ -10,7 +10,8 @@ use Rattle.std.proofs.lemmas.List.Folds.{list_all-append}
 use Rattle.std.proofs.lemmas.Nat.{pow-add}
 use Rattle.std.proofs.Math.Nat.{mul-le-mul_right}
 use Rattle.speedate_base.specs.DigitRuns.{digits_value}
-use Rattle.speedate_base.proofs.DigitRunLemmas.{digits_value-append, digits_value-lt}
+use Rattle.speedate_base.proofs.BlockLemmas.{is_number}
+use Rattle.speedate_base.proofs.DigitRunLemmas.{below-power, digits_value-append, digits_value-lt}
 use Rattle.speedate_base.specs.Nearest.{quotient}
 use Rattle.speedate_base.proofs.NearestLemmas.{scale-some, quotient-carried, quotient-multiple}
 
@@ -26,6 +27,12 @@ pub filled-small : (digits : List ℕ) (count : ℕ) → length digits ≤ count
     → digits_value digits * 10 ^ (count - length digits) < 10 ^ count
 filled-small digits count few all =
     grind (arith, nat_tests, pow-add 10 (length digits) (count - length digits), digits_value-lt digits all, mul-le-mul_right, scale-some)
+
+pub filled-fits : (digits : List ℕ) (count : ℕ) → length digits ≤ count → count ≤ 8 → list_all is_ascii_digit digits ≡ true
+    → digits_value digits * 10 ^ (count - length digits) < 10 ^ 8
+filled-fits digits count few small all = below-power 8 count _ small (filled-small digits count few all)
+
+pub ruleset filled_rules = (is_number, filled-small, filled-fits)
 
 -- the last block, with zeros after its digits
 pub filled-taken : (up : Bool) (unit count value twice : ℕ) → count ≤ 8

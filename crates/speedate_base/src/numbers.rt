@@ -81,6 +81,7 @@ pub fn float_parse_bytes(bytes: &[u8]) -> IntFloat<'_>
 
 /// The decimal whose digits begin at `start`, and whose point is at `point` if there is one.
 #[inline(always)]
+#[tactic(auto, using(crate::proofs::NumberLemmas::part_rules))]
 fn decimal(bytes: &[u8], negative: bool, start: usize, point: usize) -> IntFloat<'_>
     requires negative { negative ≡ has_minus bytes.now }
     requires start { start ≡ sign_length bytes.now }

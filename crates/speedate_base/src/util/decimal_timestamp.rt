@@ -50,6 +50,7 @@ pub fn decimal_unit(decimal: Decimal<'_>, unit: TimestampUnit) -> UnixUnit
 
 /// Whether a decimal timestamp is in seconds if its unit is inferred.
 #[inline]
+#[tactic(auto, using(crate::proofs::DecimalLemmas::inferred_rules))]
 fn is_inferred_seconds(decimal: Decimal<'_>) -> bool
     ensures { result ≡ nat_le (decimal_digits (decimal_parts decimal.entry))
         (inferred_seconds_max * decimal_scale (decimal_parts decimal.entry)) }
@@ -91,6 +92,7 @@ pub fn decimal_to_seconds_micros(
 
 /// The microseconds of a fraction of the unit, to the nearest.
 #[inline]
+#[tactic(auto, using(crate::proofs::NearestLemmas::nearest_filled))]
 fn fraction_microseconds(digits: &[u8], unit: UnixUnit, negative: bool) -> u64
     requires { IsTrue (list_all is_ascii_digit digits.now) }
     ensures nearest { with_sign negative result

@@ -5,7 +5,7 @@ use Rattle.std.proofs.lemmas.Result.{err_from_is_err_and}
 use Rattle.std.specs.Char.{is_ascii_digit}
 use Rattle.speedate_base.specs.DigitRuns.{digits_value}
 use Rattle.speedate_base.proofs.DigitRunLemmas.{digits_value-fits, list_all-more}
-use Rattle.speedate_base.proofs.BlockLemmas.{run-front, run-on, block-all, block-ends, block-more, is-number, is-place, from-number, from-place}
+use Rattle.speedate_base.proofs.BlockLemmas.{run-front, run-on, block-all, block-ends, block-more, is_number, is-place, from-number, from-place}
 use Rattle.speedate_base.proofs.numbers.digits.spelled_number.Goals as goal
 
 pub returns-in_err-value : goal.returns-in_err-value
@@ -69,4 +69,4 @@ returns c =
     let whole = take_all c.loop-place.place digits (omega arith) in
     let all = ap (list_all is_ascii_digit) (sym whole) ∙ before.digits in
     let value = before.value ∙ ap (λ (front : List ℕ). min (digits_value front) (2 ^ 64 - 1)) whole in
-    record { answer = ap (λ (number : ℕ). Ok number) value ∙ sym (is-number digits (min (digits_value digits) (2 ^ 64 - 1)) all) }
+    record { answer = ap (λ (number : ℕ). Ok number) value ∙ sym (is_number digits (min (digits_value digits) (2 ^ 64 - 1)) all) }
