@@ -1,11 +1,11 @@
 -- Eight bytes of a text that are looked at together.
-use Rattle.std.specs.Prelude.{◌≡◌, ℕ, ◌+◌, ◌*◌, ◌^◌, ◌<◌, ◌≤◌, ◌==◌, Bool, true, false, if◌then◌else◌, List, length, take, drop, Result, Ok, Err}
+use Rattle.std.specs.Prelude.{◌≡◌, ℕ, ◌+◌, ◌-◌, ◌*◌, ◌^◌, ◌<◌, ◌≤◌, ◌==◌, Bool, true, false, if◌then◌else◌, List, length, take, drop, Result, Ok, Err}
 use Rattle.std.specs.Char.{is_ascii_digit}
 use Rattle.std.specs.List.{prefix_len, list_all}
 use Rattle.std.proofs.Common.{arith, rules, ap, ap₂, sym, refl, ◌∙◌, cond}
 use Rattle.std.proofs.lemmas.Bool.{ne_eqb}
 use Rattle.std.proofs.lemmas.Bool.Decides.{nat_tests}
-use Rattle.std.proofs.lemmas.List.{length-take-le, length-drop, take-append-drop, drop-drop}
+use Rattle.std.proofs.lemmas.List.{length-take-le, length-drop, take_rest, take-append-drop, drop-drop}
 use Rattle.std.proofs.lemmas.List.Folds.{prefix_len-append}
 use Rattle.std.proofs.lemmas.List.Sums.{prefix_len-le-length}
 use Rattle.std.proofs.Math.Seq.{take-add}
@@ -77,3 +77,11 @@ from-number digits number read same = search (rules, run-whole)
 
 pub from-place : (digits : List ℕ) (number place : ℕ) → Err place ≡ number_or_place digits number → (place ≡ run_length digits 0) × (place < length digits)
 from-place digits number place same = grind (arith, nat_tests, prefix_len-le-length)
+
+-- so the first other byte from a place on stands where the run from there ends
+pub run_stops : (bytes : List ℕ) (start count number : ℕ) → start ≤ length bytes
+    → Err count ≡ number_or_place (take (length bytes - start) (drop start bytes)) number
+    → (count ≡ run_length bytes start) × (start + count < length bytes)
+run_stops bytes start count number within read =
+    let stops = from-place (drop start bytes) number count (rw (take_rest bytes start) at read) in
+    (stops.0, omega (arith, stops.1, length-drop start bytes, within))

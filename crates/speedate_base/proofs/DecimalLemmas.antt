@@ -1,12 +1,12 @@
 -- A decimal timestamp by its whole part and its fraction.
-use Rattle.std.specs.Prelude.{◌≡◌, ◌≢◌, ℕ, zero, suc, ◌+◌, ◌*◌, ◌/◌, ◌^◌, ◌<◌, ◌≤◌, ◌==◌, Bool, true, false, nat_le, if◌then◌else◌, List, [], ◌∷◌, ◌++◌, length, get_or, ℤ, pos, negsuc, int_le, Err, refl}
+use Rattle.std.specs.Prelude.{◌≡◌, ◌≢◌, ℕ, zero, suc, ◌+◌, ◌*◌, ◌/◌, ◌^◌, ◌<◌, ◌≤◌, ◌==◌, Bool, true, false, nat_le, if◌then◌else◌, List, [], ◌∷◌, ◌++◌, length, get_or, min, ◌-◌, ℤ, pos, negsuc, int_le, Err, refl}
 use Rattle.std.specs.Char.{is_ascii_digit}
 use Rattle.std.specs.List.{list_all}
 use Rattle.std.proofs.Common.{arith, rules, ap, sym, ◌∙◌, lit<}
 use Rattle.std.proofs.lemmas.Bool.{and_parts}
 use Rattle.std.proofs.lemmas.Bool.Decides.{nat_tests}
 use Rattle.std.proofs.lemmas.Int.{ints}
-use Rattle.std.proofs.Math.Nat.{mul-le-mul_right, pow-le-pow_right}
+use Rattle.std.proofs.Math.Nat.{le-mul_of_pos_right, mul-le-mul_right, pow-le-pow_right}
 use Rattle.speedate_base.specs.declared.faults.ParseError.TheVariants as fault
 use Rattle.speedate_base.specs.DecimalTimestamp.{decimal_digits, decimal_scale, decimal_microsecond, decimal_instant}
 use Rattle.speedate_base.specs.Digits.{one_digit_value}
@@ -76,15 +76,25 @@ far-range : (negative : Bool) (size : ℕ) → 2 ^ 60 < size
     → range_answer (instant_at (with_sign negative size)) ≡ Err (if negative then fault.DateTooSmall else fault.DateTooLarge)
 far-range negative size far = search rules
 
--- so does that of a decimal whose whole part is far
-pub decimal-far : (row : UnitRow) (decimal : DecimalParts) → 2 ^ 60 < digits_value decimal.whole * row.microseconds
+-- so does that of a decimal whose whole part is far, also in numbers of 64 bits
+pub decimal-far : (row : UnitRow) (decimal : DecimalParts) (value size : ℕ) → value ≡ min (digits_value decimal.whole) (2 ^ 64 - 1)
+    → size ≡ min (value * row.microseconds) (2 ^ 64 - 1) → 2 ^ 60 < size
     → range_answer (decimal_instant row decimal) ≡ Err (if decimal.negative then fault.DateTooSmall else fault.DateTooLarge)
-decimal-far row decimal far =
+decimal-far row decimal value size is product far =
     let negative = decimal.negative in
     let worth = row.microseconds in
     let scale = decimal_scale decimal in
     let rest = digits_value decimal.fraction * worth in
     let part = halved negative (quotient negative (2 * rest) scale) in
     let sum = decimal_microsecond-sum row decimal part (sym (nearest-halved negative rest scale (scale-some (length decimal.fraction)))) in
+    let below : value ≤ digits_value decimal.whole = omega (arith, is) in
     ap (λ (n : ℤ). range_answer (instant_at n)) sum
-    ∙ far-range negative (digits_value decimal.whole * worth + part) (omega (arith, far))
+    ∙ far-range negative (digits_value decimal.whole * worth + part) (omega (arith, far, product, mul-le-mul_right worth below))
+
+-- and one that is near is exact in them
+pub near : (digits : List ℕ) (worth value size : ℕ) → 0 < worth → value ≡ min (digits_value digits) (2 ^ 64 - 1)
+    → size ≡ min (value * worth) (2 ^ 64 - 1) → size ≤ 2 ^ 60 → size ≡ digits_value digits * worth
+near digits worth value size some is product less =
+    let small : value ≤ value * worth = le-mul_of_pos_right value some in
+    let exact : value ≡ digits_value digits = omega (arith, is, small, product, less) in
+    rw (← exact) (omega (arith, product, less))
