@@ -1,8 +1,10 @@
 -- What is known of bytes that are as a pattern has them.
 use Rattle.std.specs.Prelude.{◌≡◌, ℕ, zero, suc, ◌+◌, ◌≤◌, Bool, true, false, if◌then◌else◌, List, [], ◌∷◌, length, drop, refl}
+use Rattle.std.specs.Int.{w64, from_le_bytes}
 use Rattle.std.proofs.Common.{arith, rules}
 use Rattle.std.proofs.lemmas.List.{get_or-drop}
 use Rattle.std.proofs.lemmas.Bool.Decides.{nat_tests}
+use lib.Lanes.{number_l}
 use Rattle.speedate_base.specs.Pattern.{eight_at, fits_byte, fit_length}
 
 -- a list of eight is made of eight
@@ -18,11 +20,15 @@ by_eight P each (a ∷ b ∷ c ∷ d ∷ e ∷ f ∷ g ∷ []) long = absurd (om
 by_eight P each (a ∷ b ∷ c ∷ d ∷ e ∷ f ∷ g ∷ h ∷ []) long = each a b c d e f g h
 by_eight P each (a ∷ b ∷ c ∷ d ∷ e ∷ f ∷ g ∷ h ∷ i ∷ more) long = absurd (omega arith)
 
+-- so std's number of eight bytes is their number in base 256, the first byte lowest
+pub from_le_bytes-number : (bytes : List ℕ) → length bytes ≡ 8 → from_le_bytes w64 bytes ≡ number_l 256 bytes
+from_le_bytes-number = by_eight (λ (bytes : List ℕ). from_le_bytes w64 bytes ≡ number_l 256 bytes) (λ a b c d e f g h. omega arith)
+
 -- no more bytes fit than the pattern has
-pub fit_length-le : (forms lanes : List ℕ) → fit_length forms lanes ≤ length forms
-fit_length-le [] lanes = omega arith
-fit_length-le (form ∷ forms) [] = omega arith
-fit_length-le (form ∷ forms) (byte ∷ bytes) = grind (arith, nat_tests, fit_length-le forms bytes)
+pub fit_length_le : (forms lanes : List ℕ) → fit_length forms lanes ≤ length forms
+fit_length_le [] lanes = omega arith
+fit_length_le (form ∷ forms) [] = omega arith
+fit_length_le (form ∷ forms) (byte ∷ bytes) = grind (arith, nat_tests, fit_length_le forms bytes)
 
 -- so many bytes, from the first on, are as the pattern has them
 abbrev pub AllFit : ℕ → List ℕ → List ℕ → Type 0
