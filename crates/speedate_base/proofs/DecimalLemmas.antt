@@ -1,5 +1,5 @@
 -- A decimal timestamp by its whole part and its fraction.
-use Rattle.std.specs.Prelude.{◌≡◌, ◌≢◌, ℕ, zero, suc, ◌+◌, ◌*◌, ◌/◌, ◌^◌, ◌<◌, ◌≤◌, ◌==◌, Bool, true, false, nat_le, if◌then◌else◌, List, [], ◌∷◌, ◌++◌, length, get_or, min, ◌-◌, ℤ, pos, negsuc, int_le, Err, refl}
+use Rattle.std.specs.Prelude.{◌≡◌, ◌≢◌, ℕ, ◌+◌, ◌*◌, ◌^◌, ◌<◌, ◌≤◌, ◌==◌, Bool, true, false, nat_le, if◌then◌else◌, List, [], ◌∷◌, ◌++◌, length, get_or, min, ◌-◌, ℤ, Err}
 use Rattle.std.specs.Char.{is_ascii_digit}
 use Rattle.std.specs.List.{list_all}
 use Rattle.std.proofs.Common.{arith, rules, ap, sym, ◌∙◌, lit<}
@@ -15,7 +15,7 @@ use Rattle.speedate_base.proofs.DigitRunLemmas.{below-power, digits_value-append
 use Rattle.speedate_base.specs.Nearest.{nearest, quotient}
 use Rattle.speedate_base.proofs.NearestLemmas.{halved, nearest-halved, quotient-whole, halved-whole}
 use Rattle.speedate_base.specs.Numbers.{DecimalParts, with_sign}
-use Rattle.speedate_base.specs.Timestamp.{UnitRow, inferred_seconds_max, instant_at, first_second, last_second, range_answer}
+use Rattle.speedate_base.specs.Timestamp.{UnitRow, inferred_seconds_max, instant_at, range_answer}
 use Rattle.speedate_base.proofs.NearestLemmas.{scale-some}
 
 -- many digits of which the first is not 0 spell a large number

@@ -1,11 +1,9 @@
 -- What is printed in two, four or six digits is digits, and spells the number that was printed.
-use Rattle.std.specs.Prelude.{◌≡◌, ℕ, ◌/◌, ◌%◌, ◌<◌, ◌++◌, true, List, [], refl}
+use Rattle.std.specs.Prelude.{◌≡◌, ℕ, ◌<◌, true}
 use Rattle.std.specs.Char.{is_ascii_digit}
 use Rattle.std.specs.List.{list_all}
 use Rattle.std.proofs.Common.{arith, rules}
-use Rattle.std.proofs.lemmas.Bool.{and_from}
-use Rattle.std.proofs.lemmas.Bool.Decides.{nat_tests}
-use Rattle.speedate_base.specs.Digits.{digit, two_digits_at, two_digit_text, two_digit_value, four_digit_text, four_digits_at, four_digit_value, six_digit_text}
+use Rattle.speedate_base.specs.Digits.{two_digits_at, two_digit_text, two_digit_value, four_digit_text, four_digits_at, six_digit_text}
 use Rattle.speedate_base.specs.DigitRuns.{fraction_value}
 
 -- the digits of a number below 100

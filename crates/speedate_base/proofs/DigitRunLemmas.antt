@@ -1,13 +1,13 @@
 -- How a run of digits grows, and what it spells.
-use Rattle.std.specs.Prelude.{◌≡◌, ℕ, zero, suc, ◌+◌, ◌-◌, ◌*◌, ◌^◌, ◌<◌, ◌≤◌, ◌==◌, ◌&&◌, Bool, true, false, if◌then◌else◌, List, [], ◌∷◌, ◌++◌, length, take, drop, refl}
+use Rattle.std.specs.Prelude.{◌≡◌, ℕ, zero, suc, ◌+◌, ◌-◌, ◌*◌, ◌^◌, ◌<◌, ◌≤◌, ◌==◌, true, false, List, [], ◌∷◌, ◌++◌, length, take, drop, refl}
 use Rattle.std.specs.Char.{is_ascii_digit}
 use Rattle.std.specs.List.{prefix_len, list_all}
-use Rattle.std.proofs.Common.{arith, rules, lit<, ap, sym, ◌∙◌, get_or, inl, inr}
+use Rattle.std.proofs.Common.{arith, rules, ap, sym, ◌∙◌, get_or}
 use Rattle.std.proofs.lemmas.List.{length-drop, get_or-drop, length-append, length-take-le, take_more, get_or-take, get_or_past}
 use Rattle.std.proofs.lemmas.List.Sums.{prefix_len_is, prefix_len-drop_yes, prefix_len-drop_no, prefix_len-drop_all, AllPass-from_list_all}
 use Rattle.std.proofs.lemmas.List.Folds.{list_all-append, prefix_len-append}
 use Rattle.std.proofs.lemmas.List.Elements.{All-get_or}
-use Rattle.std.proofs.lemmas.Bool.{and_from, and_parts, cases_lt, false≢true}
+use Rattle.std.proofs.lemmas.Bool.{and_from, and_parts, cases_lt}
 use Rattle.std.proofs.lemmas.Bool.Decides.{nat_tests}
 use Rattle.std.proofs.lemmas.Nat.{pow-add}
 use Rattle.std.proofs.Math.Seq.{take-add}

@@ -1,15 +1,14 @@
 -- A decimal's parts are its text, and texts that are no numbers.
-use Rattle.std.specs.Prelude.{◌≡◌, ◌≢◌, ℕ, ◌+◌, ◌-◌, ◌<◌, ◌≤◌, Bool, true, false, ◌&&◌, ◌||◌, ◌==◌, List, [], ◌∷◌, ◌++◌, length, take, drop, slice_index, nat_lt, if◌then◌else◌, Option, Some, None, ℤ, refl}
+use Rattle.std.specs.Prelude.{◌≡◌, ℕ, ◌+◌, ◌-◌, ◌<◌, ◌≤◌, Bool, true, false, ◌&&◌, ◌==◌, List, [], ◌∷◌, ◌++◌, length, take, drop, slice_index, if◌then◌else◌, Option, Some, None, ℤ, refl}
 use Rattle.std.specs.Char.{is_ascii_digit}
 use Rattle.std.specs.List.{list_all, prefix_len}
 use Rattle.std.proofs.Common.{arith, rules, ap, sym, subst, ◌∙◌, inl, inr, append_assoc, get_or}
 use Rattle.std.proofs.lemmas.Bool.{cases_lt, eqb-true, and_parts, false≢true, false_from_ne_true}
-use Rattle.std.proofs.lemmas.Bool.Decides.{nat_tests}
 use Rattle.std.proofs.lemmas.List.Sums.{prefix_len_passes, take_while-cons}
 use Rattle.std.proofs.lemmas.List.{get_or-drop, take-append-drop, drop-drop, drop_more, take_all, length-drop, length-take-le}
-use Rattle.speedate_base.specs.Ascii.{plus_sign, hyphen, full_stop}
-use Rattle.speedate_base.specs.DigitRuns.{run_length, run_digits, run_value}
-use Rattle.speedate_base.specs.Numbers.{has_minus, sign_length, point_place, is_decimal, decimal_answer, decimal_parts, IsSign, JoinsTo, DecimalParts, Fractional, NoNumber, whole_or, whole_number, number_answer, with_sign, fits_i64}
+use Rattle.speedate_base.specs.Ascii.{full_stop}
+use Rattle.speedate_base.specs.DigitRuns.{run_length, run_digits}
+use Rattle.speedate_base.specs.Numbers.{has_minus, sign_length, point_place, is_decimal, decimal_parts, IsSign, JoinsTo, DecimalParts, Fractional, NoNumber, whole_or, whole_number, number_answer}
 use Rattle.speedate_base.specs.IntFloat.{parts, number_of, JoinsToFloat}
 use Rattle.speedate_base.specs.declared.numbers.int_float.IntFloat.{IntFloat}
 use Rattle.speedate_base.specs.declared.numbers.int_float.IntFloat.TheVariants as number

@@ -1,5 +1,5 @@
 -- What is known of bytes that are as a pattern has them.
-use Rattle.std.specs.Prelude.{◌≡◌, ℕ, zero, suc, ◌+◌, ◌≤◌, Bool, true, false, if◌then◌else◌, List, [], ◌∷◌, length, drop, refl}
+use Rattle.std.specs.Prelude.{◌≡◌, ℕ, zero, suc, ◌+◌, ◌-◌, ◌%◌, ◌≤◌, Bool, true, if◌then◌else◌, List, [], ◌∷◌, length, drop}
 use Rattle.std.specs.Int.{w64, from_le_bytes}
 use Rattle.std.proofs.Common.{arith, rules}
 use Rattle.std.proofs.lemmas.List.{get_or-drop}
@@ -23,6 +23,10 @@ by_eight P each (a ∷ b ∷ c ∷ d ∷ e ∷ f ∷ g ∷ h ∷ i ∷ more) lon
 -- so std's number of eight bytes is their number in base 256, the first byte lowest
 pub from_le_bytes-number : (bytes : List ℕ) → length bytes ≡ 8 → from_le_bytes w64 bytes ≡ number_l 256 bytes
 from_le_bytes-number = by_eight (λ (bytes : List ℕ). from_le_bytes w64 bytes ≡ number_l 256 bytes) (λ a b c d e f g h. omega arith)
+
+-- a lane less the pattern's byte
+abbrev pub less : ℕ → ℕ → ℕ
+less lane form = (lane + (256 - form)) % 256
 
 -- no more bytes fit than the pattern has
 pub fit_length_le : (forms lanes : List ℕ) → fit_length forms lanes ≤ length forms

@@ -1,10 +1,9 @@
 -- How tables chain.
-use Rattle.std.specs.Prelude.{◌≡◌, ◌↔◌, ℕ, Bool, true, false, List, [], ◌∷◌, length, ◌==◌, Result, Ok, Err, if◌then◌else◌, refl}
+use Rattle.std.specs.Prelude.{◌≡◌, ◌↔◌, ℕ, List, [], ◌∷◌, length, Result, Ok, Err, refl}
 use Rattle.std.specs.Result.{result_and}
-use Rattle.std.proofs.Common.{◌∙◌, ap, sym, rules}
-use Rattle.std.proofs.lemmas.Bool.{eq-eqb, eqb-true, eqb-false, ne_eqb}
+use Rattle.std.proofs.Common.{rules}
 use Rattle.speedate_base.specs.declared.faults.ParseError.{ParseError}
-use Rattle.speedate_base.specs.Requirement.{Requirement, ◌implies◌, meets, AllHold, alone, result_map, result_and_then}
+use Rattle.speedate_base.specs.Requirement.{Requirement, meets, AllHold, alone, result_and_then}
 
 -- what a table refuses or lets through does not depend on what comes next
 pub meets-chain : {A B : Type 0} (rows : List Requirement) (value : A) (next : Result B ParseError)

@@ -1,4 +1,4 @@
-use Rattle.std.proofs.Common.{◌≡◌, ◌+◌, ◌-◌, ◌≤◌, length, suc, ap, arith}
+use Rattle.std.proofs.Common.{◌≡◌, ◌+◌, ◌-◌, suc, arith}
 use Rattle.speedate_base.proofs.DigitRunLemmas.{below-power, digits_value-next, one_more_digit}
 use Rattle.speedate_base.proofs.numbers.digits.few_digits.Goals as goal
 

@@ -7,12 +7,8 @@ use Rattle.std.proofs.lemmas.Simd.{length-zip2}
 use Rattle.std.proofs.Math.Nat.{zero-mod, add-mul-div_right, div-eq_of_lt}
 use lib.Lanes.{Each1, zip2, number_l}
 use Rattle.speedate_base.specs.Pattern.{fits_byte, fit_length, fit_digits, neighbours}
-use Rattle.speedate_base.proofs.PatternLemmas.{by_eight, from_le_bytes-number, first-fits, fit_length_le}
+use Rattle.speedate_base.proofs.PatternLemmas.{less, by_eight, from_le_bytes-number, first-fits, fit_length_le}
 use Rattle.speedate_base.proofs.numbers.lanes.pairs.Goals as goal
-
--- a lane less the pattern's byte
-abbrev less : ℕ → ℕ → ℕ
-less lane form = (lane + (256 - form)) % 256
 
 -- the first lanes, less the pattern, are the digits that they stand for
 first-digits : (count : ℕ) (forms lanes : List ℕ) → count ≤ fit_length forms lanes → Each1 (Fits w8) forms → Each1 (Fits w8) lanes
