@@ -10,10 +10,11 @@ use Rattle.speedate_base.proofs.NearestLemmas.{scale-some}
 use Rattle.speedate_base.proofs.DecimalLemmas.{near, decimal-far, decimal_microsecond-sum}
 use Rattle.speedate_base.proofs.util.decimal_timestamp.decimal_to_seconds_micros.Goals as goal
 
-pub returns-then-whole-gt-FAR_MICROSECONDS-clause-answer : goal.returns-then-whole-gt-FAR_MICROSECONDS-clause-answer
-returns-then-whole-gt-FAR_MICROSECONDS-clause-answer c =
-    ap Err c.far_fault.ensures ∙ sym (decimal-far (row c.args.unit) (decimal_parts c.args.decimal) _ _ c.digits_number.ensures.value
-    c.saturating_mul-whole.ensures c.if-whole-gt-FAR_MICROSECONDS.true)
+pub returns-then-decimal-clause-answer : goal.returns-then-decimal-clause-answer
+returns-then-decimal-clause-answer c = grind (arith, decimal-far (row c.args.unit) (decimal_parts c.args.decimal))
+
+pub returns-else-decimal-clause-answer : goal.returns-else-decimal-clause-answer
+returns-else-decimal-clause-answer c = grind (arith, decimal-far (row c.args.unit) (decimal_parts c.args.decimal))
 
 pub returns-clause-answer : goal.returns-clause-answer
 returns-clause-answer c =
