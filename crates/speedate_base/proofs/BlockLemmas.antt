@@ -1,36 +1,14 @@
 -- Eight bytes of a text that are looked at together.
-use Rattle.std.specs.Prelude.{◌≡◌, ℕ, ◌+◌, ◌-◌, ◌*◌, ◌<◌, ◌≤◌, ◌==◌, Bool, true, if◌then◌else◌, List, length, take, drop, Result, Ok, Err}
+use Rattle.std.specs.Prelude.{◌≡◌, ℕ, ◌+◌, ◌-◌, ◌*◌, ◌<◌, ◌≤◌, ◌==◌, true, if◌then◌else◌, List, length, take, drop, Result, Ok, Err}
 use Rattle.std.specs.Char.{is_ascii_digit}
 use Rattle.std.specs.List.{prefix_len, list_all}
-use Rattle.std.proofs.Common.{arith, rules, ap, ap₂, sym, ◌∙◌, cond}
-use Rattle.std.proofs.lemmas.Bool.{ne_eqb}
+use Rattle.std.proofs.Common.{arith, rules, ap, ◌∙◌}
 use Rattle.std.proofs.lemmas.Bool.Decides.{nat_tests}
-use Rattle.std.proofs.lemmas.List.{length-take-le, length-drop, take_rest, take-append-drop, drop-drop}
-use Rattle.std.proofs.lemmas.List.Folds.{prefix_len-append}
+use Rattle.std.proofs.lemmas.List.{length-take-le, length-drop, take_rest, drop-drop}
 use Rattle.std.proofs.lemmas.List.Sums.{prefix_len-le-length}
 use Rattle.std.proofs.Math.Seq.{take-add}
 use Rattle.speedate_base.specs.DigitRuns.{run_length, digits_value}
-use Rattle.speedate_base.proofs.DigitRunLemmas.{digits_value-append, run-whole}
-
--- the front of some bytes has their run where it ends within it
-pub run-front : (bytes : List ℕ) (count : ℕ) → prefix_len is_ascii_digit (take count bytes) < length (take count bytes)
-    → prefix_len is_ascii_digit bytes ≡ prefix_len is_ascii_digit (take count bytes)
-run-front bytes count ends =
-    let front : List ℕ = take count bytes in
-    let rest : List ℕ = drop count bytes in
-    ap (prefix_len is_ascii_digit) (sym (take-append-drop count bytes)) ∙ prefix_len-append is_ascii_digit front rest
-    ∙ ap (λ (test : Bool). cond test (length front + prefix_len is_ascii_digit rest) (prefix_len is_ascii_digit front))
-    (ne_eqb _ _ (λ same. absurd (omega (arith, ends, same))))
-
--- and their run goes on after it where it is all digits
-pub run-on : (bytes : List ℕ) (count : ℕ) → count ≤ length bytes → list_all is_ascii_digit (take count bytes) ≡ true
-    → prefix_len is_ascii_digit bytes ≡ count + prefix_len is_ascii_digit (drop count bytes)
-run-on bytes count within all =
-    let front : List ℕ = take count bytes in
-    let rest : List ℕ = drop count bytes in
-    ap (prefix_len is_ascii_digit) (sym (take-append-drop count bytes)) ∙ prefix_len-append is_ascii_digit front rest
-    ∙ ap₂ (λ (test : Bool) (n : ℕ). cond test (n + prefix_len is_ascii_digit rest) (prefix_len is_ascii_digit front))
-    (run-whole front ∙ all) (length-take-le count bytes within)
+use Rattle.speedate_base.proofs.DigitRunLemmas.{run-front, run-on, digits_value-append, run-whole}
 
 -- the eight bytes from a place on
 abbrev pub block : List ℕ → ℕ → List ℕ

@@ -2,12 +2,11 @@
 use Rattle.std.specs.Prelude.{◌≡◌, ℕ, zero, suc, ◌+◌, ◌-◌, ◌*◌, ◌^◌, ◌<◌, ◌≤◌, ◌==◌, true, false, List, [], ◌∷◌, ◌++◌, length, take, drop, refl}
 use Rattle.std.specs.Char.{is_ascii_digit}
 use Rattle.std.specs.List.{prefix_len, list_all}
-use Rattle.std.proofs.Common.{arith, rules, ap, sym, ◌∙◌, get_or}
-use Rattle.std.proofs.lemmas.List.{length-drop, get_or-drop, length-append, length-take-le, take_more, get_or-take, get_or_past}
+use Rattle.std.proofs.Common.{arith, rules, get_or}
+use Rattle.std.proofs.lemmas.List.{take-append-drop, length-drop, get_or-drop, length-append, length-take-le, take_more, get_or_past}
 use Rattle.std.proofs.lemmas.List.Sums.{prefix_len_is, prefix_len-drop_yes, prefix_len-drop_no, prefix_len-drop_all, AllPass-from_list_all}
 use Rattle.std.proofs.lemmas.List.Folds.{list_all-append, prefix_len-append}
-use Rattle.std.proofs.lemmas.List.Elements.{All-get_or}
-use Rattle.std.proofs.lemmas.Bool.{and_from, and_parts, cases_lt}
+use Rattle.std.proofs.lemmas.Bool.{and_from, cases_lt}
 use Rattle.std.proofs.lemmas.Bool.Decides.{nat_tests}
 use Rattle.std.proofs.lemmas.Nat.{pow-add}
 use Rattle.std.proofs.Math.Seq.{take-add}
@@ -27,9 +26,7 @@ one_digit_value-le byte is = grind (arith, nat_tests)
 pub digits_value-lt : (digits : List ℕ) → list_all is_ascii_digit digits ≡ true → digits_value digits < 10 ^ length digits
 digits_value-lt [] all = omega arith
 digits_value-lt (digit ∷ digits) all =
-    let tests = and_parts (is_ascii_digit digit) _ all in
-    let first = one_digit_value-le digit tests.0 in
-    omega (arith, digits_value-lt digits tests.1, pow-succ' 10 (length digits), mul-le-mul_right (10 ^ length digits) first)
+    grind (arith, nat_tests, pow-succ' 10 (length digits), one_digit_value-le, digits_value-lt digits, mul-le-mul_right)
 
 -- what is below a power of ten is below a larger one
 pub below-power : (most count value : ℕ) → count ≤ most → value < 10 ^ count → value < 10 ^ most
@@ -48,8 +45,7 @@ digits_value-append (first ∷ digits) more = search (rules, length-append, pow-
 pub digits_value-front-more : (bytes : List ℕ) (count : ℕ) → count < length bytes
     → digits_value (take (count + 1) bytes) ≡ 10 * digits_value (take count bytes) + one_digit_value (get_or bytes count 0)
 digits_value-front-more bytes count within =
-    let digit = get_or bytes count 0 in
-    ap digits_value (take_more bytes count 0 within) ∙ omega (arith, digits_value-append (take count bytes) (digit ∷ []))
+    grind (arith, take_more bytes count 0 within, digits_value-append (take count bytes) (get_or bytes count 0 ∷ []))
 
 -- the same from a place on
 pub digits_value-next : (bytes : List ℕ) (place end : ℕ) → place ≤ end → end < length bytes
@@ -62,18 +58,6 @@ digits_value-next bytes place end from within =
 
 pub ruleset one_more_digit = (nat_tests, prefix_len-drop_yes, pow-succ', one_digit_value-le, digit-within, digits_value-front-more)
 
--- a run ends at the first byte that is no digit, or with the bytes
-pub run_length-ended : (bytes : List ℕ) (count : ℕ) → count ≤ length bytes → list_all is_ascii_digit (take count bytes) ≡ true
-    → (count < length bytes → is_ascii_digit (get_or bytes count 0) ≡ false) → prefix_len is_ascii_digit bytes ≡ count
-run_length-ended bytes count within all ended =
-    let long = length-take-le count bytes within in
-    prefix_len_is is_ascii_digit bytes count 0 within
-    (λ k below.
-    let inside : k < length (take count bytes) = omega (arith, long) in
-    sym (ap is_ascii_digit (get_or-take count bytes k 0 below))
-    ∙ All-get_or (λ (byte : ℕ). is_ascii_digit byte ≡ true) (take count bytes) k 0 inside (AllPass-from_list_all is_ascii_digit (take count bytes) all))
-    ended
-
 -- where no digit stands there is no run
 pub run-none : (text : List ℕ) (place : ℕ) → is_ascii_digit (get_or text place 0) ≡ false → run_length text place ≡ 0
 run-none text place other = search (rules, cases_lt, prefix_len-drop_no, prefix_len-drop_all)
@@ -82,6 +66,38 @@ run-none text place other = search (rules, cases_lt, prefix_len-drop_no, prefix_
 pub run-whole : (bytes : List ℕ) → (prefix_len is_ascii_digit bytes == length bytes) ≡ list_all is_ascii_digit bytes
 run-whole [] = refl
 run-whole (byte ∷ bytes) = grind (arith, nat_tests, run-whole bytes)
+
+-- the front of some bytes has their run where it ends within it
+pub run-front : (bytes : List ℕ) (count : ℕ) → prefix_len is_ascii_digit (take count bytes) < length (take count bytes)
+    → prefix_len is_ascii_digit bytes ≡ prefix_len is_ascii_digit (take count bytes)
+run-front bytes count ends =
+    grind (arith, nat_tests, take-append-drop count bytes, prefix_len-append is_ascii_digit (take count bytes) (drop count bytes))
+
+-- and their run goes on after it where it is all digits
+pub run-on : (bytes : List ℕ) (count : ℕ) → count ≤ length bytes → list_all is_ascii_digit (take count bytes) ≡ true
+    → prefix_len is_ascii_digit bytes ≡ count + prefix_len is_ascii_digit (drop count bytes)
+run-on bytes count within all =
+    grind (
+      arith,
+      nat_tests,
+      take-append-drop count bytes,
+      prefix_len-append is_ascii_digit (take count bytes) (drop count bytes),
+      run-whole (take count bytes),
+      length-take-le count bytes,
+    )
+
+-- a run ends at the first byte that is no digit, or with the bytes
+pub run_length-ended : (bytes : List ℕ) (count : ℕ) → count ≤ length bytes → list_all is_ascii_digit (take count bytes) ≡ true
+    → (count < length bytes → is_ascii_digit (get_or bytes count 0) ≡ false) → prefix_len is_ascii_digit bytes ≡ count
+run_length-ended bytes count within all ended =
+    grind (
+      arith,
+      nat_tests,
+      run-on bytes count,
+      cases_lt count (length bytes),
+      prefix_len-drop_no is_ascii_digit bytes count,
+      prefix_len-drop_all is_ascii_digit bytes count,
+    )
 
 -- digits before a run belong to it
 pub run_length-append : (digits rest : List ℕ) → list_all is_ascii_digit digits ≡ true
@@ -100,11 +116,9 @@ fraction_value-filled zero [] few = omega arith
 fraction_value-filled zero (digit ∷ digits) few = absurd (omega arith)
 fraction_value-filled (suc places) [] few = omega arith
 fraction_value-filled (suc places) (digit ∷ digits) few =
-    let fits : length digits ≤ places = omega arith in
-    let left : suc places - suc (length digits) ≡ places - length digits = omega arith in
     let sum : length digits + (places - length digits) ≡ places = omega arith in
-    let power = sym (ap (λ (n : ℕ). 10 ^ n) sum) ∙ pow-add 10 (length digits) (places - length digits) in
-    rw (left, power) (grind (arith, fraction_value-filled places digits fits))
+    let left : suc places - suc (length digits) ≡ places - length digits = omega arith in
+    grind (arith, left, sum, pow-add 10 (length digits) (places - length digits), fraction_value-filled places digits)
 
 -- digits past the places do not count
 pub fraction_value-take : (places : ℕ) (digits : List ℕ) → fraction_value places (take places digits) ≡ fraction_value places digits

@@ -5,7 +5,7 @@ use Rattle.std.specs.List.{list_all}
 use Rattle.std.proofs.Common.{arith, ap, sym, ◌∙◌, lit<}
 use Rattle.std.proofs.lemmas.Bool.{and_parts}
 use Rattle.std.proofs.lemmas.Bool.Decides.{nat_tests}
-use Rattle.std.proofs.lemmas.List.{take_rest, take-append-drop, drop-drop, length-drop}
+use Rattle.std.proofs.lemmas.List.{take-append-drop, drop-drop, length-drop}
 use Rattle.std.proofs.lemmas.List.Folds.{list_all-append}
 use Rattle.std.proofs.lemmas.Nat.{pow-add}
 use Rattle.std.proofs.Math.Nat.{mul-le-mul_right}
@@ -25,8 +25,6 @@ front_all digits count all = (and_parts _ _ (split digits count all)).0
 
 pub rest_all : (digits : List ℕ) (count : ℕ) → list_all is_ascii_digit digits ≡ true → list_all is_ascii_digit (drop count digits) ≡ true
 rest_all digits count all = (and_parts _ _ (split digits count all)).1
-
-pub ruleset part_digits = (take_rest, front_all, rest_all)
 
 -- what few digits spell with zeros after them
 pub filled-small : (digits : List ℕ) (count : ℕ) → length digits ≤ count → list_all is_ascii_digit digits ≡ true
