@@ -1,21 +1,21 @@
 -- A decimal timestamp by its whole part and its fraction.
-use Rattle.std.specs.Prelude.{◌≡◌, ◌≢◌, ℕ, zero, suc, ◌+◌, ◌*◌, ◌/◌, ◌^◌, ◌<◌, ◌≤◌, ◌==◌, Bool, true, false, nat_le, if◌then◌else◌, List, [], ◌∷◌, ◌++◌, length, get_or, ℤ, pos, negsuc, int_le, Err, refl}
+use Rattle.std.specs.Prelude.{◌≡◌, ◌≢◌, ℕ, ◌+◌, ◌*◌, ◌^◌, ◌<◌, ◌≤◌, ◌==◌, Bool, true, false, nat_le, if◌then◌else◌, List, [], ◌∷◌, ◌++◌, length, get_or, min, ◌-◌, ℤ, Err}
 use Rattle.std.specs.Char.{is_ascii_digit}
 use Rattle.std.specs.List.{list_all}
-use Rattle.std.proofs.Common.{arith, ap, sym, ◌∙◌, lit<}
+use Rattle.std.proofs.Common.{arith, rules, ap, sym, ◌∙◌, lit<}
 use Rattle.std.proofs.lemmas.Bool.{and_parts}
 use Rattle.std.proofs.lemmas.Bool.Decides.{nat_tests}
 use Rattle.std.proofs.lemmas.Int.{ints}
-use Rattle.std.proofs.Math.Nat.{mul-le-mul_right, pow-le-pow_right}
+use Rattle.std.proofs.Math.Nat.{le-mul_of_pos_right, mul-le-mul_right, pow-le-pow_right}
 use Rattle.speedate_base.specs.declared.faults.ParseError.TheVariants as fault
 use Rattle.speedate_base.specs.DecimalTimestamp.{decimal_digits, decimal_scale, decimal_microsecond, decimal_instant}
 use Rattle.speedate_base.specs.Digits.{one_digit_value}
 use Rattle.speedate_base.specs.DigitRuns.{digits_value}
-use Rattle.speedate_base.proofs.DigitRunLemmas.{digits_value-append, digits_value-lt}
+use Rattle.speedate_base.proofs.DigitRunLemmas.{below-power, digits_value-append, digits_value-lt}
 use Rattle.speedate_base.specs.Nearest.{nearest, quotient}
 use Rattle.speedate_base.proofs.NearestLemmas.{halved, nearest-halved, quotient-whole, halved-whole}
 use Rattle.speedate_base.specs.Numbers.{DecimalParts, with_sign}
-use Rattle.speedate_base.specs.Timestamp.{UnitRow, inferred_seconds_max, instant_at, first_second, last_second, range_answer}
+use Rattle.speedate_base.specs.Timestamp.{UnitRow, inferred_seconds_max, instant_at, range_answer}
 use Rattle.speedate_base.proofs.NearestLemmas.{scale-some}
 
 -- many digits of which the first is not 0 spell a large number
@@ -29,29 +29,29 @@ digits_value-large (digit ∷ digits) all many other =
     let power : 10 ^ 11 ≤ 10 ^ length digits = pow-le-pow_right {n = 10} (lit< tt) rest in
     omega (arith, mul-le-mul_right (10 ^ length digits) more, power)
 
+-- few digits spell a small one
+pub digits_value-small : (digits : List ℕ) → list_all is_ascii_digit digits ≡ true → length digits ≤ 10 → digits_value digits < inferred_seconds_max
+digits_value-small digits all few = omega (arith, below-power 10 (length digits) _ few (digits_value-lt digits all))
+
 -- how a decimal compares with the largest timestamp in seconds
 pub same-whole : (whole fraction : List ℕ) → digits_value whole ≡ inferred_seconds_max
     → nat_le (digits_value (whole ++ fraction)) (inferred_seconds_max * 10 ^ length fraction) ≡ (digits_value fraction == 0)
-same-whole whole fraction same =
-    let sum = digits_value-append whole fraction ∙ ap (λ (n : ℕ). n * 10 ^ length fraction + digits_value fraction) same in
-    grind (arith, nat_tests, sum)
+same-whole whole fraction same = grind (arith, nat_tests, digits_value-append)
 
 pub less-whole : (whole fraction : List ℕ) → list_all is_ascii_digit fraction ≡ true → digits_value whole < inferred_seconds_max
     → nat_le (digits_value (whole ++ fraction)) (inferred_seconds_max * 10 ^ length fraction) ≡ true
 less-whole whole fraction all less =
-    let product = mul-le-mul_right (10 ^ length fraction) less in
-    grind (arith, nat_tests, digits_value-append whole fraction, digits_value-lt fraction all, product)
+    grind (arith, nat_tests, digits_value-append, digits_value-lt, mul-le-mul_right (10 ^ length fraction) less)
 
 pub more-whole : (whole fraction : List ℕ) → inferred_seconds_max < digits_value whole
     → nat_le (digits_value (whole ++ fraction)) (inferred_seconds_max * 10 ^ length fraction) ≡ false
-more-whole whole fraction more =
-    let product = mul-le-mul_right (10 ^ length fraction) more in
-    grind (arith, nat_tests, digits_value-append whole fraction, scale-some (length fraction), product)
+more-whole whole fraction more = grind (arith, nat_tests, digits_value-append, scale-some, mul-le-mul_right (10 ^ length fraction) more)
+
+pub ruleset inferred_rules = (nat_tests, digits_value-large, digits_value-small, same-whole, less-whole, more-whole)
 
 -- a size with its sign is one size
 with_sign-only : (negative : Bool) (first second : ℕ) → with_sign negative first ≡ with_sign negative second → first ≡ second
-with_sign-only false first second same = grind (arith, ints, same)
-with_sign-only true first second same = grind (arith, ints, same)
+with_sign-only negative first second same = grind (arith, ints)
 
 -- the microseconds of the whole part, and those of the fraction to the nearest, are those of the decimal to the nearest
 pub decimal_microsecond-sum : (row : UnitRow) (decimal : DecimalParts) (part : ℕ)
@@ -74,23 +74,27 @@ decimal_microsecond-sum row decimal part is =
 -- an instant far from 1970 lies outside the years
 far-range : (negative : Bool) (size : ℕ) → 2 ^ 60 < size
     → range_answer (instant_at (with_sign negative size)) ≡ Err (if negative then fault.DateTooSmall else fault.DateTooLarge)
-far-range false size far =
-    let late : int_le (pos (size / 1000000)) last_second ≡ false = grind (arith, ints, nat_tests) in
-    rw late refl
-far-range true zero far = absurd (omega arith)
-far-range true (suc size) far =
-    let early : int_le first_second (negsuc (size / 1000000)) ≡ false = grind (arith, ints, nat_tests) in
-    rw early refl
+far-range negative size far = search rules
 
--- so does that of a decimal whose whole part is far
-pub decimal-far : (row : UnitRow) (decimal : DecimalParts) → 2 ^ 60 < digits_value decimal.whole * row.microseconds
+-- so does that of a decimal whose whole part is far, also in numbers of 64 bits
+pub decimal-far : (row : UnitRow) (decimal : DecimalParts) (value size : ℕ) → value ≡ min (digits_value decimal.whole) (2 ^ 64 - 1)
+    → size ≡ min (value * row.microseconds) (2 ^ 64 - 1) → 2 ^ 60 < size
     → range_answer (decimal_instant row decimal) ≡ Err (if decimal.negative then fault.DateTooSmall else fault.DateTooLarge)
-decimal-far row decimal far =
+decimal-far row decimal value size is product far =
     let negative = decimal.negative in
     let worth = row.microseconds in
     let scale = decimal_scale decimal in
     let rest = digits_value decimal.fraction * worth in
     let part = halved negative (quotient negative (2 * rest) scale) in
     let sum = decimal_microsecond-sum row decimal part (sym (nearest-halved negative rest scale (scale-some (length decimal.fraction)))) in
+    let below : value ≤ digits_value decimal.whole = omega (arith, is) in
     ap (λ (n : ℤ). range_answer (instant_at n)) sum
-    ∙ far-range negative (digits_value decimal.whole * worth + part) (omega (arith, far))
+    ∙ far-range negative (digits_value decimal.whole * worth + part) (omega (arith, far, product, mul-le-mul_right worth below))
+
+-- and one that is near is exact in them
+pub near : (digits : List ℕ) (worth value size : ℕ) → 0 < worth → value ≡ min (digits_value digits) (2 ^ 64 - 1)
+    → size ≡ min (value * worth) (2 ^ 64 - 1) → size ≤ 2 ^ 60 → size ≡ digits_value digits * worth
+near digits worth value size some is product less =
+    let small : value ≤ value * worth = le-mul_of_pos_right value some in
+    let exact : value ≡ digits_value digits = omega (arith, is, small, product, less) in
+    rw (← exact) (omega (arith, product, less))

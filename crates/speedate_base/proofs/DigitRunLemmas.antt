@@ -1,13 +1,12 @@
 -- How a run of digits grows, and what it spells.
-use Rattle.std.specs.Prelude.{◌≡◌, ℕ, zero, suc, ◌+◌, ◌-◌, ◌*◌, ◌^◌, ◌<◌, ◌≤◌, ◌==◌, ◌&&◌, Bool, true, false, if◌then◌else◌, List, [], ◌∷◌, ◌++◌, length, take, drop, refl}
+use Rattle.std.specs.Prelude.{◌≡◌, ℕ, zero, suc, ◌+◌, ◌-◌, ◌*◌, ◌^◌, ◌<◌, ◌≤◌, ◌==◌, true, false, List, [], ◌∷◌, ◌++◌, length, take, drop, refl}
 use Rattle.std.specs.Char.{is_ascii_digit}
 use Rattle.std.specs.List.{prefix_len, list_all}
-use Rattle.std.proofs.Common.{arith, lit<, ap, sym, ◌∙◌, get_or, inl, inr}
-use Rattle.std.proofs.lemmas.List.{length-append, length-take-le, take_more, get_or-take, get_or_past}
-use Rattle.std.proofs.lemmas.List.Sums.{prefix_len_is, prefix_len-drop_no, prefix_len-drop_all, AllPass-from_list_all}
+use Rattle.std.proofs.Common.{arith, rules, get_or}
+use Rattle.std.proofs.lemmas.List.{take-append-drop, length-drop, get_or-drop, length-append, length-take-le, take_more, get_or_past}
+use Rattle.std.proofs.lemmas.List.Sums.{prefix_len_is, prefix_len-drop_yes, prefix_len-drop_no, prefix_len-drop_all, AllPass-from_list_all}
 use Rattle.std.proofs.lemmas.List.Folds.{list_all-append, prefix_len-append}
-use Rattle.std.proofs.lemmas.List.Elements.{All-get_or}
-use Rattle.std.proofs.lemmas.Bool.{and_from, and_parts, cases_lt, false≢true}
+use Rattle.std.proofs.lemmas.Bool.{and_from, cases_lt}
 use Rattle.std.proofs.lemmas.Bool.Decides.{nat_tests}
 use Rattle.std.proofs.lemmas.Nat.{pow-add}
 use Rattle.std.proofs.Math.Seq.{take-add}
@@ -17,10 +16,7 @@ use Rattle.speedate_base.specs.DigitRuns.{run_length, digits_value, fraction_val
 
 -- a digit stands within its text
 pub digit-within : (bytes : List ℕ) (place : ℕ) → is_ascii_digit (get_or bytes place 0) ≡ true → place < length bytes
-digit-within bytes place is = elim (cases_lt place (length bytes)) [
-  | inl within ↦ within
-  | inr past ↦ absurd (false≢true (ap is_ascii_digit (sym (get_or_past bytes place 0 past)) ∙ is))
-]
+digit-within bytes place is = grind (arith, nat_tests, cases_lt, get_or_past)
 
 -- a digit stands for nine at most
 pub one_digit_value-le : (byte : ℕ) → is_ascii_digit byte ≡ true → one_digit_value byte ≤ 9
@@ -30,73 +26,88 @@ one_digit_value-le byte is = grind (arith, nat_tests)
 pub digits_value-lt : (digits : List ℕ) → list_all is_ascii_digit digits ≡ true → digits_value digits < 10 ^ length digits
 digits_value-lt [] all = omega arith
 digits_value-lt (digit ∷ digits) all =
-    let tests = and_parts (is_ascii_digit digit) _ all in
-    let first = one_digit_value-le digit tests.0 in
-    omega (arith, digits_value-lt digits tests.1, pow-succ' 10 (length digits), mul-le-mul_right (10 ^ length digits) first)
+    grind (arith, nat_tests, pow-succ' 10 (length digits), one_digit_value-le, digits_value-lt digits, mul-le-mul_right)
 
 -- what is below a power of ten is below a larger one
 pub below-power : (most count value : ℕ) → count ≤ most → value < 10 ^ count → value < 10 ^ most
-below-power most count value few small =
-    let power : 10 ^ count ≤ 10 ^ most = pow-le-pow_right {n = 10} (lit< tt) few in
-    omega (arith, power, small)
+below-power most count value few small = search (rules, pow-le-pow_right)
 
 -- few digits fit 64 bits
 pub digits_value-fits : (digits : List ℕ) → length digits ≤ 19 → list_all is_ascii_digit digits ≡ true → digits_value digits < 2 ^ 64
-digits_value-fits digits few all = omega (arith, below-power 19 (length digits) _ few (digits_value-lt digits all))
+digits_value-fits digits few all = search (rules, below-power, digits_value-lt)
 
 -- digits after others
 pub digits_value-append : (digits more : List ℕ) → digits_value (digits ++ more) ≡ digits_value digits * 10 ^ length more + digits_value more
 digits_value-append [] more = omega arith
-digits_value-append (first ∷ digits) more =
-    let long : length (digits ++ more) ≡ length digits + length more = omega (arith, length-append digits more) in
-    let power = ap (λ (n : ℕ). one_digit_value first * 10 ^ n) long ∙ ap (λ (p : ℕ). one_digit_value first * p) (pow-add 10 (length digits) (length more)) in
-    grind (arith, power, digits_value-append digits more)
+digits_value-append (first ∷ digits) more = search (rules, length-append, pow-add, digits_value-append digits more)
 
 -- one more digit
 pub digits_value-front-more : (bytes : List ℕ) (count : ℕ) → count < length bytes
     → digits_value (take (count + 1) bytes) ≡ 10 * digits_value (take count bytes) + one_digit_value (get_or bytes count 0)
 digits_value-front-more bytes count within =
-    let digit = get_or bytes count 0 in
-    ap digits_value (take_more bytes count 0 within) ∙ omega (arith, digits_value-append (take count bytes) (digit ∷ []))
+    grind (arith, take_more bytes count 0 within, digits_value-append (take count bytes) (get_or bytes count 0 ∷ []))
+
+-- the same from a place on
+pub digits_value-next : (bytes : List ℕ) (place end : ℕ) → place ≤ end → end < length bytes
+    → digits_value (take (end + 1 - place) (drop place bytes))
+    ≡ 10 * digits_value (take (end - place) (drop place bytes)) + one_digit_value (get_or bytes end 0)
+digits_value-next bytes place end from within =
+    let next : end + 1 - place ≡ end - place + 1 = omega arith in
+    let there : place + (end - place) ≡ end = omega arith in
+    grind (arith, next, there, digits_value-front-more (drop place bytes) (end - place), get_or-drop place bytes (end - place) 0, length-drop place bytes)
+
+pub ruleset one_more_digit = (nat_tests, prefix_len-drop_yes, pow-succ', one_digit_value-le, digit-within, digits_value-front-more)
+
+-- where no digit stands there is no run
+pub run-none : (text : List ℕ) (place : ℕ) → is_ascii_digit (get_or text place 0) ≡ false → run_length text place ≡ 0
+run-none text place other = search (rules, cases_lt, prefix_len-drop_no, prefix_len-drop_all)
+
+-- a run ends with the bytes if and only if all of them are digits
+pub run-whole : (bytes : List ℕ) → (prefix_len is_ascii_digit bytes == length bytes) ≡ list_all is_ascii_digit bytes
+run-whole [] = refl
+run-whole (byte ∷ bytes) = grind (arith, nat_tests, run-whole bytes)
+
+-- the front of some bytes has their run where it ends within it
+pub run-front : (bytes : List ℕ) (count : ℕ) → prefix_len is_ascii_digit (take count bytes) < length (take count bytes)
+    → prefix_len is_ascii_digit bytes ≡ prefix_len is_ascii_digit (take count bytes)
+run-front bytes count ends =
+    grind (arith, nat_tests, take-append-drop count bytes, prefix_len-append is_ascii_digit (take count bytes) (drop count bytes))
+
+-- and their run goes on after it where it is all digits
+pub run-on : (bytes : List ℕ) (count : ℕ) → count ≤ length bytes → list_all is_ascii_digit (take count bytes) ≡ true
+    → prefix_len is_ascii_digit bytes ≡ count + prefix_len is_ascii_digit (drop count bytes)
+run-on bytes count within all =
+    grind (
+      arith,
+      nat_tests,
+      take-append-drop count bytes,
+      prefix_len-append is_ascii_digit (take count bytes) (drop count bytes),
+      run-whole (take count bytes),
+      length-take-le count bytes,
+    )
 
 -- a run ends at the first byte that is no digit, or with the bytes
 pub run_length-ended : (bytes : List ℕ) (count : ℕ) → count ≤ length bytes → list_all is_ascii_digit (take count bytes) ≡ true
     → (count < length bytes → is_ascii_digit (get_or bytes count 0) ≡ false) → prefix_len is_ascii_digit bytes ≡ count
 run_length-ended bytes count within all ended =
-    let long = length-take-le count bytes within in
-    prefix_len_is is_ascii_digit bytes count 0 within
-    (λ k below.
-    let inside : k < length (take count bytes) = omega (arith, long) in
-    sym (ap is_ascii_digit (get_or-take count bytes k 0 below))
-    ∙ All-get_or (λ (byte : ℕ). is_ascii_digit byte ≡ true) (take count bytes) k 0 inside (AllPass-from_list_all is_ascii_digit (take count bytes) all))
-    ended
-
--- where no digit stands there is no run
-pub run-none : (text : List ℕ) (place : ℕ) → is_ascii_digit (get_or text place 0) ≡ false → run_length text place ≡ 0
-run-none text place other = elim (cases_lt place (length text)) [
-  | inl within ↦ prefix_len-drop_no is_ascii_digit text place 0 within other
-  | inr past ↦ prefix_len-drop_all is_ascii_digit text place past
-]
-
-whole-first : (count long : ℕ) (test all : Bool) → (count == long) ≡ all → ((if test then 1 + count else 0) == suc long) ≡ (test && all)
-whole-first count long test all same = grind (arith, nat_tests)
-
--- a run ends with the bytes if and only if all of them are digits
-pub run-whole : (bytes : List ℕ) → (prefix_len is_ascii_digit bytes == length bytes) ≡ list_all is_ascii_digit bytes
-run-whole [] = refl
-run-whole (byte ∷ bytes) = whole-first _ _ (is_ascii_digit byte) _ (run-whole bytes)
+    grind (
+      arith,
+      nat_tests,
+      run-on bytes count,
+      cases_lt count (length bytes),
+      prefix_len-drop_no is_ascii_digit bytes count,
+      prefix_len-drop_all is_ascii_digit bytes count,
+    )
 
 -- digits before a run belong to it
 pub run_length-append : (digits rest : List ℕ) → list_all is_ascii_digit digits ≡ true
     → prefix_len is_ascii_digit (digits ++ rest) ≡ length digits + prefix_len is_ascii_digit rest
-run_length-append digits rest all = rw (prefix_len-append is_ascii_digit digits rest, run-whole digits ∙ all) refl
+run_length-append digits rest all = search (rules, prefix_len-append, run-whole)
 
 -- where the digits go on, so does the front
 pub list_all-more : (bytes : List ℕ) (place count : ℕ) → list_all is_ascii_digit (take place bytes) ≡ true
     → list_all is_ascii_digit (take count (drop place bytes)) ≡ true → list_all is_ascii_digit (take (place + count) bytes) ≡ true
-list_all-more bytes place count first next =
-    ap (list_all is_ascii_digit) (take-add place count bytes) ∙ list_all-append is_ascii_digit (take place bytes) (take count (drop place bytes))
-    ∙ and_from _ _ first next
+list_all-more bytes place count first next = search (rules, take-add, list_all-append, and_from)
 
 -- a fraction is what its digits spell, and zeros in the places that they leave
 pub fraction_value-filled : (places : ℕ) (digits : List ℕ) → length digits ≤ places
@@ -105,15 +116,12 @@ fraction_value-filled zero [] few = omega arith
 fraction_value-filled zero (digit ∷ digits) few = absurd (omega arith)
 fraction_value-filled (suc places) [] few = omega arith
 fraction_value-filled (suc places) (digit ∷ digits) few =
-    let fits : length digits ≤ places = omega arith in
-    let left : suc places - suc (length digits) ≡ places - length digits = omega arith in
     let sum : length digits + (places - length digits) ≡ places = omega arith in
-    let power = sym (ap (λ (n : ℕ). 10 ^ n) sum) ∙ pow-add 10 (length digits) (places - length digits) in
-    rw (left, power) (grind (arith, fraction_value-filled places digits fits))
+    let left : suc places - suc (length digits) ≡ places - length digits = omega arith in
+    grind (arith, left, sum, pow-add 10 (length digits) (places - length digits), fraction_value-filled places digits)
 
 -- digits past the places do not count
 pub fraction_value-take : (places : ℕ) (digits : List ℕ) → fraction_value places (take places digits) ≡ fraction_value places digits
 fraction_value-take zero digits = refl
 fraction_value-take (suc places) [] = refl
-fraction_value-take (suc places) (digit ∷ digits) =
-    ap (λ (value : ℕ). one_digit_value digit * 10 ^ places + value) (fraction_value-take places digits)
+fraction_value-take (suc places) (digit ∷ digits) = search (rules, fraction_value-take places digits)

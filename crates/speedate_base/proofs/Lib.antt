@@ -7,6 +7,5 @@ pub mod TextLemmas
 pub mod TimestampLemmas
 mod BlockLemmas
 pub mod PatternLemmas
-mod WordLemmas
 mod RoundingLemmas
 mod DecimalLemmas

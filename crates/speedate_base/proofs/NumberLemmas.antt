@@ -1,41 +1,31 @@
 -- A decimal's parts are its text, and texts that are no numbers.
-use Rattle.std.specs.Prelude.{◌≡◌, ◌≢◌, ℕ, ◌+◌, ◌-◌, ◌<◌, ◌≤◌, Bool, true, false, ◌&&◌, ◌||◌, ◌==◌, List, [], ◌∷◌, ◌++◌, length, take, drop, slice_index, nat_lt, if◌then◌else◌, Option, Some, None, ℤ, refl}
+use Rattle.std.specs.Prelude.{◌≡◌, ℕ, ◌+◌, ◌-◌, ◌<◌, ◌≤◌, Bool, true, false, ◌&&◌, ◌==◌, List, [], ◌∷◌, ◌++◌, length, take, drop, slice_index, if◌then◌else◌, Option, Some, None, ℤ, refl}
 use Rattle.std.specs.Char.{is_ascii_digit}
 use Rattle.std.specs.List.{list_all, prefix_len}
-use Rattle.std.proofs.Common.{arith, ap, sym, subst, ◌∙◌, inl, inr, append_assoc, get_or}
-use Rattle.std.proofs.lemmas.Bool.{cases_lt, eqb-true, ne_eqb, and_from, and_parts, false≢true}
-use Rattle.std.proofs.lemmas.Bool.Decides.{nat_tests}
+use Rattle.std.proofs.Common.{arith, rules, ap, sym, subst, ◌∙◌, inl, inr, append_assoc, get_or}
+use Rattle.std.proofs.lemmas.Bool.{cases_lt, eqb-true, and_parts, false≢true, false_from_ne_true}
 use Rattle.std.proofs.lemmas.List.Sums.{prefix_len_passes, take_while-cons}
-use Rattle.std.proofs.lemmas.List.{get_or-drop, take-append-drop, drop-drop, drop_more, take_all, length-drop}
-use Rattle.speedate_base.specs.Ascii.{plus_sign, hyphen, full_stop}
-use Rattle.speedate_base.specs.DigitRuns.{run_length, run_digits, run_value}
-use Rattle.speedate_base.specs.Numbers.{has_minus, sign_length, point_place, is_decimal, decimal_answer, decimal_parts, IsSign, JoinsTo, DecimalParts, Fractional, NoNumber, whole_or, whole_number, number_answer, with_sign, fits_i64}
+use Rattle.std.proofs.lemmas.List.{get_or-drop, take-append-drop, drop-drop, drop_more, take_all, length-drop, length-take-le}
+use Rattle.speedate_base.specs.Ascii.{full_stop}
+use Rattle.speedate_base.specs.DigitRuns.{run_length, run_digits}
+use Rattle.speedate_base.specs.Numbers.{has_minus, sign_length, point_place, is_decimal, decimal_parts, IsSign, JoinsTo, DecimalParts, Fractional, NoNumber, whole_or, whole_number, number_answer}
 use Rattle.speedate_base.specs.IntFloat.{parts, number_of, JoinsToFloat}
 use Rattle.speedate_base.specs.declared.numbers.int_float.IntFloat.{IntFloat}
 use Rattle.speedate_base.specs.declared.numbers.int_float.IntFloat.TheVariants as number
 
-first-digit : (byte : ℕ) (digits : List ℕ) (test : Bool) → is_ascii_digit byte ≡ test → list_all is_ascii_digit digits ≡ true
-    → list_all is_ascii_digit (if test then byte ∷ digits else []) ≡ true
-first-digit byte digits true is others = and_from _ _ is others
-first-digit byte digits false is others = refl
-
 -- a run is made of digits
 pub run-digits : (bytes : List ℕ) → list_all is_ascii_digit (take (prefix_len is_ascii_digit bytes) bytes) ≡ true
 run-digits [] = refl
-run-digits (byte ∷ bytes) =
-    ap (list_all is_ascii_digit) (take_while-cons is_ascii_digit byte bytes) ∙ first-digit byte _ (is_ascii_digit byte) refl (run-digits bytes)
+run-digits (byte ∷ bytes) = grind (arith, take_while-cons is_ascii_digit byte bytes, run-digits bytes)
 
-first-sign : (byte : ℕ) (bytes : List ℕ) (plus minus : Bool) → (byte == plus_sign) ≡ plus → (byte == hyphen) ≡ minus
-    → IsSign minus (take (if plus || minus then 1 else 0) (byte ∷ bytes))
-first-sign byte bytes true true p m = ap (λ (b : ℕ). b ∷ []) (eqb-true byte hyphen m)
-first-sign byte bytes false true p m = ap (λ (b : ℕ). b ∷ []) (eqb-true byte hyphen m)
-first-sign byte bytes true false p m = inr (ap (λ (b : ℕ). b ∷ []) (eqb-true byte plus_sign p))
-first-sign byte bytes false false p m = inl refl
+pub front_digits : (bytes : List ℕ) (count : ℕ) → count ≡ prefix_len is_ascii_digit bytes → list_all is_ascii_digit (take count bytes) ≡ true
+front_digits bytes count is = rw is (run-digits bytes)
+
+pub ruleset part_rules = (front_digits, length-drop, length-take-le)
 
 -- a text begins with its sign
 pub sign-of_text : (text : List ℕ) → IsSign (has_minus text) (take (sign_length text) text)
-sign-of_text [] = inl refl
-sign-of_text (byte ∷ bytes) = first-sign byte bytes (byte == plus_sign) (byte == hyphen) refl refl
+sign-of_text text = search rules
 
 -- a decimal's sign, digits, point and digits are its text
 pub decimal_parts-join : (text : List ℕ) → is_decimal text ≡ true → JoinsTo (decimal_parts text) text
@@ -62,10 +52,7 @@ tested : (d : DecimalParts) (text : List ℕ) (number : Option ℤ) (test : Bool
     → Fractional d ≡ whole_or number (if test then Fractional (decimal_parts text) else NoNumber)
     → JoinsTo d text
 tested d text (Some n) test is same = cc
-tested d text None true is same =
-    let parts_same : decimal_parts text ≡ d = cc in
-    subst (λ (decimal : DecimalParts). JoinsTo decimal text) parts_same (decimal_parts-join text is)
-tested d text None false is same = cc
+tested d text None test is same = search (rules, decimal_parts-join)
 
 -- so what is answered as a decimal joins to its text
 pub number_of-joins : (read : IntFloat) (text : List ℕ) → number_of read ≡ number_answer text → JoinsToFloat read text
@@ -73,22 +60,12 @@ number_of-joins (number.Int n) text same = tt
 number_of-joins (number.Float decimal) text same = tested (parts decimal) text (whole_number text) (is_decimal text) refl same
 number_of-joins number.Err text same = tt
 
-never : (a b : Bool) (value : ℤ) → (if (a && false) && b then Some value else None) ≡ None
-never true b value = refl
-never false b value = refl
-
 -- a text that goes on after its digits is no whole number
 pub whole_number-none : (text : List ℕ) → (point_place text ≡ length text → ⊥) → whole_number text ≡ None
-whole_number-none text other =
-    let start = sign_length text in
-    let size = run_value text start in
-    let value = with_sign (has_minus text) size in
-    ap (λ (ends : Bool). if (nat_lt 0 (run_length text start) && ends) && fits_i64 (has_minus text) size then Some value else None)
-    (ne_eqb (point_place text) (length text) other)
-    ∙ never (nat_lt 0 (run_length text start)) (fits_i64 (has_minus text) size) value
+whole_number-none text other = search rules
 
 sign_length-small : (text : List ℕ) → sign_length text ≤ 1
-sign_length-small text = grind (arith, nat_tests)
+sign_length-small text = search rules
 
 -- each byte of a run is a digit
 run-passes : (text : List ℕ) (start place : ℕ) → start ≤ place → place < start + run_length text start → is_ascii_digit (get_or text place 0) ≡ true
@@ -106,31 +83,14 @@ whole_number-other text place after within other =
     whole_number-none text
     (λ same. false≢true (sym other ∙ run-passes text (sign_length text) place (omega (arith, small)) (omega (arith, same))))
 
-cannot : (test : Bool) → test ≢ true → test ≡ false
-cannot true never = absurd (never refl)
-cannot false never = refl
-
 -- nor is it a decimal, if that byte is no point
 is_decimal-other : (text : List ℕ) (place : ℕ) → 1 ≤ place → place < length text → is_ascii_digit (get_or text place 0) ≡ false
     → (get_or text place 0 == full_stop) ≡ false → is_decimal text ≡ false
-is_decimal-other text place after within other no_point = cannot (is_decimal text) (λ is.
-    let point = point_place text in
-    let small = sign_length-small text in
-    let first = and_parts ((slice_index text point == full_stop) && (point + 1 + run_length text (point + 1) == length text)) _ is in
-    let tests = and_parts (slice_index text point == full_stop) _ first.0 in
-    let ends = eqb-true (point + 1 + run_length text (point + 1)) (length text) tests.1 in
-    elim (cases_lt place point) [
-      | inl before ↦ false≢true (sym other ∙ run-passes text (sign_length text) place (omega (arith, small)) before)
-      | inr from ↦ elim (cases_lt point place) [
-        | inl behind ↦ false≢true (sym other ∙ run-passes text (point + 1) place (omega arith) (omega (arith, ends)))
-        | inr up ↦ let same : place ≡ point = omega arith in
-            false≢true (sym no_point ∙ ap (λ (n : ℕ). get_or text n 0 == full_stop) same ∙ tests.0)
-      ]
-    ])
+is_decimal-other text place after within other no_point =
+    search (rules, and_parts, eqb-true, cases_lt, false≢true, false_from_ne_true, run-passes, sign_length-small)
 
 -- so it is no number
 pub number_answer-other : (text : List ℕ) (place : ℕ) → 1 ≤ place → place < length text → is_ascii_digit (get_or text place 0) ≡ false
     → (get_or text place 0 == full_stop) ≡ false → number_answer text ≡ NoNumber
 number_answer-other text place after within other no_point =
-    ap (λ (number : Option ℤ). whole_or number (decimal_answer text)) (whole_number-other text place after within other)
-    ∙ ap (λ (test : Bool). if test then Fractional (decimal_parts text) else NoNumber) (is_decimal-other text place after within other no_point)
+    rw (whole_number-other text place after within other, is_decimal-other text place after within other no_point) refl

@@ -1,8 +1,10 @@
 -- What is known of bytes that are as a pattern has them.
-use Rattle.std.specs.Prelude.{◌≡◌, ℕ, zero, suc, ◌+◌, ◌≤◌, Bool, true, false, if◌then◌else◌, List, [], ◌∷◌, length, drop, refl}
-use Rattle.std.proofs.Common.{add-zero, arith}
+use Rattle.std.specs.Prelude.{◌≡◌, ℕ, zero, suc, ◌+◌, ◌-◌, ◌%◌, ◌≤◌, Bool, true, if◌then◌else◌, List, [], ◌∷◌, length, drop}
+use Rattle.std.specs.Int.{w64, from_le_bytes}
+use Rattle.std.proofs.Common.{arith, rules}
 use Rattle.std.proofs.lemmas.List.{get_or-drop}
 use Rattle.std.proofs.lemmas.Bool.Decides.{nat_tests}
+use lib.Lanes.{number_l}
 use Rattle.speedate_base.specs.Pattern.{eight_at, fits_byte, fit_length}
 
 -- a list of eight is made of eight
@@ -18,11 +20,19 @@ by_eight P each (a ∷ b ∷ c ∷ d ∷ e ∷ f ∷ g ∷ []) long = absurd (om
 by_eight P each (a ∷ b ∷ c ∷ d ∷ e ∷ f ∷ g ∷ h ∷ []) long = each a b c d e f g h
 by_eight P each (a ∷ b ∷ c ∷ d ∷ e ∷ f ∷ g ∷ h ∷ i ∷ more) long = absurd (omega arith)
 
+-- so std's number of eight bytes is their number in base 256, the first byte lowest
+pub from_le_bytes-number : (bytes : List ℕ) → length bytes ≡ 8 → from_le_bytes w64 bytes ≡ number_l 256 bytes
+from_le_bytes-number = by_eight (λ (bytes : List ℕ). from_le_bytes w64 bytes ≡ number_l 256 bytes) (λ a b c d e f g h. omega arith)
+
+-- a lane less the pattern's byte
+abbrev pub less : ℕ → ℕ → ℕ
+less lane form = (lane + (256 - form)) % 256
+
 -- no more bytes fit than the pattern has
-pub fit_length-le : (forms lanes : List ℕ) → fit_length forms lanes ≤ length forms
-fit_length-le [] lanes = omega arith
-fit_length-le (form ∷ forms) [] = omega arith
-fit_length-le (form ∷ forms) (byte ∷ bytes) = grind (arith, nat_tests, fit_length-le forms bytes)
+pub fit_length_le : (forms lanes : List ℕ) → fit_length forms lanes ≤ length forms
+fit_length_le [] lanes = omega arith
+fit_length_le (form ∷ forms) [] = omega arith
+fit_length_le (form ∷ forms) (byte ∷ bytes) = grind (arith, nat_tests, fit_length_le forms bytes)
 
 -- so many bytes, from the first on, are as the pattern has them
 abbrev pub AllFit : ℕ → List ℕ → List ℕ → Type 0
@@ -33,8 +43,7 @@ AllFit (suc count) (form ∷ forms) (byte ∷ bytes) = (fits_byte form byte ≡ 
 
 -- where one more byte fits, the first one does, and the others behind it
 pub first-fits : (count rest : ℕ) (test : Bool) → suc count ≤ (if test then 1 + rest else 0) → (test ≡ true) × (count ≤ rest)
-first-fits count rest true enough = (refl, omega arith)
-first-fits count rest false enough = absurd (omega arith)
+first-fits count rest test enough = search rules
 
 -- where so many bytes fit, each of them does
 pub fit_length-all : (count : ℕ) (forms bytes : List ℕ) → count ≤ fit_length forms bytes → AllFit count forms bytes
@@ -47,14 +56,4 @@ fit_length-all (suc count) (form ∷ forms) (byte ∷ bytes) enough =
 
 -- eight bytes of a text are the first eight of what begins at their place
 pub eight_at-drop : (place : ℕ) (text : List ℕ) → eight_at text place ≡ eight_at (drop place text) 0
-eight_at-drop place text = cc (
-  get_or-drop place text 0 0,
-  get_or-drop place text 1 0,
-  get_or-drop place text 2 0,
-  get_or-drop place text 3 0,
-  get_or-drop place text 4 0,
-  get_or-drop place text 5 0,
-  get_or-drop place text 6 0,
-  get_or-drop place text 7 0,
-  add-zero place,
-)
+eight_at-drop place text = search (rules, get_or-drop)

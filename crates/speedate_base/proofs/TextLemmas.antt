@@ -1,19 +1,19 @@
 -- Texts that are printed and read back.
 use Rattle.std.specs.Prelude.{◌≡◌, ℕ, List, [], ◌++◌, Result, Ok}
-use Rattle.std.proofs.Common.{◌∙◌, ap, sym}
+use Rattle.std.proofs.Common.{rules}
 use Rattle.speedate_base.specs.declared.faults.ParseError.{ParseError}
 use Rattle.speedate_base.specs.Requirement.{result_map}
 
 -- what was appended to nothing is the text
 pub text-alone : (before after text : List ℕ) → before ≡ [] → after ≡ before ++ text → after ≡ text
-text-alone before after text none appended = appended ∙ ap (λ (front : List ℕ). front ++ text) none
+text-alone before after text none appended = search rules
 
 -- if two values are read back from their texts, and the texts are equal, the values are equal
 pub text-distinct : {A E : Type 0} (print : A → List ℕ) (read : List ℕ → Result A E) (first second : A)
     → read (print first) ≡ Ok first → read (print second) ≡ Ok second → print first ≡ print second → first ≡ second
-text-distinct print read first second one two same = let joined = sym one ∙ ap read same ∙ two in cc
+text-distinct print read first second one two same = search rules
 
 -- where a value is read back from the text by which it is printed, that text is printed again
 pub text-canonical : {A : Type 0} (print : A → List ℕ) (value : A) (text : List ℕ) (answer : Result A ParseError)
     → text ≡ print value → answer ≡ Ok value → result_map print answer ≡ Ok text
-text-canonical print value text answer printed read = ap (result_map print) read ∙ ap Ok (sym printed)
+text-canonical print value text answer printed read = search rules

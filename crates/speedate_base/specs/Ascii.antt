@@ -27,7 +27,6 @@ digit_zero = 48
 abbrev pub colon : ℕ
 colon = 58
 
--- `D`, `H`, `M`, `P` and `S`
 abbrev pub capital_d : ℕ
 capital_d = 68
 
@@ -43,18 +42,15 @@ capital_p = 80
 abbrev pub capital_s : ℕ
 capital_s = 83
 
--- `T`
 abbrev pub capital_t : ℕ
 capital_t = 84
 
--- `W` and `Y`
 abbrev pub capital_w : ℕ
 capital_w = 87
 
 abbrev pub capital_y : ℕ
 capital_y = 89
 
--- `Z`
 abbrev pub capital_z : ℕ
 capital_z = 90
 
@@ -62,14 +58,11 @@ capital_z = 90
 abbrev pub low_line : ℕ
 low_line = 95
 
--- `d`
 abbrev pub small_d : ℕ
 small_d = 100
 
--- `t`
 abbrev pub small_t : ℕ
 small_t = 116
 
--- `z`
 abbrev pub small_z : ℕ
 small_z = 122

@@ -26,10 +26,6 @@ abbrev pub named : {A : Type 0} → List (Choice A) → List ℕ → Option A
 named [] text = None
 named (row ∷ rows) text = if str_eq_ignore_ascii_case row.name text then Some row.value else named rows text
 
--- that value, or the fault
-abbrev pub choice_answer : {A : Type 0} → List (Choice A) → ConfigError → List ℕ → Result A ConfigError
-choice_answer rows unknown text = ok_or (named rows text) unknown
-
 -- the units by their names
 abbrev pub unit_choices : List (Choice TimestampUnit)
 unit_choices =
@@ -41,7 +37,7 @@ unit_choices =
 
 -- the unit that a text names, or the fault
 abbrev pub unit_answer : List ℕ → Result TimestampUnit ConfigError
-unit_answer text = choice_answer unit_choices fault.UnknownTimestampUnitString text
+unit_answer text = ok_or (named unit_choices text) fault.UnknownTimestampUnitString
 
 -- the behaviors by their names
 abbrev pub behavior_choices : List (Choice MicrosecondsPrecisionOverflowBehavior)
@@ -49,7 +45,7 @@ behavior_choices = (codes "truncate" chooses behavior.Truncate) ∷ (codes "erro
 
 -- the behavior that a text names, or the fault
 abbrev pub behavior_answer : List ℕ → Result MicrosecondsPrecisionOverflowBehavior ConfigError
-behavior_answer text = choice_answer behavior_choices fault.UnknownMicrosecondsPrecisionOverflowBehaviorString text
+behavior_answer text = ok_or (named behavior_choices text) fault.UnknownMicrosecondsPrecisionOverflowBehaviorString
 
 -- the orders of components by their names
 abbrev pub order_choices : List (Choice IsoOrder)

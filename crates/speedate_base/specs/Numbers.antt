@@ -21,18 +21,13 @@ with_sign negative size = if negative then neg_ℤ (pos size) else pos size
 abbrev pub fits_i64 : Bool → ℕ → Bool
 fits_i64 negative size = if negative then nat_le size (2 ^ 63) else nat_lt size (2 ^ 63)
 
--- the text is an optional sign and one or more digits
-abbrev pub is_integer : List ℕ → Bool
-is_integer text =
-    let start = sign_length text in
-    let digits = run_length text start in
-    nat_lt 0 digits && (start + digits == length text)
-
--- the whole number that a text is, if it is one and fits
+-- the whole number that a text is, if it is an optional sign and one or more digits, and fits
 abbrev pub whole_number : List ℕ → Option ℤ
 whole_number text =
-    let size = run_value text (sign_length text) in
-    if is_integer text && fits_i64 (has_minus text) size
+    let start = sign_length text in
+    let digits = run_length text start in
+    let size = run_value text start in
+    if nat_lt 0 digits && (start + digits == length text) && fits_i64 (has_minus text) size
     then Some (with_sign (has_minus text) size) else None
 
 -- a decimal by its parts

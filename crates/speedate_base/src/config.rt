@@ -143,14 +143,11 @@ impl DateConfigBuilder {
 
     /// Sets the unit of timestamps: with `timestamp_unit(TimestampUnit::Millisecond)`, `86400000` is
     /// 1970-01-02.
-    pub fn timestamp_unit(self, unit: TimestampUnit) -> Self
+    pub fn timestamp_unit(mut self, unit: TimestampUnit) -> Self
         ensures unit { result.timestamp_unit ≡ unit }
     {
-        DateConfigBuilder {
-            config: DateConfig {
-                timestamp_unit: unit,
-            },
-        }
+        self.config.timestamp_unit = unit;
+        self
     }
 
     /// The configuration with the unit that was set last, or the default one:
@@ -158,8 +155,7 @@ impl DateConfigBuilder {
     pub fn build(self) -> DateConfig
         ensures built { result ≡ self }
     {
-        let DateConfigBuilder { config } = self;
-        config
+        self.config
     }
 }
 
@@ -249,25 +245,23 @@ impl TimeConfigBuilder {
     /// Sets what is done with digits past the microsecond: with `Truncate`, `12:13:12.1234567` is
     /// 12:13:12.123456.
     pub fn microseconds_precision_overflow_behavior(
-        self,
+        mut self,
         behavior: MicrosecondsPrecisionOverflowBehavior,
     ) -> Self
         ensures choices { time_choices result ≡ with_behavior behavior (time_choices self) }
     {
-        let mut config = self.config;
-        config.microseconds_precision_overflow_behavior = behavior;
-        TimeConfigBuilder { config }
+        self.config.microseconds_precision_overflow_behavior = behavior;
+        self
     }
 
     /// Sets the offset, in seconds, that the value of a timestamp gets: none, or one of less than 24
     /// hours, which is a condition on the caller. With `Some(-3600)`, `0` is 1970-01-01T00:00:00-01:00.
-    pub fn unix_timestamp_offset(self, offset: Option<i32>) -> Self
+    pub fn unix_timestamp_offset(mut self, offset: Option<i32>) -> Self
         requires { ForSome offset IsOffset }
         ensures choices { time_choices result ≡ with_offset offset (time_choices self) }
     {
-        let mut config = self.config;
-        config.unix_timestamp_offset = offset;
-        TimeConfigBuilder { config }
+        self.config.unix_timestamp_offset = offset;
+        self
     }
 
     /// Sets the offset, in seconds, that the value of a timestamp gets: none, or one of any size, which
@@ -284,12 +278,11 @@ impl TimeConfigBuilder {
 
     /// Sets whether the components of an ISO 8601 duration have to come in order: with `Strict`,
     /// `P1D1Y` fails with `DurationUnitOrder`.
-    pub fn iso_order(self, order: IsoOrder) -> Self
+    pub fn iso_order(mut self, order: IsoOrder) -> Self
         ensures choices { time_choices result ≡ with_order order (time_choices self) }
     {
-        let mut config = self.config;
-        config.iso_order = order;
-        TimeConfigBuilder { config }
+        self.config.iso_order = order;
+        self
     }
 
     /// The configuration of the values that were set last, and of defaults for the others:
@@ -297,8 +290,7 @@ impl TimeConfigBuilder {
     pub fn build(self) -> TimeConfig
         ensures built { result ≡ self }
     {
-        let TimeConfigBuilder { config } = self;
-        config
+        self.config
     }
 }
 

@@ -81,6 +81,7 @@ pub fn float_parse_bytes(bytes: &[u8]) -> IntFloat<'_>
 
 /// The decimal whose digits begin at `start`, and whose point is at `point` if there is one.
 #[inline(always)]
+#[tactic(auto, using(crate::proofs::NumberLemmas::part_rules))]
 fn decimal(bytes: &[u8], negative: bool, start: usize, point: usize) -> IntFloat<'_>
     requires negative { negative ≡ has_minus bytes.now }
     requires start { start ≡ sign_length bytes.now }
@@ -88,13 +89,10 @@ fn decimal(bytes: &[u8], negative: bool, start: usize, point: usize) -> IntFloat
     requires within { point < length bytes.now }
     ensures answer { number_of result ≡ decimal_answer bytes.now }
 {
-    if bytes[point] != b'.' {
-        return IntFloat::Err;
-    }
-    if run_end(bytes, point + 1) != bytes.len() {
-        return IntFloat::Err;
-    }
-    if bytes.len() == start + 1 {
+    if bytes[point] != b'.'
+        || run_end(bytes, point + 1) != bytes.len()
+        || bytes.len() == start + 1
+    {
         return IntFloat::Err;
     }
     IntFloat::Float(Decimal {

@@ -68,28 +68,20 @@ impl DateTimeConfigBuilder {
 
     /// Sets the unit of timestamps: with `timestamp_unit(TimestampUnit::Millisecond)`, `1` is
     /// 1970-01-01T00:00:00.001000.
-    pub fn timestamp_unit(self, unit: TimestampUnit) -> Self
+    pub fn timestamp_unit(mut self, unit: TimestampUnit) -> Self
         ensures choices { choices result ≡ unit_and_time unit self.time_config }
     {
-        DateTimeConfigBuilder {
-            config: DateTimeConfig {
-                timestamp_unit: unit,
-                time_config: self.config.time_config,
-            },
-        }
+        self.config.timestamp_unit = unit;
+        self
     }
 
     /// Sets how the texts of date-times are read, and which offset the value of a timestamp gets: none
     /// with `time_config(TimeConfig::default())`.
-    pub fn time_config(self, config: TimeConfig) -> Self
+    pub fn time_config(mut self, config: TimeConfig) -> Self
         ensures choices { choices result ≡ unit_and_time self.timestamp_unit config }
     {
-        DateTimeConfigBuilder {
-            config: DateTimeConfig {
-                timestamp_unit: self.config.timestamp_unit,
-                time_config: config,
-            },
-        }
+        self.config.time_config = config;
+        self
     }
 
     /// The configuration of the values that were set last, and of defaults for the others:
@@ -97,8 +89,7 @@ impl DateTimeConfigBuilder {
     pub fn build(self) -> DateTimeConfig
         ensures built { result ≡ self }
     {
-        let DateTimeConfigBuilder { config } = self;
-        config
+        self.config
     }
 }
 

@@ -59,6 +59,7 @@ pub fn few_digits(bytes: &[u8], place: usize) -> Option<(u32, usize)>
 }
 
 /// The run of digits at the front of bytes, of any length: eight digits at a time.
+#[tactic(auto, using(crate::proofs::NumberLemmas::front_digits))]
 fn long_run(bytes: &[u8]) -> DigitRun
     ensures length { result.length ≡ run_length bytes.now 0 }
     ensures value { result.value ≡ min (run_value bytes.now 0) (2 ^ 64 - 1) }
@@ -73,6 +74,7 @@ fn long_run(bytes: &[u8]) -> DigitRun
 /// Where the digits from `place` on end: at place 4 for `b"x120."` and place 1. The place is at most
 /// the length.
 #[inline(always)]
+#[tactic(auto, using(crate::proofs::BlockLemmas::block_on))]
 pub fn run_end(bytes: &[u8], place: usize) -> usize
     requires { place ≤ length bytes.now }
     ensures end { result ≡ place + run_length bytes.now place }
@@ -98,6 +100,7 @@ pub fn run_end(bytes: &[u8], place: usize) -> usize
 
 /// The number that digits spell, or `u64::MAX` if it is larger: 120 for `b"120"`.
 #[inline]
+#[tactic(auto, using(crate::proofs::BlockLemmas::is_number))]
 pub(crate) fn digits_number(digits: &[u8]) -> u64
     requires { IsTrue (list_all is_ascii_digit digits.now) }
     ensures value { result ≡ min (digits_value digits.now) (2 ^ 64 - 1) }
@@ -133,6 +136,7 @@ pub(crate) fn spelled_number(digits: &[u8]) -> Result<u64, usize>
 /// The number that fewer than eight bytes spell if they are digits; otherwise, as an error, the place
 /// of the first byte that is no digit.
 #[inline]
+#[tactic(auto, using(crate::proofs::DigitRunLemmas::one_more_digit))]
 pub(crate) fn one_by_one(digits: &[u8]) -> Result<u64, usize>
     requires { length digits.now < LANES }
     ensures answer { result ≡ (if run_length digits.now 0 == length digits.now

@@ -10,7 +10,6 @@ ghost use Rattle.speedate_base.specs.IntFloat.{parts as decimal_parts};
 ghost use Rattle.speedate_base.specs.Nearest.{nearest};
 ghost use Rattle.speedate_base.specs.Numbers.{with_sign};
 ghost use Rattle.speedate_base.specs.Requirement.{result_map};
-ghost use Rattle.speedate_base.specs.declared.faults.ParseError.TheVariants as fault;
 ghost use Rattle.speedate_base.specs.Timestamp.{IsInYears, inferred_seconds_max, range_answer};
 ghost use Rattle.speedate_base.specs.UnixTime.{parts};
 
@@ -50,6 +49,7 @@ pub fn decimal_unit(decimal: Decimal<'_>, unit: TimestampUnit) -> UnixUnit
 
 /// Whether a decimal timestamp is in seconds if its unit is inferred.
 #[inline]
+#[tactic(auto, using(crate::proofs::DecimalLemmas::inferred_rules))]
 fn is_inferred_seconds(decimal: Decimal<'_>) -> bool
     ensures { result ≡ nat_le (decimal_digits (decimal_parts decimal.entry))
         (inferred_seconds_max * decimal_scale (decimal_parts decimal.entry)) }
@@ -83,7 +83,11 @@ pub fn decimal_to_seconds_micros(
 {
     let whole = digits_number(decimal.whole).saturating_mul(unit.microseconds);
     if whole > FAR_MICROSECONDS {
-        return Err(far_fault(decimal.negative));
+        return Err(if decimal.negative {
+            ParseError::DateTooSmall
+        } else {
+            ParseError::DateTooLarge
+        });
     }
     let size = whole + fraction_microseconds(decimal.fraction, unit, decimal.negative);
     UnixTime::from_microseconds(with_sign(decimal.negative, size)).in_years()
@@ -91,6 +95,7 @@ pub fn decimal_to_seconds_micros(
 
 /// The microseconds of a fraction of the unit, to the nearest.
 #[inline]
+#[tactic(auto, using(crate::proofs::NearestLemmas::nearest_filled))]
 fn fraction_microseconds(digits: &[u8], unit: UnixUnit, negative: bool) -> u64
     requires { IsTrue (list_all is_ascii_digit digits.now) }
     ensures nearest { with_sign negative result
@@ -102,16 +107,4 @@ fn fraction_microseconds(digits: &[u8], unit: UnixUnit, negative: bool) -> u64
         return filled(digits, unit.digits);
     }
     nearest_microseconds(digits, unit.microseconds, negative)
-}
-
-/// The fault of a timestamp that is far from 1970: before it if it is negative.
-#[inline]
-fn far_fault(negative: bool) -> ParseError
-    ensures { result ≡ (if negative then fault.DateTooSmall else fault.DateTooLarge) }
-{
-    if negative {
-        ParseError::DateTooSmall
-    } else {
-        ParseError::DateTooLarge
-    }
 }

@@ -20,6 +20,7 @@ const _: () = prove!(LARGEST_UNIT == 365 * 86_400 * 1_000_000);
 /// given by its microseconds. A tie goes to the later microsecond: to the smaller number if the
 /// fraction is that of a negative number.
 #[inline]
+#[tactic(auto, using(crate::proofs::NearestLemmas::nearest_rules))]
 pub fn nearest_microseconds(digits: &[u8], unit: u64, negative: bool) -> u64
     requires digits { IsTrue (list_all is_ascii_digit digits.now) }
     requires unit { unit ≤ LARGEST_UNIT }
@@ -56,6 +57,7 @@ pub fn twice_microseconds(digits: &[u8], unit: u64, up: bool) -> u64
 /// What fewer than eight digits spell, with zeros after them up to so many places: 120,000 for
 /// `b"12"` and six places.
 #[inline]
+#[tactic(auto, using(crate::proofs::RoundingLemmas::filled_rules))]
 pub(super) fn filled(digits: &[u8], places: usize) -> u64
     requires short { length digits.now < LANES }
     requires places { (length digits.now ≤ places) × (places ≤ 8) }

@@ -1,4 +1,4 @@
-use Rattle.std.proofs.Common.{◌≡◌, ◌∙◌, ap, ℕ, ◌+◌, ◌*◌, List, [], ◌∷◌, length, get_or, arith}
+use Rattle.std.proofs.Common.{◌≡◌, ℕ, ◌+◌, ◌*◌, List, [], ◌∷◌, length, get_or, arith}
 use Rattle.speedate_base.specs.DigitRuns.{digits_value}
 use Rattle.speedate_base.specs.Pattern.{fit_digits, neighbours}
 use Rattle.speedate_base.proofs.PatternLemmas.{by_eight}
@@ -13,16 +13,5 @@ joined-spells : (lanes : List ℕ) → length lanes ≡ 8
 joined-spells = by_eight (λ (lanes : List ℕ). joined (neighbours (fit_digits 8 (48 ∷ 48 ∷ 48 ∷ 48 ∷ 48 ∷ 48 ∷ 48 ∷ 48 ∷ []) lanes)) ≡ digits_value lanes)
     (λ a b c d e f g h. omega arith)
 
-pub overflow_add-result-3 : goal.overflow_add-result-3
-overflow_add-result-3 c =
-    let pair = c.pairs.ensures.small in
-    record { fits = omega (arith, c.from.ensures, c.from-2.ensures, c.from-3.ensures, c.from-4.ensures, pair 0, pair 2, pair 4, pair 6) }
-
-pub returns : goal.returns
-returns c =
-    let is = ap joined c.pairs.ensures.numbers ∙ joined-spells c.args.lanes c.fits-lanes.0 in
-    let pair = c.pairs.ensures.small in
-    record {
-      value = omega (arith, is, c.from.ensures, c.from-2.ensures, c.from-3.ensures, c.from-4.ensures);
-      small = omega (arith, c.from.ensures, c.from-2.ensures, c.from-3.ensures, c.from-4.ensures, pair 0, pair 2, pair 4, pair 6);
-    }
+pub returns-clause-value : goal.returns-clause-value
+returns-clause-value c = grind (arith, joined-spells c.args.lanes)

@@ -1,131 +1,98 @@
-use Rattle.std.proofs.Common.{◌≡◌, ◌∙◌, ap, ap₂, sym, subst, refl, lit<, ℕ, zero, suc, ◌+◌, ◌-◌, ◌*◌, ◌/◌, ◌%◌, ◌^◌, ◌<◌, ◌≤◌, true, get_or, List, [], ◌∷◌, length, arith, Fits, w8, w64}
+use Rattle.std.proofs.Common.{◌≡◌, ◌∙◌, ap, sym, refl, ℕ, zero, suc, ◌+◌, ◌-◌, ◌*◌, ◌/◌, ◌%◌, ◌^◌, ◌<◌, ◌≤◌, get_or, List, [], ◌∷◌, length, arith, rules, Fits, w8, w64}
 use Rattle.std.specs.Prelude.{bit_and}
 use Rattle.std.specs.Int.{from_le_bytes, to_le_bytes}
 use Rattle.std.proofs.lemmas.Bool.Decides.{nat_tests}
+use Rattle.std.proofs.lemmas.Nat.{and_mask, mod-pow-add, pow-add, pow_pos}
 use Rattle.std.proofs.lemmas.Simd.{length-zip2}
-use lib.Lanes.{Each1, zip2}
+use Rattle.std.proofs.Math.Nat.{zero-mod, add-mul-div_right, div-eq_of_lt}
+use lib.Lanes.{Each1, zip2, number_l}
 use Rattle.speedate_base.specs.Pattern.{fits_byte, fit_length, fit_digits, neighbours}
-use Rattle.speedate_base.proofs.PatternLemmas.{by_eight, first-fits, fit_length-le}
-use Rattle.speedate_base.proofs.WordLemmas.{word, each-at, from_le_bytes-word, to_le_bytes-word, front_bytes, masked-word}
+use Rattle.speedate_base.proofs.PatternLemmas.{less, by_eight, from_le_bytes-number, first-fits, fit_length_le}
 use Rattle.speedate_base.proofs.numbers.lanes.pairs.Goals as goal
 
--- a lane less the pattern's byte
-abbrev less : ℕ → ℕ → ℕ
-less lane form = (lane + (256 - form)) % 256
-
--- a byte that is as the pattern has it lies at most nine above the pattern's
-record Fitted (form byte : ℕ) : Type 0 where
-  is : less byte form ≡ byte - form
-  small : byte - form ≤ 9
-
-fitted : (form byte : ℕ) → form < 256 → byte < 256 → fits_byte form byte ≡ true → Fitted form byte
-fitted form byte pattern lane fits = record { is = grind (arith, nat_tests); small = grind (arith, nat_tests) }
-
--- so the first lanes, less the pattern, are the digits that they stand for
-record Digits (count : ℕ) (forms lanes : List ℕ) : Type 0 where
-  are : front_bytes count (zip2 less lanes forms) ≡ fit_digits count forms lanes
-  small : Each1 (λ (digit : ℕ). digit ≤ 9) (fit_digits count forms lanes)
-
-none : (forms lanes : List ℕ) → Digits 0 forms lanes
-none [] [] = record { are = refl; small = tt }
-none [] (byte ∷ bytes) = record { are = refl; small = tt }
-none (form ∷ forms) [] = record { are = refl; small = tt }
-none (form ∷ forms) (byte ∷ bytes) = record {
-  are = ap (λ (rest : List ℕ). 0 ∷ rest) (none forms bytes).are;
-  small = (omega arith, (none forms bytes).small);
-}
-
-digits_are : (count : ℕ) (forms lanes : List ℕ) → count ≤ fit_length forms lanes → Each1 (Fits w8) forms → Each1 (Fits w8) lanes
-    → Digits count forms lanes
-digits_are zero forms lanes fits patterns small = none forms lanes
-digits_are (suc count) [] lanes fits patterns small = absurd (omega arith)
-digits_are (suc count) (form ∷ forms) [] fits patterns small = absurd (omega arith)
-digits_are (suc count) (form ∷ forms) (byte ∷ bytes) fits patterns small =
+-- the first lanes, less the pattern, are the digits that they stand for
+first-digits : (count : ℕ) (forms lanes : List ℕ) → count ≤ fit_length forms lanes → Each1 (Fits w8) forms → Each1 (Fits w8) lanes
+    → number_l 256 (zip2 less lanes forms) % 2 ^ (8 * count) ≡ number_l 256 (fit_digits count forms lanes)
+first-digits count [] [] fits patterns small = zero-mod (2 ^ (8 * count))
+first-digits count [] (byte ∷ bytes) fits patterns small = zero-mod (2 ^ (8 * count))
+first-digits count (form ∷ forms) [] fits patterns small = zero-mod (2 ^ (8 * count))
+first-digits zero (form ∷ forms) (byte ∷ bytes) fits patterns small =
+    grind (arith, first-digits zero forms bytes (omega arith) patterns.1 small.1)
+first-digits (suc count) (form ∷ forms) (byte ∷ bytes) fits patterns small =
+    let number : ℕ = number_l 256 (zip2 less (byte ∷ bytes) (form ∷ forms)) in
     let test = first-fits count (fit_length forms bytes) (fits_byte form byte) fits in
-    let first = fitted form byte patterns.0.fits small.0.fits test.0 in
-    let rest = digits_are count forms bytes test.1 patterns.1 small.1 in
-    record { are = ap₂ (λ (d : ℕ) (ds : List ℕ). d ∷ ds) first.is rest.are; small = (first.small, rest.small) }
+    let first : less byte form ≡ byte - form = grind (arith, nat_tests, test.0, patterns.0.fits, small.0.fits) in
+    grind (arith, first, mod-pow-add number (8 * count) 8, first-digits count forms bytes test.1 patterns.1 small.1)
+
+digits-small : (count : ℕ) (forms lanes : List ℕ) → count ≤ fit_length forms lanes → Each1 (λ (digit : ℕ). digit ≤ 9) (fit_digits count forms lanes)
+digits-small count [] lanes fits = tt
+digits-small count (form ∷ forms) [] fits = tt
+digits-small zero (form ∷ forms) (byte ∷ bytes) fits = (omega arith, digits-small zero forms bytes (omega arith))
+digits-small (suc count) (form ∷ forms) (byte ∷ bytes) fits = search (rules, nat_tests, digits-small count forms bytes)
+
+digits-length : (count : ℕ) (forms lanes : List ℕ) → length forms ≡ length lanes → length (fit_digits count forms lanes) ≡ length forms
+digits-length count [] lanes same = refl
+digits-length count (form ∷ forms) [] same = absurd (omega arith)
+digits-length zero (form ∷ forms) (byte ∷ bytes) same = search (rules, digits-length zero forms bytes)
+digits-length (suc count) (form ∷ forms) (byte ∷ bytes) same = search (rules, digits-length count forms bytes)
 
 -- what is computed of a number of eight digits, and what it is
 record Spells (digits : List ℕ) : Type 0 where
-  fits : 10 * word digits + word digits / 256 < 2 ^ 64
-  are : 10 * word digits + word digits / 256 ≡ word (neighbours digits)
-  long : length (neighbours digits) ≡ 8
-  small : Each1 (λ (number : ℕ). number < 100) (neighbours digits)
-
-eight_spell : (a b c d e f g h : ℕ) → a ≤ 9 → b ≤ 9 → c ≤ 9 → d ≤ 9 → e ≤ 9 → f ≤ 9 → g ≤ 9 → h ≤ 9 → Spells (a ∷ b ∷ c ∷ d ∷ e ∷ f ∷ g ∷ h ∷ [])
-eight_spell a b c d e f g h sa sb sc sd se sf sg sh =
-    let number : ℕ = word (a ∷ b ∷ c ∷ d ∷ e ∷ f ∷ g ∷ h ∷ []) in
-    let moved : number / 256 ≡ word (b ∷ c ∷ d ∷ e ∷ f ∷ g ∷ h ∷ []) = omega arith in
-    record {
-      fits = omega (arith, moved);
-      are = omega (arith, moved);
-      long = refl;
-      small = (omega arith, (omega arith, (omega arith, (omega arith, (omega arith, (omega arith, (omega arith, (omega arith, tt))))))));
-    }
+  fits : 10 * number_l 256 digits + number_l 256 digits / 256 < 2 ^ 64
+  are : to_le_bytes w64 (10 * number_l 256 digits + number_l 256 digits / 256) ≡ neighbours digits
+  small : Each1 (λ (number : ℕ). number ≤ 99) (neighbours digits)
 
 spells : (digits : List ℕ) → length digits ≡ 8 → Each1 (λ (digit : ℕ). digit ≤ 9) digits → Spells digits
-spells = by_eight (λ (digits : List ℕ). Each1 (λ (digit : ℕ). digit ≤ 9) digits → Spells digits)
-    (λ a b c d e f g h all. eight_spell a b c d e f g h all.0 all.1.0 all.1.1.0 all.1.1.1.0 all.1.1.1.1.0 all.1.1.1.1.1.0 all.1.1.1.1.1.1.0 all.1.1.1.1.1.1.1.0)
+spells = by_eight (λ (digits : List ℕ). Each1 (λ (digit : ℕ). digit ≤ 9) digits → Spells digits) (λ a b c d e f g h all. search rules)
 
-length-fit_digits : (count : ℕ) (forms lanes : List ℕ) → length forms ≡ length lanes → length (fit_digits count forms lanes) ≡ length forms
-length-fit_digits count [] [] same = refl
-length-fit_digits count [] (byte ∷ bytes) same = absurd (omega arith)
-length-fit_digits count (form ∷ forms) [] same = absurd (omega arith)
-length-fit_digits zero (form ∷ forms) (byte ∷ bytes) same = omega (arith, length-fit_digits zero forms bytes (omega arith))
-length-fit_digits (suc count) (form ∷ forms) (byte ∷ bytes) same = omega (arith, length-fit_digits count forms bytes (omega arith))
+small-at : (numbers : List ℕ) → Each1 (λ (number : ℕ). number ≤ 99) numbers → (i : ℕ) → get_or numbers i 0 ≤ 99
+small-at [] small i = omega arith
+small-at (number ∷ numbers) small zero = small.0
+small-at (number ∷ numbers) small (suc i) = small-at numbers small.1 i
 
-within : (lanes forms : List ℕ) → Each1 (λ (byte : ℕ). byte < 256) (zip2 less lanes forms)
-within [] forms = tt
-within (lane ∷ lanes) [] = tt
-within (lane ∷ lanes) (form ∷ forms) = (omega arith, within lanes forms)
+-- the largest number, moved down, is the mask of so many bytes
+mask-is : (count : ℕ) → 1 ≤ count → count ≤ 8 → 18446744073709551615 / 2 ^ (64 - 8 * count) ≡ 2 ^ (8 * count) - 1
+mask-is count some few =
+    let low = 2 ^ (64 - 8 * count) in
+    let high = 2 ^ (8 * count) in
+    let sum : 64 - 8 * count + 8 * count ≡ 64 = omega arith in
+    let all : low * high ≡ 18446744073709551616 = sym (pow-add 2 (64 - 8 * count) (8 * count)) ∙ ap (λ (n : ℕ). 2 ^ n) sum in
+    grind (arith, all, pow_pos (64 - 8 * count), pow_pos (8 * count), add-mul-div_right (low - 1) (high - 1) (pow_pos (64 - 8 * count)), div-eq_of_lt)
 
--- what the code has computed so far
-record Computed (count : ℕ) (forms lanes : List ℕ) (masked : ℕ) : Type 0 where
-  few : count ≤ 8
-  is : masked ≡ word (fit_digits count forms lanes)
-  spells : Spells (fit_digits count forms lanes)
+-- what the code computes
+record Computed (digits : List ℕ) (masked : ℕ) : Type 0 where
+  fits : 10 * masked + masked / 256 < 2 ^ 64
+  are : to_le_bytes w64 (10 * masked + masked / 256) ≡ neighbours digits
+  small : (k : ℕ) → get_or (neighbours digits) k 0 ≤ 99
 
 computed : (count : ℕ) (forms lanes : List ℕ) (number : ℕ) → 1 ≤ count → count ≤ fit_length forms lanes → length forms ≡ 8 → length lanes ≡ 8
-    → Each1 (Fits w8) forms → Each1 (Fits w8) lanes → number ≡ from_le_bytes w64 (zip2 less lanes forms) → Computed count forms lanes (bit_and number (18446744073709551615 / 2 ^ (64 - 8 * count)))
+    → Each1 (Fits w8) forms → Each1 (Fits w8) lanes → number ≡ from_le_bytes w64 (zip2 less lanes forms)
+    → Computed (fit_digits count forms lanes) (bit_and number (18446744073709551615 / 2 ^ (64 - 8 * count)))
 computed count forms lanes number some fits long eight patterns small is =
-    let few : count ≤ 8 = omega (arith, fit_length-le forms lanes) in
-    let digits = digits_are count forms lanes fits patterns small in
-    let all = length-zip2 less lanes forms (omega (arith, long, eight)) in
-    let whole = is ∙ from_le_bytes-word (zip2 less lanes forms) (omega (arith, all, eight)) in
-    record {
-      few = few;
-      is = ap (λ (n : ℕ). bit_and n (18446744073709551615 / 2 ^ (64 - 8 * count))) whole
-          ∙ masked-word count (zip2 less lanes forms) some few (within lanes forms) ∙ ap word digits.are;
-      spells = spells (fit_digits count forms lanes) (length-fit_digits count forms lanes (omega (arith, long, eight)) ∙ long) digits.small;
-    }
-
-bytes_small : (numbers : List ℕ) → Each1 (λ (number : ℕ). number < 100) numbers → Each1 (λ (byte : ℕ). byte < 256) numbers
-bytes_small [] small = tt
-bytes_small (number ∷ numbers) small = (omega (arith, small.0), bytes_small numbers small.1)
+    let few : count ≤ 8 = omega (arith, fit_length_le forms lanes) in
+    let whole = is ∙ from_le_bytes-number (zip2 less lanes forms) (omega (arith, length-zip2 less lanes forms (omega arith))) in
+    let found = spells (fit_digits count forms lanes) (omega (arith, digits-length count forms lanes (omega arith))) (digits-small count forms lanes fits) in
+    rw (mask-is count some few, whole, and_mask, first-digits count forms lanes fits patterns small)
+    (record { fits = found.fits; are = found.are; small = small-at _ found.small })
 
 pub overflow_mul-digits : goal.overflow_mul-digits
-overflow_mul-digits c = record { fits = omega (arith, fit_length-le c.args.pattern c.args.lanes, c.fits-pattern.0) }
+overflow_mul-digits c = grind (arith, fit_length_le)
 
 pub overflow_sub-digits : goal.overflow_sub-digits
-overflow_sub-digits c = omega (arith, fit_length-le c.args.pattern c.args.lanes, c.fits-pattern.0)
+overflow_sub-digits c = grind (arith, fit_length_le)
 
 pub overflow_mul-digits-2 : goal.overflow_mul-digits-2
 overflow_mul-digits-2 c =
-    let so_far = computed c.args.count c.args.pattern c.args.lanes _ c.requires.some c.requires.fits c.fits-pattern.0 c.fits-lanes.0 c.fits-pattern.1 c.fits-lanes.1 c.from_le_bytes-word.ensures in
-    record { fits = omega (arith, so_far.is, so_far.spells.fits) }
+    let so_far = computed _ _ _ _ c.requires.some c.requires.fits c.fits-pattern.0 c.fits-lanes.0 c.fits-pattern.1 c.fits-lanes.1 c.from_le_bytes-word.ensures in
+    record { fits = omega (arith, so_far.fits) }
 
 pub overflow_add-digits : goal.overflow_add-digits
 overflow_add-digits c =
-    let so_far = computed c.args.count c.args.pattern c.args.lanes _ c.requires.some c.requires.fits c.fits-pattern.0 c.fits-lanes.0 c.fits-pattern.1 c.fits-lanes.1 c.from_le_bytes-word.ensures in
-    record { fits = rw so_far.is so_far.spells.fits }
+    let so_far = computed _ _ _ _ c.requires.some c.requires.fits c.fits-pattern.0 c.fits-lanes.0 c.fits-pattern.1 c.fits-lanes.1 c.from_le_bytes-word.ensures in
+    record { fits = so_far.fits }
 
 pub returns : goal.returns
 returns c =
-    let so_far = computed c.args.count c.args.pattern c.args.lanes _ c.requires.some c.requires.fits c.fits-pattern.0 c.fits-lanes.0 c.fits-pattern.1 c.fits-lanes.1 c.from_le_bytes-word.ensures in
-    let number = ap (λ (n : ℕ). 10 * n + n / 256) so_far.is ∙ so_far.spells.are in
-    let is = c.to_le_bytes.ensures ∙ ap (to_le_bytes w64) number ∙ to_le_bytes-word _ so_far.spells.long (bytes_small _ so_far.spells.small) in
-    record {
-      numbers = is;
-      small = λ k. subst (λ (numbers : List ℕ). get_or numbers k 0 ≤ 99) (sym is) (omega (arith, each-at 100 _ (lit< tt) so_far.spells.small k));
-    }
+    let so_far = computed _ _ _ _ c.requires.some c.requires.fits c.fits-pattern.0 c.fits-lanes.0 c.fits-pattern.1 c.fits-lanes.1 c.from_le_bytes-word.ensures in
+    let is = c.to_le_bytes.ensures ∙ so_far.are in
+    record { numbers = is; small = rw is so_far.small }
