@@ -105,6 +105,15 @@ pub enum ParseError {
     MicrosecondFractionTooLong,
 }
 
+/// The name and the documentation text of a fault.
+macro_rules! rows {
+    ($fault:expr; $($variant:ident $name:literal $documentation:literal)*) => {
+        match $fault {
+            $(ParseError::$variant => ($name, $documentation),)*
+        }
+    };
+}
+
 impl ParseError {
     ghost use Rattle.std.specs.Prelude.{◌≤◌, IfSome, length, Some};
     ghost use Rattle.std.specs.Option.{option_map};
@@ -119,50 +128,8 @@ impl ParseError {
         ensures short { length result.now ≤ 29 }
         ensures distinct { (other : ParseError) → result.now ≡ fault_name other → self.now ≡ other }
     {
-        match self {
-            Self::TooShort => "too_short",
-            Self::ExtraCharacters => "extra_characters",
-            Self::InvalidCharDateTimeSep => "invalid_char_date_time_sep",
-            Self::InvalidCharDateSep => "invalid_char_date_sep",
-            Self::DateNotExact => "date_not_exact",
-            Self::InvalidCharYear => "invalid_char_year",
-            Self::InvalidCharMonth => "invalid_char_month",
-            Self::InvalidCharDay => "invalid_char_day",
-            Self::InvalidCharTimeSep => "invalid_char_time_sep",
-            Self::InvalidCharHour => "invalid_char_hour",
-            Self::InvalidCharMinute => "invalid_char_minute",
-            Self::InvalidCharSecond => "invalid_char_second",
-            Self::InvalidCharSecondFraction => "invalid_char_second_fraction",
-            Self::InvalidCharTzSign => "invalid_char_tz_sign",
-            Self::InvalidCharTzHour => "invalid_char_tz_hour",
-            Self::InvalidCharTzMinute => "invalid_char_tz_minute",
-            Self::OutOfRangeTzMinute => "out_of_range_tz_minute",
-            Self::OutOfRangeTz => "out_of_range_tz",
-            Self::TzRequired => "tz_required",
-            Self::SystemTimeError => "system_time_error",
-            Self::OutOfRangeMonth => "out_of_range_month",
-            Self::OutOfRangeDay => "out_of_range_day",
-            Self::OutOfRangeHour => "out_of_range_hour",
-            Self::OutOfRangeMinute => "out_of_range_minute",
-            Self::OutOfRangeSecond => "out_of_range_second",
-            Self::SecondFractionTooLong => "second_fraction_too_long",
-            Self::SecondFractionMissing => "second_fraction_missing",
-            Self::MillisecondFractionTooLong => "millisecond_fraction_too_long",
-            Self::DurationInvalidNumber => "duration_invalid_number",
-            Self::DurationTRepeated => "duration_t_repeated",
-            Self::DurationInvalidFraction => "duration_invalid_fraction",
-            Self::DurationInvalidTimeUnit => "duration_invalid_time_unit",
-            Self::DurationInvalidDateUnit => "duration_invalid_date_unit",
-            Self::DurationInvalidDays => "duration_invalid_days",
-            Self::DurationValueTooLarge => "duration_value_too_large",
-            Self::DurationHourValueTooLarge => "duration_hour_value_too_large",
-            Self::DurationDaysTooLarge => "duration_days_too_large",
-            Self::DateTooSmall => "date_too_small",
-            Self::DateTooLarge => "date_too_large",
-            Self::TimeTooLarge => "time_too_large",
-            Self::DurationUnitOrder => "duration_unit_order",
-            Self::MicrosecondFractionTooLong => "microsecond_fraction_too_long",
-        }
+        let (name, _) = self.row();
+        name
     }
 
     /// The documentation text, of at most 63 bytes, which every fault has: `input is too short` for
@@ -172,56 +139,62 @@ impl ParseError {
         ensures text { option_map (λ text. text.now) result ≡ Some (fault_documentation self.now) }
         ensures short { IfSome result (λ text. length text.now ≤ 63) }
     {
-        Some(match self {
-            Self::TooShort => "input is too short",
-            Self::ExtraCharacters => "unexpected extra characters at the end of the input",
-            Self::InvalidCharDateTimeSep => {
-                "invalid datetime separator, expected `T`, `t`, `_` or space"
-            }
-            Self::InvalidCharDateSep => "invalid date separator, expected `-`",
-            Self::DateNotExact => "Timestamp is not an exact date",
-            Self::InvalidCharYear => "invalid character in year",
-            Self::InvalidCharMonth => "invalid character in month",
-            Self::InvalidCharDay => "invalid character in day",
-            Self::InvalidCharTimeSep => "invalid time separator, expected `:`",
-            Self::InvalidCharHour => "invalid character in hour",
-            Self::InvalidCharMinute => "invalid character in minute",
-            Self::InvalidCharSecond => "invalid character in second",
-            Self::InvalidCharSecondFraction => "invalid character in second fraction",
-            Self::InvalidCharTzSign => "invalid timezone sign",
-            Self::InvalidCharTzHour => "invalid timezone hour",
-            Self::InvalidCharTzMinute => "invalid timezone minute",
-            Self::OutOfRangeTzMinute => "timezone minute value is outside expected range of 0-59",
-            Self::OutOfRangeTz => "timezone offset must be less than 24 hours",
-            Self::TzRequired => "timezone is required to adjust to a new timezone",
-            Self::SystemTimeError => "Error getting system time",
-            Self::OutOfRangeMonth => "month value is outside expected range of 1-12",
-            Self::OutOfRangeDay => "day value is outside expected range",
-            Self::OutOfRangeHour => "hour value is outside expected range of 0-23",
-            Self::OutOfRangeMinute => "minute value is outside expected range of 0-59",
-            Self::OutOfRangeSecond => "second value is outside expected range of 0-59",
-            Self::SecondFractionTooLong => "second fraction value is more than 6 digits long",
-            Self::SecondFractionMissing => "second fraction digits missing after `.`",
-            Self::MillisecondFractionTooLong => {
-                "millisecond fraction value is more than 3 digits long"
-            }
-            Self::DurationInvalidNumber => "invalid digit in duration",
-            Self::DurationTRepeated => "`t` character repeated in duration",
-            Self::DurationInvalidFraction => "quantity fraction invalid in duration",
-            Self::DurationInvalidTimeUnit => "quantity invalid in time part of duration",
-            Self::DurationInvalidDateUnit => "quantity invalid in date part of duration",
-            Self::DurationInvalidDays => "\"day\" identifier in duration not correctly formatted",
-            Self::DurationValueTooLarge => "a numeric value in the duration is too large",
-            Self::DurationHourValueTooLarge => "durations may not exceed 999,999,999 hours",
-            Self::DurationDaysTooLarge => "durations may not exceed 999,999,999 days",
-            Self::DateTooSmall => "dates before 0000 are not supported as unix timestamps",
-            Self::DateTooLarge => "dates after 9999 are not supported as unix timestamps",
-            Self::TimeTooLarge => "numeric times may not exceed 86,399 seconds",
-            Self::DurationUnitOrder => "quantities out of order or repeated in duration",
-            Self::MicrosecondFractionTooLong => {
-                "microsecond timestamps may not have fraction digits"
-            }
-        })
+        let (_, documentation) = self.row();
+        Some(documentation)
+    }
+
+    /// The name and the documentation text.
+    fn row(&self) -> (&'static str, &'static str)
+        ensures name { result.0.now ≡ fault_name self.now }
+        ensures short { length result.0.now ≤ 29 }
+        ensures distinct { (other : ParseError) → result.0.now ≡ fault_name other → self.now ≡ other }
+        ensures documentation { result.1.now ≡ fault_documentation self.now }
+        ensures documentation_short { length result.1.now ≤ 63 }
+    {
+        rows! { self;
+            TooShort                    "too_short"                      "input is too short"
+            ExtraCharacters             "extra_characters"               "unexpected extra characters at the end of the input"
+            InvalidCharDateTimeSep      "invalid_char_date_time_sep"     "invalid datetime separator, expected `T`, `t`, `_` or space"
+            InvalidCharDateSep          "invalid_char_date_sep"          "invalid date separator, expected `-`"
+            DateNotExact                "date_not_exact"                 "Timestamp is not an exact date"
+            InvalidCharYear             "invalid_char_year"              "invalid character in year"
+            InvalidCharMonth            "invalid_char_month"             "invalid character in month"
+            InvalidCharDay              "invalid_char_day"               "invalid character in day"
+            InvalidCharTimeSep          "invalid_char_time_sep"          "invalid time separator, expected `:`"
+            InvalidCharHour             "invalid_char_hour"              "invalid character in hour"
+            InvalidCharMinute           "invalid_char_minute"            "invalid character in minute"
+            InvalidCharSecond           "invalid_char_second"            "invalid character in second"
+            InvalidCharSecondFraction   "invalid_char_second_fraction"   "invalid character in second fraction"
+            InvalidCharTzSign           "invalid_char_tz_sign"           "invalid timezone sign"
+            InvalidCharTzHour           "invalid_char_tz_hour"           "invalid timezone hour"
+            InvalidCharTzMinute         "invalid_char_tz_minute"         "invalid timezone minute"
+            OutOfRangeTzMinute          "out_of_range_tz_minute"         "timezone minute value is outside expected range of 0-59"
+            OutOfRangeTz                "out_of_range_tz"                "timezone offset must be less than 24 hours"
+            TzRequired                  "tz_required"                    "timezone is required to adjust to a new timezone"
+            SystemTimeError             "system_time_error"              "Error getting system time"
+            OutOfRangeMonth             "out_of_range_month"             "month value is outside expected range of 1-12"
+            OutOfRangeDay               "out_of_range_day"               "day value is outside expected range"
+            OutOfRangeHour              "out_of_range_hour"              "hour value is outside expected range of 0-23"
+            OutOfRangeMinute            "out_of_range_minute"            "minute value is outside expected range of 0-59"
+            OutOfRangeSecond            "out_of_range_second"            "second value is outside expected range of 0-59"
+            SecondFractionTooLong       "second_fraction_too_long"       "second fraction value is more than 6 digits long"
+            SecondFractionMissing       "second_fraction_missing"        "second fraction digits missing after `.`"
+            MillisecondFractionTooLong  "millisecond_fraction_too_long"  "millisecond fraction value is more than 3 digits long"
+            DurationInvalidNumber       "duration_invalid_number"        "invalid digit in duration"
+            DurationTRepeated           "duration_t_repeated"            "`t` character repeated in duration"
+            DurationInvalidFraction     "duration_invalid_fraction"      "quantity fraction invalid in duration"
+            DurationInvalidTimeUnit     "duration_invalid_time_unit"     "quantity invalid in time part of duration"
+            DurationInvalidDateUnit     "duration_invalid_date_unit"     "quantity invalid in date part of duration"
+            DurationInvalidDays         "duration_invalid_days"          "\"day\" identifier in duration not correctly formatted"
+            DurationValueTooLarge       "duration_value_too_large"       "a numeric value in the duration is too large"
+            DurationHourValueTooLarge   "duration_hour_value_too_large"  "durations may not exceed 999,999,999 hours"
+            DurationDaysTooLarge        "duration_days_too_large"        "durations may not exceed 999,999,999 days"
+            DateTooSmall                "date_too_small"                 "dates before 0000 are not supported as unix timestamps"
+            DateTooLarge                "date_too_large"                 "dates after 9999 are not supported as unix timestamps"
+            TimeTooLarge                "time_too_large"                 "numeric times may not exceed 86,399 seconds"
+            DurationUnitOrder           "duration_unit_order"            "quantities out of order or repeated in duration"
+            MicrosecondFractionTooLong  "microsecond_fraction_too_long"  "microsecond timestamps may not have fraction digits"
+        }
     }
 }
 
