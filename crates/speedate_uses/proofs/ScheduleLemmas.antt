@@ -24,25 +24,25 @@ counted last now (negsuc below) every some same = record {
 }
 
 -- where `every` is longer than what has gone by, the next run comes once `every` after the last one
-pub wait-once : (one two : Bool) (every gone : ℕ) → pos 0 <ℤ with_sign (not one) every
+pub wait_once : (one two : Bool) (every gone : ℕ) → pos 0 <ℤ with_sign (not one) every
     → is_gt (ordering_then (int_cmp (with_sign (not one) every) (with_sign (not two) gone)) (bool_cmp one two)) ≡ true
     → with_sign (not one) every ≡ pos (next_count every (with_sign (not two) gone) * every)
-wait-once false two every gone some longer = absurd (omega (arith, ints))
-wait-once true true every gone some longer = grind (arith, nat_tests, div-eq_of_lt {n = gone} {m = every})
-wait-once true false every zero some longer = grind (arith, ints, div-eq_of_lt {n = 0} {m = every})
-wait-once true false every (suc gone) some longer = omega (arith, ints)
+wait_once false two every gone some longer = absurd (omega (arith, ints))
+wait_once true true every gone some longer = grind (arith, nat_tests, div-eq_of_lt {n = gone} {m = every})
+wait_once true false every zero some longer = grind (arith, ints, div-eq_of_lt {n = 0} {m = every})
+wait_once true false every (suc gone) some longer = omega (arith, ints)
 
 -- otherwise what is over of the time that has gone by is left out
-pub wait-more : (one two : Bool) (every gone : ℕ) → pos 0 <ℤ with_sign (not one) every
+pub wait_more : (one two : Bool) (every gone : ℕ) → pos 0 <ℤ with_sign (not one) every
     → is_gt (ordering_then (int_cmp (with_sign (not one) every) (with_sign (not two) gone)) (bool_cmp one two)) ≡ false
     → gone - gone % every + every ≡ next_count every (with_sign (not two) gone) * every
-wait-more false two every gone some not_longer = absurd (omega (arith, ints))
-wait-more true true every gone some not_longer = omega (arith, ints)
-wait-more true false every zero some not_longer = omega (arith, ints)
-wait-more true false every (suc gone) some not_longer = absurd (cc)
+wait_more false two every gone some not_longer = absurd (omega (arith, ints))
+wait_more true true every gone some not_longer = omega (arith, ints)
+wait_more true false every zero some not_longer = omega (arith, ints)
+wait_more true false every (suc gone) some not_longer = absurd (cc)
 
 -- the run that is found is the first one
-pub first-run : (positive : Bool) (last now run : ℤ) (every : ℕ) → int_lt (pos 0) (with_sign (not positive) every) ≡ true
+pub first_run : (positive : Bool) (last now run : ℤ) (every : ℕ) → int_lt (pos 0) (with_sign (not positive) every) ≡ true
     → run ≡ last +ℤ pos (next_count every (now -ℤ last) * every) → IsNextRun last (with_sign (not positive) every) now run
-first-run false last now run every some is = absurd (grind (arith, ints, nat_tests))
-first-run true last now run every some is = rw is (counted last now (now -ℤ last) every (grind (arith, ints, nat_tests)) refl)
+first_run false last now run every some is = absurd (grind (arith, ints, nat_tests))
+first_run true last now run every some is = rw is (counted last now (now -ℤ last) every (grind (arith, ints, nat_tests)) refl)

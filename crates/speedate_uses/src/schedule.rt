@@ -16,6 +16,7 @@ use speedate::{DateTime, Duration, ParseError};
 /// clock was set back to before `last`, no run comes twice. There is none if `every` is zero or negative.
 ///
 /// `DateTooLarge` where the run is after the year 9999.
+#[tactic(auto, using(crate::proofs::ScheduleLemmas::first_run))]
 pub fn next_run(
     last: &DateTime,
     every: &Duration,
@@ -50,6 +51,7 @@ fn is_positive(every: &Duration) -> bool
 
 /// How long after its last run a job runs next, where so much time has gone by since: the first whole
 /// number of times `every` that is longer.
+#[tactic(auto, using(crate::proofs::ScheduleLemmas::wait_once, crate::proofs::ScheduleLemmas::wait_more))]
 fn next_wait(gone: &Duration, every: &Duration) -> Duration
     requires positive { pos 0 <ℤ signed_length (duration_parts every.now) }
     requires days { gone.now.day ≤ 3652426 }
