@@ -1,6 +1,6 @@
 //! A scheduler: when a job runs next.
 
-ghost use Rattle.std.specs.Prelude.{◌≡◌, ◌↔◌, ◌*◌, ◌<◌, ◌≤◌, ◌^◌, ◌<ℤ◌, ◌≤ℤ◌, IfOk, IfSome, None, Ok, int_lt, option_map, pos};
+ghost use Rattle.std.specs.Prelude.{◌≡◌, ◌↔◌, ◌*◌, ◌<◌, ◌≤◌, ◌^◌, ◌<ℤ◌, ◌≤ℤ◌, IfOk, IfSome, IsTrue, None, Ok, int_lt, option_map, pos};
 ghost use Rattle.speedate.specs.DateAndTime.{utc_microsecond};
 ghost use Rattle.speedate.specs.DateTime.{parts};
 ghost use Rattle.speedate.specs.Duration.{parts as duration_parts};
@@ -36,17 +36,10 @@ pub fn next_run(
     Ok(Some(wait.after(last)?))
 }
 
-const NO_TIME: Duration = Duration {
-    positive: true,
-    day: 0,
-    second: 0,
-    microsecond: 0,
-};
-
 fn is_positive(every: &Duration) -> bool
     ensures { result ≡ int_lt (pos 0) (signed_length (duration_parts every.now)) }
 {
-    every.cmp(&NO_TIME).is_gt()
+    every.cmp(&of_microseconds(0)).is_gt()
 }
 
 /// How long after its last run a job runs next, where so much time has gone by since: the first whole
@@ -75,7 +68,8 @@ fn microseconds(duration: &Duration) -> u64
 
 fn of_microseconds(length: u64) -> Duration
     requires { length < 2 ^ 63 }
-    ensures { signed_length (duration_parts result) ≡ pos length }
+    ensures positive { IsTrue result.positive }
+    ensures length { signed_length (duration_parts result) ≡ pos length }
 {
     let seconds = length / 1_000_000;
     Duration {
