@@ -2,4 +2,3 @@ pub mod Ledger
 pub mod Hours
 pub mod Log
 pub mod Schedule
-pub mod Trace

@@ -1,17 +1,19 @@
-//! A calendar: what a date is called.
+//! A calendar: what a month is called, and how many days are left to a date.
 
-ghost use Rattle.std.specs.Prelude.{◌≡◌, ◌-◌, ◌%◌, IsSomeAnd, slice_get};
+ghost use Rattle.std.specs.Prelude.{◌≡◌, ◌-◌, IsSomeAnd, slice_get};
+ghost use Rattle.speedate.specs.Date.{parts};
 ghost use Rattle.speedate.specs.DateText.{date_answer};
+ghost use Rattle.speedate.specs.DayNumber.{days_between};
 ghost use Rattle.speedate.specs.Requirement.{result_map};
 
 use speedate::{Date, ParseError};
 
-/// The last two digits of the year of a date: 20 for `"2020-02-29"`.
-pub fn short_year(text: &str) -> Result<u16, ParseError>
-    ensures year { result ≡ result_map (λ date. date.year % 100) (date_answer text.now) }
+/// The days from `start` to the date that `text` is: 2 from 2020-02-28 to `"2020-03-01"`.
+pub fn days_until(start: &Date, text: &str) -> Result<i32, ParseError>
+    ensures days { result ≡ result_map (days_between (parts start.now)) (date_answer text.now) }
 {
     let date = Date::parse_str_rfc3339(text)?;
-    Ok(date.year % 100)
+    Ok(date.days_since(start))
 }
 
 const MONTHS: [&str; 12] = [
@@ -38,16 +40,16 @@ pub fn month_name(date: &Date) -> &'static str
 
 #[cfg(test)]
 mod tests {
-    use super::{month_name, short_year};
+    use super::{days_until, month_name};
     use crate::checks::{same, value};
     use speedate::{Date, ParseError};
 
     #[test]
-    fn a_leap_day(rt: HostRuntime) {
-        same(&rt, short_year("2020-02-29"), Ok(20), "2020-02-29");
+    fn a_leap_year(rt: HostRuntime) {
+        let start: Date = value(&rt, "2020-02-28");
+        same(&rt, month_name(&start), "February", "2020-02-28");
+        same(&rt, days_until(&start, "2020-03-01"), Ok(2), "2020-03-01");
         let fault = Err(ParseError::OutOfRangeDay);
-        same(&rt, short_year("2021-02-29"), fault, "2021-02-29");
-        let date: Date = value(&rt, "2020-02-29");
-        same(&rt, month_name(&date), "February", "2020-02-29");
+        same(&rt, days_until(&start, "2020-02-30"), fault, "2020-02-30");
     }
 }

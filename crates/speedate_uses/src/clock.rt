@@ -39,8 +39,7 @@ pub fn moment(time: SystemTime) -> Moment
 #[cfg(test)]
 mod tests {
     use super::local_time;
-    use crate::checks::{same, value};
-    use speedate::DateTime;
+    use crate::checks::same;
     use std::io;
     use std::time::{Clock, Duration};
 
@@ -64,12 +63,6 @@ mod tests {
         let time = local_time(&clock, 3_600).ok().expect(&rt, "a time");
         let want = "2022-06-08T00:59:59.123456+01:00";
         same(&rt, time.to_text().as_str(), want, "a stopped clock");
-    }
-
-    #[test]
-    fn the_clock_of_the_machine(rt: HostRuntime) {
-        let earliest: DateTime = value(&rt, "2020-01-01T00:00:00Z");
-        let time = local_time(&rt, 0).ok().expect(&rt, "a time");
-        assert!(rt; earliest.cmp_instant(&time).is_lt());
+        assert!(rt; local_time(&rt, 0).is_ok());
     }
 }

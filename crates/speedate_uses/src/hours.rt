@@ -44,40 +44,18 @@ pub fn worked_seconds(lengths: &[Duration]) -> i64
 #[cfg(test)]
 mod tests {
     use super::{shift, worked_seconds};
-    use crate::checks::{same, value};
-    use speedate::{Duration, ParseError};
-    use std::process::Abort;
-
-    fn length<R: Abort>(rt: &R, line: &str) -> Duration {
-        let (_, length) = shift(line.as_bytes()).ok().expect(rt, line);
-        length
-    }
+    use crate::checks::same;
+    use speedate::ParseError;
 
     #[test]
     fn hours_of_two_days(rt: HostRuntime) {
-        let lengths = [
-            length(&rt, "2026-11-23T09:00:00Z PT7H30M"),
-            length(&rt, "2026-11-24T09:00:00+01:00 0:30:00"),
-            value(&rt, "-PT1S"),
-        ];
-        same(&rt, worked_seconds(&lengths), 28_799, "two days");
-    }
-
-    #[test]
-    fn lines_that_are_refused(rt: HostRuntime) {
-        let line = b"2026-11-23T09:00:00Z";
-        same(
-            &rt,
-            shift(line).err(),
-            Some(ParseError::TooShort),
-            "no length",
-        );
-        let line = b"2026-11-23T09:00:00Z,PT1H";
-        same(
-            &rt,
-            shift(line).err(),
-            Some(ParseError::ExtraCharacters),
-            "comma",
-        );
+        let first = shift(b"2026-11-23T09:00:00Z PT7H30M").ok();
+        let second = shift(b"2026-11-24T09:00:00+01:00 0:30:00").ok();
+        let (first, second) = (first.expect(&rt, "first"), second.expect(&rt, "second"));
+        same(&rt, worked_seconds(&[first.1, second.1]), 28_800, "both");
+        let fault = shift(b"2026-11-23T09:00:00Z").err();
+        same(&rt, fault, Some(ParseError::TooShort), "no length");
+        let fault = shift(b"2026-11-23T09:00:00Z,PT1H").err();
+        same(&rt, fault, Some(ParseError::ExtraCharacters), "a comma");
     }
 }

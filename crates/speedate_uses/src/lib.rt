@@ -3,25 +3,19 @@
 #![tactic(auto)]
 
 pub mod calendar;
-pub mod canonical;
 pub mod clock;
-pub mod deadline;
-pub mod expiry;
 pub mod hours;
 pub mod ledger;
 pub mod log;
-pub mod options;
 pub mod schedule;
 pub mod storage;
 pub mod timeout;
-pub mod trace;
 pub mod validator;
 
 #[cfg(test)]
 mod checks {
     //! What the tests share, so it is proved once.
 
-    use speedate::{DateTime, ParseError};
     use std::fmt::Debug;
     use std::process::Abort;
     use std::str::FromStr;
@@ -37,19 +31,5 @@ mod checks {
     /// What was found is to be what a row wants.
     pub fn same<T: PartialEq + Debug + Copy, R: Abort>(rt: &R, found: T, want: T, row: &str) {
         assert_eq!(rt; found, want, "{row}");
-    }
-
-    /// The answer to a row is to be the date-time that is written so, `none`, or the fault of that name.
-    pub fn expect<R: Abort>(
-        rt: &R,
-        answer: Result<Option<DateTime>, ParseError>,
-        want: &str,
-        row: &str,
-    ) {
-        match answer {
-            Ok(Some(time)) => same(rt, time.to_text().as_str(), want, row),
-            Ok(None) => same(rt, "none", want, row),
-            Err(fault) => same(rt, fault.name(), want, row),
-        }
     }
 }

@@ -59,50 +59,32 @@ pub fn lines_between<'a, A: Allocator>(
 mod tests {
     use super::{lines_between, log_entry};
     use crate::checks::{same, value};
-    use speedate::{DateTime, MicrosecondsPrecisionOverflowBehavior, TimeConfig};
-
-    const FIRST: &str = "2026-11-22T12:13:14Z";
-
-    const LAST: &str = "2026-11-22T12:13:16Z";
+    use speedate::{DateTime, TimeConfig};
 
     /// Lines of a log, and whether they lie between 12:13:14 and 12:13:16 in UTC on 22 November 2026.
     const LOG: &str = "\
-2026-11-22T12:13:13.999999Z GET /       no
-2026-11-22T12:13:14Z GET /              yes
-2026-11-22T13:13:14.5+01:00 GET /       yes
-2026-11-22 12:13:15.9999994321 GET /    yes
-2026-11-22T12:13:16.0000009Z GET /      yes
-2026-11-22T12:13:16.000001Z GET /       no
-2026-11-22T12:13:14+01:00 GET /         no
-2026-11-22T12:13: GET /                 no
-GET / 2026-11-22T12:13:14Z              no";
-
-    fn truncating() -> TimeConfig {
-        TimeConfig::builder()
-            .microseconds_precision_overflow_behavior(
-                MicrosecondsPrecisionOverflowBehavior::Truncate,
-            )
-            .build()
-    }
+2026-11-22T12:13:14Z GET /            yes
+2026-11-22 12:13:15.9999994321 GET /  yes
+2026-11-22T12:13:16.000001Z GET /     no
+2026-11-22T12:13:14+01:00 GET /       no
+2026-11-22T12:13: GET /               no";
 
     #[test]
     fn lines_of_a_log(rt: HostRuntime) {
-        let (first, last): (DateTime, DateTime) = (value(&rt, FIRST), value(&rt, LAST));
+        let first: DateTime = value(&rt, "2026-11-22T12:13:14Z");
+        let last: DateTime = value(&rt, "2026-11-22T12:13:16Z");
+        let config = TimeConfig::builder()
+            .microseconds_precision_overflow_behavior(value(&rt, "truncate"))
+            .build();
         for row in LOG.lines() {
             let (line, kept) = row.rsplit_once(' ').expect(&rt, row);
-            let lines = [line.as_bytes()];
-            let found = lines_between(rt.alloc(), &lines, &truncating(), &first, &last);
+            let found = lines_between(rt.alloc(), &[line.as_bytes()], &config, &first, &last);
             let found = found.ok().expect(&rt, row);
             same(&rt, found.is_empty(), kept == "no", row);
         }
-    }
-
-    #[test]
-    fn a_line_in_two_parts(rt: HostRuntime) {
-        let line = "2026-11-22T12:13:14Z GET /";
-        let entry = log_entry(line.as_bytes(), &truncating());
-        let (value, rest) = entry.ok().expect(&rt, line);
-        same(&rt, value.to_text().as_str(), FIRST, line);
-        same(&rt, rest, b" GET /".as_slice(), line);
+        let entry = log_entry(b"2026-11-22T12:13:14Z GET /", &config);
+        let (value, rest) = entry.ok().expect(&rt, "an entry");
+        same(&rt, value, first, "an entry");
+        same(&rt, rest, b" GET /".as_slice(), "an entry");
     }
 }

@@ -31,7 +31,7 @@ mod tests {
             microsecond: 999_999,
             tz_offset: Some(-3_600),
         };
-        let read = stored_and_read(&time, &TimeConfig::builder().build());
+        let read = stored_and_read(&time, &TimeConfig::default());
         same(&rt, read, Ok(time), "a time");
     }
 }

@@ -1,33 +1,36 @@
 //! Fractions of 0 to 40 digits, compared with a loop over their digits.
 
-use crate::configs::date_time_config;
-use crate::rows::joined;
-use crate::shown::next_number;
+use crate::rows::{date_time_config, joined, same};
 use speedate::{DateTime, Duration};
 use std::alloc::{AllocError, Global};
 use std::process::Abort;
 
+/// A unit of timestamps, and of how many digits of a fraction its whole microseconds are.
+const UNITS: [(&str, usize); 3] = [("s truncate", 6), ("ms truncate", 3), ("us truncate", 0)];
+
+/// By which each drawn number follows from the one before.
+const FACTOR: u64 = 6_364_136_223_846_793_005;
+
+/// The digit at a place of a fraction.
+fn digit(digits: &str, place: usize) -> i64 {
+    let digit = digits.as_bytes().get(place).copied().unwrap_or(b'0');
+    i64::from(digit.saturating_sub(b'0'))
+}
+
 /// The microseconds of three units and a fraction, digit by digit: so many digits are whole
 /// microseconds, and a half more goes away from zero where `up` says so.
 fn by_digits(digits: &str, places: usize, up: bool) -> i64 {
-    let digits = digits.as_bytes();
     let mut size: i64 = 3;
     for place in 0..places {
-        let digit = digits.get(place).copied().unwrap_or(b'0');
-        size = size
-            .saturating_mul(10)
-            .saturating_add(i64::from(digit.saturating_sub(b'0')));
+        size = size.saturating_mul(10).saturating_add(digit(digits, place));
     }
-    let next = digits.get(places).copied().unwrap_or(b'0');
-    let more = digits
-        .iter()
-        .skip(places.saturating_add(1))
-        .any(|digit| *digit != b'0');
-    if next > b'5' || (next == b'5' && (more || up)) {
-        size.saturating_add(1)
-    } else {
-        size
+    let mut more = up;
+    for place in places.saturating_add(1)..digits.len() {
+        more |= digit(digits, place) > 0;
     }
+    let next = digit(digits, places);
+    let rounds = next > 5 || (next == 5 && more);
+    size.saturating_add(i64::from(rounds))
 }
 
 /// Whole seconds and microseconds beside them as microseconds.
@@ -54,27 +57,19 @@ fn duration<R: AllocGlobal + Abort>(rt: &R, front: &str, digits: &str) -> i64 {
     microseconds(read.signed_total_seconds(), microsecond)
 }
 
-/// What the digits of a unit were read as is to be what is wanted.
-fn same_size<R: Abort>(rt: &R, found: i64, want: i64, digits: &str, unit: &str) {
-    assert_eq!(rt; found, want, "{digits} of {unit}");
-}
-
-/// Compares timestamps of both signs in a unit, of whose digits so many are whole microseconds: of two
-/// that are equally near, the later one.
-fn expect_timestamps<R: AllocGlobal + Abort>(rt: &R, digits: &str, places: usize, unit: &str) {
-    let want = by_digits(digits, places, true);
-    same_size(rt, timestamp(rt, "3.", digits, unit), want, digits, unit);
-    let want = by_digits(digits, places, false).saturating_mul(-1);
-    same_size(rt, timestamp(rt, "-3.", digits, unit), want, digits, unit);
-}
-
-/// Compares seconds of durations of both signs: a half goes away from zero.
-fn expect_durations<R: AllocGlobal + Abort>(rt: &R, digits: &str) {
+/// Compares timestamps and durations of both signs. Of two that are equally near, a timestamp is the later
+/// one, and a duration the one away from zero.
+fn expect_digits<R: AllocGlobal + Abort>(rt: &R, digits: &str) {
+    for (unit, places) in UNITS {
+        let want = by_digits(digits, places, true);
+        same(rt, timestamp(rt, "3.", digits, unit), want, digits);
+        let want = by_digits(digits, places, false).saturating_mul(-1);
+        same(rt, timestamp(rt, "-3.", digits, unit), want, digits);
+    }
     let want = by_digits(digits, 6, true);
-    let unit = "a second";
-    same_size(rt, duration(rt, "PT3.", digits), want, digits, unit);
+    same(rt, duration(rt, "PT3.", digits), want, digits);
     let want = want.saturating_mul(-1);
-    same_size(rt, duration(rt, "-PT3.", digits), want, digits, unit);
+    same(rt, duration(rt, "-PT3.", digits), want, digits);
 }
 
 /// The digit at a place of a fraction of this kind, where this one was drawn.
@@ -82,7 +77,7 @@ fn digit_at(place: usize, kind: usize, drawn: u8) -> char {
     let digit = match kind {
         0 => 9,
         // a half of a microsecond of each unit, and mostly zeros or nines
-        1..4 => if place == [6, 3, 0][kind - 1] { 5 } else { 0 },
+        1..4 => if place == UNITS[kind - 1].1 { 5 } else { 0 },
         4..16 => if drawn < 8 { 0 } else { drawn },
         16..28 => if drawn < 8 { 9 } else { drawn },
         _ => drawn,
@@ -99,8 +94,9 @@ fn drawn_digits(
 ) -> Result<String, AllocError> {
     let mut digits = String::new(alloc);
     for place in 0..length {
-        let drawn = (next_number(state) % 10) as u8;
-        digits.push(digit_at(place, kind, drawn))?;
+        *state = state.wrapping_mul(FACTOR).wrapping_add(1);
+        let drawn = (*state >> 33) % 10;
+        digits.push(digit_at(place, kind, drawn as u8))?;
     }
     Ok(digits)
 }
@@ -111,10 +107,7 @@ fn fractions(rt: HostRuntime) -> Result<(), AllocError> {
     for length in 0..41 {
         for kind in 0..40 {
             let digits = drawn_digits(rt.alloc(), &mut state, length, kind)?;
-            expect_timestamps(&rt, &digits, 6, "s truncate");
-            expect_timestamps(&rt, &digits, 3, "ms truncate");
-            expect_timestamps(&rt, &digits, 0, "us truncate");
-            expect_durations(&rt, &digits);
+            expect_digits(&rt, &digits);
         }
     }
     Ok(())

@@ -19,38 +19,22 @@ use std::alloc::AllocError;
 /// A value of each type that is compared or cloned.
 #[derive(Clone, Drop)]
 pub struct Each<'a> {
-    /// `TooShort` is not `ExtraCharacters`.
-    pub fault: ParseError,
-    /// The fault of a unit is not that of a behavior.
-    pub config_error: ConfigError,
-    /// `Truncate` is not `Error`.
-    pub behavior: MicrosecondsPrecisionOverflowBehavior,
-    /// `Lax` is not `Strict`.
-    pub iso_order: IsoOrder,
-    /// `Second` is not `Infer`.
-    pub unit: TimestampUnit,
-    /// A configuration of dates.
-    pub date_config: DateConfig,
-    /// A configuration.
-    pub time_config: TimeConfig,
-    /// A configuration of date-times.
-    pub date_time_config: DateTimeConfig,
+    /// The faults.
+    pub faults: (ParseError, ConfigError),
+    /// The choices.
+    pub choices: (
+        MicrosecondsPrecisionOverflowBehavior,
+        IsoOrder,
+        TimestampUnit,
+    ),
+    /// The configurations.
+    pub configs: (DateConfig, TimeConfig, DateTimeConfig),
     /// The builders of configurations.
     pub builders: (DateConfigBuilder, TimeConfigBuilder, DateTimeConfigBuilder),
-    /// A date.
-    pub date: Date,
-    /// A time.
-    pub time: Time,
-    /// A date-time.
-    pub date_time: DateTime,
-    /// A moment.
-    pub moment: Moment,
-    /// A duration.
-    pub duration: Duration,
-    /// A decimal.
-    pub decimal: Decimal<'a>,
-    /// A number.
-    pub number: IntFloat<'a>,
+    /// What is read and computed.
+    pub values: (Date, Time, DateTime, Moment, Duration),
+    /// What is read as a number.
+    pub numbers: (Decimal<'a>, IntFloat<'a>),
 }
 
 /// A second value of each type that is the same.
@@ -60,20 +44,20 @@ pub fn clone_each<'a>(each: &Each<'a>) -> Result<Each<'a>, AllocError>
     each.clone()
 }
 
-/// Whether the faults are equal, and the choices.
+/// Whether the faults are equal, and the choices: false for two variants.
 pub fn same_choices(first: &Each<'_>, second: &Each<'_>) -> (bool, bool, bool, bool, bool)
-    ensures fault { IsTrue result.0 ↔ (first.now.fault ≡ second.now.fault) }
-    ensures config_error { IsTrue result.1 ↔ (first.now.config_error ≡ second.now.config_error) }
-    ensures behavior { IsTrue result.2 ↔ (first.now.behavior ≡ second.now.behavior) }
-    ensures iso_order { IsTrue result.3 ↔ (first.now.iso_order ≡ second.now.iso_order) }
-    ensures unit { IsTrue result.4 ↔ (first.now.unit ≡ second.now.unit) }
+    ensures fault { IsTrue result.0 ↔ (first.now.faults.0 ≡ second.now.faults.0) }
+    ensures config_error { IsTrue result.1 ↔ (first.now.faults.1 ≡ second.now.faults.1) }
+    ensures behavior { IsTrue result.2 ↔ (first.now.choices.0 ≡ second.now.choices.0) }
+    ensures iso_order { IsTrue result.3 ↔ (first.now.choices.1 ≡ second.now.choices.1) }
+    ensures unit { IsTrue result.4 ↔ (first.now.choices.2 ≡ second.now.choices.2) }
 {
     (
-        first.fault == second.fault,
-        first.config_error == second.config_error,
-        first.behavior == second.behavior,
-        first.iso_order == second.iso_order,
-        first.unit == second.unit,
+        first.faults.0 == second.faults.0,
+        first.faults.1 == second.faults.1,
+        first.choices.0 == second.choices.0,
+        first.choices.1 == second.choices.1,
+        first.choices.2 == second.choices.2,
     )
 }
 

@@ -3,13 +3,9 @@
 #![tactic(auto)]
 
 #[cfg(test)]
-mod arithmetic;
-#[cfg(test)]
 mod calendar;
 #[cfg(test)]
 mod choices;
-#[cfg(test)]
-mod configs;
 #[cfg(test)]
 mod date_times;
 #[cfg(test)]
@@ -20,13 +16,9 @@ mod durations;
 mod faults;
 #[cfg(test)]
 mod fractions;
-#[cfg(test)]
-mod fronts;
 pub mod laws;
 #[cfg(test)]
 mod numbers;
-#[cfg(test)]
-mod offsets;
 #[cfg(test)]
 mod orders;
 #[cfg(test)]
@@ -34,12 +26,6 @@ mod rows;
 #[cfg(test)]
 mod shown;
 #[cfg(test)]
-mod sizes;
-#[cfg(test)]
-mod strict;
-#[cfg(test)]
 mod surface;
 #[cfg(test)]
 mod times;
-#[cfg(test)]
-mod values;

@@ -2,20 +2,11 @@
 //! text in quotes, the answer to it last. `<9*5000>` in quotes stands for 5,000 times `9`.
 
 use arrayvec::ArrayString;
-use speedate::ParseError;
+use speedate::{DateTimeConfig, IsoOrder, ParseError, TimeConfig};
 use std::alloc::{AllocError, Global};
 use std::fmt::{Debug, Display, Write};
 use std::process::Abort;
 use std::str::FromStr;
-
-/// Checks each row of a table. The loop stands here, so it is proved once.
-pub fn each<F: Fn(&str)>(table: &str, check: F)
-    requires { F.IsAlwaysCallable check }
-{
-    for row in table.lines() {
-        check(row);
-    }
-}
 
 /// What stands before the text in quotes, that text, and what stands after it.
 pub fn quoted<'a, R: AllocGlobal + Abort>(rt: &R, row: &'a str) -> (&'a str, String, &'a str) {
@@ -25,7 +16,8 @@ pub fn quoted<'a, R: AllocGlobal + Abort>(rt: &R, row: &'a str) -> (&'a str, Str
     let (run, back) = rest.split_once('>').expect(rt, row);
     let (repeated, count) = run.split_once('*').unwrap_or(("", "0"));
     let text = joined(rt.alloc(), front, repeated, value(rt, count), back);
-    (before, text.ok().expect(rt, row), after.trim_start())
+    let text = text.ok().expect(rt, row);
+    (before.trim_end(), text, after.trim_start())
 }
 
 /// `front`, so many times the repeated text, and `back`.
@@ -64,8 +56,40 @@ where
     word.parse().ok().expect(rt, word)
 }
 
+/// An offset in seconds, and none for `-` and for no word.
+pub fn offset<R: Abort>(rt: &R, word: &str) -> Option<i32> {
+    if word.is_empty() || word == "-" {
+        return None;
+    }
+    Some(value(rt, word))
+}
+
+/// The configuration of a behavior, an offset and an order of components.
+pub fn time_config<R: Abort>(rt: &R, row: &str) -> TimeConfig {
+    let [behavior, offset_word, order, ..] = words(row);
+    let builder = TimeConfig::builder()
+        .microseconds_precision_overflow_behavior(value(rt, behavior))
+        .iso_order(IsoOrder::from_name(order).unwrap_or_default())
+        .try_unix_timestamp_offset(offset(rt, offset_word));
+    builder.ok().expect(rt, row).build()
+}
+
+/// The configuration of a unit, a behavior and an offset.
+pub fn date_time_config<R: Abort>(rt: &R, row: &str) -> DateTimeConfig {
+    let (unit, rest) = row.split_once(' ').expect(rt, row);
+    DateTimeConfig::builder()
+        .timestamp_unit(value(rt, unit))
+        .time_config(time_config(rt, rest))
+        .build()
+}
+
 /// What was found is to be what the row wants.
-pub fn same<T: PartialEq + Debug + Copy, R: Abort>(rt: &R, found: T, want: T, row: &str) {
+pub fn same<T: PartialEq + Debug + Copy, W: Display + Copy, R: Abort>(
+    rt: &R,
+    found: T,
+    want: T,
+    row: W,
+) {
     assert_eq!(rt; found, want, "{row}");
 }
 
@@ -84,4 +108,18 @@ pub fn expect<T: Display + Copy, R: Abort>(
         }
         Err(fault) => same(rt, fault.name(), want, row),
     }
+}
+
+/// The answer to a row is to be the value that is written so and that many bytes, or the fault of that name.
+pub fn expect_front<T: Display + Copy, R: Abort>(
+    rt: &R,
+    answer: Result<(T, usize), ParseError>,
+    want: &str,
+    row: &str,
+) {
+    let [want, size, ..] = words(want);
+    if let Ok((_, taken)) = answer {
+        same(rt, taken, value(rt, size), row);
+    }
+    expect(rt, answer.map(|front| front.0), want, row);
 }
