@@ -25,7 +25,10 @@ const TEXTS: &str = "\
 '2020-01-01T12:00:00-24:00'                out_of_range_tz
 '2020-01-01T12:00:00Z '                    extra_characters
 '99999999999999999999'                     invalid_char_date_sep
-'1.5e3'                                    too_short";
+'1.5e3'                                    too_short
+'2020_01-01'                               invalid_char_date_sep
+'2020-13-0xT12:00'                         invalid_char_day
+'2021-02-29x12:00'                         out_of_range_day";
 
 /// A unit, a behavior, where there is one an offset, a text that may be a timestamp, and the answer.
 const CONFIGURED: &str = "\
@@ -50,6 +53,11 @@ infer  error             '-<9*3000>.0'                    date_too_small
 infer  error             '<0*3000>1.5'                    1970-01-01T00:00:01.500000
 infer  error     3600    '1654646404'                     2022-06-08T00:00:04+01:00
 infer  error     3600    '2022-01-01T12:13:14'            2022-01-01T12:13:14
+infer  error             '.5'                             1970-01-01T00:00:00.500000
+infer  error             '-20000000000.0'                 1336-03-23T12:26:40
+infer  error             '-20000000000.1'                 1969-05-14T12:26:39.999900
+infer  error             '253402300799999.999'            9999-12-31T23:59:59.999999
+infer  error             '-62167219200000.001'            date_too_small
 infer  truncate          '0.0000005'                      1970-01-01T00:00:00.000001
 infer  truncate          '-0.0000005'                     1970-01-01T00:00:00
 infer  truncate          '0.00000049'                     1970-01-01T00:00:00
@@ -69,13 +77,21 @@ infer  truncate          '20000000000.<0*1000>1'          1970-08-20T11:33:20
 infer  truncate          '20000000000.<0*1001>'           2603-10-11T11:33:20
 infer  truncate          '-0.0000005<0*1000>1'            1969-12-31T23:59:59.999999
 infer  truncate  0       '1689102037.5586429'             2023-07-11T19:00:37.558643Z
+infer  truncate          '-62167219200000.0006'           date_too_small
 s      error             '20000000000.5'                  2603-10-11T11:33:20.500000
+s      error             '253402300800.'                  date_too_large
+s      error             '-62167219200.000001'            date_too_small
+s      error             '99999999999999999999.0000000'   second_fraction_too_long
 s      truncate          '-62167219200.0000005'           0000-01-01T00:00:00
 s      truncate          '253402300799.9999994<9*1000>'   9999-12-31T23:59:59.999999
 s      truncate          '253402300799.<9*5000>'          date_too_large
 s      truncate          '-62167219200.0000005<0*1000>1'  date_too_small
+s      truncate          '253402300799.9999995'           date_too_large
 ms     error             '1.0005'                         millisecond_fraction_too_long
 ms     error     0       '1641039194000'                  2022-01-01T12:13:14Z
+ms     error             '1.5'                            1970-01-01T00:00:00.001500
+ms     truncate          '0.0005'                         1970-01-01T00:00:00.000001
+ms     truncate          '-0.0005'                        1970-01-01T00:00:00
 us     error             '-1'                             1969-12-31T23:59:59.999999
 us     error             '1654646404123456'               2022-06-08T00:00:04.123456
 us     error             '253402300799999999'             9999-12-31T23:59:59.999999
@@ -86,11 +102,14 @@ us     error             '9223372036854775807'            date_too_large
 us     error             '-9223372036854775808'           date_too_small
 us     error             '1.'                             1970-01-01T00:00:00.000001
 us     error             '1.0'                            microsecond_fraction_too_long
+us     error             '253402300800000000.0'           microsecond_fraction_too_long
 us     truncate          '0.5'                            1970-01-01T00:00:00.000001
 us     truncate          '-0.5'                           1970-01-01T00:00:00
 us     truncate          '-0.5<0*1000>1'                  1969-12-31T23:59:59.999999
 us     truncate          '253402300799999999.4'           9999-12-31T23:59:59.999999
-us     truncate          '253402300799999999.5'           date_too_large";
+us     truncate          '253402300799999999.5'           date_too_large
+us     truncate          '-62167219200000000.5'           0000-01-01T00:00:00
+us     truncate          '-62167219200000000.51'          date_too_small";
 
 /// A unit and a behavior, a decimal, and what it gives: no digits are counted.
 const DECIMALS: &str = "\
@@ -107,15 +126,39 @@ const FRONTS: &str = "\
 '2026-11-22 opening balance'         invalid_char_hour
 '2026-11-22T12:13:14.1234567 x'      second_fraction_too_long";
 
-/// Texts, and the answers of the relaxed reader and of the strict one, which takes those of RFC 3339 alone.
+/// Texts, those of RFC 3339 and of JSON Schema's tests among them, and the answers of the relaxed reader and
+/// of the strict one, which takes those of RFC 3339 alone. The second 60 stands in both, and is refused.
 /// The second 60 is one of the standard, and refused.
 const STRICT: &str = "\
-'1985-04-12T23:20:50.52Z'    1985-04-12T23:20:50.520000Z  1985-04-12T23:20:50.520000Z
-'1996-12-19T16:39:57-08:00'  1996-12-19T16:39:57-08:00    1996-12-19T16:39:57-08:00
-'1990-12-31T23:59:60Z'       out_of_range_second          out_of_range_second
-'2020-01-01_12:13:14Z'       2020-01-01T12:13:14Z         invalid_char_date_time_sep
-'2020-01-01T12:13Z'          2020-01-01T12:13:00Z         invalid_char_time_sep
-'2020-01-01T12:13:14'        2020-01-01T12:13:14          tz_required";
+'1985-04-12T23:20:50.52Z'           1985-04-12T23:20:50.520000Z       1985-04-12T23:20:50.520000Z
+'1996-12-19T16:39:57-08:00'         1996-12-19T16:39:57-08:00         1996-12-19T16:39:57-08:00
+'1990-12-31T23:59:60Z'              out_of_range_second               out_of_range_second
+'2020-01-01_12:13:14Z'              2020-01-01T12:13:14Z              invalid_char_date_time_sep
+'2020-01-01T12:13Z'                 2020-01-01T12:13:00Z              invalid_char_time_sep
+'2020-01-01T12:13:14'               2020-01-01T12:13:14               tz_required
+'1963-06-19T08:30:06.283185Z'       1963-06-19T08:30:06.283185Z       1963-06-19T08:30:06.283185Z
+'1963-06-19t08:30:06.283185z'       1963-06-19T08:30:06.283185Z       1963-06-19T08:30:06.283185Z
+'1963-06-19T08:30:06Z'              1963-06-19T08:30:06Z              1963-06-19T08:30:06Z
+'1937-01-01T12:00:27.87+00:20'      1937-01-01T12:00:27.870000+00:20  1937-01-01T12:00:27.870000+00:20
+'1990-12-31T15:59:50.123-08:00'     1990-12-31T15:59:50.123000-08:00  1990-12-31T15:59:50.123000-08:00
+'1998-12-31T23:59:60Z'              out_of_range_second               out_of_range_second
+'1998-12-31T15:59:60.123-08:00'     out_of_range_second               out_of_range_second
+'1998-12-31T23:59:61Z'              out_of_range_second               out_of_range_second
+'1998-12-31T23:58:60Z'              out_of_range_second               out_of_range_second
+'1990-02-31T15:59:59.123-08:00'     out_of_range_day                  out_of_range_day
+'1990-12-31T15:59:59-24:00'         out_of_range_tz                   out_of_range_tz
+'1963-06-19T08:30:06.28123+01:00Z'  extra_characters                  extra_characters
+'06/19/1963 08:30:06 PST'           invalid_char_year                 invalid_char_year
+'2013-350T01:01:01'                 invalid_char_date_sep             invalid_char_date_sep
+'1963-6-19T08:30:06.283185Z'        invalid_char_month                invalid_char_month
+'1963-06-1T08:30:06.283185Z'        invalid_char_day                  invalid_char_day
+'1963-06-1\u{9ea}T00:00:00Z'        invalid_char_day                  invalid_char_day
+'1963-06-11T0\u{9ea}:00:00Z'        invalid_char_hour                 invalid_char_hour
+'+11963-06-19T08:30:06.283185Z'     invalid_char_year                 invalid_char_year
+'2020-01-01 12:13'                  2020-01-01T12:13:00               invalid_char_date_time_sep
+'2020-01-01_x2:13:14Z'              invalid_char_hour                 invalid_char_hour
+'2020-01-01T12:13'                  2020-01-01T12:13:00               invalid_char_time_sep
+'2020-01-01T12:13:14+010'           invalid_char_tz_minute            invalid_char_tz_minute";
 
 /// A unit, a timestamp, microseconds beside it, and what they give.
 const TIMESTAMPS: &str = "\

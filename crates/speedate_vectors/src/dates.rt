@@ -23,18 +23,27 @@ const TEXTS: &str = "\
 '1900-02-29'   out_of_range_day
 '1201-02-29'   out_of_range_day
 '0100-02-29'   out_of_range_day
-'2020-04-01 '  extra_characters";
+'2020-04-01 '  extra_characters
+'+202-01-01'   invalid_char_year
+'2020-00-00'   out_of_range_month
+'2020-01-00'   out_of_range_day";
 
 /// A unit, a text that may be a timestamp, and the answer.
 const NUMBERS: &str = "\
-infer  '1654560000'        2022-06-07
-infer  '20044800000'       1970-08-21
-infer  '19999872000'       2603-10-10
-infer  '20000000000'       date_not_exact
-infer  '1654560000.0'      invalid_char_date_sep
-s      '1640995200'        2022-01-01
-us     '1654560000000000'  2022-06-07
-us     '1654560000000001'  date_not_exact";
+infer  '1654560000'           2022-06-07
+infer  '20044800000'          1970-08-21
+infer  '19999872000'          2603-10-10
+infer  '20000000000'          date_not_exact
+infer  '1654560000.0'         invalid_char_date_sep
+s      '1640995200'           2022-01-01
+us     '1654560000000000'     2022-06-07
+us     '1654560000000001'     date_not_exact
+infer  '0'                    1970-01-01
+infer  '-86400'               1969-12-31
+infer  '253402300800000'      date_too_large
+infer  '9223372036854775808'  invalid_char_date_sep
+infer  '+'                    too_short
+ms     '1640995200'           date_not_exact";
 
 /// Texts, and the date at their front with its bytes, or the fault.
 const FRONTS: &str = "\
@@ -52,7 +61,13 @@ infer  any    -20000000000          1336-03-23
 infer  any    -20000000001          1969-05-14
 infer  exact  1654560000001         date_not_exact
 infer  exact  253402300800001       date_too_large
-ms     any    -1                    1969-12-31";
+ms     any    -1                    1969-12-31
+s      any    253402300800          date_too_large
+s      any    -62167219201          date_too_small
+us     any    253402300799999999    9999-12-31
+us     any    253402300800000000    date_too_large
+us     any    -62167219200000001    date_too_small
+us     exact  1                     date_not_exact";
 
 /// A year, a month, a day, and their date.
 const PARTS: &str = "\

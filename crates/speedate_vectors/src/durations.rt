@@ -5,74 +5,100 @@ use speedate::{Date, DateTime, Duration};
 
 /// Texts, and the answer of each reader.
 const TEXTS: &str = "\
-':01:03'                            PT1M3S
-'+01:02:03'                         PT1H2M3S
-'24:01:03'                          P1DT1M3S
-'00:00:00,1234'                     PT0.1234S
-'1000000000:00:00'                  P114155Y91DT16H
-'2400000000:01:03.654321'           P273972Y220DT1M3.654321S
-'1 Days'                            P1D
-'1DAYS'                             P1D
-'1 day,'                            P1D
-'1 day, 1:00:42'                    P1DT1H42S
-'-1 day 00:00:42'                   -P1DT42S
-''                                  too_short
-'1:00'                              duration_invalid_days
-'100000000000:01:03'                duration_hour_value_too_large
-'1000xxx000:01:03'                  invalid_char_hour
-'1 10:10'                           invalid_char_hour
-'00:60:03'                          out_of_range_minute
-'00:60:x'                           out_of_range_minute
-'00:00:60'                          out_of_range_second
-'00:00:00.'                         second_fraction_missing
-'00:01:03x'                         extra_characters
-'18446744073709551616 day 12:00'    duration_value_too_large
-'x day, 1:00:42'                    duration_invalid_number
-'1 x'                               duration_invalid_days
-'1da'                               duration_invalid_days
-'1 DAys'                            duration_invalid_days
-'1dx'                               too_short
-'1 day 00:'                         too_short
-'1 day 00:xx'                       invalid_char_minute
-'1d 24:01:03'                       duration_hour_value_too_large
-'1000000000 days'                   duration_days_too_large
-'P1M'                               P30D
-'P1W'                               P7D
-'PT90M'                             PT1H30M
-'PT86500S'                          P1DT1M40S
-'P1DT'                              P1D
-'P1DT24H'                           P2D
-'PT4294967295S'                     P136Y70DT6H28M15S
-'P1.Y'                              P1Y
-'P0.1Y'                             P36DT12H
-'P1,1D'                             P1DT2H24M
-'P123.8Y'                           P123Y292D
-'P1.1W'                             P7DT16H48M
-'P1.123W'                           P7DT20H39M50.4S
-'P1.1DT'                            P1DT2H24M
-'PT0.0000005S'                      PT0.000001S
-'-PT0.0000005S'                     -PT0.000001S
-'PT20.1253395S'                     PT20.12534S
-'P'                                 too_short
-'PT'                                too_short
-'+PT'                               too_short
-'PTT'                               duration_t_repeated
-'P1DT1MT1S'                         duration_t_repeated
-'PD'                                duration_invalid_number
-'P1'                                duration_invalid_date_unit
-'P1T'                               duration_invalid_date_unit
-'P1DT1X'                            duration_invalid_time_unit
-'PT1.1MX'                           duration_invalid_number
-'P1DT1.1M1S'                        duration_invalid_fraction
-'P99999999999X'                     duration_value_too_large
-'P11767033Y'                        duration_days_too_large
-'P11767034Y'                        duration_value_too_large
-'PT4294967296S'                     duration_value_too_large
-'PT4294967295.9999999S'             duration_value_too_large
-'PT0.<9*5000>S'                     PT1S
-'P0.<9*5000>Y'                      P1Y
-'P<0*5000>1D'                       P1D
-'PT0.0000004<9*1000>S'              PT0S";
+':01:03'                          PT1M3S
+'+01:02:03'                       PT1H2M3S
+'24:01:03'                        P1DT1M3S
+'00:00:00,1234'                   PT0.1234S
+'1000000000:00:00'                P114155Y91DT16H
+'2400000000:01:03.654321'         P273972Y220DT1M3.654321S
+'1 Days'                          P1D
+'1DAYS'                           P1D
+'1 day,'                          P1D
+'1 day, 1:00:42'                  P1DT1H42S
+'-1 day 00:00:42'                 -P1DT42S
+''                                too_short
+'1:00'                            duration_invalid_days
+'100000000000:01:03'              duration_hour_value_too_large
+'1000xxx000:01:03'                invalid_char_hour
+'1 10:10'                         invalid_char_hour
+'00:60:03'                        out_of_range_minute
+'00:60:x'                         out_of_range_minute
+'00:00:60'                        out_of_range_second
+'00:00:00.'                       second_fraction_missing
+'00:01:03x'                       extra_characters
+'18446744073709551616 day 12:00'  duration_value_too_large
+'x day, 1:00:42'                  duration_invalid_number
+'1 x'                             duration_invalid_days
+'1da'                             duration_invalid_days
+'1 DAys'                          duration_invalid_days
+'1dx'                             too_short
+'1 day 00:'                       too_short
+'1 day 00:xx'                     invalid_char_minute
+'1d 24:01:03'                     duration_hour_value_too_large
+'1000000000 days'                 duration_days_too_large
+'P1M'                             P30D
+'P1W'                             P7D
+'PT90M'                           PT1H30M
+'PT86500S'                        P1DT1M40S
+'P1DT'                            P1D
+'P1DT24H'                         P2D
+'PT4294967295S'                   P136Y70DT6H28M15S
+'P1.Y'                            P1Y
+'P0.1Y'                           P36DT12H
+'P1,1D'                           P1DT2H24M
+'P123.8Y'                         P123Y292D
+'P1.1W'                           P7DT16H48M
+'P1.123W'                         P7DT20H39M50.4S
+'P1.1DT'                          P1DT2H24M
+'PT0.0000005S'                    PT0.000001S
+'-PT0.0000005S'                   -PT0.000001S
+'PT20.1253395S'                   PT20.12534S
+'P'                               too_short
+'PT'                              too_short
+'+PT'                             too_short
+'PTT'                             duration_t_repeated
+'P1DT1MT1S'                       duration_t_repeated
+'PD'                              duration_invalid_number
+'P1'                              duration_invalid_date_unit
+'P1T'                             duration_invalid_date_unit
+'P1DT1X'                          duration_invalid_time_unit
+'PT1.1MX'                         duration_invalid_number
+'P1DT1.1M1S'                      duration_invalid_fraction
+'P99999999999X'                   duration_value_too_large
+'P11767033Y'                      duration_days_too_large
+'P11767034Y'                      duration_value_too_large
+'PT4294967296S'                   duration_value_too_large
+'PT4294967295.9999999S'           duration_value_too_large
+'PT0.<9*5000>S'                   PT1S
+'P0.<9*5000>Y'                    P1Y
+'P<0*5000>1D'                     P1D
+'PT0.0000004<9*1000>S'            PT0S
+'0000000001:00'                   PT1H
+'-0d'                             -PT0S
+'p1d'                             duration_invalid_number
+'00:00:00d'                       duration_invalid_days
+'00000000001:00'                  duration_hour_value_too_large
+'2400000001:'                     duration_hour_value_too_large
+'00000:'                          too_short
+'00:x0'                           invalid_char_minute
+'00:00:'                          invalid_char_second
+'00:00:60.'                       out_of_range_second
+'00:00:00,x'                      second_fraction_missing
+' 1 day'                          duration_invalid_number
+'4294967296x d'                   duration_value_too_large
+'1 dayS'                          too_short
+'1 day 1:00'                      too_short
+'1 day 24:60'                     out_of_range_minute
+'1000000000 days 00:60'           out_of_range_minute
+'PT59.9999999S'                   PT1M
+'P1y'                             duration_invalid_date_unit
+'P1..1D'                          duration_invalid_date_unit
+'P4294967295X'                    duration_invalid_date_unit
+'PT1D'                            duration_invalid_time_unit
+'PT71582789M'                     duration_value_too_large
+'P1.D1D'                          duration_invalid_fraction
+'P4294967295DT86399S'             duration_days_too_large
+'P4294967295DT86400S'             duration_value_too_large";
 
 /// A configuration that is not the default one, a text, the answer by default, and the one with it.
 const CONFIGURED: &str = "\

@@ -48,8 +48,8 @@ error     '12:13:14.1234567 x'       second_fraction_too_long
 error     '12:00:00-ERROR'           invalid_char_tz_hour
 truncate  '12:13:14.<9*5000> x'      12:13:14.999999 5009";
 
-/// A behavior, texts, and the answers of the relaxed reader and of the strict one, which takes those of RFC
-/// 3339 alone.
+/// A behavior, texts, those of JSON Schema's tests among them, and the answers of the relaxed reader and of
+/// the strict one, which takes those of RFC 3339 alone. A second 60 is a time of the standard, and refused.
 const STRICT: &str = "\
 error     '08:30:06.283185z'         08:30:06.283185Z          08:30:06.283185Z
 error     '12:13Z'                   12:13:00Z                 invalid_char_time_sep
@@ -58,7 +58,45 @@ error     '12:13:14.5\u{2212}01:30'  12:13:14.500000-01:30     invalid_char_tz_s
 error     '01:02:03+0030'            01:02:03+00:30            invalid_char_tz_minute
 error     '12:00:00'                 12:00:00                  tz_required
 error     '12:13:14.1234567'         second_fraction_too_long  second_fraction_too_long
-truncate  '12:13:14.1234567Z'        12:13:14.123456Z          12:13:14.123456Z";
+truncate  '12:13:14.1234567Z'        12:13:14.123456Z          12:13:14.123456Z
+error     '08:30:06Z'                08:30:06Z                 08:30:06Z
+error     '08:30:06z'                08:30:06Z                 08:30:06Z
+error     '23:20:50.52Z'             23:20:50.520000Z          23:20:50.520000Z
+error     '08:30:06.283185Z'         08:30:06.283185Z          08:30:06.283185Z
+error     '08:30:06+00:20'           08:30:06+00:20            08:30:06+00:20
+error     '08:30:06-08:00'           08:30:06-08:00            08:30:06-08:00
+error     '23:59:60Z'                out_of_range_second       out_of_range_second
+error     '23:59:60+00:00'           out_of_range_second       out_of_range_second
+error     '22:59:60Z'                out_of_range_second       out_of_range_second
+error     '00:00:61Z'                out_of_range_second       out_of_range_second
+error     '008:030:006Z'             invalid_char_time_sep     invalid_char_time_sep
+error     '8:3:6Z'                   invalid_char_hour         invalid_char_hour
+error     '8:0030:6Z'                invalid_char_hour         invalid_char_hour
+error     '08:30:06-8:000'           invalid_char_tz_hour      invalid_char_tz_hour
+error     '24:00:00Z'                out_of_range_hour         out_of_range_hour
+error     '00:60:00Z'                out_of_range_minute       out_of_range_minute
+error     '01:02:03+24:00'           out_of_range_tz           out_of_range_tz
+error     '01:02:03+00:60'           out_of_range_tz_minute    out_of_range_tz_minute
+error     '01:02:03Z+00:30'          extra_characters          extra_characters
+error     '08:30:06 PST'             invalid_char_tz_sign      invalid_char_tz_sign
+error     '01:01:01,1111'            01:01:01.111100           invalid_char_tz_sign
+error     '12:00:00.52'              12:00:00.520000           tz_required
+error     '1\u{9e8}:00:00Z'          invalid_char_hour         invalid_char_hour
+error     '0\u{9ea}:00:00Z'          invalid_char_hour         invalid_char_hour
+error     '08:30:06#00:20'           invalid_char_tz_sign      invalid_char_tz_sign
+error     'ab:cd:ef'                 invalid_char_hour         invalid_char_hour
+error     '01:02:03+00'              invalid_char_tz_minute    invalid_char_tz_minute
+error     '12:13:1'                  invalid_char_second       invalid_char_second
+error     '12:13x1'                  invalid_char_tz_sign      invalid_char_tz_sign
+error     '12:13Z   '                extra_characters          extra_characters
+error     '12:13:14,'                second_fraction_missing   second_fraction_missing
+error     '12:13:14,1234567Z'        second_fraction_too_long  second_fraction_too_long
+error     '12:13:14.5\u{2212}0130'   12:13:14.500000-01:30     invalid_char_tz_sign
+error     '12:13:14\u{2212}x'        invalid_char_tz_hour      invalid_char_tz_hour
+error     '12:13:14+0160'            out_of_range_tz_minute    out_of_range_tz_minute
+error     '12:13:14+2400'            out_of_range_tz           out_of_range_tz
+error     '12:13:14+0100x'           extra_characters          extra_characters
+error     '12:13:14-00:00'           12:13:14Z                 12:13:14Z";
 
 /// A behavior and an offset, seconds and microseconds after midnight, and the answer.
 const TIMESTAMPS: &str = "\
