@@ -12,15 +12,15 @@ use Rattle.speedate_base.specs.Ascii.{colon}
 use Rattle.speedate_base.specs.DigitRuns.{run_length, digits_value}
 use Rattle.speedate_base.proofs.DigitRunLemmas.{run_length-ended, run-whole}
 use Rattle.speedate_base.proofs.NumberLemmas.{run-digits}
-use Rattle.speedate.specs.ClockForm.{hours, colon_place, has_hours, after_hours, from_minute, hours_table, hours_range, clock_numbers, whole_clock, clock_form}
+use Rattle.speedate.specs.ClockForm.{hours, colon_place, has_hours, after_hours, from_minute, hours_table, hours_range, clock_numbers, clock_form}
 use Rattle.std.proofs.lemmas.List.Folds.{list_any-append}
 use Rattle.speedate_base.specs.declared.faults.ParseError.TheVariants as fault
 use Rattle.speedate_base.specs.Digits.{two_digits_at}
-use Rattle.speedate_base.specs.Requirement.{◌else_fault◌, ◌implies◌, meets}
+use Rattle.speedate_base.specs.Requirement.{◌else_fault◌, ◌implies◌, meets, result_and_then}
 use Rattle.speedate_base.proofs.RequirementLemmas.{and_then-ok, meets-ok, meets-value}
 use Rattle.speedate_civil.specs.ClockText.{Clock, has_point, has_second, minute_clock, minute_digits, minute_table, minute_front, clock_answer}
 use Rattle.speedate.specs.DayForm.{is_day_letter}
-use Rattle.speedate.specs.DurationForm.{has_days}
+use Rattle.speedate.specs.DurationAnswer.{has_days}
 use Rattle.speedate.specs.DurationNumbers.{UnsignedDuration}
 
 digit-no_colon : (byte : ℕ) → is_ascii_digit byte ≡ true → (byte == colon) ≡ false
@@ -132,8 +132,9 @@ clock-no_letter behavior text value same =
     let count = digits_value (hours text) in
     let ends = λ (clock : Clock). (clock.size == length rest else_fault fault.ExtraCharacters) ∷ [] in
     let front = meets-ok (hours_table text) (after_hours behavior count rest) value same in
-    let ranges = meets-ok (hours_range behavior count rest) (whole_clock behavior count rest) value front.1 in
-    let read = and_then-ok (λ (clock : Clock). meets (ends clock) (Ok (clock_numbers count clock))) (minute_front behavior rest) value ranges.1 in
+    let whole_clock = λ (clock : Clock). meets (ends clock) (Ok (clock_numbers count clock)) in
+    let ranges = meets-ok (hours_range behavior count rest) (result_and_then whole_clock (minute_front behavior rest)) value front.1 in
+    let read = and_then-ok whole_clock (minute_front behavior rest) value ranges.1 in
     let minute = meets-ok (minute_digits rest) (clock_answer behavior rest) read.0 read.1 in
     let clock = meets-value (minute_table behavior rest) (minute_clock rest) read.0 minute.1 in
     let whole = meets-ok (ends read.0) (Ok (clock_numbers count read.0)) value read.2 in

@@ -1,7 +1,7 @@
 -- The duration between two values, and the value a duration after another: lengths with their sign, and the instants and dates
 -- that they lead to.
-use Rattle.std.specs.Prelude.{◌≡◌, ℕ, zero, suc, ◌+◌, ◌*◌, ◌<◌, ◌≤◌, Bool, true, false, not, ◌||◌, ◌==◌, ℤ, pos, negsuc, neg_ℤ, ◌+ℤ◌, ◌-ℤ◌, ◌*ℤ◌, ◌≤ℤ◌, Option, Result, Ok, Err, IfOk, unsigned_abs, refl, [], ◌∷◌}
-use Rattle.std.specs.Option.{unwrap_or}
+use Rattle.std.specs.Prelude.{◌≡◌, ℕ, zero, suc, ◌+◌, ◌*◌, ◌<◌, ◌≤◌, Bool, true, false, not, ◌||◌, ◌==◌, ℤ, pos, negsuc, neg_ℤ, ◌+ℤ◌, ◌-ℤ◌, ◌*ℤ◌, ◌≤ℤ◌, Option, Result, Ok, Err, IfOk, unsigned_abs, refl, [], ◌∷◌, if◌then◌else◌}
+use Rattle.std.specs.Option.{ok_or, unwrap_or}
 use Rattle.std.specs.Ordering.{int_cmp}
 use Rattle.std.proofs.Common.{arith, ◌∙◌, ap, sym}
 use Rattle.std.proofs.lemmas.Bool.Decides.{nat_tests}
@@ -21,7 +21,7 @@ use Rattle.speedate_civil.proofs.DateTimeTimestampLemmas.{instant_date_time-loca
 use Rattle.speedate_civil.proofs.DateTimeValueLemmas.{is_date_and_time, offset-small, local_second-late, local_second-early}
 use Rattle.speedate_civil.proofs.InstantOrderLemmas.{left-order}
 use Rattle.speedate.proofs.DurationLemmas.{of_length-only}
-use Rattle.speedate.specs.DurationMove.{signed_length, duration_of_length, with_positive_zero, duration_between, date_time_after, negated, date_or_fault, signed_days, date_after_days}
+use Rattle.speedate.specs.DurationMove.{signed_length, duration_of_length, with_positive_zero, duration_between, date_time_after, negated, signed_days, date_after_days}
 use Rattle.speedate.specs.DurationNumbers.{DurationNumbers, IsDuration, length_seconds, length_microseconds, of_length, signed_seconds, signed_microsecond}
 use Rattle.speedate_base.specs.declared.faults.ParseError.TheVariants as fault
 use Rattle.speedate_base.specs.Requirement.{◌else_fault◌}
@@ -182,10 +182,10 @@ pub date-back : (numbers : DurationNumbers) (start : Date) (end : Ymd) → is_wh
     → days_between (date_parts start) end ≡ signed_days numbers → date_after_days (negated numbers) end ≡ Ok (date_parts start)
 date-back numbers start end whole moved =
     let date = date_parts start in
-    let back = not numbers.positive in
+    let outside = if not numbers.positive then fault.DateTooLarge else fault.DateTooSmall in
     meets-all ((is_whole_days numbers else_fault fault.DateNotExact) ∷ []) _ (whole, tt)
-    ∙ ap (λ (n : ℤ). date_or_fault back (date_counted n)) (days-back numbers.positive numbers.day (day_number date) (day_number end) moved)
-    ∙ ap (date_or_fault back) (date_numbered-is (day_number date) date (is_day start) start.year_in_range refl)
+    ∙ ap (λ (n : ℤ). ok_or (date_counted n) outside) (days-back numbers.positive numbers.day (day_number date) (day_number end) moved)
+    ∙ ap (λ (date : Option Ymd). ok_or date outside) (date_numbered-is (day_number date) date (is_day start) start.year_in_range refl)
 
 -- days the other way are the negative ones
 pub turned : (positive : Bool) (day start end : ℕ) → pos end -ℤ pos start ≡ with_sign (not (not positive)) day

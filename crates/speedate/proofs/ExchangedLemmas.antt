@@ -1,8 +1,8 @@
 -- In the lax order the answer to a text of a duration does not depend on the order of two neighbouring components of one side.
-use Rattle.std.specs.Prelude.{◌≡◌, ℕ, ◌≤◌, Bool, true, false, not, ◌&&◌, ◌||◌, List, [], ◌∷◌, ◌++◌, nat_le, if◌then◌else◌, Option, Some, None, Result, Err, refl, codes}
+use Rattle.std.specs.Prelude.{◌≡◌, ℕ, ◌≤◌, Bool, true, false, not, ◌&&◌, ◌||◌, List, [], ◌∷◌, ◌++◌, nat_le, if◌then◌else◌, Option, Some, None, Result, Err, refl}
 use Rattle.std.specs.Option.{is_some}
 use Rattle.std.specs.List.{flat_map}
-use Rattle.std.proofs.Common.{arith, ap, ap₂, sym, ◌∙◌, append_assoc, inl}
+use Rattle.std.proofs.Common.{arith, ap, ap₂, sym, ◌∙◌, append_assoc}
 use Rattle.std.proofs.lemmas.Bool.{or_from}
 use Rattle.std.proofs.lemmas.Bool.Decides.{nat_tests}
 use Rattle.speedate_base.specs.declared.config.IsoOrder.{IsoOrder}
@@ -18,7 +18,6 @@ use Rattle.speedate.specs.DurationNumbers.{UnsignedDuration, signed_form}
 use Rattle.speedate.specs.Exchanged.{has_decimal_mark, IsWhole, AreWhole, IsPlain, AreExchanged}
 use Rattle.speedate.specs.IsoForm.{DurationUnit, units, unit_in, ComponentText, Item, TimeDesignator, Component, item_text, item_at, item_table, Sums, no_sums, next_units_after, with_component, with_item, with_items}
 use Rattle.speedate.proofs.IsoItemLemmas.{item_at-amount}
-use Rattle.speedate_base.specs.Ascii.{capital_d, capital_m, capital_y}
 
 abbrev Answer : Type 0
 Answer = Result UnsignedDuration ParseError
@@ -186,24 +185,3 @@ duration_answer-exchanged asked behavior one two lax are =
     (ap read are.is_one ∙ duration_answer-iso order.Lax behavior are.negative are.sign body are.is_sign
     ∙ ap (result_and_then (signed_form (not are.negative))) same
     ∙ sym (ap read are.is_two ∙ duration_answer-iso order.Lax behavior are.negative are.sign exchanged are.is_sign))
-
--- a component without a fraction
-abbrev whole : List ℕ → ℕ → ComponentText
-whole number designator = record { number = number; fraction = []; designator = designator }
-
--- two components that change places after one that is too large
-exchanged-large : AreExchanged (codes "P99999999999Y1M2D") (codes "P99999999999Y2D1M")
-exchanged-large = record {
-  negative = false;
-  sign = [];
-  items = Component (whole (codes "99999999999") capital_y) ∷ [];
-  first = whole (codes "1") capital_m;
-  second = whole (codes "2") capital_d;
-  rest = [];
-  is_sign = inl refl;
-  are_whole = (((refl, tt), refl, refl), tt);
-  is_plain_first = (((refl, tt), refl, refl), refl, refl);
-  is_plain_second = (((refl, tt), refl, refl), refl, refl);
-  is_one = refl;
-  is_two = refl;
-}

@@ -12,10 +12,9 @@ use Rattle.speedate_base.specs.Ascii.{capital_p}
 use Rattle.speedate_base.specs.Numbers.{has_minus, sign_length}
 use Rattle.speedate_base.specs.Requirement.{meets, AllHold, result_and_then}
 use Rattle.speedate_base.proofs.RequirementLemmas.{meets-all, meets-next, meets-value}
-use Rattle.speedate.specs.DurationAnswer.{iso_after, iso_form, unsigned_answer, duration_answer}
-use Rattle.speedate.specs.DurationForm.{form_answer, IsGrammarAnswer}
+use Rattle.speedate.specs.DurationAnswer.{iso_after, iso_form, form_answer, unsigned_answer, duration_answer, IsGrammarAnswer}
 use Rattle.speedate.specs.DurationNumbers.{UnsignedDuration, signed_form}
-use Rattle.speedate.specs.IsoForm.{Item, item_text, IsItem, item_at, Sums, no_sums, with_item, with_items, item_table, AreGood, sums_length, Ends, IsAnswerFrom, IsIsoAnswer}
+use Rattle.speedate.specs.IsoForm.{Item, item_text, IsItem, item_at, Sums, no_sums, with_item, with_items, item_table, AreGood, sums_length, Ends, IsAnswerFrom}
 use Rattle.speedate.proofs.IsoItemLemmas.{item_at-text, item-front}
 
 abbrev Answer : Type 0
@@ -98,13 +97,13 @@ iso_after-is zero sums (byte ∷ rest) =
 iso_after-is (suc skipped) sums (byte ∷ rest) = iso_after-is skipped sums rest
 
 form-is : (order : IsoOrder) (behavior : MicrosecondsPrecisionOverflowBehavior) (text : List ℕ) (iso : Bool)
-    → MatchBool iso (IsIsoAnswer order (drop 1 text) (if iso then iso_form order (drop 1 text) else form_answer behavior text))
+    → MatchBool iso (IsAnswerFrom (no_sums order) (drop 1 text) (if iso then iso_form order (drop 1 text) else form_answer behavior text))
     ((if iso then iso_form order (drop 1 text) else form_answer behavior text) ≡ form_answer behavior text)
 form-is order behavior text true = iso_after-is 0 (no_sums order) (drop 1 text)
 form-is order behavior text false = refl
 
 form-only : (order : IsoOrder) (text : List ℕ) (iso : Bool) (form first second : Answer)
-    → MatchBool iso (IsIsoAnswer order text first) (first ≡ form) → MatchBool iso (IsIsoAnswer order text second) (second ≡ form) → first ≡ second
+    → MatchBool iso (IsAnswerFrom (no_sums order) text first) (first ≡ form) → MatchBool iso (IsAnswerFrom (no_sums order) text second) (second ≡ form) → first ≡ second
 form-only order text true form first second one two = answer-only (no_sums order) text first second one two
 form-only order text false form first second one two = one ∙ sym two
 

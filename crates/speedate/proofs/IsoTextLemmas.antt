@@ -32,7 +32,7 @@ use Rattle.speedate_base.specs.declared.faults.ParseError.{ParseError}
 use Rattle.speedate.specs.InOrder.{IsLaxOrRefused}
 use Rattle.speedate.proofs.InOrderLemmas.{duration-both}
 use Rattle.speedate.proofs.DurationLemmas.{normal_form-same}
-use Rattle.speedate.specs.DurationNumbers.{DurationNumbers, IsDuration, length_of, signed_form}
+use Rattle.speedate.specs.DurationNumbers.{DurationNumbers, UnsignedDuration, IsDuration, signed_form}
 use Rattle.speedate.specs.DurationText.{counted_text, kept_digit, without_last_zeros, short_fraction_text, seconds_text, hours_text, days_text, start_text, rest_text, is_whole_days, duration_text}
 use Rattle.speedate.specs.IsoForm.{DurationUnit, unit, units, unit_in, units_after, ComponentText, TimeDesignator, Component, IsItem, IsFraction, Sums, unit_seconds, fraction_seconds, fraction_microseconds, with_amount, with_component, with_item, are_counted, item_table}
 
@@ -204,6 +204,10 @@ days-some day = grind (arith, nat_tests)
 hours-some : (second microsecond : ℕ) (some : Bool) → ((second == 0) && (microsecond == 0)) ≡ false
     → (if (second % 60 == 0) && (microsecond == 0) then (if second / 60 % 60 == 0 then (if second / 3600 == 0 then some else true) else true) else true) ≡ true
 hours-some second microsecond some other = grind (arith, nat_tests)
+
+-- the length of a duration
+abbrev length_of : DurationNumbers → UnsignedDuration
+length_of numbers = record { day = numbers.day; second = numbers.second; microsecond = numbers.microsecond }
 
 -- hours, minutes and seconds are read as the end of a text
 hours-read : (numbers : DurationNumbers) (some : Bool) → IsDuration numbers → is_whole_days numbers ≡ false
