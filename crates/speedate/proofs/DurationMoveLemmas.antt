@@ -1,10 +1,10 @@
 -- The duration between two values, and the value a duration after another: lengths with their sign, and the instants and dates
 -- that they lead to.
+use Rattle.std.proofs.Common.{rules}
 use Rattle.std.specs.Prelude.{◌≡◌, ℕ, zero, suc, ◌+◌, ◌*◌, ◌<◌, ◌≤◌, Bool, true, false, not, ◌||◌, ◌==◌, ℤ, pos, negsuc, neg_ℤ, ◌+ℤ◌, ◌-ℤ◌, ◌*ℤ◌, ◌≤ℤ◌, Option, Result, Ok, Err, IfOk, unsigned_abs, refl, [], ◌∷◌, if◌then◌else◌}
 use Rattle.std.specs.Option.{ok_or, unwrap_or}
 use Rattle.std.specs.Ordering.{int_cmp}
 use Rattle.std.proofs.Common.{arith, ◌∙◌, ap, sym}
-use Rattle.std.proofs.lemmas.Bool.Decides.{nat_tests}
 use Rattle.std.proofs.lemmas.Int.{ints}
 use Rattle.std.proofs.lemmas.Result.{IfOk-weaker}
 use Rattle.speedate_base.specs.declared.faults.ParseError.{ParseError}
@@ -19,7 +19,6 @@ use Rattle.speedate_civil.specs.DateTimeTimestamp.{IsShownAt, instant_date_time}
 use Rattle.speedate_civil.proofs.DateTimeInstantLemmas.{instant_date_time-shown}
 use Rattle.speedate_civil.proofs.DateTimeTimestampLemmas.{instant_date_time-local}
 use Rattle.speedate_civil.proofs.DateTimeValueLemmas.{is_date_and_time, offset-small, local_second-late, local_second-early}
-use Rattle.speedate_civil.proofs.InstantOrderLemmas.{left-order}
 use Rattle.speedate.proofs.DurationLemmas.{of_length-only}
 use Rattle.speedate.specs.DurationMove.{signed_length, duration_of_length, with_positive_zero, duration_between, date_time_after, negated, signed_days, date_after_days}
 use Rattle.speedate.specs.DurationNumbers.{DurationNumbers, IsDuration, length_seconds, length_microseconds, of_length, signed_seconds, signed_microsecond}
@@ -53,9 +52,7 @@ signed_length-kept (negsuc below) = omega (arith, ints)
 signed-kept : (positive : Bool) (size : ℕ) → duration_of_length (with_sign (not positive) size) ≡ of_length (positive || (size == 0)) size
 signed-kept true size = refl
 signed-kept false zero = refl
-signed-kept false (suc size) =
-    let some : (suc size == 0) ≡ false = grind (arith, nat_tests) in
-    ap (λ (none : Bool). of_length (false || none) (suc size)) (sym some)
+signed-kept false (suc size) = search rules
 
 -- what lies so much later, and what lies so much earlier
 pub between-later : (earlier later length : ℤ) → length ≡ later -ℤ earlier → later ≡ earlier +ℤ length
@@ -121,10 +118,7 @@ date_time_after-exact length start end valid attached same =
 
 -- what lies as far apart is in the same order
 apart-order : (first second one two : ℤ) → first -ℤ second ≡ one -ℤ two → int_cmp first second ≡ int_cmp one two
-apart-order first second one two same =
-    let one_is : first ≡ one -ℤ (one -ℤ first) = omega (arith, ints) in
-    let two_is : second ≡ two -ℤ (one -ℤ first) = omega (arith, ints, same) in
-    (λ i. int_cmp (one_is i) (two_is i)) ∙ left-order one two (one -ℤ first)
+apart-order first second one two same = search rules
 
 lengths-apart : (first second start length other one two : ℤ) → first ≡ start +ℤ length → second ≡ start +ℤ other → length -ℤ other ≡ one -ℤ two
     → first -ℤ second ≡ one -ℤ two

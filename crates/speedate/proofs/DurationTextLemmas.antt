@@ -1,4 +1,5 @@
 -- What is printed of a duration is short.
+use Rattle.std.proofs.Common.{rules}
 use Rattle.std.specs.Prelude.{ℕ, suc, ◌+◌, ◌/◌, ◌%◌, ◌^◌, ◌<◌, ◌≤◌, Bool, true, false, ◌==◌, List, [], ◌∷◌, ◌++◌, length, if◌then◌else◌}
 use Rattle.std.specs.Fmt.{decimal}
 use Rattle.std.proofs.Common.{arith, lit<}
@@ -6,8 +7,7 @@ use Rattle.std.proofs.lemmas.Bool.Decides.{nat_tests}
 use Rattle.std.proofs.lemmas.List.{length-append}
 use Rattle.std.proofs.lemmas.Fmt.{length-decimal-le}
 use Rattle.std.proofs.lemmas.Str.{encode_ascii}
-use Rattle.speedate_base.specs.Ascii.{full_stop, capital_d, capital_h, capital_m, capital_y}
-use Rattle.speedate_base.specs.Digits.{six_digit_text}
+use Rattle.speedate_base.specs.Ascii.{capital_d, capital_h, capital_m, capital_y}
 use Rattle.speedate.specs.DurationText.{counted_text, kept_digit, without_last_zeros, short_fraction_text, start_text}
 
 -- what stays is no more than there was
@@ -43,9 +43,7 @@ minutes-length second = counted-length 2 (second / 60 % 60) capital_m (lit< tt) 
 
 -- a fraction
 pub fraction-length : (microsecond : ℕ) → length (short_fraction_text microsecond) ≤ 7
-fraction-length microsecond =
-    chosen-length (microsecond == 0) (full_stop ∷ without_last_zeros (six_digit_text microsecond)) 7
-    (omega (arith, without-length (six_digit_text microsecond)))
+fraction-length microsecond = search rules
 
 -- seconds
 pub second-length : (second : ℕ) → second < 60 → length (decimal second) ≤ 2

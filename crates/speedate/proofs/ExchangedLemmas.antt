@@ -1,4 +1,5 @@
 -- In the lax order the answer to a text of a duration does not depend on the order of two neighbouring components of one side.
+use Rattle.std.proofs.Common.{rules}
 use Rattle.std.specs.Prelude.{◌≡◌, ℕ, ◌≤◌, Bool, true, false, not, ◌&&◌, ◌||◌, List, [], ◌∷◌, ◌++◌, nat_le, if◌then◌else◌, Option, Some, None, Result, Err, refl}
 use Rattle.std.specs.Option.{is_some}
 use Rattle.std.specs.List.{flat_map}
@@ -59,9 +60,7 @@ two-rows false sums fault next = refl
 -- the table of a component that can be refused for its size alone is that test
 plain-table : {A : Type 0} (sums : Sums) (component : ComponentText) (next : Result A ParseError) → IsFree sums → IsPlain sums component
     → meets (item_table sums (Component component)) next ≡ (if fits sums component then next else Err fault.DurationValueTooLarge)
-plain-table sums component next free plain =
-    rw (plain.0.1, plain.2, plain.0.2, free-comes sums component.designator free plain.0.2)
-    (two-rows (nat_le (digits_value component.number) 4294967295) _ fault.DurationValueTooLarge next)
+plain-table sums component next free plain = search rules
 
 -- a component leaves the side as it is
 amount-side : (unit : Option DurationUnit) (component : ComponentText) (sums : Sums) → (with_component unit component sums).is_time ≡ sums.is_time
@@ -89,37 +88,21 @@ amounts-swap : (one two : Option DurationUnit) (first second : ComponentText) (s
     → with_component two second (with_component one first sums) ≡ with_component one first (with_component two second sums)
 amounts-swap None two first second sums free = refl
 amounts-swap (Some one) None first second sums free = refl
-amounts-swap (Some one) (Some two) first second sums free =
-    let later = λ (unit : DurationUnit) (next : List DurationUnit). ap (λ (order : IsoOrder). next_units_after order sums.is_time unit.designator next) free.0 in
-    let both = later two (next_units_after sums.order sums.is_time one.designator sums.next_units) ∙ sym (later one (next_units_after sums.order sums.is_time two.designator sums.next_units)) in
-    let fractions = or-swap sums.fraction (has_decimal_mark first) (has_decimal_mark second) in
-    let front = with_component (Some two) second (with_component (Some one) first sums) in
-    let back = with_component (Some one) first (with_component (Some two) second sums) in
-    let days : front.day ≡ back.day = omega arith in
-    let seconds : front.second ≡ back.second = omega arith in
-    let microseconds : front.microsecond ≡ back.microsecond = omega arith in
-    λ i. record front { next_units = both i; fraction = fractions i; day = days i; second = seconds i; microsecond = microseconds i }
+amounts-swap (Some one) (Some two) first second sums free = search rules
 
 -- the unit of the second does not depend on the first
 with_amount-next : (first second : ComponentText) (sums : Sums) → with_item (Component second) (with_item (Component first) sums)
     ≡ with_component (unit_in (units sums.is_time) second.designator) second (with_component (unit_in (units sums.is_time) first.designator) first sums)
-with_amount-next first second sums =
-    let next = with_item (Component first) sums in
-    ap (λ (is_time : Bool). with_component (unit_in (units is_time) second.designator) second next) (amount-side (unit_in (units sums.is_time) first.designator) first sums)
+with_amount-next first second sums = search rules
 
 -- so the sums of two components do not depend on their order
 amounts-exchanged : (first second : ComponentText) (sums : Sums) → IsFree sums
     → with_item (Component second) (with_item (Component first) sums) ≡ with_item (Component first) (with_item (Component second) sums)
-amounts-exchanged first second sums free =
-    with_amount-next first second sums ∙ amounts-swap (unit_in (units sums.is_time) first.designator) (unit_in (units sums.is_time) second.designator) first second sums free
-    ∙ sym (with_amount-next second first sums)
+amounts-exchanged first second sums free = search rules
 
 -- a component after another one can still be refused for its size alone
 plain-next : (sums : Sums) (first second : ComponentText) → IsPlain sums first → IsPlain sums second → IsPlain (with_item (Component first) sums) second
-plain-next sums first second one two =
-    let unit = unit_in (units sums.is_time) first.designator in
-    let has = ap (λ (is_time : Bool). is_some (unit_in (units is_time) second.designator)) (amount-side unit first sums) ∙ two.0.2 in
-    ((two.0.0, two.0.1, has), two.1, amount-fraction unit first sums one.1 one.2)
+plain-next sums first second one two = search rules
 
 -- where both fit in one order, they fit in the other
 fits-exchanged : (sums : Sums) (first second : ComponentText) → IsFree sums

@@ -1,5 +1,6 @@
 -- Where the order of the standard is asked for, a duration is what the lax order makes of it, or is refused for its order.
-use Rattle.std.specs.Prelude.{◌≡◌, ℕ, zero, suc, ◌-◌, Bool, true, false, not, ◌&&◌, List, [], ◌∷◌, ◌++◌, length, take, drop, slice_index, nat_lt, ◌==◌, if◌then◌else◌, Option, Some, None, Result, Ok, Err, refl}
+use Rattle.std.proofs.Common.{rules}
+use Rattle.std.specs.Prelude.{◌≡◌, ℕ, zero, suc, ◌-◌, Bool, true, false, not, ◌&&◌, List, [], ◌∷◌, ◌++◌, length, take, drop, slice_index, ◌==◌, if◌then◌else◌, Option, Some, None, Result, Ok, Err, refl}
 use Rattle.std.specs.List.{flat_map}
 use Rattle.std.specs.Option.{is_some}
 use Rattle.std.proofs.Common.{arith, ap, sym, ◌∙◌, subst, inl, inr}
@@ -21,7 +22,7 @@ use Rattle.speedate.specs.DurationAnswer.{form_answer}
 use Rattle.speedate.specs.DurationAnswer.{iso_after, iso_from, iso_form, unsigned_answer, duration_answer}
 use Rattle.speedate.proofs.DurationAnswerLemmas.{iso_from-item, duration_answer-iso}
 use Rattle.speedate.specs.InOrder.{IsLaxOrRefused, IsAnswerInOrder, are_in_order, IsMadeOf, is_iso}
-use Rattle.speedate.specs.IsoForm.{DurationUnit, units, unit_in, ComponentText, Item, TimeDesignator, Component, item_text, item_at, item_table, units_after, are_counted, Sums, no_sums, with_component, with_item, with_items, AreGood, sums_length, Ends}
+use Rattle.speedate.specs.IsoForm.{DurationUnit, units, unit_in, ComponentText, Item, TimeDesignator, Component, item_text, item_at, item_table, units_after, Sums, no_sums, with_component, with_item, with_items, AreGood, sums_length, Ends}
 use Rattle.speedate.proofs.IsoFormLemmas.{answer-only, iso_after-is}
 use Rattle.speedate.proofs.IsoItemLemmas.{item_at-text}
 
@@ -62,14 +63,7 @@ rows-unit false comes unknown lax answer both = inl refl
 table-both : (sums : Sums) (item : Item) (lax answer : Answer) → IsLaxOrRefused lax answer
     → IsLaxOrRefused (meets (item_table (as_lax sums) item) lax) (meets (item_table sums item) answer)
 table-both sums TimeDesignator lax answer both = row-both (not sums.is_time) _ lax answer both
-table-both sums (Component component) lax answer both =
-    let counted = ap are_counted (item-lax (Component component) sums) in
-    rw (sym counted)
-    (row-both (nat_lt 0 (length component.number)) _ _ _
-    (row-both _ _ _ _
-    (row-both (not sums.fraction) _ _ _
-    (rows-unit (is_some (unit_in (units sums.is_time) component.designator)) (is_some (unit_in sums.next_units component.designator)) _ _ _
-    (row-both (are_counted (with_item (Component component) sums)) _ lax answer both)))))
+table-both sums (Component component) lax answer both = search rules
 
 -- after any items
 iso-both : (skipped : ℕ) (sums : Sums) (text : List ℕ) → IsLaxOrRefused (iso_after skipped (as_lax sums) text) (iso_after skipped sums text)
@@ -111,10 +105,7 @@ unit-designator (one ∷ units) designator unit same = grind (arith, nat_tests, 
 component-strict : (unit : Option DurationUnit) (component : ComponentText) (next : List DurationUnit) (sums : Sums) → unit_in (units sums.is_time) component.designator ≡ unit
     → is_some unit ≡ true → as_strict (units_after component.designator next) (with_component unit component sums) ≡ with_component unit component (as_strict next sums)
 component-strict None component next sums is has = absurd (false≢true has)
-component-strict (Some unit) component next sums is has =
-    let designator = sym (unit-designator (units sums.is_time) component.designator unit is) in
-    let after = with_component (Some unit) component sums in
-    ap (λ (designator : ℕ). as_strict (units_after designator next) after) designator
+component-strict (Some unit) component next sums is has = search rules
 
 -- what good items add up to
 abbrev lax_end : Sums → Answer
@@ -126,10 +117,7 @@ strict_end in_order sums = if in_order then lax_end sums else Err fault.Duration
 -- the strict table of a component that meets the lax one asks for its order alone
 table-strict : (next : List DurationUnit) (sums : Sums) (component : ComponentText) (answer : Answer) → AllHold (item_table sums (Component component))
     → meets (item_table (as_strict next sums) (Component component)) answer ≡ (if is_some (unit_in next component.designator) then answer else Err fault.DurationUnitOrder)
-table-strict next sums component answer all =
-    let same = component-strict (unit_in (units sums.is_time) component.designator) component next sums refl all.1.1.1.0 in
-    let counted = sym (ap are_counted same) ∙ all.1.1.1.1.1.0 in
-    rw (all.0, all.1.0, all.1.1.0, all.1.1.1.0, counted) refl
+table-strict next sums component answer all = search rules
 
 strict-end : (comes in_order : Bool) (sums : Sums) → (if comes then strict_end in_order sums else Err fault.DurationUnitOrder) ≡ strict_end (comes && in_order) sums
 strict-end true in_order sums = refl
@@ -198,11 +186,8 @@ some-read positive false sums numbers same = absurd (cc)
 
 ends-read : (positive : Bool) (sums : Sums) (rest : List ℕ) (form : Answer) (numbers : DurationNumbers) → Ends sums rest form
     → Ok numbers ≡ result_and_then (signed_form positive) form → (rest ≡ []) × (sums.some ≡ true)
-ends-read positive sums [] form numbers ends same =
-    (refl, some-read positive sums.some sums numbers (same ∙ ap (result_and_then (signed_form positive)) ends))
-ends-read positive sums (byte ∷ rest) form numbers ends same =
-    let refused = same ∙ ap (result_and_then (signed_form positive)) ends.2 in
-    absurd (cc)
+ends-read positive sums [] form numbers ends same = search rules
+ends-read positive sums (byte ∷ rest) form numbers ends same = search rules
 
 -- so an ISO 8601 duration that the lax order reads is made of good items
 answer-items : (behavior : MicrosecondsPrecisionOverflowBehavior) (text : List ℕ) (numbers : DurationNumbers) → is_iso text ≡ true

@@ -1,4 +1,5 @@
 -- The good fronts of an ISO 8601 duration: only one of them is followed by an end, and that end is the answer.
+use Rattle.std.proofs.Common.{rules}
 use Rattle.std.specs.Prelude.{◌≡◌, MatchBool, ℕ, zero, suc, ◌-◌, Bool, true, false, not, List, [], ◌∷◌, ◌++◌, length, drop, slice_index, ◌==◌, if◌then◌else◌, Result, Ok, Err, refl}
 use Rattle.std.specs.List.{flat_map}
 use Rattle.std.proofs.Common.{ap, ap₂, sym, ◌∙◌, append_assoc, subst}
@@ -28,9 +29,7 @@ ends-only sums (byte ∷ rest) first second one two = one.2 ∙ sym one.1 ∙ tw
 -- and is no good item
 ends-no_item : (sums : Sums) (rest : List ℕ) (answer : Answer) → Ends sums rest answer → AllHold (item_table sums (item_at rest)) → ⊥
 ends-no_item sums [] answer ends all = false≢true all.0
-ends-no_item sums (byte ∷ rest) answer ends all =
-    let same = sym (meets-all (item_table sums (item_at (byte ∷ rest))) (Ok (sums_length sums)) all) ∙ ends.1 in
-    absurd (cc)
+ends-no_item sums (byte ∷ rest) answer ends all = search rules
 
 -- so an end begins with no good item
 end-no_front : (sums : Sums) (text : List ℕ) (answer : Answer) (item : Item) (items : List Item) (rest : List ℕ) → Ends sums text answer

@@ -1,4 +1,5 @@
 -- Items of ISO 8601 durations and the texts that begin with them, and the places of their units.
+use Rattle.std.proofs.Common.{rules}
 use Rattle.std.specs.Prelude.{◌≡◌, ℕ, suc, ◌+◌, ◌-◌, ◌<◌, ◌≤◌, Bool, true, false, not, List, [], ◌∷◌, ◌++◌, length, take, drop, slice_index, nat_lt, ◌==◌, if◌then◌else◌, Option, Some, None, Result, Ok, refl, zero, nat_le}
 use Rattle.std.specs.Char.{is_ascii_digit}
 use Rattle.std.specs.List.{list_all, prefix_len}
@@ -152,9 +153,7 @@ item-front sums byte rest = front-of sums byte rest (byte == capital_t) refl
 -- a number of few digits, as it was read
 few-parts : (number value end count : ℕ) (few : Bool)
     → ◌≡◌ {A = Option (ℕ × ℕ)} (Some (number, end)) (if few then Some (value, count) else None) → (number ≡ value) × (end ≡ count)
-few-parts number value end count true same =
-    let parts : ◌≡◌ {A = ℕ × ℕ} (number, end) (value, count) = cc in
-    (ap (λ (part : ℕ × ℕ). part.0) parts, ap (λ (part : ℕ × ℕ). part.1) parts)
+few-parts number value end count true same = search rules
 few-parts number value end count false same = absurd (cc)
 
 -- with the designator of a unit after it, it is a component, which adds so many of the unit

@@ -1,4 +1,6 @@
 -- The text by which a duration is printed is read as the duration.
+use Rattle.std.proofs.Common.{rules}
+use Rattle.std.proofs.lemmas.Int.{ints}
 use Rattle.std.specs.Prelude.{◌≡◌, ℕ, ◌+◌, ◌-◌, ◌*◌, ◌/◌, ◌%◌, ◌^◌, ◌<◌, ◌≤◌, Bool, true, false, not, ◌&&◌, ◌==◌, if◌then◌else◌, List, [], ◌∷◌, ◌++◌, length, drop, Some, pos, unsigned_abs, Result, Ok, codes, refl}
 use Rattle.std.specs.Char.{is_ascii_digit}
 use Rattle.std.specs.Fmt.{decimal}
@@ -10,14 +12,13 @@ use Rattle.std.proofs.lemmas.Bool.Decides.{nat_tests}
 use Rattle.std.proofs.lemmas.Fmt.{digits_decimal, digits_value-decimal, decimal_nonempty, decimal_digit}
 use Rattle.std.proofs.lemmas.List.{append-nil}
 use Rattle.std.proofs.lemmas.Str.Parse.{IsDigitsTest, IsNumeralModel, numerals_by_weight}
-use Rattle.std.proofs.Math.Nat.{pow-succ', div-eq_of_lt, zero-mul}
+use Rattle.std.proofs.Math.Nat.{pow-succ', div-eq_of_lt}
 use Rattle.speedate_base.specs.declared.config.IsoOrder.{IsoOrder}
 use Rattle.speedate_base.specs.declared.config.IsoOrder.TheVariants as order
 use Rattle.speedate_base.specs.declared.config.MicrosecondsPrecisionOverflowBehavior.{MicrosecondsPrecisionOverflowBehavior}
 use Rattle.speedate_base.specs.declared.config.MicrosecondsPrecisionOverflowBehavior.TheVariants as behavior
 use Rattle.speedate_base.specs.Ascii.{full_stop, capital_d, capital_h, capital_m, capital_s, capital_t, capital_y}
 use Rattle.speedate_base.specs.Digits.{six_digit_text}
-use Rattle.speedate_base.proofs.DigitLemmas.{six_digits-printed}
 use Rattle.speedate_base.specs.DigitRuns.{digits_value}
 use Rattle.speedate_base.proofs.DigitRunLemmas.{digits_value-lt}
 use Rattle.speedate_base.specs.Nearest.{nearest}
@@ -34,18 +35,14 @@ use Rattle.speedate.proofs.InOrderLemmas.{duration-both}
 use Rattle.speedate.proofs.DurationLemmas.{normal_form-same}
 use Rattle.speedate.specs.DurationNumbers.{DurationNumbers, UnsignedDuration, IsDuration, signed_form}
 use Rattle.speedate.specs.DurationText.{counted_text, kept_digit, without_last_zeros, short_fraction_text, seconds_text, hours_text, days_text, start_text, rest_text, is_whole_days, duration_text}
-use Rattle.speedate.specs.IsoForm.{DurationUnit, unit, units, unit_in, units_after, ComponentText, TimeDesignator, Component, IsItem, IsFraction, Sums, unit_seconds, fraction_seconds, fraction_microseconds, with_amount, with_component, with_item, are_counted, item_table}
+use Rattle.speedate.specs.IsoForm.{DurationUnit, unit, units, unit_in, units_after, ComponentText, TimeDesignator, Component, IsItem, IsFraction, Sums, fraction_seconds, fraction_microseconds, with_amount, with_component, with_item, are_counted, item_table}
 
 -- a number without leading zeros is digits that spell it
 abbrev AreDigits : List ℕ → Type 0
 AreDigits digits = list_all is_ascii_digit digits ≡ true
 
 digits_test : IsDigitsTest AreDigits
-digits_test = record {
-  empty = refl;
-  parts = λ c cs all. let tests = and_parts (is_ascii_digit c) _ all in (grind (arith, nat_tests, tests.0), tests.1);
-  more = λ c cs range all. and_from _ _ (grind (arith, nat_tests, range)) all;
-}
+digits_test = search rules
 
 digits_model : IsNumeralModel AreDigits digits_value
 digits_model = numerals_by_weight AreDigits digits_test digits_value (record { empty = refl; more = λ c cs range. refl })
@@ -78,8 +75,7 @@ no-seconds : (unit : DurationUnit) → fraction_seconds unit [] ≡ 0
 no-seconds unit = omega arith
 
 no-microseconds : (unit : DurationUnit) → fraction_microseconds unit [] ≡ 0
-no-microseconds unit =
-    rw (zero-mul (1000000 * unit_seconds unit), no-seconds unit) refl
+no-microseconds unit = search rules
 
 -- digits that are so many millionths, as a fraction of a second
 second-seconds : (digits : List ℕ) → AreDigits digits → fraction_seconds (unit capital_s 0 1) digits ≡ 0
@@ -149,12 +145,7 @@ IsMicroseconds fraction microsecond =
 fraction-of : (microsecond : ℕ) (none : Bool) → (microsecond == 0) ≡ none → microsecond < 1000000
     → IsMicroseconds (if none then [] else full_stop ∷ without_last_zeros (six_digit_text microsecond)) microsecond
 fraction-of microsecond true none small = subst (IsMicroseconds []) (sym (eqb-true microsecond 0 none)) (tt, no-seconds (unit capital_s 0 1), no-microseconds (unit capital_s 0 1))
-fraction-of microsecond false other small =
-    let digits = without_last_zeros (six_digit_text microsecond) in
-    let all = without-digits (six_digit_text microsecond) (six_digits-printed microsecond small) in
-    let spelled : digits_value (six_digit_text microsecond) ≡ microsecond = omega arith in
-    let worth = without-worth (six_digit_text microsecond) ∙ ap (λ (n : ℕ). n * 10 ^ length digits) spelled in
-    ((refl, all), second-seconds digits all, second-microseconds digits microsecond all worth)
+fraction-of microsecond false other small = grind (arith, ints, nat_tests)
 
 -- seconds with their fraction are read as the end of a text
 seconds-end : (next : List DurationUnit) (some : Bool) (number microsecond day second : ℕ) → is_some (unit_in next capital_s) ≡ true
