@@ -1,7 +1,7 @@
 -- The duration between two values, and the value a duration after another: lengths with their sign, and the instants and dates
 -- that they lead to.
 use Rattle.std.proofs.Common.{rules}
-use Rattle.std.specs.Prelude.{◌≡◌, ℕ, zero, suc, ◌+◌, ◌*◌, ◌<◌, ◌≤◌, Bool, true, false, not, ◌||◌, ◌==◌, ℤ, pos, negsuc, neg_ℤ, ◌+ℤ◌, ◌-ℤ◌, ◌*ℤ◌, ◌≤ℤ◌, Option, Result, Ok, Err, IfOk, unsigned_abs, refl, [], ◌∷◌, if◌then◌else◌}
+use Rattle.std.specs.Prelude.{◌≡◌, ℕ, ◌+◌, ◌*◌, ◌<◌, ◌≤◌, Bool, true, not, ◌||◌, ◌==◌, ℤ, pos, neg_ℤ, ◌+ℤ◌, ◌-ℤ◌, ◌*ℤ◌, ◌≤ℤ◌, Option, Result, Ok, Err, IfOk, unsigned_abs, refl, [], ◌∷◌, if◌then◌else◌}
 use Rattle.std.specs.Option.{ok_or, unwrap_or}
 use Rattle.std.specs.Ordering.{int_cmp}
 use Rattle.std.proofs.Common.{arith, ◌∙◌, ap, sym}
@@ -36,8 +36,7 @@ use Rattle.speedate.specs.DurationText.{is_whole_days}
 -- seconds and microseconds with one sign, joined
 signs-joined : (negative : Bool) (seconds microseconds : ℕ)
     → with_sign negative (seconds * 1000000 + microseconds) ≡ pos 1000000 *ℤ with_sign negative seconds +ℤ with_sign negative microseconds
-signs-joined true seconds microseconds = omega (arith, ints)
-signs-joined false seconds microseconds = omega (arith, ints)
+signs-joined negative seconds microseconds = search (rules)
 
 pub signed_length-joined : (numbers : DurationNumbers)
     → signed_length numbers ≡ pos 1000000 *ℤ signed_seconds numbers +ℤ signed_microsecond numbers
@@ -45,14 +44,11 @@ signed_length-joined numbers = signs-joined (not numbers.positive) (length_secon
 
 -- the numbers of a length have it
 pub signed_length-kept : (length : ℤ) → signed_length (duration_of_length length) ≡ length
-signed_length-kept (pos length) = omega (arith, ints)
-signed_length-kept (negsuc below) = omega (arith, ints)
+signed_length-kept length = search (rules)
 
 -- the duration of a length with its sign: none has the positive one
 signed-kept : (positive : Bool) (size : ℕ) → duration_of_length (with_sign (not positive) size) ≡ of_length (positive || (size == 0)) size
-signed-kept true size = refl
-signed-kept false zero = refl
-signed-kept false (suc size) = search rules
+signed-kept positive size = search (rules)
 
 -- what lies so much later, and what lies so much earlier
 pub between-later : (earlier later length : ℤ) → length ≡ later -ℤ earlier → later ≡ earlier +ℤ length
@@ -89,18 +85,12 @@ unmoved second local offset length microsecond own same = omega (arith, ints, sa
 -- a clock that shows an instant so much later lies so much later
 pub shown-later : (start value : DateAndTime) (length : ℤ) → IsShownAt start.time.offset (instant_at (local_microsecond start +ℤ length)) value
     → utc_microsecond value ≡ utc_microsecond start +ℤ length
-shown-later start value length shown =
-    let instant = instant_at (local_microsecond start +ℤ length) in
-    (λ i. pos 1000000 *ℤ (shown.second i -ℤ unwrap_or (shown.attached i) (pos 0)) +ℤ pos (shown.microsecond i))
-    ∙ moved instant.second (local_second start) (unwrap_or start.time.offset (pos 0)) length instant.microsecond start.time.microsecond
-    (instant_at-microsecond (local_microsecond start +ℤ length))
+shown-later start value length shown = search (rules, moved, instant_at-microsecond)
 
 -- so the answer to a length lies so much later
 ended : (answer : Result DateAndTime ParseError) (length : ℤ) (start : DateAndTime) → date_time_after length start ≡ answer
     → IfOk answer (λ end. utc_microsecond end ≡ utc_microsecond start +ℤ length)
-ended (Ok value) length start same =
-    shown-later start value length (instant_date_time-shown start.time.offset (instant_at (local_microsecond start +ℤ length)) value same)
-ended (Err fault) length start same = tt
+ended answer length start same = search (rules, shown-later, instant_date_time-shown)
 
 pub date_time_after-ends : (length : ℤ) (start : DateAndTime) → IfOk (date_time_after length start) (λ end. utc_microsecond end ≡ utc_microsecond start +ℤ length)
 date_time_after-ends length start = ended (date_time_after length start) length start refl
@@ -149,8 +139,7 @@ ends-back (Err fault) start length back attached turned same = tt
 
 -- there are fewer than 3,652,427 days between two date-times
 few-days : (length : ℤ) → unsigned_abs length < 315569692800000000 → (duration_of_length length).day ≤ 3652426
-few-days (pos length) small = omega (arith, ints, small)
-few-days (negsuc below) small = omega (arith, ints, small)
+few-days length small = search (rules)
 
 apart : (one two : ℕ) (second seconds offset other : ℤ) → first_second ≤ℤ second → second ≤ℤ last_second → first_second ≤ℤ seconds → seconds ≤ℤ last_second
     → unsigned_abs offset < seconds_per_day → unsigned_abs other < seconds_per_day → one ≤ 999999 → two ≤ 999999
@@ -159,18 +148,12 @@ apart one two second seconds offset other late early later earlier near by small
 
 pub between-days : (earlier later : DateAndTime) → IsDateAndTime earlier → IsDateAndTime later
     → (duration_of_length (utc_microsecond later -ℤ utc_microsecond earlier)).day ≤ 3652426
-between-days earlier later valid other =
-    few-days (utc_microsecond later -ℤ utc_microsecond earlier)
-    (apart later.time.microsecond earlier.time.microsecond (local_second later) (local_second earlier) (unwrap_or later.time.offset (pos 0)) (unwrap_or earlier.time.offset (pos 0))
-    (local_second-late later other) (local_second-early later other) (local_second-late earlier valid) (local_second-early earlier valid)
-    (offset-small later.time.offset other.time.offset) (offset-small earlier.time.offset valid.time.offset)
-    other.time.microsecond valid.time.microsecond)
+between-days earlier later valid other = search (rules, few-days, apart, local_second-late, local_second-early, offset-small)
 
 -- the same days the other way lead back
 days-back : (positive : Bool) (day start end : ℕ) → pos end -ℤ pos start ≡ with_sign (not positive) day
     → pos end +ℤ with_sign (not (not positive)) day ≡ pos start
-days-back true day start end same = omega (arith, ints, same)
-days-back false day start end same = omega (arith, ints, same)
+days-back positive day start end same = search (rules)
 
 pub date-back : (numbers : DurationNumbers) (start : Date) (end : Ymd) → is_whole_days numbers ≡ true
     → days_between (date_parts start) end ≡ signed_days numbers → date_after_days (negated numbers) end ≡ Ok (date_parts start)
@@ -184,5 +167,4 @@ date-back numbers start end whole moved =
 -- days the other way are the negative ones
 pub turned : (positive : Bool) (day start end : ℕ) → pos end -ℤ pos start ≡ with_sign (not (not positive)) day
     → pos start -ℤ pos end ≡ with_sign (not positive) day
-turned true day start end same = omega (arith, ints, same)
-turned false day start end same = omega (arith, ints, same)
+turned positive day start end same = search (rules)

@@ -28,16 +28,12 @@ ends-only sums (byte ∷ rest) first second one two = one.2 ∙ sym one.1 ∙ tw
 
 -- and is no good item
 ends-no_item : (sums : Sums) (rest : List ℕ) (answer : Answer) → Ends sums rest answer → AllHold (item_table sums (item_at rest)) → ⊥
-ends-no_item sums [] answer ends all = false≢true all.0
-ends-no_item sums (byte ∷ rest) answer ends all = search rules
+ends-no_item sums rest answer ends all = search (rules, false≢true)
 
 -- so an end begins with no good item
 end-no_front : (sums : Sums) (text : List ℕ) (answer : Answer) (item : Item) (items : List Item) (rest : List ℕ) → Ends sums text answer
     → text ≡ flat_map item_text (item ∷ items) ++ rest → AreGood sums (item ∷ items) → ⊥
-end-no_front sums text answer item items rest ends same good =
-    let joined = same ∙ append_assoc (item_text item) (flat_map item_text items) rest in
-    let there = ap item_at joined ∙ item_at-text sums item (flat_map item_text items ++ rest) good.0 good.1 in
-    ends-no_item sums text answer ends (subst (λ (item : Item). AllHold (item_table sums item)) (sym there) good.1)
+end-no_front sums text answer item items rest ends same good = search (rules, append_assoc, item_at-text, ends-no_item)
 
 -- a text has one front of good items that an end follows
 pub front-only : (sums : Sums) (items others : List Item) (rest other : List ℕ) (first second : Answer)
@@ -61,10 +57,7 @@ front-only sums (item ∷ items) (next ∷ others) rest other first second same 
 -- so it has one answer
 pub answer-only : (sums : Sums) (text : List ℕ) (first second : Answer)
     → IsAnswerFrom sums text first → IsAnswerFrom sums text second → first ≡ second
-answer-only sums text first second one two =
-    let front = front-only sums one.0 two.0 one.1 two.1 first second (sym one.2 ∙ two.2) one.3 two.3 one.4 two.4 in
-    let moved = subst (λ (items : List Item). Ends (with_items items sums) one.1 first) front.0 one.4 in
-    ends-only (with_items two.0 sums) two.1 first second (subst (λ (rest : List ℕ). Ends (with_items two.0 sums) rest first) front.1 moved) two.4
+answer-only sums text first second one two = search (rules, front-only, ends-only)
 
 -- a good item before a text leaves the text's answer
 answer-with : (sums : Sums) (item : Item) (text : List ℕ) (answer : Answer) → IsItem item → AllHold (item_table sums item)

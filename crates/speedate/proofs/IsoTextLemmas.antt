@@ -1,12 +1,12 @@
 -- The text by which a duration is printed is read as the duration.
 use Rattle.std.proofs.Common.{rules}
 use Rattle.std.proofs.lemmas.Int.{ints}
-use Rattle.std.specs.Prelude.{◌≡◌, ℕ, ◌+◌, ◌-◌, ◌*◌, ◌/◌, ◌%◌, ◌^◌, ◌<◌, ◌≤◌, Bool, true, false, not, ◌&&◌, ◌==◌, if◌then◌else◌, List, [], ◌∷◌, ◌++◌, length, drop, Some, pos, unsigned_abs, Result, Ok, codes, refl}
+use Rattle.std.specs.Prelude.{◌≡◌, ℕ, ◌+◌, ◌*◌, ◌/◌, ◌%◌, ◌^◌, ◌<◌, ◌≤◌, Bool, true, false, not, ◌&&◌, ◌==◌, if◌then◌else◌, List, [], ◌∷◌, ◌++◌, length, drop, Some, Result, Ok, codes, refl}
 use Rattle.std.specs.Char.{is_ascii_digit}
 use Rattle.std.specs.Fmt.{decimal}
 use Rattle.std.specs.List.{list_all}
 use Rattle.std.specs.Option.{is_some}
-use Rattle.std.proofs.Common.{arith, inl, inr, ap, sym, ◌∙◌, subst, append_assoc, lit<}
+use Rattle.std.proofs.Common.{arith, ap, sym, ◌∙◌, append_assoc, lit<}
 use Rattle.std.proofs.lemmas.Bool.{and_from, and_parts, eqb-true, lt-ltb, le-leb}
 use Rattle.std.proofs.lemmas.Bool.Decides.{nat_tests}
 use Rattle.std.proofs.lemmas.Fmt.{digits_decimal, digits_value-decimal, decimal_nonempty, decimal_digit}
@@ -21,7 +21,6 @@ use Rattle.speedate_base.specs.Ascii.{full_stop, capital_d, capital_h, capital_m
 use Rattle.speedate_base.specs.Digits.{six_digit_text}
 use Rattle.speedate_base.specs.DigitRuns.{digits_value}
 use Rattle.speedate_base.proofs.DigitRunLemmas.{digits_value-lt}
-use Rattle.speedate_base.specs.Nearest.{nearest}
 use Rattle.speedate_base.proofs.NearestLemmas.{nearest-exact, scale-some}
 use Rattle.speedate_base.specs.Requirement.{AllHold, result_and_then}
 use Rattle.speedate_base.proofs.RequirementLemmas.{meets-all}
@@ -61,8 +60,7 @@ without-worth (digit ∷ digits) = kept-worth digit (without_last_zeros digits) 
 
 -- what stays of digits is digits
 kept-digits : (digit : ℕ) (kept : List ℕ) → is_ascii_digit digit ≡ true → AreDigits kept → AreDigits (kept_digit digit kept)
-kept-digits digit [] one all = grind (arith, nat_tests, one)
-kept-digits digit (next ∷ kept) one all = and_from _ _ one all
+kept-digits digit kept one all = search (rules, and_from)
 
 without-digits : (digits : List ℕ) → AreDigits digits → AreDigits (without_last_zeros digits)
 without-digits [] all = refl
@@ -79,16 +77,11 @@ no-microseconds unit = search rules
 
 -- digits that are so many millionths, as a fraction of a second
 second-seconds : (digits : List ℕ) → AreDigits digits → fraction_seconds (unit capital_s 0 1) digits ≡ 0
-second-seconds digits all =
-    let once : digits_value digits * 1 ≡ digits_value digits = omega arith in
-    rw once (div-eq_of_lt (digits_value-lt digits all))
+second-seconds digits all = search (rules, div-eq_of_lt, digits_value-lt)
 
 second-microseconds : (digits : List ℕ) (microsecond : ℕ) → AreDigits digits
     → digits_value digits * 1000000 ≡ microsecond * 10 ^ length digits → fraction_microseconds (unit capital_s 0 1) digits ≡ microsecond
-second-microseconds digits microsecond all same =
-    let scale = 10 ^ length digits in
-    let exact = ap (λ (n : ℕ). nearest (pos n) scale) same ∙ nearest-exact false microsecond scale (scale-some (length digits)) in
-    (λ i. unsigned_abs (exact i) - 1000000 * second-seconds digits all i) ∙ omega arith
+second-microseconds digits microsecond all same = search (rules, nearest-exact, scale-some, second-seconds)
 
 -- sums in the order of the standard, with no fraction so far
 abbrev at : List DurationUnit → Bool → Bool → ℕ → ℕ → Sums
@@ -144,8 +137,7 @@ IsMicroseconds fraction microsecond =
 
 fraction-of : (microsecond : ℕ) (none : Bool) → (microsecond == 0) ≡ none → microsecond < 1000000
     → IsMicroseconds (if none then [] else full_stop ∷ without_last_zeros (six_digit_text microsecond)) microsecond
-fraction-of microsecond true none small = subst (IsMicroseconds []) (sym (eqb-true microsecond 0 none)) (tt, no-seconds (unit capital_s 0 1), no-microseconds (unit capital_s 0 1))
-fraction-of microsecond false other small = grind (arith, ints, nat_tests)
+fraction-of microsecond none other small = grind (arith, ints, nat_tests, other, small, eqb-true, no-seconds, no-microseconds)
 
 -- seconds with their fraction are read as the end of a text
 seconds-end : (next : List DurationUnit) (some : Bool) (number microsecond day second : ℕ) → is_some (unit_in next capital_s) ≡ true
@@ -170,12 +162,7 @@ seconds-read : (next : List DurationUnit) (some none : Bool) (number microsecond
     → (if none then some else true) ≡ true
     → iso_from (at next true some day second) (if none then [] else decimal number ++ short_fraction_text microsecond ++ capital_s ∷ [])
     ≡ Ok (record { day = day; second = second + number; microsecond = microsecond })
-seconds-read next some true number microsecond day second none comes few small few_days few_seconds has =
-    let tests = and_parts (number == 0) (microsecond == 0) none in
-    let seconds : second ≡ second + number = omega (arith, eqb-true number 0 tests.0) in
-    iso_from-end (at next true some day second) [] refl ∙ rw has (λ i. Ok (record { day = day; second = seconds i; microsecond = sym (eqb-true microsecond 0 tests.1) i }))
-seconds-read next some false number microsecond day second other comes few small few_days few_seconds has =
-    seconds-end next some number microsecond day second comes few small few_days few_seconds
+seconds-read next some none number microsecond day second other comes few small few_days few_seconds has = search (rules, and_parts, eqb-true, iso_from-end, seconds-end)
 
 -- the units that may still come
 days-come : (years : Bool) → is_some (unit_in (if years then units false else units_after capital_y (units false)) capital_d) ≡ true
@@ -257,21 +244,16 @@ text-read numbers valid =
 start-answer : (order : IsoOrder) (behavior : MicrosecondsPrecisionOverflowBehavior) (positive : Bool) (text : List ℕ)
     → duration_answer order behavior (start_text positive ++ text) ≡ result_and_then (signed_form positive) (iso_form order text)
 unfolding unsigned_answer
-start-answer order behavior true text = refl
-start-answer order behavior false text = refl
+start-answer order behavior positive text = search (rules)
 
 -- the printed text of a duration is answered by it where the order of the standard is asked for
 strict-reads : (behavior : MicrosecondsPrecisionOverflowBehavior) (numbers : DurationNumbers) → IsDuration numbers
     → duration_answer order.Strict behavior (duration_text numbers) ≡ Ok numbers
-strict-reads behavior numbers valid =
-    ap (duration_answer order.Strict behavior) (append_assoc (start_text numbers.positive) (days_text numbers) (rest_text numbers))
-    ∙ start-answer order.Strict behavior numbers.positive (days_text numbers ++ rest_text numbers) ∙ ap (result_and_then (signed_form numbers.positive)) (text-read numbers valid)
-    ∙ normal_form-same numbers valid
+strict-reads behavior numbers valid = search (rules, append_assoc, start-answer, text-read, normal_form-same)
 
 -- so the lax order answers it too
 lax-reads : {A : Type 0} (lax strict : Result A ParseError) (value : A) → IsLaxOrRefused lax strict → strict ≡ Ok value → lax ≡ Ok value
-lax-reads lax strict value (inl same) read = sym same ∙ read
-lax-reads lax strict value (inr refused) read = absurd (cc)
+lax-reads lax strict value h0 read = search (rules)
 
 pub duration_text-reads : (order : IsoOrder) (behavior : MicrosecondsPrecisionOverflowBehavior) (numbers : DurationNumbers) → IsDuration numbers
     → duration_answer order behavior (duration_text numbers) ≡ Ok numbers
