@@ -1,4 +1,4 @@
-use Rattle.std.proofs.Common.{rules, ◌∙◌, ap, sym, ℕ, ◌+◌, ◌-◌, List, [], ◌∷◌, ◌++◌, take, drop, append_assoc, append-nil, arith, refl}
+use Rattle.std.proofs.Common.{rules, ◌∙◌, ap, sym, ℕ, ◌+◌, ◌-◌, List, [], ◌∷◌, ◌++◌, take, drop, append_assoc, append-nil, arith}
 use Rattle.speedate.specs.Ascii.{line_feed}
 use Rattle.speedate_lines.specs.Lines.{Pieces, complete_lines}
 use Rattle.speedate_lines.specs.Answer.{line_answer, answers}

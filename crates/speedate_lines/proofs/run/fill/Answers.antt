@@ -1,4 +1,4 @@
-use Rattle.std.proofs.Common.{rules, ◌≡◌, ap, ℕ, ◌-◌, ◌^◌, ◌<◌, ◌≤◌, List, length, take, drop, arith, inl, inr}
+use Rattle.std.proofs.Common.{rules, ◌≡◌, ap, ℕ, ◌-◌, ◌<◌, ◌≤◌, List, length, take, drop, arith}
 use Rattle.std.proofs.lemmas.Bool.{false≢true, cases_lt}
 use Rattle.std.proofs.lemmas.List.{length-take, length-drop}
 use Rattle.speedate_lines.specs.Block.{longest_read}
