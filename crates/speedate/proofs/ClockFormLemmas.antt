@@ -1,4 +1,5 @@
 -- Where the hours of a clock end, and where no letter of a day stands: among digits, and in a clock.
+use Rattle.std.proofs.Common.{rules}
 use Rattle.std.specs.Prelude.{◌≡◌, ℕ, ◌-◌, ◌^◌, ◌<◌, min, Bool, true, false, List, length, take, ◌==◌, ◌&&◌, nat_lt, nat_le, refl, ◌+◌, ◌||◌, [], ◌∷◌, drop, if◌then◌else◌, Ok}
 use Rattle.std.specs.Char.{is_ascii_digit}
 use Rattle.std.specs.List.{list_all, list_any, prefix_len}
@@ -12,15 +13,15 @@ use Rattle.speedate_base.specs.Ascii.{colon}
 use Rattle.speedate_base.specs.DigitRuns.{run_length, digits_value}
 use Rattle.speedate_base.proofs.DigitRunLemmas.{run_length-ended, run-whole}
 use Rattle.speedate_base.proofs.NumberLemmas.{run-digits}
-use Rattle.speedate.specs.ClockForm.{hours, colon_place, has_hours, after_hours, from_minute, hours_table, hours_range, clock_numbers, whole_clock, clock_form}
+use Rattle.speedate.specs.ClockForm.{hours, colon_place, has_hours, after_hours, from_minute, hours_table, hours_range, clock_numbers, clock_form}
 use Rattle.std.proofs.lemmas.List.Folds.{list_any-append}
 use Rattle.speedate_base.specs.declared.faults.ParseError.TheVariants as fault
 use Rattle.speedate_base.specs.Digits.{two_digits_at}
-use Rattle.speedate_base.specs.Requirement.{◌else_fault◌, ◌implies◌, meets}
+use Rattle.speedate_base.specs.Requirement.{◌else_fault◌, ◌implies◌, meets, result_and_then}
 use Rattle.speedate_base.proofs.RequirementLemmas.{and_then-ok, meets-ok, meets-value}
 use Rattle.speedate_civil.specs.ClockText.{Clock, has_point, has_second, minute_clock, minute_digits, minute_table, minute_front, clock_answer}
 use Rattle.speedate.specs.DayForm.{is_day_letter}
-use Rattle.speedate.specs.DurationForm.{has_days}
+use Rattle.speedate.specs.DurationAnswer.{has_days}
 use Rattle.speedate.specs.DurationNumbers.{UnsignedDuration}
 
 digit-no_colon : (byte : ℕ) → is_ascii_digit byte ≡ true → (byte == colon) ≡ false
@@ -31,30 +32,18 @@ colon-no_digit byte same = grind (arith, nat_tests)
 
 -- where `:` follows the digits at the front, they are the hours
 pub colon_place-run : (text : List ℕ) → get_or text (run_length text 0) 0 ≡ colon → (run_length text 0 < length text) × (colon_place text ≡ run_length text 0)
-colon_place-run text ends =
-    let end = run_length text 0 in
-    let within : end < length text = grind (arith, ends, get_or_past text end 0) in (
-      within,
-      position_or_len_is (λ byte. byte == colon) text end 0 (omega (arith, within))
-          (λ k before. digit-no_colon (get_or text k 0) (prefix_len_passes is_ascii_digit text k 0 before)) (λ _. ap (λ byte. byte == colon) ends),
-    )
+colon_place-run text ends = search (rules, get_or_past, position_or_len_is, digit-no_colon, prefix_len_passes)
 
 -- where there is a `:`, the hours are digits if and only if the first digits end there
 pub hours-run : (text : List ℕ) → nat_lt (colon_place text) (length text) ≡ true → list_all is_ascii_digit (hours text) ≡ true → run_length text 0 ≡ colon_place text
-hours-run text some digits =
-    let within : colon_place text < length text = grind (arith, nat_tests, some) in
-    run_length-ended text (colon_place text) (omega (arith, within)) digits
-    (λ _. colon-no_digit (get_or text (colon_place text) 0) (passes_at_first (λ byte. byte == colon) text 0 within))
+hours-run text some digits = search (rules, run_length-ended, colon-no_digit, passes_at_first)
 
 pub hours-are_run : (text : List ℕ) → run_length text 0 ≡ colon_place text → list_all is_ascii_digit (hours text) ≡ true
 hours-are_run text same = ap (λ (n : ℕ). list_all is_ascii_digit (take n text)) (sym same) ∙ run-digits text
 
 -- so hours begin a text where `:` follows its first digits, and these are at most ten
 has_hours-of : (text : List ℕ) (ends : Bool) → (get_or text (run_length text 0) 0 == colon) ≡ ends → has_hours text ≡ (ends && nat_le (run_length text 0) 10)
-has_hours-of text false other = grind (arith, nat_tests, other, hours-run text, passes_at_first (λ byte. byte == colon) text 0)
-has_hours-of text true ends =
-    let run = colon_place-run text (eqb-true _ _ ends) in
-    grind (arith, nat_tests, run.0, run.1, hours-are_run text (sym run.1))
+has_hours-of text ends other = search (rules, hours-run, passes_at_first, colon_place-run, eqb-true, hours-are_run)
 
 pub has_hours-run : (text : List ℕ) → has_hours text ≡ ((get_or text (run_length text 0) 0 == colon) && nat_le (run_length text 0) 10)
 has_hours-run text = has_hours-of text _ refl
@@ -132,8 +121,9 @@ clock-no_letter behavior text value same =
     let count = digits_value (hours text) in
     let ends = λ (clock : Clock). (clock.size == length rest else_fault fault.ExtraCharacters) ∷ [] in
     let front = meets-ok (hours_table text) (after_hours behavior count rest) value same in
-    let ranges = meets-ok (hours_range behavior count rest) (whole_clock behavior count rest) value front.1 in
-    let read = and_then-ok (λ (clock : Clock). meets (ends clock) (Ok (clock_numbers count clock))) (minute_front behavior rest) value ranges.1 in
+    let whole_clock = λ (clock : Clock). meets (ends clock) (Ok (clock_numbers count clock)) in
+    let ranges = meets-ok (hours_range behavior count rest) (result_and_then whole_clock (minute_front behavior rest)) value front.1 in
+    let read = and_then-ok whole_clock (minute_front behavior rest) value ranges.1 in
     let minute = meets-ok (minute_digits rest) (clock_answer behavior rest) read.0 read.1 in
     let clock = meets-value (minute_table behavior rest) (minute_clock rest) read.0 minute.1 in
     let whole = meets-ok (ends read.0) (Ok (clock_numbers count read.0)) value read.2 in

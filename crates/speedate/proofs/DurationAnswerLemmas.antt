@@ -1,6 +1,7 @@
 -- How the answer to an ISO 8601 duration goes on from item to item.
-use Rattle.std.specs.Prelude.{◌≡◌, ℕ, zero, suc, ◌-◌, ◌<◌, Bool, true, false, not, List, [], ◌∷◌, ◌++◌, length, drop, slice_index, if◌then◌else◌, Result, Ok, Err, refl}
-use Rattle.std.proofs.Common.{arith, ap, sym, ◌∙◌, inl, inr, lt_irrefl}
+use Rattle.std.proofs.Common.{rules}
+use Rattle.std.specs.Prelude.{◌≡◌, ℕ, zero, suc, ◌-◌, ◌<◌, Bool, false, not, List, [], ◌∷◌, ◌++◌, length, drop, slice_index, if◌then◌else◌, Result, Ok, Err, refl}
+use Rattle.std.proofs.Common.{arith, ap, sym, ◌∙◌, lt_irrefl}
 use Rattle.std.proofs.Math.Seq.{drop-append_seam}
 use Rattle.std.proofs.lemmas.List.{length-append}
 use Rattle.speedate_base.specs.declared.config.IsoOrder.{IsoOrder}
@@ -13,7 +14,7 @@ use Rattle.speedate_base.specs.Requirement.{meets, result_and_then}
 use Rattle.speedate_base.proofs.RequirementLemmas.{meets-all, meets-and_then}
 use Rattle.speedate.specs.DurationAnswer.{iso_after, iso_from, iso_form, unsigned_answer, duration_answer}
 use Rattle.speedate.specs.DurationNumbers.{signed_form}
-use Rattle.speedate.specs.IsoForm.{Item, TimeDesignator, Component, item_text, Sums, item_at, item_table, with_item, sums_length}
+use Rattle.speedate.specs.IsoForm.{Item, TimeDesignator, item_text, Sums, item_at, item_table, with_item, sums_length}
 use Rattle.speedate.specs.Reader.{item_front}
 
 -- the answer after the bytes of an item
@@ -25,8 +26,7 @@ iso_after-skipped (suc skipped) sums (byte ∷ text) = iso_after-skipped skipped
 
 -- an item has a byte
 pub item_text-some : (item : Item) → 0 < length (item_text item)
-item_text-some TimeDesignator = omega arith
-item_text-some (Component component) = omega (arith, length-append (component.number ++ component.fraction) (component.designator ∷ []))
+item_text-some item = search (rules, length-append)
 
 -- a text that is not empty has the row of the item that begins it, and then the answer to what follows
 pub iso_from-step : (sums : Sums) (text : List ℕ) → 0 < length text
@@ -42,9 +42,7 @@ iso_from-step sums (byte ∷ rest) some =
 -- so its answer goes on from the sums and the place after that item, or is its fault
 pub iso_from-front : (sums : Sums) (text : List ℕ) (front : Result (Sums × ℕ) ParseError) → 0 < length text → front ≡ item_front sums (item_at text)
     → result_and_then (λ next. iso_from next.0 (drop next.1 text)) front ≡ iso_from sums text
-iso_from-front sums text front some same =
-    let after = λ (next : Sums × ℕ). iso_from next.0 (drop next.1 text) in
-    ap (result_and_then after) same ∙ meets-and_then after (item_table sums (item_at text)) _ ∙ sym (iso_from-step sums text some)
+iso_from-front sums text front some same = search (rules, meets-and_then, iso_from-step)
 
 -- and where nothing is left, it is what the items add up to
 pub iso_from-end : (sums : Sums) (text : List ℕ) → length text ≡ 0 → iso_from sums text ≡ (if sums.some then Ok (sums_length sums) else Err fault.TooShort)
@@ -55,12 +53,7 @@ iso_from-end sums (byte ∷ rest) none = absurd (cc)
 -- an item that is read from its text has its row
 pub iso_from-item : (sums : Sums) (item : Item) (rest : List ℕ) → item_at (item_text item ++ rest) ≡ item
     → iso_from sums (item_text item ++ rest) ≡ meets (item_table sums item) (iso_from (with_item item sums) rest)
-iso_from-item sums item rest is =
-    let text = item_text item ++ rest in
-    let some : 0 < length text = omega (arith, length-append (item_text item) rest, item_text-some item) in
-    iso_from-step sums text some
-    ∙ ap (λ (item : Item). meets (item_table sums item) (iso_from (with_item item sums) (drop (length (item_text item)) text))) is
-    ∙ ap (λ (rest : List ℕ). meets (item_table sums item) (iso_from (with_item item sums) rest)) (drop-append_seam (item_text item) rest)
+iso_from-item sums item rest is = search (rules, length-append, item_text-some, iso_from-step, drop-append_seam)
 
 -- and so has a first `T`
 pub iso_from-time : (sums : Sums) (text : List ℕ) → slice_index text 0 ≡ capital_t → sums.is_time ≡ false
@@ -74,6 +67,4 @@ iso_from-time sums (byte ∷ rest) first none =
 pub duration_answer-iso : (order : IsoOrder) (behavior : MicrosecondsPrecisionOverflowBehavior) (negative : Bool) (sign body : List ℕ) → IsSign negative sign
     → duration_answer order behavior (sign ++ capital_p ∷ body) ≡ result_and_then (signed_form (not negative)) (iso_form order body)
 unfolding unsigned_answer
-duration_answer-iso order behavior true sign body is = rw is refl
-duration_answer-iso order behavior false sign body (inl none) = rw none refl
-duration_answer-iso order behavior false sign body (inr plus) = rw plus refl
+duration_answer-iso order behavior negative sign body is = search (rules)

@@ -1,10 +1,10 @@
 -- The duration between two values, and the value a duration after another: lengths with their sign, and the instants and dates
 -- that they lead to.
-use Rattle.std.specs.Prelude.{◌≡◌, ℕ, zero, suc, ◌+◌, ◌*◌, ◌<◌, ◌≤◌, Bool, true, false, not, ◌||◌, ◌==◌, ℤ, pos, negsuc, neg_ℤ, ◌+ℤ◌, ◌-ℤ◌, ◌*ℤ◌, ◌≤ℤ◌, Option, Result, Ok, Err, IfOk, unsigned_abs, refl, [], ◌∷◌}
-use Rattle.std.specs.Option.{unwrap_or}
+use Rattle.std.proofs.Common.{rules}
+use Rattle.std.specs.Prelude.{◌≡◌, ℕ, ◌+◌, ◌*◌, ◌<◌, ◌≤◌, Bool, true, not, ◌||◌, ◌==◌, ℤ, pos, neg_ℤ, ◌+ℤ◌, ◌-ℤ◌, ◌*ℤ◌, ◌≤ℤ◌, Option, Result, Ok, Err, IfOk, unsigned_abs, refl, [], ◌∷◌, if◌then◌else◌}
+use Rattle.std.specs.Option.{ok_or, unwrap_or}
 use Rattle.std.specs.Ordering.{int_cmp}
 use Rattle.std.proofs.Common.{arith, ◌∙◌, ap, sym}
-use Rattle.std.proofs.lemmas.Bool.Decides.{nat_tests}
 use Rattle.std.proofs.lemmas.Int.{ints}
 use Rattle.std.proofs.lemmas.Result.{IfOk-weaker}
 use Rattle.speedate_base.specs.declared.faults.ParseError.{ParseError}
@@ -19,9 +19,8 @@ use Rattle.speedate_civil.specs.DateTimeTimestamp.{IsShownAt, instant_date_time}
 use Rattle.speedate_civil.proofs.DateTimeInstantLemmas.{instant_date_time-shown}
 use Rattle.speedate_civil.proofs.DateTimeTimestampLemmas.{instant_date_time-local}
 use Rattle.speedate_civil.proofs.DateTimeValueLemmas.{is_date_and_time, offset-small, local_second-late, local_second-early}
-use Rattle.speedate_civil.proofs.InstantOrderLemmas.{left-order}
 use Rattle.speedate.proofs.DurationLemmas.{of_length-only}
-use Rattle.speedate.specs.DurationMove.{signed_length, duration_of_length, with_positive_zero, duration_between, date_time_after, negated, date_or_fault, signed_days, date_after_days}
+use Rattle.speedate.specs.DurationMove.{signed_length, duration_of_length, with_positive_zero, duration_between, date_time_after, negated, signed_days, date_after_days}
 use Rattle.speedate.specs.DurationNumbers.{DurationNumbers, IsDuration, length_seconds, length_microseconds, of_length, signed_seconds, signed_microsecond}
 use Rattle.speedate_base.specs.declared.faults.ParseError.TheVariants as fault
 use Rattle.speedate_base.specs.Requirement.{◌else_fault◌}
@@ -37,8 +36,7 @@ use Rattle.speedate.specs.DurationText.{is_whole_days}
 -- seconds and microseconds with one sign, joined
 signs-joined : (negative : Bool) (seconds microseconds : ℕ)
     → with_sign negative (seconds * 1000000 + microseconds) ≡ pos 1000000 *ℤ with_sign negative seconds +ℤ with_sign negative microseconds
-signs-joined true seconds microseconds = omega (arith, ints)
-signs-joined false seconds microseconds = omega (arith, ints)
+signs-joined negative seconds microseconds = search (rules)
 
 pub signed_length-joined : (numbers : DurationNumbers)
     → signed_length numbers ≡ pos 1000000 *ℤ signed_seconds numbers +ℤ signed_microsecond numbers
@@ -46,16 +44,11 @@ signed_length-joined numbers = signs-joined (not numbers.positive) (length_secon
 
 -- the numbers of a length have it
 pub signed_length-kept : (length : ℤ) → signed_length (duration_of_length length) ≡ length
-signed_length-kept (pos length) = omega (arith, ints)
-signed_length-kept (negsuc below) = omega (arith, ints)
+signed_length-kept length = search (rules)
 
 -- the duration of a length with its sign: none has the positive one
 signed-kept : (positive : Bool) (size : ℕ) → duration_of_length (with_sign (not positive) size) ≡ of_length (positive || (size == 0)) size
-signed-kept true size = refl
-signed-kept false zero = refl
-signed-kept false (suc size) =
-    let some : (suc size == 0) ≡ false = grind (arith, nat_tests) in
-    ap (λ (none : Bool). of_length (false || none) (suc size)) (sym some)
+signed-kept positive size = search (rules)
 
 -- what lies so much later, and what lies so much earlier
 pub between-later : (earlier later length : ℤ) → length ≡ later -ℤ earlier → later ≡ earlier +ℤ length
@@ -92,18 +85,12 @@ unmoved second local offset length microsecond own same = omega (arith, ints, sa
 -- a clock that shows an instant so much later lies so much later
 pub shown-later : (start value : DateAndTime) (length : ℤ) → IsShownAt start.time.offset (instant_at (local_microsecond start +ℤ length)) value
     → utc_microsecond value ≡ utc_microsecond start +ℤ length
-shown-later start value length shown =
-    let instant = instant_at (local_microsecond start +ℤ length) in
-    (λ i. pos 1000000 *ℤ (shown.second i -ℤ unwrap_or (shown.attached i) (pos 0)) +ℤ pos (shown.microsecond i))
-    ∙ moved instant.second (local_second start) (unwrap_or start.time.offset (pos 0)) length instant.microsecond start.time.microsecond
-    (instant_at-microsecond (local_microsecond start +ℤ length))
+shown-later start value length shown = search (rules, moved, instant_at-microsecond)
 
 -- so the answer to a length lies so much later
 ended : (answer : Result DateAndTime ParseError) (length : ℤ) (start : DateAndTime) → date_time_after length start ≡ answer
     → IfOk answer (λ end. utc_microsecond end ≡ utc_microsecond start +ℤ length)
-ended (Ok value) length start same =
-    shown-later start value length (instant_date_time-shown start.time.offset (instant_at (local_microsecond start +ℤ length)) value same)
-ended (Err fault) length start same = tt
+ended answer length start same = search (rules, shown-later, instant_date_time-shown)
 
 pub date_time_after-ends : (length : ℤ) (start : DateAndTime) → IfOk (date_time_after length start) (λ end. utc_microsecond end ≡ utc_microsecond start +ℤ length)
 date_time_after-ends length start = ended (date_time_after length start) length start refl
@@ -121,10 +108,7 @@ date_time_after-exact length start end valid attached same =
 
 -- what lies as far apart is in the same order
 apart-order : (first second one two : ℤ) → first -ℤ second ≡ one -ℤ two → int_cmp first second ≡ int_cmp one two
-apart-order first second one two same =
-    let one_is : first ≡ one -ℤ (one -ℤ first) = omega (arith, ints) in
-    let two_is : second ≡ two -ℤ (one -ℤ first) = omega (arith, ints, same) in
-    (λ i. int_cmp (one_is i) (two_is i)) ∙ left-order one two (one -ℤ first)
+apart-order first second one two same = search rules
 
 lengths-apart : (first second start length other one two : ℤ) → first ≡ start +ℤ length → second ≡ start +ℤ other → length -ℤ other ≡ one -ℤ two
     → first -ℤ second ≡ one -ℤ two
@@ -155,8 +139,7 @@ ends-back (Err fault) start length back attached turned same = tt
 
 -- there are fewer than 3,652,427 days between two date-times
 few-days : (length : ℤ) → unsigned_abs length < 315569692800000000 → (duration_of_length length).day ≤ 3652426
-few-days (pos length) small = omega (arith, ints, small)
-few-days (negsuc below) small = omega (arith, ints, small)
+few-days length small = search (rules)
 
 apart : (one two : ℕ) (second seconds offset other : ℤ) → first_second ≤ℤ second → second ≤ℤ last_second → first_second ≤ℤ seconds → seconds ≤ℤ last_second
     → unsigned_abs offset < seconds_per_day → unsigned_abs other < seconds_per_day → one ≤ 999999 → two ≤ 999999
@@ -165,30 +148,23 @@ apart one two second seconds offset other late early later earlier near by small
 
 pub between-days : (earlier later : DateAndTime) → IsDateAndTime earlier → IsDateAndTime later
     → (duration_of_length (utc_microsecond later -ℤ utc_microsecond earlier)).day ≤ 3652426
-between-days earlier later valid other =
-    few-days (utc_microsecond later -ℤ utc_microsecond earlier)
-    (apart later.time.microsecond earlier.time.microsecond (local_second later) (local_second earlier) (unwrap_or later.time.offset (pos 0)) (unwrap_or earlier.time.offset (pos 0))
-    (local_second-late later other) (local_second-early later other) (local_second-late earlier valid) (local_second-early earlier valid)
-    (offset-small later.time.offset other.time.offset) (offset-small earlier.time.offset valid.time.offset)
-    other.time.microsecond valid.time.microsecond)
+between-days earlier later valid other = search (rules, few-days, apart, local_second-late, local_second-early, offset-small)
 
 -- the same days the other way lead back
 days-back : (positive : Bool) (day start end : ℕ) → pos end -ℤ pos start ≡ with_sign (not positive) day
     → pos end +ℤ with_sign (not (not positive)) day ≡ pos start
-days-back true day start end same = omega (arith, ints, same)
-days-back false day start end same = omega (arith, ints, same)
+days-back positive day start end same = search (rules)
 
 pub date-back : (numbers : DurationNumbers) (start : Date) (end : Ymd) → is_whole_days numbers ≡ true
     → days_between (date_parts start) end ≡ signed_days numbers → date_after_days (negated numbers) end ≡ Ok (date_parts start)
 date-back numbers start end whole moved =
     let date = date_parts start in
-    let back = not numbers.positive in
+    let outside = if not numbers.positive then fault.DateTooLarge else fault.DateTooSmall in
     meets-all ((is_whole_days numbers else_fault fault.DateNotExact) ∷ []) _ (whole, tt)
-    ∙ ap (λ (n : ℤ). date_or_fault back (date_counted n)) (days-back numbers.positive numbers.day (day_number date) (day_number end) moved)
-    ∙ ap (date_or_fault back) (date_numbered-is (day_number date) date (is_day start) start.year_in_range refl)
+    ∙ ap (λ (n : ℤ). ok_or (date_counted n) outside) (days-back numbers.positive numbers.day (day_number date) (day_number end) moved)
+    ∙ ap (λ (date : Option Ymd). ok_or date outside) (date_numbered-is (day_number date) date (is_day start) start.year_in_range refl)
 
 -- days the other way are the negative ones
 pub turned : (positive : Bool) (day start end : ℕ) → pos end -ℤ pos start ≡ with_sign (not (not positive)) day
     → pos start -ℤ pos end ≡ with_sign (not positive) day
-turned true day start end same = omega (arith, ints, same)
-turned false day start end same = omega (arith, ints, same)
+turned positive day start end same = search (rules)

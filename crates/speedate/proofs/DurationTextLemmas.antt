@@ -1,19 +1,17 @@
 -- What is printed of a duration is short.
-use Rattle.std.specs.Prelude.{ℕ, suc, ◌+◌, ◌/◌, ◌%◌, ◌^◌, ◌<◌, ◌≤◌, Bool, true, false, ◌==◌, List, [], ◌∷◌, ◌++◌, length, if◌then◌else◌}
+use Rattle.std.proofs.Common.{rules}
+use Rattle.std.specs.Prelude.{ℕ, suc, ◌+◌, ◌/◌, ◌%◌, ◌^◌, ◌<◌, ◌≤◌, Bool, List, [], ◌∷◌, length, if◌then◌else◌}
 use Rattle.std.specs.Fmt.{decimal}
 use Rattle.std.proofs.Common.{arith, lit<}
-use Rattle.std.proofs.lemmas.Bool.Decides.{nat_tests}
 use Rattle.std.proofs.lemmas.List.{length-append}
 use Rattle.std.proofs.lemmas.Fmt.{length-decimal-le}
 use Rattle.std.proofs.lemmas.Str.{encode_ascii}
-use Rattle.speedate_base.specs.Ascii.{full_stop, capital_d, capital_h, capital_m, capital_y}
-use Rattle.speedate_base.specs.Digits.{six_digit_text}
+use Rattle.speedate_base.specs.Ascii.{capital_d, capital_h, capital_m, capital_y}
 use Rattle.speedate.specs.DurationText.{counted_text, kept_digit, without_last_zeros, short_fraction_text, start_text}
 
 -- what stays is no more than there was
 kept-length : (digit : ℕ) (rest : List ℕ) → length (kept_digit digit rest) ≤ suc (length rest)
-kept-length digit [] = grind (arith, nat_tests)
-kept-length digit (next ∷ rest) = omega arith
+kept-length digit rest = search (rules)
 
 without-length : (digits : List ℕ) → length (without_last_zeros digits) ≤ length digits
 without-length [] = omega arith
@@ -21,13 +19,10 @@ without-length (digit ∷ digits) = omega (arith, kept-length digit (without_las
 
 -- a number and its unit
 chosen-length : (none : Bool) (text : List ℕ) (most : ℕ) → length text ≤ most → length (if none then [] else text) ≤ most
-chosen-length true text most fits = omega arith
-chosen-length false text most fits = fits
+chosen-length none text most fits = search (rules)
 
 counted-length : (places number unit : ℕ) → 0 < places → number < 10 ^ places → number < 2 ^ 32 → length (counted_text number unit) ≤ places + 1
-counted-length places number unit some small fits =
-    chosen-length (number == 0) (decimal number ++ unit ∷ []) (places + 1)
-    (omega (arith, length-append (decimal number) (unit ∷ []), length-decimal-le places number some small (omega (arith, fits))))
+counted-length places number unit some small fits = search (rules, chosen-length, length-append, length-decimal-le)
 
 pub years-length : (day : ℕ) → day ≤ 999999999 → length (counted_text (day / 365) capital_y) ≤ 8
 years-length day few = counted-length 7 (day / 365) capital_y (lit< tt) (omega (arith, few)) (omega (arith, few))
@@ -43,17 +38,14 @@ minutes-length second = counted-length 2 (second / 60 % 60) capital_m (lit< tt) 
 
 -- a fraction
 pub fraction-length : (microsecond : ℕ) → length (short_fraction_text microsecond) ≤ 7
-fraction-length microsecond =
-    chosen-length (microsecond == 0) (full_stop ∷ without_last_zeros (six_digit_text microsecond)) 7
-    (omega (arith, without-length (six_digit_text microsecond)))
+fraction-length microsecond = search rules
 
 -- seconds
 pub second-length : (second : ℕ) → second < 60 → length (decimal second) ≤ 2
 second-length second small = length-decimal-le 2 second (lit< tt) (omega (arith, small)) (omega (arith, small))
 
 pub start-length : (positive : Bool) → length (start_text positive) ≤ 2
-start-length true = omega arith
-start-length false = omega arith
+start-length positive = search (rules)
 
 -- what printers cite
 pub ruleset printed_lengths = (start-length, years-length, days-length, hours-length, minutes-length, fraction-length, second-length, encode_ascii, length-append)

@@ -1,8 +1,10 @@
 -- In the lax order the answer to a text of a duration does not depend on the order of two neighbouring components of one side.
-use Rattle.std.specs.Prelude.{◌≡◌, ℕ, ◌≤◌, Bool, true, false, not, ◌&&◌, ◌||◌, List, [], ◌∷◌, ◌++◌, nat_le, if◌then◌else◌, Option, Some, None, Result, Err, refl, codes}
+use Rattle.std.proofs.lemmas.Int.{ints}
+use Rattle.std.proofs.Common.{rules}
+use Rattle.std.specs.Prelude.{◌≡◌, ℕ, ◌≤◌, Bool, true, false, not, ◌&&◌, ◌||◌, List, [], ◌∷◌, ◌++◌, nat_le, if◌then◌else◌, Option, Result, Err, refl}
 use Rattle.std.specs.Option.{is_some}
 use Rattle.std.specs.List.{flat_map}
-use Rattle.std.proofs.Common.{arith, ap, ap₂, sym, ◌∙◌, append_assoc, inl}
+use Rattle.std.proofs.Common.{arith, ap, sym, ◌∙◌, append_assoc}
 use Rattle.std.proofs.lemmas.Bool.{or_from}
 use Rattle.std.proofs.lemmas.Bool.Decides.{nat_tests}
 use Rattle.speedate_base.specs.declared.config.IsoOrder.{IsoOrder}
@@ -16,17 +18,15 @@ use Rattle.speedate.specs.DurationAnswer.{iso_from, duration_answer}
 use Rattle.speedate.proofs.DurationAnswerLemmas.{iso_from-item, duration_answer-iso}
 use Rattle.speedate.specs.DurationNumbers.{UnsignedDuration, signed_form}
 use Rattle.speedate.specs.Exchanged.{has_decimal_mark, IsWhole, AreWhole, IsPlain, AreExchanged}
-use Rattle.speedate.specs.IsoForm.{DurationUnit, units, unit_in, ComponentText, Item, TimeDesignator, Component, item_text, item_at, item_table, Sums, no_sums, next_units_after, with_component, with_item, with_items}
+use Rattle.speedate.specs.IsoForm.{DurationUnit, units, unit_in, ComponentText, Item, Component, item_text, item_at, item_table, Sums, no_sums, with_component, with_item, with_items}
 use Rattle.speedate.proofs.IsoItemLemmas.{item_at-amount}
-use Rattle.speedate_base.specs.Ascii.{capital_d, capital_m, capital_y}
 
 abbrev Answer : Type 0
 Answer = Result UnsignedDuration ParseError
 
 -- what is one item by its bytes is read as it, whatever follows
 item_at-whole : (sums : Sums) (item : Item) (rest : List ℕ) → IsWhole sums item → item_at (item_text item ++ rest) ≡ item
-item_at-whole sums TimeDesignator rest whole = refl
-item_at-whole sums (Component component) rest whole = item_at-amount sums.is_time component rest whole.0 whole.1 whole.2
+item_at-whole sums item rest whole = search (rules, item_at-amount)
 
 -- sums after which any unit may come
 abbrev IsFree : Sums → Type 0
@@ -34,12 +34,10 @@ IsFree sums = (sums.order ≡ order.Lax) × (sums.next_units ≡ units sums.is_t
 
 -- in the lax order those after an item are such sums again
 amount-free : (unit : Option DurationUnit) (component : ComponentText) (sums : Sums) → IsFree sums → IsFree (with_component unit component sums)
-amount-free None component sums free = free
-amount-free (Some unit) component sums free = (free.0, ap (λ (order : IsoOrder). next_units_after order sums.is_time unit.designator sums.next_units) free.0)
+amount-free unit component sums free = search (rules)
 
 item-free : (item : Item) (sums : Sums) → IsFree sums → IsFree (with_item item sums)
-item-free TimeDesignator sums free = (free.0, refl)
-item-free (Component component) sums free = amount-free (unit_in (units sums.is_time) component.designator) component sums free
+item-free item sums free = search (rules, amount-free)
 
 -- so after sums of the lax order each unit of the side may come
 free-comes : (sums : Sums) (designator : ℕ) → IsFree sums → is_some (unit_in (units sums.is_time) designator) ≡ true → is_some (unit_in sums.next_units designator) ≡ true
@@ -54,32 +52,26 @@ fits sums component =
 -- two rows with the same fault can be joined
 two-rows : {A : Type 0} (number sums : Bool) (fault : ParseError) (next : Result A ParseError)
     → (if number then (if sums then next else Err fault) else Err fault) ≡ (if number && sums then next else Err fault)
-two-rows true sums fault next = refl
-two-rows false sums fault next = refl
+two-rows number sums fault next = search (rules)
 
 -- the table of a component that can be refused for its size alone is that test
 plain-table : {A : Type 0} (sums : Sums) (component : ComponentText) (next : Result A ParseError) → IsFree sums → IsPlain sums component
     → meets (item_table sums (Component component)) next ≡ (if fits sums component then next else Err fault.DurationValueTooLarge)
-plain-table sums component next free plain =
-    rw (plain.0.1, plain.2, plain.0.2, free-comes sums component.designator free plain.0.2)
-    (two-rows (nat_le (digits_value component.number) 4294967295) _ fault.DurationValueTooLarge next)
+plain-table sums component next free plain = search rules
 
 -- a component leaves the side as it is
 amount-side : (unit : Option DurationUnit) (component : ComponentText) (sums : Sums) → (with_component unit component sums).is_time ≡ sums.is_time
-amount-side None component sums = refl
-amount-side (Some unit) component sums = refl
+amount-side unit component sums = search (rules)
 
 -- without a fraction it brings none
 amount-fraction : (unit : Option DurationUnit) (component : ComponentText) (sums : Sums) → has_decimal_mark component ≡ false → sums.fraction ≡ false
     → (with_component unit component sums).fraction ≡ false
-amount-fraction None component sums none whole = whole
-amount-fraction (Some unit) component sums none whole = or_from sums.fraction (has_decimal_mark component) whole none
+amount-fraction unit component sums none whole = search (rules, or_from)
 
 -- and it takes nothing from the sums
 amount-grows : (unit : Option DurationUnit) (component : ComponentText) (sums : Sums)
     → (sums.day ≤ (with_component unit component sums).day) × (sums.second ≤ (with_component unit component sums).second)
-amount-grows None component sums = (omega arith, omega arith)
-amount-grows (Some unit) component sums = (omega arith, omega arith)
+amount-grows unit component sums = search (rules)
 
 -- how sums of two components are exchanged, field by field
 or-swap : (a b c : Bool) → (a || b || c) ≡ (a || c || b)
@@ -88,50 +80,26 @@ or-swap a b c = grind (arith, nat_tests)
 -- whatever their units are
 amounts-swap : (one two : Option DurationUnit) (first second : ComponentText) (sums : Sums) → IsFree sums
     → with_component two second (with_component one first sums) ≡ with_component one first (with_component two second sums)
-amounts-swap None two first second sums free = refl
-amounts-swap (Some one) None first second sums free = refl
-amounts-swap (Some one) (Some two) first second sums free =
-    let later = λ (unit : DurationUnit) (next : List DurationUnit). ap (λ (order : IsoOrder). next_units_after order sums.is_time unit.designator next) free.0 in
-    let both = later two (next_units_after sums.order sums.is_time one.designator sums.next_units) ∙ sym (later one (next_units_after sums.order sums.is_time two.designator sums.next_units)) in
-    let fractions = or-swap sums.fraction (has_decimal_mark first) (has_decimal_mark second) in
-    let front = with_component (Some two) second (with_component (Some one) first sums) in
-    let back = with_component (Some one) first (with_component (Some two) second sums) in
-    let days : front.day ≡ back.day = omega arith in
-    let seconds : front.second ≡ back.second = omega arith in
-    let microseconds : front.microsecond ≡ back.microsecond = omega arith in
-    λ i. record front { next_units = both i; fraction = fractions i; day = days i; second = seconds i; microsecond = microseconds i }
+amounts-swap one two first second sums free = search (rules)
 
 -- the unit of the second does not depend on the first
 with_amount-next : (first second : ComponentText) (sums : Sums) → with_item (Component second) (with_item (Component first) sums)
     ≡ with_component (unit_in (units sums.is_time) second.designator) second (with_component (unit_in (units sums.is_time) first.designator) first sums)
-with_amount-next first second sums =
-    let next = with_item (Component first) sums in
-    ap (λ (is_time : Bool). with_component (unit_in (units is_time) second.designator) second next) (amount-side (unit_in (units sums.is_time) first.designator) first sums)
+with_amount-next first second sums = search rules
 
 -- so the sums of two components do not depend on their order
 amounts-exchanged : (first second : ComponentText) (sums : Sums) → IsFree sums
     → with_item (Component second) (with_item (Component first) sums) ≡ with_item (Component first) (with_item (Component second) sums)
-amounts-exchanged first second sums free =
-    with_amount-next first second sums ∙ amounts-swap (unit_in (units sums.is_time) first.designator) (unit_in (units sums.is_time) second.designator) first second sums free
-    ∙ sym (with_amount-next second first sums)
+amounts-exchanged first second sums free = search rules
 
 -- a component after another one can still be refused for its size alone
 plain-next : (sums : Sums) (first second : ComponentText) → IsPlain sums first → IsPlain sums second → IsPlain (with_item (Component first) sums) second
-plain-next sums first second one two =
-    let unit = unit_in (units sums.is_time) first.designator in
-    let has = ap (λ (is_time : Bool). is_some (unit_in (units is_time) second.designator)) (amount-side unit first sums) ∙ two.0.2 in
-    ((two.0.0, two.0.1, has), two.1, amount-fraction unit first sums one.1 one.2)
+plain-next sums first second one two = search rules
 
 -- where both fit in one order, they fit in the other
 fits-exchanged : (sums : Sums) (first second : ComponentText) → IsFree sums
     → (fits sums first && fits (with_item (Component first) sums) second) ≡ (fits sums second && fits (with_item (Component second) sums) first)
-fits-exchanged sums first second free =
-    let one = with_item (Component first) sums in
-    let two = with_item (Component second) sums in
-    let same = amounts-exchanged first second sums free in
-    let after_one = amount-grows (unit_in (units one.is_time) second.designator) second one in
-    let after_two = amount-grows (unit_in (units two.is_time) first.designator) first two in
-    grind (arith, nat_tests, ap (λ (sums : Sums). sums.day) same, ap (λ (sums : Sums). sums.second) same, after_one.0, after_one.1, after_two.0, after_two.1)
+fits-exchanged sums first second free = grind (arith, ints, nat_tests, amounts-exchanged, amount-grows)
 
 -- the answer to two components and what follows: that after them where both fit
 pair-answer : (sums : Sums) (first second : ComponentText) (rest : List ℕ) → IsFree sums → IsPlain sums first → IsPlain sums second
@@ -152,11 +120,7 @@ pair-answer sums first second rest free one two =
 pair-exchanged : (sums : Sums) (first second : ComponentText) (rest : List ℕ) → IsFree sums → IsPlain sums first → IsPlain sums second
     → iso_from sums (item_text (Component first) ++ (item_text (Component second) ++ rest))
     ≡ iso_from sums (item_text (Component second) ++ (item_text (Component first) ++ rest))
-pair-exchanged sums first second rest free one two =
-    pair-answer sums first second rest free one two
-    ∙ ap₂ (λ (test : Bool) (sums : Sums). if test then iso_from sums rest else Err fault.DurationValueTooLarge)
-    (fits-exchanged sums first second free) (amounts-exchanged first second sums free)
-    ∙ sym (pair-answer sums second first rest free two one)
+pair-exchanged sums first second rest free one two = search (rules, pair-answer, fits-exchanged, amounts-exchanged)
 
 -- nor where they stand after items, whether these are refused or not
 after-exchanged : (sums : Sums) (items : List Item) (first second : ComponentText) (rest : List ℕ) → IsFree sums → AreWhole sums items
@@ -186,24 +150,3 @@ duration_answer-exchanged asked behavior one two lax are =
     (ap read are.is_one ∙ duration_answer-iso order.Lax behavior are.negative are.sign body are.is_sign
     ∙ ap (result_and_then (signed_form (not are.negative))) same
     ∙ sym (ap read are.is_two ∙ duration_answer-iso order.Lax behavior are.negative are.sign exchanged are.is_sign))
-
--- a component without a fraction
-abbrev whole : List ℕ → ℕ → ComponentText
-whole number designator = record { number = number; fraction = []; designator = designator }
-
--- two components that change places after one that is too large
-exchanged-large : AreExchanged (codes "P99999999999Y1M2D") (codes "P99999999999Y2D1M")
-exchanged-large = record {
-  negative = false;
-  sign = [];
-  items = Component (whole (codes "99999999999") capital_y) ∷ [];
-  first = whole (codes "1") capital_m;
-  second = whole (codes "2") capital_d;
-  rest = [];
-  is_sign = inl refl;
-  are_whole = (((refl, tt), refl, refl), tt);
-  is_plain_first = (((refl, tt), refl, refl), refl, refl);
-  is_plain_second = (((refl, tt), refl, refl), refl, refl);
-  is_one = refl;
-  is_two = refl;
-}

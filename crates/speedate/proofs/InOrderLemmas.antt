@@ -1,8 +1,9 @@
 -- Where the order of the standard is asked for, a duration is what the lax order makes of it, or is refused for its order.
-use Rattle.std.specs.Prelude.{◌≡◌, ℕ, zero, suc, ◌-◌, Bool, true, false, not, ◌&&◌, List, [], ◌∷◌, ◌++◌, length, take, drop, slice_index, nat_lt, ◌==◌, if◌then◌else◌, Option, Some, None, Result, Ok, Err, refl}
+use Rattle.std.proofs.Common.{rules}
+use Rattle.std.specs.Prelude.{◌≡◌, ℕ, zero, suc, ◌-◌, Bool, true, false, not, ◌&&◌, List, [], ◌∷◌, ◌++◌, length, take, drop, slice_index, ◌==◌, if◌then◌else◌, Option, Some, Result, Ok, Err, refl}
 use Rattle.std.specs.List.{flat_map}
 use Rattle.std.specs.Option.{is_some}
-use Rattle.std.proofs.Common.{arith, ap, sym, ◌∙◌, subst, inl, inr}
+use Rattle.std.proofs.Common.{arith, ap, sym, ◌∙◌, subst, inl}
 use Rattle.std.proofs.lemmas.Bool.{eqb-true, false≢true}
 use Rattle.std.proofs.lemmas.Bool.Decides.{nat_tests}
 use Rattle.std.proofs.lemmas.List.{append-nil, take-append-drop}
@@ -17,11 +18,11 @@ use Rattle.speedate_base.proofs.NumberLemmas.{sign-of_text}
 use Rattle.speedate_base.specs.Requirement.{meets, AllHold, result_and_then}
 use Rattle.speedate_base.proofs.RequirementLemmas.{meets-all}
 use Rattle.speedate.specs.DurationNumbers.{DurationNumbers, UnsignedDuration, signed_form}
-use Rattle.speedate.specs.DurationForm.{form_answer}
+use Rattle.speedate.specs.DurationAnswer.{form_answer}
 use Rattle.speedate.specs.DurationAnswer.{iso_after, iso_from, iso_form, unsigned_answer, duration_answer}
 use Rattle.speedate.proofs.DurationAnswerLemmas.{iso_from-item, duration_answer-iso}
 use Rattle.speedate.specs.InOrder.{IsLaxOrRefused, IsAnswerInOrder, are_in_order, IsMadeOf, is_iso}
-use Rattle.speedate.specs.IsoForm.{DurationUnit, units, unit_in, ComponentText, Item, TimeDesignator, Component, item_text, item_at, item_table, units_after, are_counted, Sums, no_sums, with_component, with_item, with_items, AreGood, sums_length, Ends}
+use Rattle.speedate.specs.IsoForm.{DurationUnit, units, unit_in, ComponentText, Item, TimeDesignator, Component, item_text, item_at, item_table, units_after, Sums, no_sums, with_component, with_item, with_items, AreGood, sums_length, Ends}
 use Rattle.speedate.proofs.IsoFormLemmas.{answer-only, iso_after-is}
 use Rattle.speedate.proofs.IsoItemLemmas.{item_at-text}
 
@@ -38,38 +39,26 @@ as_strict next sums = record sums { order = order.Strict; next_units = next }
 -- an item adds the same to both
 component-lax : (unit : Option DurationUnit) (component : ComponentText) (sums : Sums)
     → as_lax (with_component unit component sums) ≡ with_component unit component (as_lax sums)
-component-lax None component sums = refl
-component-lax (Some unit) component sums = refl
+component-lax unit component sums = search (rules)
 
 item-lax : (item : Item) (sums : Sums) → as_lax (with_item item sums) ≡ with_item item (as_lax sums)
-item-lax TimeDesignator sums = refl
-item-lax (Component component) sums = component-lax (unit_in (units sums.is_time) component.designator) component sums
+item-lax item sums = search (rules, component-lax)
 
 -- a row that both tables have, and the two rows of the designator, of which the lax one passes both or the first refuses
 row-both : (test : Bool) (fault : ParseError) (lax answer : Answer) → IsLaxOrRefused lax answer
     → IsLaxOrRefused (if test then lax else Err fault) (if test then answer else Err fault)
-row-both true fault lax answer both = both
-row-both false fault lax answer both = inl refl
+row-both test fault lax answer both = search (rules)
 
 rows-unit : (has comes : Bool) (unknown : ParseError) (lax answer : Answer) → IsLaxOrRefused lax answer
     → IsLaxOrRefused (if has then (if has then lax else Err fault.DurationUnitOrder) else Err unknown)
     (if has then (if comes then answer else Err fault.DurationUnitOrder) else Err unknown)
-rows-unit true true unknown lax answer both = both
-rows-unit true false unknown lax answer both = inr refl
-rows-unit false comes unknown lax answer both = inl refl
+rows-unit has comes unknown lax answer both = search (rules)
 
 -- so the table of an item lets both through, refuses both alike, or refuses for the order
 table-both : (sums : Sums) (item : Item) (lax answer : Answer) → IsLaxOrRefused lax answer
     → IsLaxOrRefused (meets (item_table (as_lax sums) item) lax) (meets (item_table sums item) answer)
 table-both sums TimeDesignator lax answer both = row-both (not sums.is_time) _ lax answer both
-table-both sums (Component component) lax answer both =
-    let counted = ap are_counted (item-lax (Component component) sums) in
-    rw (sym counted)
-    (row-both (nat_lt 0 (length component.number)) _ _ _
-    (row-both _ _ _ _
-    (row-both (not sums.fraction) _ _ _
-    (rows-unit (is_some (unit_in (units sums.is_time) component.designator)) (is_some (unit_in sums.next_units component.designator)) _ _ _
-    (row-both (are_counted (with_item (Component component) sums)) _ lax answer both)))))
+table-both sums (Component component) lax answer both = search rules
 
 -- after any items
 iso-both : (skipped : ℕ) (sums : Sums) (text : List ℕ) → IsLaxOrRefused (iso_after skipped (as_lax sums) text) (iso_after skipped sums text)
@@ -85,22 +74,18 @@ iso-both (suc skipped) sums (byte ∷ rest) = iso-both skipped sums rest
 
 both-signed : (positive : Bool) (lax answer : Answer) → IsLaxOrRefused lax answer
     → IsLaxOrRefused (result_and_then (signed_form positive) lax) (result_and_then (signed_form positive) answer)
-both-signed positive lax answer (inl same) = inl (ap (result_and_then (signed_form positive)) same)
-both-signed positive lax answer (inr refused) = inr (ap (result_and_then (signed_form positive)) refused)
+both-signed positive lax answer h0 = search (rules)
 
 unsigned-both : (asked : IsoOrder) (behavior : MicrosecondsPrecisionOverflowBehavior) (text : List ℕ) (iso : Bool)
     → IsLaxOrRefused (if iso then iso_form order.Lax (drop 1 text) else form_answer behavior text)
     (if iso then iso_form asked (drop 1 text) else form_answer behavior text)
-unsigned-both asked behavior text true = iso-both 0 (no_sums asked) (drop 1 text)
-unsigned-both asked behavior text false = inl refl
+unsigned-both asked behavior text iso = search (rules, iso-both)
 
 -- so the answer in any order is the lax one, or the text is refused for its order
 pub duration-both : (asked : IsoOrder) (behavior : MicrosecondsPrecisionOverflowBehavior) (text : List ℕ)
     → IsLaxOrRefused (duration_answer order.Lax behavior text) (duration_answer asked behavior text)
 unfolding unsigned_answer
-duration-both asked behavior text =
-    let rest = drop (sign_length text) text in
-    both-signed (not (has_minus text)) _ _ (unsigned-both asked behavior rest (slice_index rest 0 == capital_p))
+duration-both asked behavior text = search (rules, both-signed, unsigned-both)
 
 -- the unit of a designator has that designator
 unit-designator : (units : List DurationUnit) (designator : ℕ) (unit : DurationUnit) → unit_in units designator ≡ Some unit → unit.designator ≡ designator
@@ -110,11 +95,7 @@ unit-designator (one ∷ units) designator unit same = grind (arith, nat_tests, 
 -- a component with a unit adds to the sums of the strict order what it adds to the others, and leaves what follows its unit
 component-strict : (unit : Option DurationUnit) (component : ComponentText) (next : List DurationUnit) (sums : Sums) → unit_in (units sums.is_time) component.designator ≡ unit
     → is_some unit ≡ true → as_strict (units_after component.designator next) (with_component unit component sums) ≡ with_component unit component (as_strict next sums)
-component-strict None component next sums is has = absurd (false≢true has)
-component-strict (Some unit) component next sums is has =
-    let designator = sym (unit-designator (units sums.is_time) component.designator unit is) in
-    let after = with_component (Some unit) component sums in
-    ap (λ (designator : ℕ). as_strict (units_after designator next) after) designator
+component-strict unit component next sums is has = search (rules, false≢true)
 
 -- what good items add up to
 abbrev lax_end : Sums → Answer
@@ -126,14 +107,10 @@ strict_end in_order sums = if in_order then lax_end sums else Err fault.Duration
 -- the strict table of a component that meets the lax one asks for its order alone
 table-strict : (next : List DurationUnit) (sums : Sums) (component : ComponentText) (answer : Answer) → AllHold (item_table sums (Component component))
     → meets (item_table (as_strict next sums) (Component component)) answer ≡ (if is_some (unit_in next component.designator) then answer else Err fault.DurationUnitOrder)
-table-strict next sums component answer all =
-    let same = component-strict (unit_in (units sums.is_time) component.designator) component next sums refl all.1.1.1.0 in
-    let counted = sym (ap are_counted same) ∙ all.1.1.1.1.1.0 in
-    rw (all.0, all.1.0, all.1.1.0, all.1.1.1.0, counted) refl
+table-strict next sums component answer all = search rules
 
 strict-end : (comes in_order : Bool) (sums : Sums) → (if comes then strict_end in_order sums else Err fault.DurationUnitOrder) ≡ strict_end (comes && in_order) sums
-strict-end true in_order sums = refl
-strict-end false in_order sums = refl
+strict-end comes in_order sums = search (rules)
 
 -- so good items are refused if and only if they are not in order
 items-strict : (next : List DurationUnit) (sums : Sums) (items : List Item) → AreGood sums items
@@ -162,8 +139,7 @@ items-lax sums items good =
 chosen : (positive in_order : Bool) (lax : Answer)
     → result_and_then (signed_form positive) (if in_order then lax else Err fault.DurationUnitOrder)
     ≡ (if in_order then result_and_then (signed_form positive) lax else Err fault.DurationUnitOrder)
-chosen positive true lax = refl
-chosen positive false lax = refl
+chosen positive in_order lax = search (rules)
 
 -- so a text of good items is refused for its order if and only if they are not in order, and otherwise has the lax answer
 answer-strict : (asked : IsoOrder) (behavior : MicrosecondsPrecisionOverflowBehavior) (text : List ℕ) (items : List Item)
@@ -187,22 +163,16 @@ answer-no_iso asked behavior text other = rw other refl
 
 -- an ISO 8601 duration begins with a `P` after its sign
 first-byte : (text : List ℕ) → (slice_index text 0 == capital_p) ≡ true → text ≡ capital_p ∷ drop 1 text
-first-byte [] is = absurd (false≢true is)
-first-byte (byte ∷ text) is = ap (λ (byte : ℕ). byte ∷ text) (eqb-true byte capital_p is)
+first-byte text is = search (rules, false≢true, eqb-true)
 
 -- one that is read has nothing after its good items, and a component among them
 some-read : (positive some : Bool) (sums : Sums) (numbers : DurationNumbers)
     → Ok numbers ≡ result_and_then (signed_form positive) (if some then Ok (sums_length sums) else Err fault.TooShort) → some ≡ true
-some-read positive true sums numbers same = refl
-some-read positive false sums numbers same = absurd (cc)
+some-read positive some sums numbers same = search (rules)
 
 ends-read : (positive : Bool) (sums : Sums) (rest : List ℕ) (form : Answer) (numbers : DurationNumbers) → Ends sums rest form
     → Ok numbers ≡ result_and_then (signed_form positive) form → (rest ≡ []) × (sums.some ≡ true)
-ends-read positive sums [] form numbers ends same =
-    (refl, some-read positive sums.some sums numbers (same ∙ ap (result_and_then (signed_form positive)) ends))
-ends-read positive sums (byte ∷ rest) form numbers ends same =
-    let refused = same ∙ ap (result_and_then (signed_form positive)) ends.2 in
-    absurd (cc)
+ends-read positive sums rest form numbers ends same = search (rules)
 
 -- so an ISO 8601 duration that the lax order reads is made of good items
 answer-items : (behavior : MicrosecondsPrecisionOverflowBehavior) (text : List ℕ) (numbers : DurationNumbers) → is_iso text ≡ true
@@ -230,9 +200,4 @@ answer-items behavior text numbers iso same =
 -- the answer in the order that is asked for
 pub duration_answer-in_order : (asked : IsoOrder) (behavior : MicrosecondsPrecisionOverflowBehavior) (text : List ℕ)
     → IsAnswerInOrder asked behavior text (duration_answer asked behavior text)
-duration_answer-in_order asked behavior text = record {
-  lax = duration-both asked behavior text;
-  items = answer-items behavior text;
-  strict = answer-strict asked behavior text;
-  other_forms = answer-no_iso asked behavior text;
-}
+duration_answer-in_order asked behavior text = search (rules, duration-both, answer-items, answer-strict, answer-no_iso)

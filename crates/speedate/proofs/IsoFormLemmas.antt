@@ -1,4 +1,5 @@
 -- The good fronts of an ISO 8601 duration: only one of them is followed by an end, and that end is the answer.
+use Rattle.std.proofs.Common.{rules}
 use Rattle.std.specs.Prelude.{◌≡◌, MatchBool, ℕ, zero, suc, ◌-◌, Bool, true, false, not, List, [], ◌∷◌, ◌++◌, length, drop, slice_index, ◌==◌, if◌then◌else◌, Result, Ok, Err, refl}
 use Rattle.std.specs.List.{flat_map}
 use Rattle.std.proofs.Common.{ap, ap₂, sym, ◌∙◌, append_assoc, subst}
@@ -12,10 +13,9 @@ use Rattle.speedate_base.specs.Ascii.{capital_p}
 use Rattle.speedate_base.specs.Numbers.{has_minus, sign_length}
 use Rattle.speedate_base.specs.Requirement.{meets, AllHold, result_and_then}
 use Rattle.speedate_base.proofs.RequirementLemmas.{meets-all, meets-next, meets-value}
-use Rattle.speedate.specs.DurationAnswer.{iso_after, iso_form, unsigned_answer, duration_answer}
-use Rattle.speedate.specs.DurationForm.{form_answer, IsGrammarAnswer}
+use Rattle.speedate.specs.DurationAnswer.{iso_after, iso_form, form_answer, unsigned_answer, duration_answer, IsGrammarAnswer}
 use Rattle.speedate.specs.DurationNumbers.{UnsignedDuration, signed_form}
-use Rattle.speedate.specs.IsoForm.{Item, item_text, IsItem, item_at, Sums, no_sums, with_item, with_items, item_table, AreGood, sums_length, Ends, IsAnswerFrom, IsIsoAnswer}
+use Rattle.speedate.specs.IsoForm.{Item, item_text, IsItem, item_at, Sums, no_sums, with_item, with_items, item_table, AreGood, sums_length, Ends, IsAnswerFrom}
 use Rattle.speedate.proofs.IsoItemLemmas.{item_at-text, item-front}
 
 abbrev Answer : Type 0
@@ -28,18 +28,12 @@ ends-only sums (byte ∷ rest) first second one two = one.2 ∙ sym one.1 ∙ tw
 
 -- and is no good item
 ends-no_item : (sums : Sums) (rest : List ℕ) (answer : Answer) → Ends sums rest answer → AllHold (item_table sums (item_at rest)) → ⊥
-ends-no_item sums [] answer ends all = false≢true all.0
-ends-no_item sums (byte ∷ rest) answer ends all =
-    let same = sym (meets-all (item_table sums (item_at (byte ∷ rest))) (Ok (sums_length sums)) all) ∙ ends.1 in
-    absurd (cc)
+ends-no_item sums rest answer ends all = search (rules, false≢true)
 
 -- so an end begins with no good item
 end-no_front : (sums : Sums) (text : List ℕ) (answer : Answer) (item : Item) (items : List Item) (rest : List ℕ) → Ends sums text answer
     → text ≡ flat_map item_text (item ∷ items) ++ rest → AreGood sums (item ∷ items) → ⊥
-end-no_front sums text answer item items rest ends same good =
-    let joined = same ∙ append_assoc (item_text item) (flat_map item_text items) rest in
-    let there = ap item_at joined ∙ item_at-text sums item (flat_map item_text items ++ rest) good.0 good.1 in
-    ends-no_item sums text answer ends (subst (λ (item : Item). AllHold (item_table sums item)) (sym there) good.1)
+end-no_front sums text answer item items rest ends same good = search (rules, append_assoc, item_at-text, ends-no_item)
 
 -- a text has one front of good items that an end follows
 pub front-only : (sums : Sums) (items others : List Item) (rest other : List ℕ) (first second : Answer)
@@ -63,10 +57,7 @@ front-only sums (item ∷ items) (next ∷ others) rest other first second same 
 -- so it has one answer
 pub answer-only : (sums : Sums) (text : List ℕ) (first second : Answer)
     → IsAnswerFrom sums text first → IsAnswerFrom sums text second → first ≡ second
-answer-only sums text first second one two =
-    let front = front-only sums one.0 two.0 one.1 two.1 first second (sym one.2 ∙ two.2) one.3 two.3 one.4 two.4 in
-    let moved = subst (λ (items : List Item). Ends (with_items items sums) one.1 first) front.0 one.4 in
-    ends-only (with_items two.0 sums) two.1 first second (subst (λ (rest : List ℕ). Ends (with_items two.0 sums) rest first) front.1 moved) two.4
+answer-only sums text first second one two = search (rules, front-only, ends-only)
 
 -- a good item before a text leaves the text's answer
 answer-with : (sums : Sums) (item : Item) (text : List ℕ) (answer : Answer) → IsItem item → AllHold (item_table sums item)
@@ -98,13 +89,13 @@ iso_after-is zero sums (byte ∷ rest) =
 iso_after-is (suc skipped) sums (byte ∷ rest) = iso_after-is skipped sums rest
 
 form-is : (order : IsoOrder) (behavior : MicrosecondsPrecisionOverflowBehavior) (text : List ℕ) (iso : Bool)
-    → MatchBool iso (IsIsoAnswer order (drop 1 text) (if iso then iso_form order (drop 1 text) else form_answer behavior text))
+    → MatchBool iso (IsAnswerFrom (no_sums order) (drop 1 text) (if iso then iso_form order (drop 1 text) else form_answer behavior text))
     ((if iso then iso_form order (drop 1 text) else form_answer behavior text) ≡ form_answer behavior text)
 form-is order behavior text true = iso_after-is 0 (no_sums order) (drop 1 text)
 form-is order behavior text false = refl
 
 form-only : (order : IsoOrder) (text : List ℕ) (iso : Bool) (form first second : Answer)
-    → MatchBool iso (IsIsoAnswer order text first) (first ≡ form) → MatchBool iso (IsIsoAnswer order text second) (second ≡ form) → first ≡ second
+    → MatchBool iso (IsAnswerFrom (no_sums order) text first) (first ≡ form) → MatchBool iso (IsAnswerFrom (no_sums order) text second) (second ≡ form) → first ≡ second
 form-only order text true form first second one two = answer-only (no_sums order) text first second one two
 form-only order text false form first second one two = one ∙ sym two
 

@@ -1,9 +1,11 @@
 -- Items of ISO 8601 durations and the texts that begin with them, and the places of their units.
+use Rattle.std.proofs.lemmas.Int.{ints}
+use Rattle.std.proofs.Common.{rules}
 use Rattle.std.specs.Prelude.{◌≡◌, ℕ, suc, ◌+◌, ◌-◌, ◌<◌, ◌≤◌, Bool, true, false, not, List, [], ◌∷◌, ◌++◌, length, take, drop, slice_index, nat_lt, ◌==◌, if◌then◌else◌, Option, Some, None, Result, Ok, refl, zero, nat_le}
 use Rattle.std.specs.Char.{is_ascii_digit}
 use Rattle.std.specs.List.{list_all, prefix_len}
 use Rattle.std.specs.Option.{is_some}
-use Rattle.std.proofs.Common.{arith, ap, ap₂, sym, ◌∙◌, append_assoc, get_or, subst}
+use Rattle.std.proofs.Common.{arith, ap, ap₂, sym, ◌∙◌, append_assoc}
 use Rattle.std.proofs.Math.Seq.{take-append_seam, drop-append_seam, get_or-append_seam, drop-nil}
 use Rattle.std.proofs.lemmas.Bool.{and_parts, eqb-true, false≢true, le-leb}
 use Rattle.std.proofs.lemmas.Bool.Decides.{nat_tests}
@@ -36,14 +38,12 @@ run-end digits byte rest all other = run_length-append digits (byte ∷ rest) al
 -- a fraction ends before a designator
 fraction-end : (fraction : List ℕ) (designator : ℕ) (rest : List ℕ) → IsFraction fraction → is_ascii_digit designator ≡ false → is_decimal_mark designator ≡ false
     → fraction_length (fraction ++ designator ∷ rest) ≡ length fraction
-fraction-end [] designator rest is digit point = rw point refl
-fraction-end (mark ∷ digits) designator rest is digit point = rw (is.0, run-end digits designator rest is.1 digit) (omega arith)
+fraction-end fraction designator rest is digit point = search (rules, run-end)
 
 -- nor does it begin with a digit
 number-end : (number fraction : List ℕ) (designator : ℕ) (rest : List ℕ) → list_all is_ascii_digit number ≡ true → IsFraction fraction → is_ascii_digit designator ≡ false
     → prefix_len is_ascii_digit (number ++ (fraction ++ designator ∷ rest)) ≡ length number
-number-end number [] designator rest all is digit = run-end number designator rest all digit
-number-end number (mark ∷ digits) designator rest all is digit = run-end number mark (digits ++ designator ∷ rest) all (mark-no_digit mark is.0)
+number-end number fraction designator rest all is digit = search (rules, run-end, mark-no_digit)
 
 -- digits begin with no `T`
 number-no_designator : (number rest : List ℕ) → nat_lt 0 (length number) ≡ true → list_all is_ascii_digit number ≡ true
@@ -54,16 +54,7 @@ number-no_designator (digit ∷ number) rest some all = grind (arith, nat_tests,
 -- the beginning of a component's text is the component
 component_at-text : (component : ComponentText) (rest : List ℕ) → IsItem (Component component) → is_ascii_digit component.designator ≡ false → is_decimal_mark component.designator ≡ false
     → component_at (component.number ++ (component.fraction ++ component.designator ∷ rest)) ≡ component
-component_at-text component rest is digit point =
-    let later = component.fraction ++ component.designator ∷ rest in
-    rw (
-      number-end component.number component.fraction component.designator rest is.0 is.1 digit,
-      take-append_seam component.number later,
-      drop-append_seam component.number later,
-      fraction-end component.fraction component.designator rest is.1 digit point,
-      take-append_seam component.fraction (component.designator ∷ rest),
-      get_or-append_seam component.fraction component.designator rest 0,
-    ) refl
+component_at-text component rest is digit point = search (rules, number-end, take-append_seam, drop-append_seam, fraction-end, get_or-append_seam)
 
 -- its text is its parts before what follows
 amount-joined : (component : ComponentText) (rest : List ℕ) → item_text (Component component) ++ rest ≡ component.number ++ (component.fraction ++ component.designator ∷ rest)
@@ -72,15 +63,11 @@ amount-joined component rest = simp append_assoc
 -- so what begins with a number and ends with the designator of a unit is one item, whatever follows
 pub item_at-amount : (is_time : Bool) (component : ComponentText) (rest : List ℕ) → IsItem (Component component) → nat_lt 0 (length component.number) ≡ true
     → is_some (unit_in (units is_time) component.designator) ≡ true → item_at (item_text (Component component) ++ rest) ≡ Component component
-item_at-amount is_time component rest is some has =
-    let unit = unit-designator is_time component.designator has in
-    rw (amount-joined component rest, number-no_designator component.number (component.fraction ++ component.designator ∷ rest) some is.0)
-    (ap Component (component_at-text component rest is unit.0 unit.1))
+item_at-amount is_time component rest is some has = search (rules, unit-designator, amount-joined, number-no_designator, component_at-text)
 
 -- and a good item is read back from its text
 pub item_at-text : (sums : Sums) (item : Item) (rest : List ℕ) → IsItem item → AllHold (item_table sums item) → item_at (item_text item ++ rest) ≡ item
-item_at-text sums TimeDesignator rest is all = refl
-item_at-text sums (Component component) rest is all = item_at-amount sums.is_time component rest is all.0 all.1.1.1.0
+item_at-text sums item rest is all = search (rules, item_at-amount)
 
 -- after a decimal mark stand digits
 digits-after : (text : List ℕ) (has_mark : Bool) → list_all is_ascii_digit (drop 1 (take (if has_mark then 1 + run_length text 1 else 0) text)) ≡ true
@@ -95,38 +82,23 @@ pub ruleset component_rules = (nat_tests, fraction-digits)
 
 -- what has the length of a fraction is one
 fraction-front : (text : List ℕ) (has_mark : Bool) → is_decimal_mark (slice_index text 0) ≡ has_mark → IsFraction (take (if has_mark then 1 + run_length text 1 else 0) text)
-fraction-front text false same = tt
-fraction-front [] true same = absurd (false≢true same)
-fraction-front (mark ∷ text) true same =
-    let more : 1 + run_length (mark ∷ text) 1 ≡ suc (run_length text 0) = omega arith in
-    subst (λ (n : ℕ). IsFraction (take n (mark ∷ text))) (sym more) (same, run-digits text)
+fraction-front text false same = grind (arith, ints, nat_tests, false≢true, run-digits)
+fraction-front [] true same = grind (arith, ints, nat_tests, false≢true, run-digits)
+fraction-front (mark ∷ text) true same = grind (arith, ints, nat_tests, false≢true, run-digits)
 
 -- how many bytes a component has, from the lengths of its parts
 component-size : (text : List ℕ) → fraction_length (drop (run_length text 0) text) ≤ length (drop (run_length text 0) text)
     → length (item_text (Component (component_at text))) ≡ run_length text 0 + fraction_length (drop (run_length text 0) text) + 1
-component-size text within =
-    let count = run_length text 0 in
-    let rest : List ℕ = drop count text in
-    let size = fraction_length rest in
-    let number = length-take-le count text (prefix_len-le-length is_ascii_digit text) in
-    let fraction = length-take-le size rest within in
-    omega (arith, number, fraction, length-append (take count text ++ take size rest) (slice_index rest size ∷ []), length-append (take count text) (take size rest))
+component-size text within = search (rules, length-take-le, prefix_len-le-length, length-append)
 
 -- a designator with a unit stands within its text
 designator-within : (is_time : Bool) (text : List ℕ) (place : ℕ) → is_some (unit_in (units is_time) (slice_index text place)) ≡ true → place < length text
-designator-within true text place some = grind (arith, nat_tests, some, get_or_past text place 0)
-designator-within false text place some = grind (arith, nat_tests, some, get_or_past text place 0)
+designator-within is_time text place some = search (rules, get_or_past)
 
 -- a text by its parts
 parted : (text : List ℕ) (n m : ℕ) → m < length (drop n text)
     → text ≡ (take n text ++ take m (drop n text) ++ slice_index (drop n text) m ∷ []) ++ drop (n + m + 1) text
-parted text n m within =
-    let rest = drop n text in
-    let last = drop_more rest m 0 within in
-    let places : n + (m + 1) ≡ n + m + 1 = omega arith in
-    let later = drop-drop (m + 1) n text ∙ ap (λ (k : ℕ). drop k text) places in
-    let cut = ap (λ (end : List ℕ). take m rest ++ end) (last ∙ ap (λ (end : List ℕ). get_or rest m 0 ∷ end) later) in
-    simp append_assoc (sym (take-append-drop n text) ∙ ap (λ (end : List ℕ). take n text ++ end) (sym (take-append-drop m rest) ∙ cut))
+parted text n m within = search (rules, drop_more, drop-drop, append_assoc, take-append-drop)
 
 -- what begins a text as an item and meets the table is an item, and the text is its text and the rest
 abbrev IsFront : Sums → ℕ → List ℕ → Item → Type 0
@@ -152,10 +124,7 @@ item-front sums byte rest = front-of sums byte rest (byte == capital_t) refl
 -- a number of few digits, as it was read
 few-parts : (number value end count : ℕ) (few : Bool)
     → ◌≡◌ {A = Option (ℕ × ℕ)} (Some (number, end)) (if few then Some (value, count) else None) → (number ≡ value) × (end ≡ count)
-few-parts number value end count true same =
-    let parts : ◌≡◌ {A = ℕ × ℕ} (number, end) (value, count) = cc in
-    (ap (λ (part : ℕ × ℕ). part.0) parts, ap (λ (part : ℕ × ℕ). part.1) parts)
-few-parts number value end count false same = absurd (cc)
+few-parts number value end count few same = search (rules)
 
 -- with the designator of a unit after it, it is a component, which adds so many of the unit
 pub short-front : (sums next : Sums) (text : List ℕ) (number end designator : ℕ) (few : Bool) (unit : DurationUnit)

@@ -1,26 +1,26 @@
 -- The text by which a duration is printed is read as the duration.
-use Rattle.std.specs.Prelude.{◌≡◌, ℕ, ◌+◌, ◌-◌, ◌*◌, ◌/◌, ◌%◌, ◌^◌, ◌<◌, ◌≤◌, Bool, true, false, not, ◌&&◌, ◌==◌, if◌then◌else◌, List, [], ◌∷◌, ◌++◌, length, drop, Some, pos, unsigned_abs, Result, Ok, codes, refl}
+use Rattle.std.proofs.Common.{rules}
+use Rattle.std.proofs.lemmas.Int.{ints}
+use Rattle.std.specs.Prelude.{◌≡◌, ℕ, ◌+◌, ◌*◌, ◌/◌, ◌%◌, ◌^◌, ◌<◌, ◌≤◌, Bool, true, false, not, ◌&&◌, ◌==◌, if◌then◌else◌, List, [], ◌∷◌, ◌++◌, length, drop, Some, Result, Ok, codes, refl}
 use Rattle.std.specs.Char.{is_ascii_digit}
 use Rattle.std.specs.Fmt.{decimal}
 use Rattle.std.specs.List.{list_all}
 use Rattle.std.specs.Option.{is_some}
-use Rattle.std.proofs.Common.{arith, inl, inr, ap, sym, ◌∙◌, subst, append_assoc, lit<}
+use Rattle.std.proofs.Common.{arith, ap, sym, ◌∙◌, append_assoc, lit<}
 use Rattle.std.proofs.lemmas.Bool.{and_from, and_parts, eqb-true, lt-ltb, le-leb}
 use Rattle.std.proofs.lemmas.Bool.Decides.{nat_tests}
 use Rattle.std.proofs.lemmas.Fmt.{digits_decimal, digits_value-decimal, decimal_nonempty, decimal_digit}
 use Rattle.std.proofs.lemmas.List.{append-nil}
 use Rattle.std.proofs.lemmas.Str.Parse.{IsDigitsTest, IsNumeralModel, numerals_by_weight}
-use Rattle.std.proofs.Math.Nat.{pow-succ', div-eq_of_lt, zero-mul}
+use Rattle.std.proofs.Math.Nat.{pow-succ', div-eq_of_lt}
 use Rattle.speedate_base.specs.declared.config.IsoOrder.{IsoOrder}
 use Rattle.speedate_base.specs.declared.config.IsoOrder.TheVariants as order
 use Rattle.speedate_base.specs.declared.config.MicrosecondsPrecisionOverflowBehavior.{MicrosecondsPrecisionOverflowBehavior}
 use Rattle.speedate_base.specs.declared.config.MicrosecondsPrecisionOverflowBehavior.TheVariants as behavior
 use Rattle.speedate_base.specs.Ascii.{full_stop, capital_d, capital_h, capital_m, capital_s, capital_t, capital_y}
 use Rattle.speedate_base.specs.Digits.{six_digit_text}
-use Rattle.speedate_base.proofs.DigitLemmas.{six_digits-printed}
 use Rattle.speedate_base.specs.DigitRuns.{digits_value}
 use Rattle.speedate_base.proofs.DigitRunLemmas.{digits_value-lt}
-use Rattle.speedate_base.specs.Nearest.{nearest}
 use Rattle.speedate_base.proofs.NearestLemmas.{nearest-exact, scale-some}
 use Rattle.speedate_base.specs.Requirement.{AllHold, result_and_then}
 use Rattle.speedate_base.proofs.RequirementLemmas.{meets-all}
@@ -32,20 +32,16 @@ use Rattle.speedate_base.specs.declared.faults.ParseError.{ParseError}
 use Rattle.speedate.specs.InOrder.{IsLaxOrRefused}
 use Rattle.speedate.proofs.InOrderLemmas.{duration-both}
 use Rattle.speedate.proofs.DurationLemmas.{normal_form-same}
-use Rattle.speedate.specs.DurationNumbers.{DurationNumbers, IsDuration, length_of, signed_form}
+use Rattle.speedate.specs.DurationNumbers.{DurationNumbers, UnsignedDuration, IsDuration, signed_form}
 use Rattle.speedate.specs.DurationText.{counted_text, kept_digit, without_last_zeros, short_fraction_text, seconds_text, hours_text, days_text, start_text, rest_text, is_whole_days, duration_text}
-use Rattle.speedate.specs.IsoForm.{DurationUnit, unit, units, unit_in, units_after, ComponentText, TimeDesignator, Component, IsItem, IsFraction, Sums, unit_seconds, fraction_seconds, fraction_microseconds, with_amount, with_component, with_item, are_counted, item_table}
+use Rattle.speedate.specs.IsoForm.{DurationUnit, unit, units, unit_in, units_after, ComponentText, TimeDesignator, Component, IsItem, IsFraction, Sums, fraction_seconds, fraction_microseconds, with_amount, with_component, with_item, are_counted, item_table}
 
 -- a number without leading zeros is digits that spell it
 abbrev AreDigits : List ℕ → Type 0
 AreDigits digits = list_all is_ascii_digit digits ≡ true
 
 digits_test : IsDigitsTest AreDigits
-digits_test = record {
-  empty = refl;
-  parts = λ c cs all. let tests = and_parts (is_ascii_digit c) _ all in (grind (arith, nat_tests, tests.0), tests.1);
-  more = λ c cs range all. and_from _ _ (grind (arith, nat_tests, range)) all;
-}
+digits_test = search rules
 
 digits_model : IsNumeralModel AreDigits digits_value
 digits_model = numerals_by_weight AreDigits digits_test digits_value (record { empty = refl; more = λ c cs range. refl })
@@ -64,8 +60,7 @@ without-worth (digit ∷ digits) = kept-worth digit (without_last_zeros digits) 
 
 -- what stays of digits is digits
 kept-digits : (digit : ℕ) (kept : List ℕ) → is_ascii_digit digit ≡ true → AreDigits kept → AreDigits (kept_digit digit kept)
-kept-digits digit [] one all = grind (arith, nat_tests, one)
-kept-digits digit (next ∷ kept) one all = and_from _ _ one all
+kept-digits digit kept one all = search (rules, and_from)
 
 without-digits : (digits : List ℕ) → AreDigits digits → AreDigits (without_last_zeros digits)
 without-digits [] all = refl
@@ -78,21 +73,15 @@ no-seconds : (unit : DurationUnit) → fraction_seconds unit [] ≡ 0
 no-seconds unit = omega arith
 
 no-microseconds : (unit : DurationUnit) → fraction_microseconds unit [] ≡ 0
-no-microseconds unit =
-    rw (zero-mul (1000000 * unit_seconds unit), no-seconds unit) refl
+no-microseconds unit = search rules
 
 -- digits that are so many millionths, as a fraction of a second
 second-seconds : (digits : List ℕ) → AreDigits digits → fraction_seconds (unit capital_s 0 1) digits ≡ 0
-second-seconds digits all =
-    let once : digits_value digits * 1 ≡ digits_value digits = omega arith in
-    rw once (div-eq_of_lt (digits_value-lt digits all))
+second-seconds digits all = search (rules, div-eq_of_lt, digits_value-lt)
 
 second-microseconds : (digits : List ℕ) (microsecond : ℕ) → AreDigits digits
     → digits_value digits * 1000000 ≡ microsecond * 10 ^ length digits → fraction_microseconds (unit capital_s 0 1) digits ≡ microsecond
-second-microseconds digits microsecond all same =
-    let scale = 10 ^ length digits in
-    let exact = ap (λ (n : ℕ). nearest (pos n) scale) same ∙ nearest-exact false microsecond scale (scale-some (length digits)) in
-    (λ i. unsigned_abs (exact i) - 1000000 * second-seconds digits all i) ∙ omega arith
+second-microseconds digits microsecond all same = search (rules, nearest-exact, scale-some, second-seconds)
 
 -- sums in the order of the standard, with no fraction so far
 abbrev at : List DurationUnit → Bool → Bool → ℕ → ℕ → Sums
@@ -148,13 +137,7 @@ IsMicroseconds fraction microsecond =
 
 fraction-of : (microsecond : ℕ) (none : Bool) → (microsecond == 0) ≡ none → microsecond < 1000000
     → IsMicroseconds (if none then [] else full_stop ∷ without_last_zeros (six_digit_text microsecond)) microsecond
-fraction-of microsecond true none small = subst (IsMicroseconds []) (sym (eqb-true microsecond 0 none)) (tt, no-seconds (unit capital_s 0 1), no-microseconds (unit capital_s 0 1))
-fraction-of microsecond false other small =
-    let digits = without_last_zeros (six_digit_text microsecond) in
-    let all = without-digits (six_digit_text microsecond) (six_digits-printed microsecond small) in
-    let spelled : digits_value (six_digit_text microsecond) ≡ microsecond = omega arith in
-    let worth = without-worth (six_digit_text microsecond) ∙ ap (λ (n : ℕ). n * 10 ^ length digits) spelled in
-    ((refl, all), second-seconds digits all, second-microseconds digits microsecond all worth)
+fraction-of microsecond none other small = grind (arith, ints, nat_tests, other, small, eqb-true, no-seconds, no-microseconds)
 
 -- seconds with their fraction are read as the end of a text
 seconds-end : (next : List DurationUnit) (some : Bool) (number microsecond day second : ℕ) → is_some (unit_in next capital_s) ≡ true
@@ -179,12 +162,7 @@ seconds-read : (next : List DurationUnit) (some none : Bool) (number microsecond
     → (if none then some else true) ≡ true
     → iso_from (at next true some day second) (if none then [] else decimal number ++ short_fraction_text microsecond ++ capital_s ∷ [])
     ≡ Ok (record { day = day; second = second + number; microsecond = microsecond })
-seconds-read next some true number microsecond day second none comes few small few_days few_seconds has =
-    let tests = and_parts (number == 0) (microsecond == 0) none in
-    let seconds : second ≡ second + number = omega (arith, eqb-true number 0 tests.0) in
-    iso_from-end (at next true some day second) [] refl ∙ rw has (λ i. Ok (record { day = day; second = seconds i; microsecond = sym (eqb-true microsecond 0 tests.1) i }))
-seconds-read next some false number microsecond day second other comes few small few_days few_seconds has =
-    seconds-end next some number microsecond day second comes few small few_days few_seconds
+seconds-read next some none number microsecond day second other comes few small few_days few_seconds has = search (rules, and_parts, eqb-true, iso_from-end, seconds-end)
 
 -- the units that may still come
 days-come : (years : Bool) → is_some (unit_in (if years then units false else units_after capital_y (units false)) capital_d) ≡ true
@@ -204,6 +182,10 @@ days-some day = grind (arith, nat_tests)
 hours-some : (second microsecond : ℕ) (some : Bool) → ((second == 0) && (microsecond == 0)) ≡ false
     → (if (second % 60 == 0) && (microsecond == 0) then (if second / 60 % 60 == 0 then (if second / 3600 == 0 then some else true) else true) else true) ≡ true
 hours-some second microsecond some other = grind (arith, nat_tests)
+
+-- the length of a duration
+abbrev length_of : DurationNumbers → UnsignedDuration
+length_of numbers = record { day = numbers.day; second = numbers.second; microsecond = numbers.microsecond }
 
 -- hours, minutes and seconds are read as the end of a text
 hours-read : (numbers : DurationNumbers) (some : Bool) → IsDuration numbers → is_whole_days numbers ≡ false
@@ -262,21 +244,16 @@ text-read numbers valid =
 start-answer : (order : IsoOrder) (behavior : MicrosecondsPrecisionOverflowBehavior) (positive : Bool) (text : List ℕ)
     → duration_answer order behavior (start_text positive ++ text) ≡ result_and_then (signed_form positive) (iso_form order text)
 unfolding unsigned_answer
-start-answer order behavior true text = refl
-start-answer order behavior false text = refl
+start-answer order behavior positive text = search (rules)
 
 -- the printed text of a duration is answered by it where the order of the standard is asked for
 strict-reads : (behavior : MicrosecondsPrecisionOverflowBehavior) (numbers : DurationNumbers) → IsDuration numbers
     → duration_answer order.Strict behavior (duration_text numbers) ≡ Ok numbers
-strict-reads behavior numbers valid =
-    ap (duration_answer order.Strict behavior) (append_assoc (start_text numbers.positive) (days_text numbers) (rest_text numbers))
-    ∙ start-answer order.Strict behavior numbers.positive (days_text numbers ++ rest_text numbers) ∙ ap (result_and_then (signed_form numbers.positive)) (text-read numbers valid)
-    ∙ normal_form-same numbers valid
+strict-reads behavior numbers valid = search (rules, append_assoc, start-answer, text-read, normal_form-same)
 
 -- so the lax order answers it too
 lax-reads : {A : Type 0} (lax strict : Result A ParseError) (value : A) → IsLaxOrRefused lax strict → strict ≡ Ok value → lax ≡ Ok value
-lax-reads lax strict value (inl same) read = sym same ∙ read
-lax-reads lax strict value (inr refused) read = absurd (cc)
+lax-reads lax strict value h0 read = search (rules)
 
 pub duration_text-reads : (order : IsoOrder) (behavior : MicrosecondsPrecisionOverflowBehavior) (numbers : DurationNumbers) → IsDuration numbers
     → duration_answer order behavior (duration_text numbers) ≡ Ok numbers

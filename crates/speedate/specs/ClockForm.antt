@@ -54,16 +54,12 @@ clock_numbers hours clock = record {
   microsecond = clock.microsecond;
 }
 
--- the duration of so many hours and of a clock that takes all that follows them
-abbrev pub whole_clock : MicrosecondsPrecisionOverflowBehavior → ℕ → List ℕ → Result UnsignedDuration ParseError
-whole_clock behavior hours rest =
-    result_and_then (λ clock. meets ((clock.size == length rest else_fault fault.ExtraCharacters) ∷ []) (Ok (clock_numbers hours clock)))
-    (minute_front behavior rest)
-
--- the same, where the hours and what follows them are in range
+-- the duration of so many hours and of a clock, from its minute on, that takes all that follows them
 abbrev pub after_hours : MicrosecondsPrecisionOverflowBehavior → ℕ → List ℕ → Result UnsignedDuration ParseError
 after_hours behavior hours rest =
-    meets (hours_range behavior hours rest) (whole_clock behavior hours rest)
+    meets (hours_range behavior hours rest)
+    (result_and_then (λ clock. meets ((clock.size == length rest else_fault fault.ExtraCharacters) ∷ []) (Ok (clock_numbers hours clock)))
+    (minute_front behavior rest))
 
 -- the duration that a text is in this form, or the text's fault
 unfoldable pub clock_form : MicrosecondsPrecisionOverflowBehavior → List ℕ → Result UnsignedDuration ParseError

@@ -1,5 +1,6 @@
 -- The duration between two values, and the value a duration after another, by microseconds of any size.
-use Rattle.std.specs.Prelude.{suc, Bool, true, false, not, ◌||◌, ◌==◌, if◌then◌else◌, [], ◌∷◌, Option, Some, None, ℤ, pos, negsuc, ◌+ℤ◌, ◌-ℤ◌, int_le, unsigned_abs, Result, Ok, Err}
+use Rattle.std.specs.Prelude.{suc, true, false, not, ◌||◌, ◌==◌, if◌then◌else◌, [], ◌∷◌, ℤ, pos, negsuc, ◌+ℤ◌, ◌-ℤ◌, int_le, unsigned_abs, Result}
+use Rattle.std.specs.Option.{ok_or}
 use Rattle.speedate_base.specs.declared.faults.ParseError.{ParseError}
 use Rattle.speedate_base.specs.declared.faults.ParseError.TheVariants as fault
 use Rattle.speedate_base.specs.Numbers.{with_sign}
@@ -38,25 +39,19 @@ duration_between earlier later = duration_of_length (utc_microsecond later -ℤ 
 abbrev pub date_time_after : ℤ → DateAndTime → Result DateAndTime ParseError
 date_time_after length start = instant_date_time start.time.offset (instant_at (local_microsecond start +ℤ length))
 
--- the duration of so many days; zero is positive
-abbrev pub duration_of_days : ℤ → DurationNumbers
-duration_of_days days = record { positive = int_le (pos 0) days; day = unsigned_abs days; second = 0; microsecond = 0 }
-
--- the duration from one date to another
+-- the duration from one date to another, in whole days; zero is positive
 abbrev pub duration_between_dates : Ymd → Ymd → DurationNumbers
-duration_between_dates earlier later = duration_of_days (days_between earlier later)
-
--- a date, or the fault of one outside the years 0000 to 9999: after them if it is counted onward, before them if back
-abbrev pub date_or_fault : Bool → Option Ymd → Result Ymd ParseError
-date_or_fault onward (Some date) = Ok date
-date_or_fault onward None = Err (if onward then fault.DateTooLarge else fault.DateTooSmall)
+duration_between_dates earlier later =
+    let days = days_between earlier later in
+    record { positive = int_le (pos 0) days; day = unsigned_abs days; second = 0; microsecond = 0 }
 
 -- the days of a duration with its sign
 abbrev pub signed_days : DurationNumbers → ℤ
 signed_days numbers = with_sign (not numbers.positive) numbers.day
 
--- the date a duration after another, or the fault: that of a duration which is not whole days comes first
+-- the date a duration after another, or the fault: of a duration which is not whole days, or of a date outside the years 0000
+-- to 9999, which is after them if the duration is positive
 abbrev pub date_after_days : DurationNumbers → Ymd → Result Ymd ParseError
 date_after_days numbers start =
     meets ((is_whole_days numbers else_fault fault.DateNotExact) ∷ [])
-    (date_or_fault numbers.positive (date_added (signed_days numbers) start))
+    (ok_or (date_added (signed_days numbers) start) (if numbers.positive then fault.DateTooLarge else fault.DateTooSmall))

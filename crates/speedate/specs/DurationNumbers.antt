@@ -19,13 +19,6 @@ pub record UnsignedDuration : Type 0 where
   pub second : ℕ
   pub microsecond : ℕ
 
--- the length of a duration, and the duration that a length is with a sign
-abbrev pub length_of : DurationNumbers → UnsignedDuration
-length_of numbers = record { day = numbers.day; second = numbers.second; microsecond = numbers.microsecond }
-
-abbrev pub duration_of : Bool → UnsignedDuration → DurationNumbers
-duration_of positive length = record { positive = positive; day = length.day; second = length.second; microsecond = length.microsecond }
-
 -- its numbers are in their ranges
 pub record IsDuration (numbers : DurationNumbers) : Type 0 where
   pub day : numbers.day ≤ 999999999
@@ -70,7 +63,8 @@ normal_form numbers = meets (normal_table numbers) (Ok (of_length numbers.positi
 
 -- the normal form of a length with a sign
 abbrev pub signed_form : Bool → UnsignedDuration → Result DurationNumbers ParseError
-signed_form positive length = normal_form (duration_of positive length)
+signed_form positive length =
+    normal_form (record { positive = positive; day = length.day; second = length.second; microsecond = length.microsecond })
 
 -- the length in whole seconds with the sign
 abbrev pub signed_seconds : DurationNumbers → ℤ

@@ -153,11 +153,6 @@ abbrev pub with_item : Item → Sums → Sums
 with_item TimeDesignator sums = record sums { is_time = true; next_units = units true }
 with_item (Component component) sums = with_component (unit_in (units sums.is_time) component.designator) component sums
 
--- the fault of a designator that is no unit of its side
-abbrev pub unit_fault : Bool → ParseError
-unit_fault false = fault.DurationInvalidDateUnit
-unit_fault true = fault.DurationInvalidTimeUnit
-
 -- what an item has to meet after others. A `T`: it is the first one, also after a fraction. A component: it has digits; its
 -- number is counted in 32 bits; no component before it has a fraction; its unit is one of its side, and one that may still
 -- come; and the sums with it are counted in 32 bits
@@ -167,7 +162,8 @@ item_table sums (Component component) =
     (nat_lt 0 (length component.number) else_fault fault.DurationInvalidNumber)
     ∷ (nat_le (digits_value component.number) 4294967295 else_fault fault.DurationValueTooLarge)
     ∷ (not sums.fraction else_fault fault.DurationInvalidFraction)
-    ∷ (is_some (unit_in (units sums.is_time) component.designator) else_fault unit_fault sums.is_time)
+    ∷ (is_some (unit_in (units sums.is_time) component.designator)
+    else_fault (if sums.is_time then fault.DurationInvalidTimeUnit else fault.DurationInvalidDateUnit))
     ∷ (is_some (unit_in sums.next_units component.designator) else_fault fault.DurationUnitOrder)
     ∷ (are_counted (with_item (Component component) sums) else_fault fault.DurationValueTooLarge)
     ∷ []
@@ -196,7 +192,3 @@ Ends sums (byte ∷ rest) answer =
 abbrev pub IsAnswerFrom : Sums → List ℕ → Result UnsignedDuration ParseError → Type 0
 IsAnswerFrom sums text answer =
     (items : List Item) × (rest : List ℕ) × (text ≡ flat_map item_text items ++ rest) × AreGood sums items × Ends (with_items items sums) rest answer
-
--- the answer to what follows a `P`
-abbrev pub IsIsoAnswer : IsoOrder → List ℕ → Result UnsignedDuration ParseError → Type 0
-IsIsoAnswer order text answer = IsAnswerFrom (no_sums order) text answer

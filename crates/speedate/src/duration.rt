@@ -2,8 +2,7 @@
 
 ghost use Rattle.std.specs.Prelude.{◌≡◌, ℕ, ◌<◌, ◌≤◌, IfOk, List, unsigned_abs};
 ghost use Rattle.speedate_base.specs.Requirement.{result_map};
-ghost use Rattle.speedate.specs.DurationAnswer.{duration_answer};
-ghost use Rattle.speedate.specs.DurationForm.{IsGrammarAnswer};
+ghost use Rattle.speedate.specs.DurationAnswer.{duration_answer, IsGrammarAnswer};
 ghost use Rattle.speedate.specs.DurationNumbers.{length_seconds, length_microseconds, normal_form, signed_form, signed_seconds, signed_microsecond, signed_milliseconds};
 ghost use Rattle.speedate.specs.Exchanged.{AreExchanged};
 ghost use Rattle.speedate.specs.InOrder.{IsAnswerInOrder};

@@ -1,4 +1,5 @@
 -- What stands in a block of which a part was written.
+use Rattle.std.proofs.Common.{rules}
 use Rattle.std.proofs.Common.{◌≡◌, ◌∙◌, ap, sym, ℕ, ◌+◌, ◌-◌, ◌≤◌, List, ◌++◌, length, take, drop, min, arith}
 use Rattle.std.proofs.lemmas.List.{length-take-le, length-drop, length-append, take-append-le, take-take, take_at, take_min}
 use Rattle.std.proofs.lemmas.Slice.{between_is}
@@ -18,9 +19,7 @@ take-filled kept count old buffer post first second =
 -- and the block has room for both
 pub length-filled : (kept count : ℕ) (old buffer post : List ℕ) → kept ≤ length old → count ≤ length buffer
     → kept + count ≤ length (take kept old ++ (buffer ++ post))
-length-filled kept count old buffer post first second =
-    let long = length-take-le kept old first in
-    omega (arith, length-append (take kept old) (buffer ++ post), length-append buffer post)
+length-filled kept count old buffer post first second = search (rules, length-take-le, length-append, take)
 
 -- what was moved to the front of a block is the kept part of its unfinished line
 pub take-moved : (old after : List ℕ) (start filled n : ℕ) → start ≤ filled → filled ≤ length old → n ≡ min (filled - start) 4097

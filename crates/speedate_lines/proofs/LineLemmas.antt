@@ -1,5 +1,6 @@
 -- How the lines of a text are found from place to place, and from block to block.
-use Rattle.std.proofs.Common.{◌≡◌, ◌≢◌, ◌∙◌, ap, sym, subst, refl, ℕ, ◌+◌, ◌-◌, ◌<◌, ◌≤◌, Bool, true, false, List, [], ◌∷◌, ◌++◌, length, take, drop, get_or, append-nil, if◌then◌else◌, ◌==◌, arith, inl, inr}
+use Rattle.std.proofs.Common.{rules}
+use Rattle.std.proofs.Common.{◌≡◌, ◌≢◌, ◌∙◌, ap, sym, subst, refl, ℕ, ◌+◌, ◌-◌, ◌<◌, ◌≤◌, Bool, List, [], ◌∷◌, ◌++◌, length, take, drop, get_or, append-nil, if◌then◌else◌, ◌==◌, arith}
 use Rattle.std.proofs.lemmas.Bool.{cases_lt, eqb-false, ne_eqb}
 use Rattle.std.proofs.lemmas.List.{take_rest, length-take, get_or-take, get_or-drop, take-append-drop, drop_more, drop-drop}
 use Rattle.std.proofs.lemmas.List.Elements.{All-head, All-tail, All-nil, All-cons, All-take, All-get_or, All-from_get_or}
@@ -19,13 +20,11 @@ IsFree text = All EndsNoLine text
 
 -- a line put before the first piece
 onto_first-nil : (lines : List (List ℕ)) (last : List ℕ) → onto_first [] lines last ≡ record { complete = lines; unfinished = last }
-onto_first-nil [] last = refl
-onto_first-nil (line ∷ lines) last = refl
+onto_first-nil lines last = search (rules)
 
 onto_first-cons : (byte : ℕ) (front : List ℕ) (lines : List (List ℕ)) (last : List ℕ)
     → onto_first (byte ∷ []) (onto_first front lines last).complete (onto_first front lines last).unfinished ≡ onto_first (byte ∷ front) lines last
-onto_first-cons byte front [] last = refl
-onto_first-cons byte front (line ∷ lines) last = refl
+onto_first-cons byte front lines last = search (rules)
 
 pub pieces-onto_first : (front more : List ℕ) → IsFree front → pieces (front ++ more) ≡ onto_first front (complete_lines more) (unfinished_line more)
 pieces-onto_first [] more free = sym (onto_first-nil (complete_lines more) (unfinished_line more))
@@ -45,9 +44,7 @@ pieces-line line rest free = rw (append-nil line) at (pieces-onto_first line (li
 -- what stands after the last line feed holds none
 first-free : (byte : ℕ) (test : Bool) (lines : List (List ℕ)) (last : List ℕ) → (byte == line_feed) ≡ test → IsFree last
     → IsFree (if test then record { complete = [] ∷ lines; unfinished = last } else onto_first (byte ∷ []) lines last).unfinished
-first-free byte true lines last is free = free
-first-free byte false [] last is free = All-cons EndsNoLine byte last (eqb-false byte line_feed is) free
-first-free byte false (line ∷ lines) last is free = free
+first-free byte test lines last is free = search (rules, All-cons, eqb-false)
 
 pub unfinished-free : (text : List ℕ) → IsFree (unfinished_line text)
 unfinished-free [] = All-nil EndsNoLine
@@ -71,9 +68,7 @@ first-after : (byte : ℕ) (test : Bool) (lines : List (List ℕ)) (last more : 
     else onto_first (byte ∷ []) (lines ++ complete_lines (last ++ more)) (unfinished_line (last ++ more)))
     ≡ after (if test then record { complete = [] ∷ lines; unfinished = last } else onto_first (byte ∷ []) lines last).complete
     (pieces ((if test then record { complete = [] ∷ lines; unfinished = last } else onto_first (byte ∷ []) lines last).unfinished ++ more))
-first-after byte true lines last more is = refl
-first-after byte false [] last more is = rw is refl
-first-after byte false (line ∷ lines) last more is = refl
+first-after byte test lines last more is = search (rules)
 
 -- a text that goes on: its complete lines stay, and its unfinished one goes on
 pub pieces-append : (text more : List ℕ) → pieces (text ++ more) ≡ after (complete_lines text) (pieces (unfinished_line text ++ more))
@@ -93,10 +88,7 @@ part-free text from to within one =
 
 -- one after the other
 pub joined_one_line : (text : List ℕ) (start searched end : ℕ) → IsOneLine text start searched → IsOneLine text searched end → IsOneLine text start end
-joined_one_line text start searched end first second k after before = elim (cases_lt k searched) [
-  | inl below ↦ first k after below
-  | inr above ↦ second k above before
-]
+joined_one_line text start searched end first second k after before = search (rules, cases_lt)
 
 -- the first line from a place on, where the next line feed is known
 pub pieces-from : (text : List ℕ) (start searched end : ℕ) → start ≤ searched → IsOneLine text start searched → IsLineEnd text searched end

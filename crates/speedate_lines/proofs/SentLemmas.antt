@@ -1,7 +1,10 @@
 -- What has gone out of some bytes, step by step.
-use Rattle.std.proofs.Common.{◌≡◌, ◌∙◌, ap, sym, subst, List, [], ◌++◌, ℕ, refl, append_assoc, take, drop, take-append-drop, Result, Ok, Err}
+use Rattle.std.proofs.Common.{rules}
+use Rattle.std.proofs.Common.{◌≡◌, ◌∙◌, ap, sym, subst, List, [], ◌++◌, ℕ, refl, append_assoc, take, drop, take-append-drop, Result}
 use Rattle.std.specs.Prelude.{Option, OnErr}
 use Rattle.std.specs.Io.KnownBytes.{Appends, Keeps}
+use Rattle.std.proofs.lemmas.List.{take_rest}
+use Rattle.std.proofs.Math.Bool.{or-false}
 use Rattle.std.proofs.KnownBytes.{Appends-nil, Appends-trans, Appends-kept}
 use Rattle.speedate_lines.specs.Sent.{AppendsBut, AppendsBeginning, AppendsFrom}
 
@@ -65,5 +68,7 @@ AppendsFrom-beginning {a = a} {b = b} {c = c} first before part same = record {
 
 -- a fact that holds at an error
 pub on_err : {T E P : Type 0} (result : Result T E) → P → OnErr result P
-on_err (Ok value) holds = tt
-on_err (Err error) holds = holds
+on_err result holds = search (rules)
+
+-- what writing all bytes cites
+pub ruleset writing = (AppendsBut-all, AppendsBut-taken, AppendsBut-kept, AppendsBut-same, on_err, take_rest, or-false)

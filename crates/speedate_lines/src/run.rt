@@ -179,6 +179,7 @@ fn send<W: Write>(pending: &mut Pending, output: &mut Watched<W>) -> Result<(), 
 }
 
 /// Writes all of `bytes`.
+#[tactic(auto, using(crate::proofs::SentLemmas::writing))]
 fn write_all<W: Write>(bytes: &[u8], output: &mut Watched<W>) -> Result<(), Failed>
     ensures failed { output.new.failed ≡ (output.old.failed || is_err result) }
     ensures sent { OnOk result (Appends (W.contents output.old.inner)

@@ -56,13 +56,7 @@ impl<T> Watched<T> {
     pub fn into_inner(self) -> T
         ensures inner { result ≡ self.inner }
     {
-        let Watched {
-            inner,
-            failed: _,
-            flushed: _,
-            reads: _,
-            flushes: _,
-        } = self;
+        let Watched { inner, .. } = self;
         inner
     }
 }

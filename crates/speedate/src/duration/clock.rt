@@ -4,7 +4,7 @@ ghost use Rattle.std.specs.Prelude.{◌≡◌, ◌+◌, ◌-◌, ◌^◌, ◌<�
 ghost use Rattle.speedate_base.specs.Ascii.{colon};
 ghost use Rattle.speedate_base.specs.DigitRuns.{run_length, run_value};
 ghost use Rattle.speedate_base.specs.Requirement.{meets, result_map};
-ghost use Rattle.speedate.specs.ClockForm.{colon_place, from_minute, has_hours, hours_table, whole_clock, after_hours, clock_form};
+ghost use Rattle.speedate.specs.ClockForm.{colon_place, from_minute, has_hours, hours_table, after_hours, clock_form};
 
 use super::unsigned::UnsignedDuration;
 use speedate_base::config::MicrosecondsPrecisionOverflowBehavior;
@@ -41,7 +41,7 @@ impl UnsignedDuration {
         Self::after_hours(&bytes[end + 1..], hours.value, behavior)
     }
 
-    /// Reads what follows the hours of a clock, from its minute on.
+    /// Reads what follows the hours of a clock, from its minute on: all of `rest`.
     #[inline(always)]
     fn after_hours(
         rest: &[u8],
@@ -59,23 +59,11 @@ impl UnsignedDuration {
         if rest.len() < 2 {
             return Err(ParseError::TooShort);
         }
-        Self::whole_clock(rest, hours as u32, behavior)
-    }
-
-    /// Reads the minute and the second of a clock, which are all of `rest`.
-    #[inline(always)]
-    fn whole_clock(
-        rest: &[u8],
-        hours: u32,
-        behavior: MicrosecondsPrecisionOverflowBehavior,
-    ) -> Result<Self, ParseError>
-        requires { hours ≤ 2400000000 }
-        ensures answer { result_map unsigned_parts result ≡ whole_clock behavior hours rest.now }
-    {
         let clock = PureTime::parse_from_minute(rest, 0, behavior)?;
         if clock.size != rest.len() {
             return Err(ParseError::ExtraCharacters);
         }
+        let hours = hours as u32;
         Ok(UnsignedDuration {
             day: hours / 24,
             second: 3600 * (hours % 24) + 60 * u32::from(clock.minute) + u32::from(clock.second),

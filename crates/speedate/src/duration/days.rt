@@ -3,7 +3,7 @@
 ghost use Rattle.std.specs.Prelude.{◌≡◌, ℕ, List, ◌-◌, ◌^◌, min, codes, ◌∷◌, [], Some, None, Ok, if◌then◌else◌};
 ghost use Rattle.speedate_base.specs.Requirement.{meets, result_map};
 ghost use Rattle.speedate_base.specs.DigitRuns.{run_length, run_value};
-ghost use Rattle.speedate.specs.DayForm.{after_one_of, day_endings, gaps, has_whole_ending, is_day_letter, after_gap, days_table, after_days, rest_answer, day_form};
+ghost use Rattle.speedate.specs.DayForm.{after_one_of, day_endings, gaps, has_whole_ending, is_day_letter, after_gap, days_table, after_days, day_form};
 ghost use Rattle.std.specs.Option.{option_map};
 
 use super::unsigned::UnsignedDuration;
@@ -31,7 +31,8 @@ impl UnsignedDuration {
         Self::after_days(rest, count, behavior)
     }
 
-    /// Reads what follows the days, and joins it to them.
+    /// Reads what follows so many days, nothing or a clock of fewer than 24 hours, and joins the two.
+    #[tactic(auto, unfolding(crate::specs::DayForm::after_days))]
     #[inline(always)]
     fn after_days(
         rest: &[u8],
@@ -40,30 +41,20 @@ impl UnsignedDuration {
     ) -> Result<Self, ParseError>
         ensures answer { result_map unsigned_parts result ≡ after_days behavior days rest.now }
     {
-        let clock = Self::from_rest(rest, behavior)?;
-        Ok(UnsignedDuration { day: days, ..clock })
-    }
-
-    /// Reads what follows the days: nothing, or a clock of fewer than 24 hours.
-    #[inline(always)]
-    fn from_rest(
-        bytes: &[u8],
-        behavior: MicrosecondsPrecisionOverflowBehavior,
-    ) -> Result<Self, ParseError>
-        ensures answer { result_map unsigned_parts result ≡ rest_answer behavior bytes.now }
-    {
-        if bytes.is_empty() {
-            return Ok(UnsignedDuration {
-                day: 0,
-                second: 0,
-                microsecond: 0,
-            });
-        }
-        let clock = Self::from_clock(bytes, digit_run(bytes), behavior)?;
-        if clock.day != 0 {
-            return Err(ParseError::DurationHourValueTooLarge);
-        }
-        Ok(clock)
+        let (second, microsecond) = if rest.is_empty() {
+            (0, 0)
+        } else {
+            let clock = Self::from_clock(rest, digit_run(rest), behavior)?;
+            if clock.day != 0 {
+                return Err(ParseError::DurationHourValueTooLarge);
+            }
+            (clock.second, clock.microsecond)
+        };
+        Ok(UnsignedDuration {
+            day: days,
+            second,
+            microsecond,
+        })
     }
 }
 

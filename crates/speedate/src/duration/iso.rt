@@ -8,7 +8,7 @@ ghost use Rattle.std.specs.Option.{ForSome, option_map, is_some};
 ghost use Rattle.speedate_base.specs.declared.faults.ParseError.TheVariants as fault;
 ghost use Rattle.speedate_base.specs.Ascii.{capital_t};
 ghost use Rattle.speedate_base.specs.Requirement.{result_map, with_size};
-ghost use Rattle.speedate.specs.IsoForm.{Component, TimeDesignator, units, unit_in, is_decimal_mark, fraction_length, unit_seconds, next_units_after, fraction_seconds, fraction_microseconds, component_at, item_at, are_counted, with_amount, with_item, item_table, sums_length, unit_fault, no_sums};
+ghost use Rattle.speedate.specs.IsoForm.{Component, TimeDesignator, units, unit_in, is_decimal_mark, fraction_length, unit_seconds, next_units_after, fraction_seconds, fraction_microseconds, component_at, item_at, are_counted, with_amount, with_item, item_table, sums_length, no_sums};
 
 use super::unsigned::UnsignedDuration;
 use speedate_base::config::IsoOrder;
@@ -142,17 +142,7 @@ impl Sums {
     pub(super) fn read(body: &[u8], order: IsoOrder) -> Result<UnsignedDuration, ParseError>
         ensures answer { result_map unsigned_parts result ≡ iso_form order body.now }
     {
-        let (days, rest) = Self::none(order).with_short_components(body);
-        let (sums, rest) = days.with_short_time(rest);
-        sums.with_items(rest)
-    }
-
-    /// The sums of no items.
-    #[inline(always)]
-    fn none(order: IsoOrder) -> Self
-        ensures sums { sums_parts result ≡ no_sums order }
-    {
-        Sums {
+        let none = Sums {
             order,
             passed: 0,
             is_time: false,
@@ -161,7 +151,10 @@ impl Sums {
             day: 0,
             second: 0,
             microsecond: 0,
-        }
+        };
+        let (days, rest) = none.with_short_components(body);
+        let (sums, rest) = days.with_short_time(rest);
+        sums.with_items(rest)
     }
 
     /// The sums with the short components after a `T`, if a first one begins a text, and what follows
@@ -273,15 +266,14 @@ impl Sums {
     fn length(self) -> Result<UnsignedDuration, ParseError>
         ensures answer { result_map unsigned_parts result ≡ (if self.some then Ok (sums_length (sums_parts self)) else Err fault.TooShort) }
     {
-        if self.some {
-            Ok(UnsignedDuration {
-                day: self.day,
-                second: self.second,
-                microsecond: self.microsecond,
-            })
-        } else {
-            Err(ParseError::TooShort)
+        if !self.some {
+            return Err(ParseError::TooShort);
         }
+        Ok(UnsignedDuration {
+            day: self.day,
+            second: self.second,
+            microsecond: self.microsecond,
+        })
     }
 
     /// Reads the items of a text one by one, with all that may be wrong in them, and adds them.
@@ -336,9 +328,14 @@ impl Sums {
         }
         let rest = &text[number.length..];
         let (size, microseconds) = fraction_at_front(rest);
-        let unit = DurationUnit::of_designator(byte_at(rest, size), self.is_time).ok_or(unit_fault(
-            self.is_time,
-        ))?;
+        let unit_fault = if self.is_time {
+            ParseError::DurationInvalidTimeUnit
+        } else {
+            ParseError::DurationInvalidDateUnit
+        };
+        let unit = DurationUnit::of_designator(byte_at(rest, size), self.is_time).ok_or(
+            unit_fault,
+        )?;
         if !self.takes(&unit) {
             return Err(ParseError::DurationUnitOrder);
         }
@@ -402,29 +399,9 @@ fn fraction_at_front(text: &[u8]) -> (usize, u32)
     ensures within { result.0 ≤ length text.now }
     ensures small { result.1 < 1000000 }
 {
-    if !begins_fraction(text) {
+    if !matches!(text, [b'.' | b',', ..]) {
         return (0, 0);
     }
     let fraction = Fraction::read(text, 1);
     (1 + fraction.length, fraction.microsecond)
-}
-
-/// Whether a decimal mark stands at the front of a text.
-#[inline(always)]
-fn begins_fraction(text: &[u8]) -> bool
-    ensures mark { result ≡ is_decimal_mark (slice_index text.now 0) }
-    ensures some { IsTrue result → 0 < length text.now }
-{
-    matches!(text, [b'.' | b',', ..])
-}
-
-/// The fault of a byte that is no designator of its side.
-fn unit_fault(is_time: bool) -> ParseError
-    ensures { result ≡ unit_fault is_time }
-{
-    if is_time {
-        ParseError::DurationInvalidTimeUnit
-    } else {
-        ParseError::DurationInvalidDateUnit
-    }
 }

@@ -4,7 +4,7 @@ ghost use Rattle.std.specs.Prelude.{◌≡◌, ◌≢◌, ◌+◌, ◌++◌, ◌
 ghost use Rattle.std.specs.Fmt.{decimal};
 ghost use Rattle.arrayvec.specs.ArrayString.{array_string_len};
 ghost use Rattle.speedate_base.specs.Digits.{two_digit_text, six_digit_text};
-ghost use Rattle.speedate.specs.DurationText.{counted_text, without_last_zeros, short_fraction_text, seconds_text, start_text, rest_text, duration_text};
+ghost use Rattle.speedate.specs.DurationText.{counted_text, without_last_zeros, short_fraction_text, seconds_text, rest_text, duration_text};
 
 use super::Duration;
 use arrayvec::ArrayString;
@@ -150,14 +150,6 @@ fn push_seconds<const LENGTH: usize>(second: u32, microsecond: u32, text: &mut A
     }
 }
 
-/// How the text of a duration begins: with `-P` if it is negative, otherwise with `P`.
-#[inline(always)]
-fn start_text(positive: bool) -> &'static str
-    ensures { result.now ≡ start_text positive }
-{
-    if positive { "P" } else { "-P" }
-}
-
 impl Duration {
     ghost use Rattle.speedate_base.specs.declared.config.TimeConfig.{TimeConfig};
     ghost use Rattle.speedate_base.specs.Requirement.{result_map};
@@ -196,7 +188,7 @@ impl Duration {
         ensures text { text.new.bytes ≡ text.old.bytes ++ duration_text (parts self.now) }
         ensures short { array_string_len text.new ≤ array_string_len text.old + TEXT_MAX }
     {
-        text.push_str(start_text(self.positive));
+        text.push_str(if self.positive { "P" } else { "-P" });
         push_counted(self.day / DAYS_PER_YEAR, 'Y', text);
         push_counted(self.day % DAYS_PER_YEAR, 'D', text);
         self.push_rest(text);

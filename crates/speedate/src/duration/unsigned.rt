@@ -1,12 +1,13 @@
 //! Durations without their sign, and which form a text has.
 
 ghost use Rattle.std.specs.Prelude.{◌≡◌, ◌-◌, ◌^◌, ◌≤◌, length, min};
+ghost use Rattle.std.specs.List.{list_any};
 ghost use Rattle.speedate_base.specs.DigitRuns.{run_length, run_value};
 ghost use Rattle.speedate_base.specs.Requirement.{result_map};
 ghost use Rattle.speedate.specs.ClockForm.{clock_form};
+ghost use Rattle.speedate.specs.DayForm.{is_day_letter};
 ghost use Rattle.speedate.specs.Duration.{unsigned_parts};
-ghost use Rattle.speedate.specs.DurationAnswer.{unsigned_answer};
-ghost use Rattle.speedate.specs.DurationForm.{has_day_letter, has_days, form_answer};
+ghost use Rattle.speedate.specs.DurationAnswer.{has_days, form_answer, unsigned_answer};
 
 use super::days::is_day_letter;
 use super::iso::Sums;
@@ -40,7 +41,7 @@ impl UnsignedDuration {
     }
 
     /// Reads a duration of days, or one that a clock shows.
-    #[tactic(auto, unfolding(crate::specs::DurationForm::form_answer))]
+    #[tactic(auto, unfolding(crate::specs::DurationAnswer::form_answer))]
     #[inline(always)]
     fn days_or_clock(
         bytes: &[u8],
@@ -95,7 +96,7 @@ fn has_days(bytes: &[u8], end: usize) -> bool
 /// Whether the letter of a day stands anywhere.
 #[inline]
 fn has_day_letter(bytes: &[u8]) -> bool
-    ensures { result ≡ has_day_letter bytes.now }
+    ensures { result ≡ list_any is_day_letter bytes.now }
 {
     bytes.iter().any(|&byte| is_day_letter(byte))
 }

@@ -1,4 +1,4 @@
-use Rattle.std.proofs.Common.{arith}
+use Rattle.std.proofs.Common.{arith, rules}
 use Rattle.speedate_lines.proofs.MarkLemmas.{IsOneLine-from_marks, IsLineEnd-from_marks}
 use Rattle.speedate_lines.proofs.line_end.line_end.Goals as goal
 
@@ -11,11 +11,4 @@ returns-then-marks-ne0 c =
     }
 
 pub loop-place-preserved : goal.loop-place-preserved
-loop-place-preserved c =
-    let before = c.loop-place.invariant in
-    let marks = c.line_feeds-marks.ensures.marks in
-    record {
-      after = omega (arith, before.after);
-      within = omega (arith, before.within);
-      one_line = IsOneLine-from_marks c.args.text.now c.args.from c.loop-place.place _ (omega (arith, before.within)) before.one_line marks c.if-marks-ne0.false;
-    }
+loop-place-preserved c = search (rules, IsOneLine-from_marks)

@@ -1,4 +1,4 @@
-use Rattle.std.proofs.Common.{◌∙◌, ap, sym, ℕ, ◌+◌, ◌-◌, List, [], ◌∷◌, ◌++◌, take, drop, append_assoc, append-nil, arith, refl}
+use Rattle.std.proofs.Common.{rules, ◌∙◌, ap, sym, ℕ, ◌+◌, ◌-◌, List, [], ◌∷◌, ◌++◌, take, drop, append_assoc, append-nil, arith}
 use Rattle.speedate.specs.Ascii.{line_feed}
 use Rattle.speedate_lines.specs.Lines.{Pieces, complete_lines}
 use Rattle.speedate_lines.specs.Answer.{line_answer, answers}
@@ -8,15 +8,7 @@ use Rattle.std.proofs.Math.Bool.{or-false}
 use Rattle.speedate_lines.proofs.run.answer_lines.Goals as goal
 
 pub loop-end-init : goal.loop-end-init
-loop-end-init g c = record {
-  ordered = omega arith;
-  within = c.requires.within;
-  one_line = c.requires.one_line;
-  answered = rw c.requires.empty (AppendsBut-all _ _);
-  failed = refl;
-  unflushed = refl;
-  rest = refl;
-}
+loop-end-init g c = search (rules, AppendsBut-all)
 
 pub loop-end-preserved : goal.loop-end-preserved
 loop-end-preserved g c =

@@ -1,4 +1,4 @@
-use Rattle.std.proofs.Common.{◌≡◌, ap, ℕ, ◌-◌, ◌^◌, ◌<◌, ◌≤◌, List, length, take, drop, arith, inl, inr}
+use Rattle.std.proofs.Common.{rules, ◌≡◌, ap, ℕ, ◌-◌, ◌<◌, ◌≤◌, List, length, take, drop, arith}
 use Rattle.std.proofs.lemmas.Bool.{false≢true, cases_lt}
 use Rattle.std.proofs.lemmas.List.{length-take, length-drop}
 use Rattle.speedate_lines.specs.Block.{longest_read}
@@ -29,7 +29,4 @@ returns-clause-filled g c =
     }
 
 pub returns-clause-counted : goal.returns-clause-counted
-returns-clause-counted g c = elim (cases_lt c.args.input.now.reads (2 ^ 64 - 1)) [
-  | inl few ↦ c.in_ok-count.ensures.counted few
-  | inr many ↦ absurd (false≢true (c.in_ok-count.ensures.refused many).0)
-]
+returns-clause-counted g c = search (rules, false≢true, cases_lt)

@@ -6,7 +6,7 @@ use Rattle.speedate_base.specs.declared.faults.ParseError.{ParseError}
 use Rattle.speedate_base.specs.Requirement.{result_map}
 use Rattle.speedate.specs.declared.duration.unsigned.UnsignedDuration.{UnsignedDuration}
 use Rattle.speedate.specs.Duration.{unsigned_parts}
-use Rattle.speedate.specs.DurationForm.{form_answer}
+use Rattle.speedate.specs.DurationAnswer.{form_answer}
 use Rattle.speedate.proofs.ClockFormLemmas.{clock-no_letter}
 use Rattle.speedate.proofs.duration.unsigned.UnsignedDuration.days_or_clock.Goals as goal
 
