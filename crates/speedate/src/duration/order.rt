@@ -4,11 +4,11 @@ ghost use Rattle.std.specs.Prelude.{◌≡◌, Some};
 ghost use Rattle.std.proofs.Common.{rules};
 ghost use Rattle.std.specs.Cmp.{po, on_total};
 ghost use Rattle.std.specs.Cmp.Rules.{comparing};
-ghost use Rattle.std.specs.Ordering.{on, as_partial_cmp, bool_cmp, int_cmp, nat_cmp, ordering_then};
+ghost use Rattle.std.specs.Ordering.{on, as_partial_cmp, bool_cmp, int_cmp, ordering_then};
 ghost use Rattle.speedate.specs.Duration.{parts};
 ghost use Rattle.speedate.specs.DurationMove.{signed_length};
-ghost use Rattle.speedate.specs.DurationNumbers.{length_microseconds};
-ghost use Rattle.speedate.specs.DurationOrder.{duration_order, duration_order-total, equal-fields};
+ghost use Rattle.speedate.specs.DurationOrderTotal.{duration_order-total};
+ghost use Rattle.speedate.specs.DurationOrder.{size_order, duration_order};
 
 use super::Duration;
 use std::cmp::Ordering;
@@ -17,7 +17,7 @@ impl Duration {
     /// Which of two durations is the shorter one, whatever their signs.
     #[inline]
     fn size_cmp(&self, other: &Duration) -> Ordering
-        ensures length { result ≡ nat_cmp (length_microseconds (parts self.now)) (length_microseconds (parts other.now)) }
+        ensures order { result ≡ size_order (parts self.now) (parts other.now) }
     {
         self.day
             .cmp(&other.day)
@@ -33,7 +33,7 @@ impl Ord for Duration {
 
     ghost matches_partial_cmp = { Prim.search (comparing, rules) };
 
-    ghost matches_eq = { Prim.search (equal-fields, comparing, rules) };
+    ghost matches_eq = { Prim.search (comparing, rules) };
 
     /// Which of two durations is the smaller one: a negative one before a positive one, the shorter
     /// of two positive ones, and the longer of two negative ones. Negative zero is before positive
@@ -56,7 +56,7 @@ impl Ord for Duration {
 impl PartialOrd for Duration {
     ghost partial_cmp = { as_partial_cmp (on parts duration_order) };
 
-    ghost laws = { po (on_total parts duration_order-total) equal-fields };
+    ghost laws = { po (on_total parts duration_order-total) (Prim.search (comparing, rules)) };
 
     /// What [`Duration::cmp`] returns, since any two durations have an order:
     /// `Some(Ordering::Less)` for -PT0S and PT0S.
