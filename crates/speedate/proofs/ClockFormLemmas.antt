@@ -19,7 +19,7 @@ use Rattle.speedate_base.specs.declared.faults.ParseError.TheVariants as fault
 use Rattle.speedate_base.specs.Digits.{two_digits_at}
 use Rattle.speedate_base.specs.Requirement.{◌else_fault◌, ◌implies◌, meets, result_and_then}
 use Rattle.speedate_base.proofs.RequirementLemmas.{and_then-ok, meets-ok, meets-value}
-use Rattle.speedate_civil.specs.ClockText.{Clock, has_point, has_second, minute_clock, minute_digits, minute_table, minute_front, clock_answer}
+use Rattle.speedate_civil.specs.ClockText.{Clock, has_decimal_mark, has_second, minute_clock, minute_digits, minute_table, minute_front, clock_answer}
 use Rattle.speedate.specs.DayForm.{is_day_letter}
 use Rattle.speedate.specs.DurationAnswer.{has_days}
 use Rattle.speedate.specs.DurationNumbers.{UnsignedDuration}
@@ -89,7 +89,7 @@ after-point a b c d e p last false is sized = absurd (grind (arith, nat_tests, s
 -- what follows the minute of a clock that takes all of a text
 after-minute : (a b c : ℕ) (more : List ℕ) (second : Bool)
     → (second implies two_digits_at (a ∷ b ∷ c ∷ more) 3) ≡ true
-    → ((if second && has_point (a ∷ b ∷ c ∷ more) then 6 + run_length (a ∷ b ∷ c ∷ more) 6 else (if second then 5 else 2)) == length (a ∷ b ∷ c ∷ more)) ≡ true
+    → ((if second && has_decimal_mark (a ∷ b ∷ c ∷ more) then 6 + run_length (a ∷ b ∷ c ∷ more) 6 else (if second then 5 else 2)) == length (a ∷ b ∷ c ∷ more)) ≡ true
     → (second ≡ true) × (list_any is_day_letter more ≡ false)
 after-minute a b c more false asked sized = absurd (grind (arith, nat_tests, sized))
 after-minute a b c [] true asked sized = (refl, refl)

@@ -1,22 +1,9 @@
 -- A printed clock is read as itself, from its minute on.
-use Rattle.std.proofs.lemmas.Grind.{common_steps}
-use Rattle.std.specs.Prelude.{◌≡◌, ℕ, ◌+◌, ◌<◌, ◌≤◌, Bool, true, false, List, ◌∷◌, ◌++◌, length, nat_le, slice_index, Ok, refl}
-use Rattle.std.specs.Char.{is_ascii_digit}
-use Rattle.std.specs.List.{list_all, prefix_len}
-use Rattle.std.proofs.Common.{rules, arith, ◌∙◌, ap, take}
-use Rattle.std.proofs.Math.Seq.{take-append_seam}
-use Rattle.std.proofs.lemmas.Bool.{le-leb, lt-ltb}
-use Rattle.speedate_base.specs.declared.config.MicrosecondsPrecisionOverflowBehavior.{MicrosecondsPrecisionOverflowBehavior}
-use Rattle.speedate_base.specs.Ascii.{full_stop}
-use Rattle.speedate_base.specs.DigitRuns.{run_length, fraction_value}
-use Rattle.speedate_base.proofs.DigitRunLemmas.{run_length-append}
-use Rattle.speedate_base.specs.Digits.{six_digit_text}
-use Rattle.speedate_base.proofs.DigitLemmas.{two_digits-printed, two_digit_value-printed, six_digits-printed, fraction_value-printed}
-use Rattle.speedate_base.specs.Config.{refuses_digits}
-use Rattle.speedate_base.specs.Requirement.{◌implies◌}
-use Rattle.speedate_civil.specs.ClockText.{clock_answer, is_decimal_mark, minute_text}
+use Rattle.speedate_civil.proofs.Names.{common_steps, is_ascii_digit, list_all, take-append_seam, MicrosecondsPrecisionOverflowBehavior, full_stop, run_length, fraction_value, six_digit_text, refuses_digits, ◌implies◌}
+use Rattle.speedate_civil.proofs.Names.{clock_answer, is_decimal_mark, minute_text, run_length-append, two_digits-printed, two_digit_value-printed, six_digits-printed, fraction_value-printed}
+use Rattle.std.proofs.Common.{◌≡◌, ℕ, ◌+◌, ◌<◌, ◌≤◌, Bool, true, false, List, ◌∷◌, ◌++◌, length, nat_le, slice_index, Ok, rules, arith}
 
--- without a fraction, whatever follows that is no point
+-- without a fraction, whatever follows that is no decimal mark
 pub clock-whole : (behavior : MicrosecondsPrecisionOverflowBehavior) (minute second : ℕ) (tail : List ℕ)
     → minute ≤ 59 → second ≤ 59 → is_decimal_mark (slice_index tail 0) ≡ false
     → clock_answer behavior (minute_text minute second ++ tail)
@@ -36,13 +23,7 @@ pub clock-secfrac : (behavior : MicrosecondsPrecisionOverflowBehavior) (minute s
     → clock_answer behavior (minute_text minute second ++ full_stop ∷ digits ++ tail)
     ≡ Ok (record { hour = 0; minute = minute; second = second; microsecond = fraction_value 6 digits; size = 6 + length digits })
 clock-secfrac behavior minute second digits tail small_minute small_second all some few other =
-    let minute_is = two_digit_value-printed minute in
-    let second_is = two_digit_value-printed second in
-    let long : prefix_len is_ascii_digit (digits ++ tail) ≡ length digits =
-    run_length-append digits tail all ∙ ap (λ (n : ℕ). length digits + n) (run_length-none tail other) ∙ omega arith in
-    let value : take (prefix_len is_ascii_digit (digits ++ tail)) (digits ++ tail) ≡ digits = ap (λ (n : ℕ). take n (digits ++ tail)) long ∙ take-append_seam digits tail in
-    let asked : ((refuses_digits behavior) implies nat_le (length digits) 6) ≡ true = few-holds (refuses_digits behavior) (length digits) few in
-    rw (minute_is, second_is, le-leb minute 59 small_minute, le-leb second 59 small_second, two_digits-printed second (omega arith), value, long, lt-ltb 0 (length digits) some, asked) refl
+    grind (arith, common_steps, run_length-append, run_length-none, take-append_seam, two_digit_value-printed, two_digits-printed, few-holds)
 
 -- and so is one of six digits
 pub clock-fraction : (behavior : MicrosecondsPrecisionOverflowBehavior) (minute second microsecond : ℕ) (tail : List ℕ)

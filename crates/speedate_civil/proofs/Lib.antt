@@ -1,3 +1,4 @@
+mod Names
 mod AfterTimeLemmas
 mod DaysLemmas
 mod ClockLemmas

@@ -1,6 +1,5 @@
 -- The year of a day number, by cycles of 400 years, centuries, four years and years.
-use Rattle.std.specs.Prelude.{◌≡◌, ℕ, ◌+◌, ◌*◌, ◌/◌, ◌%◌, ◌<◌, ◌≤◌, min}
-use Rattle.std.proofs.Common.{arith}
+use Rattle.std.proofs.Common.{◌≡◌, ℕ, ◌+◌, ◌*◌, ◌/◌, ◌%◌, ◌<◌, ◌≤◌, min, arith}
 use Rattle.speedate_civil.specs.DayNumber.{year_length, days_before_year}
 use Rattle.speedate_civil.proofs.DayNumberLemmas.{year_length-is, days_before_year-is}
 

@@ -3,14 +3,12 @@
 -- Departs from it: there is no second 60; a fraction has at most six digits, or further ones are dropped; the second may be
 -- left out, with its fraction; the decimal mark may be a comma, as in ISO 8601.
 use Rattle.std.specs.Prelude.{ℕ, ◌+◌, Bool, ◌&&◌, ◌||◌, List, [], ◌∷◌, ◌++◌, length, drop, nat_le, nat_lt, ◌==◌, slice_index, if◌then◌else◌, Result, Ok}
-use Rattle.speedate_base.specs.declared.config.MicrosecondsPrecisionOverflowBehavior.{MicrosecondsPrecisionOverflowBehavior}
-use Rattle.speedate_base.specs.declared.faults.ParseError.{ParseError}
+use Rattle.speedate_civil.specs.Steps.{MicrosecondsPrecisionOverflowBehavior, ParseError, Requirement, ◌else_fault◌, ◌implies◌, meets, result_map}
 use Rattle.speedate_base.specs.declared.faults.ParseError.TheVariants as fault
 use Rattle.speedate_base.specs.Ascii.{colon, comma, full_stop}
 use Rattle.speedate_base.specs.DigitRuns.{run_length, run_digits, fraction_value}
 use Rattle.speedate_base.specs.Digits.{two_digits_at, two_digit_value, two_digit_text, six_digit_text}
 use Rattle.speedate_base.specs.Config.{refuses_digits}
-use Rattle.speedate_base.specs.Requirement.{Requirement, ◌else_fault◌, ◌implies◌, meets, result_map}
 
 -- the numbers of a clock, and how many bytes of the text it takes
 pub record Clock : Type 0 where
@@ -29,12 +27,12 @@ abbrev pub is_decimal_mark : ℕ → Bool
 is_decimal_mark byte = (byte == full_stop) || (byte == comma)
 
 -- a decimal mark stands where the second ends
-abbrev pub has_point : List ℕ → Bool
-has_point rest = is_decimal_mark (slice_index rest 5)
+abbrev pub has_decimal_mark : List ℕ → Bool
+has_decimal_mark rest = is_decimal_mark (slice_index rest 5)
 
 -- a fraction follows the second
 abbrev pub has_fraction : List ℕ → Bool
-has_fraction rest = has_second rest && has_point rest
+has_fraction rest = has_second rest && has_decimal_mark rest
 
 -- the clock of hour 0 whose minute stands at the front of a text
 abbrev pub minute_clock : List ℕ → Clock

@@ -1,19 +1,16 @@
 -- Date-times from timestamps (Unix time), and from texts that are a timestamp instead.
 use Rattle.std.specs.Prelude.{◌≡◌, ℕ, ◌+◌, ◌/◌, ◌%◌, ◌^◌, List, [], ◌∷◌, nat_lt, Option, Some, None, ℤ, pos, ◌+ℤ◌, int_lt, Result, Ok}
-use Rattle.speedate_base.specs.declared.config.MicrosecondsPrecisionOverflowBehavior.{MicrosecondsPrecisionOverflowBehavior}
+use Rattle.speedate_civil.specs.Steps.{MicrosecondsPrecisionOverflowBehavior, ParseError, Requirement, ◌else_fault◌, meets, result_map, ◌>>=◌}
 use Rattle.speedate_base.specs.declared.config.TimestampUnit.{TimestampUnit}
-use Rattle.speedate_base.specs.declared.faults.ParseError.{ParseError}
 use Rattle.speedate_base.specs.declared.faults.ParseError.TheVariants as fault
 use Rattle.speedate_base.specs.DecimalTimestamp.{decimal_row, decimal_instant, digits_table}
 use Rattle.speedate_base.specs.Numbers.{DecimalParts, Number, Whole, Fractional, NoNumber, number_answer}
-use Rattle.speedate_base.specs.Requirement.{Requirement, ◌else_fault◌, meets, result_map}
 use Rattle.speedate_base.specs.Timestamp.{Instant, timestamp_microsecond, instant_answer, range_answer}
 use Rattle.speedate_civil.specs.DateAndTime.{DateAndTime, local_second}
 use Rattle.speedate_civil.specs.DateTimeText.{date_time_answer}
 use Rattle.speedate_civil.specs.DateTimestamp.{day_at, second_at}
 use Rattle.speedate_civil.specs.DayNumber.{date_after}
 use Rattle.speedate_civil.specs.NumberText.{or_number}
-use Rattle.speedate_civil.specs.Steps.{◌>>=◌}
 use Rattle.speedate_civil.specs.TimeOfDay.{time_at}
 
 -- the instant so many microseconds later

@@ -1,19 +1,16 @@
 -- Dates from timestamps (Unix time), and from texts that are a timestamp instead.
-use Rattle.std.specs.Prelude.{ℕ, Bool, true, ◌&&◌, ◌==◌, List, [], ◌∷◌, ℤ, pos, ◌+ℤ◌, unsigned_abs, Result, Ok}
+use Rattle.std.specs.Prelude.{ℕ, Bool, true, ◌&&◌, ◌==◌, List, [], ◌∷◌, ℤ, pos, ◌+ℤ◌, unsigned_abs, Result, Ok, option_map}
 use Rattle.std.specs.Int.{int_div_euclid, int_rem_euclid}
-use Rattle.std.specs.Option.{option_map}
 use Rattle.speedate_base.specs.declared.config.TimestampUnit.{TimestampUnit}
-use Rattle.speedate_base.specs.declared.faults.ParseError.{ParseError}
+use Rattle.speedate_civil.specs.Steps.{ParseError, ◌else_fault◌, ◌implies◌, meets, ◌>>=◌}
 use Rattle.speedate_base.specs.declared.faults.ParseError.TheVariants as fault
 use Rattle.speedate_base.specs.Numbers.{whole_number}
 use Rattle.speedate_base.specs.Offset.{seconds_per_day}
-use Rattle.speedate_base.specs.Requirement.{◌else_fault◌, ◌implies◌, meets}
 use Rattle.speedate_base.specs.Timestamp.{Instant, instant_answer, range_answer}
 use Rattle.speedate_civil.specs.Calendar.{Ymd}
 use Rattle.speedate_civil.specs.DateText.{date_answer}
 use Rattle.speedate_civil.specs.DayNumber.{epoch_day, date_after}
 use Rattle.speedate_civil.specs.NumberText.{or_number}
-use Rattle.speedate_civil.specs.Steps.{◌>>=◌}
 
 -- the number of the day on which a second since 1970-01-01T00:00:00 lies
 abbrev pub day_at : ℤ → ℕ

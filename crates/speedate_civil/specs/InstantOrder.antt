@@ -1,7 +1,6 @@
 -- The order of times, and of date-times, by instant: in UTC if both have an offset, and otherwise as clocks show them. A time
 -- is taken to be one of 1970-01-01.
-use Rattle.std.specs.Prelude.{◌≡◌, ℤ, pos, Option, Bool, ◌&&◌, IsTrue, if◌then◌else◌}
-use Rattle.std.specs.Option.{is_some}
+use Rattle.std.specs.Prelude.{◌≡◌, ℤ, pos, Option, Bool, ◌&&◌, IsTrue, if◌then◌else◌, is_some}
 use Rattle.std.specs.Ordering.{is_le, int_cmp, nat_cmp, on, then_cmp}
 use Rattle.std.specs.declared.cmp.Ordering.{Ordering}
 use Rattle.speedate_base.specs.Timestamp.{Instant}

@@ -2,16 +2,14 @@
 -- and `numbers` what follows the sign.
 -- Departs from it: the offset may be left out, and so may its `:`; the sign may be U+2212, as in ISO 8601; `-00:00` is the
 -- offset 0, which for RFC 3339 4.3 is an unknown one.
-use Rattle.std.specs.Prelude.{ℕ, ◌+◌, ◌*◌, ◌/◌, ◌%◌, Bool, ◌&&◌, ◌||◌, List, [], ◌∷◌, ◌++◌, drop, true, nat_le, nat_lt, ◌==◌, slice_index, if◌then◌else◌, Option, Some, None, ℤ, pos, unsigned_abs, Result, Ok}
+use Rattle.std.specs.Prelude.{ℕ, ◌+◌, ◌*◌, ◌/◌, ◌%◌, Bool, ◌&&◌, ◌||◌, List, [], ◌∷◌, ◌++◌, drop, true, nat_le, nat_lt, ◌==◌, slice_index, if◌then◌else◌, Option, Some, None, ℤ, pos, unsigned_abs, Result, Ok, is_some}
 use Rattle.std.specs.Int.{is_negative}
-use Rattle.std.specs.Option.{is_some}
-use Rattle.speedate_base.specs.declared.faults.ParseError.{ParseError}
+use Rattle.speedate_civil.specs.Steps.{ParseError, Requirement, ◌else_fault◌, meets}
 use Rattle.speedate_base.specs.declared.faults.ParseError.TheVariants as fault
 use Rattle.speedate_base.specs.Ascii.{plus_sign, hyphen, colon, capital_z, small_z}
 use Rattle.speedate_base.specs.Digits.{two_digits_at, two_digit_value, two_digit_text}
 use Rattle.speedate_base.specs.Numbers.{with_sign}
 use Rattle.speedate_base.specs.Offset.{seconds_per_day}
-use Rattle.speedate_base.specs.Requirement.{Requirement, ◌else_fault◌, meets}
 
 -- a byte is `+` or `-`
 abbrev pub is_plus_or_minus : ℕ → Bool

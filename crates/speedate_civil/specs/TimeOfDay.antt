@@ -1,10 +1,9 @@
 -- The time of day.
 use Rattle.std.specs.Prelude.{ℕ, ◌+◌, ◌*◌, ◌/◌, ◌%◌, ◌≤◌, Option, ℤ, pos, ◌-ℤ◌, Result, Ok, [], ◌∷◌, nat_lt}
 use Rattle.std.specs.Option.{ForSome, unwrap_or}
-use Rattle.speedate_base.specs.declared.faults.ParseError.{ParseError}
+use Rattle.speedate_civil.specs.Steps.{ParseError, ◌else_fault◌, meets}
 use Rattle.speedate_base.specs.declared.faults.ParseError.TheVariants as fault
 use Rattle.speedate_base.specs.Offset.{IsOffset, seconds_per_day}
-use Rattle.speedate_base.specs.Requirement.{◌else_fault◌, meets}
 
 -- a time of day by its numbers, and its offset from UTC in seconds, if it has one
 pub record TimeOfDay : Type 0 where

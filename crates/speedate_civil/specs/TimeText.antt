@@ -1,16 +1,12 @@
 -- The text of a time of day, `HH:MM:SS` with a fraction and an offset (RFC 3339 5.6, full-time).
 -- Departs from it: as a clock and an offset do.
-use Rattle.std.specs.Prelude.{ℕ, ◌+◌, Bool, not, ◌&&◌, ◌||◌, ◌==◌, List, ◌∷◌, ◌++◌, drop, slice_index, if◌then◌else◌, Option, ℤ, Result, Ok}
+use Rattle.std.specs.Prelude.{ℕ, ◌+◌, Bool, not, ◌&&◌, ◌||◌, ◌==◌, List, ◌∷◌, ◌++◌, drop, slice_index, if◌then◌else◌, Option, ℤ, Result, Ok, is_some}
 use Rattle.std.specs.Char.{is_ascii_digit}
-use Rattle.std.specs.Option.{is_some}
-use Rattle.speedate_base.specs.declared.config.MicrosecondsPrecisionOverflowBehavior.{MicrosecondsPrecisionOverflowBehavior}
-use Rattle.speedate_base.specs.declared.faults.ParseError.{ParseError}
+use Rattle.speedate_civil.specs.Steps.{MicrosecondsPrecisionOverflowBehavior, ParseError, alone, ◌>>=◌}
 use Rattle.speedate_base.specs.Ascii.{colon}
 use Rattle.speedate_base.specs.Digits.{two_digit_text}
-use Rattle.speedate_base.specs.Requirement.{alone}
 use Rattle.speedate_civil.specs.ClockText.{Clock, clock_front, is_decimal_mark, minute_text, fraction_text}
 use Rattle.speedate_civil.specs.OffsetText.{begins_offset, offset_front, end_fault, offset_text}
-use Rattle.speedate_civil.specs.Steps.{◌>>=◌}
 use Rattle.speedate_civil.specs.TimeOfDay.{TimeOfDay}
 
 -- the time of a clock and an offset

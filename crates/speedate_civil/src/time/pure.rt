@@ -3,7 +3,7 @@
 ghost use Rattle.std.specs.Prelude.{◌≡◌, ◌+◌, ◌≤◌, IfOk, IsTrue, length, drop, codes};
 ghost use Rattle.speedate_base.specs.Digits.{two_digit_value};
 ghost use Rattle.speedate_base.specs.Pattern.{fit_length};
-ghost use Rattle.speedate_civil.specs.ClockText.{has_point};
+ghost use Rattle.speedate_civil.specs.ClockText.{has_decimal_mark};
 ghost use Rattle.speedate_civil.specs.Reader.{second_there};
 
 use crate::time::Time;
@@ -185,7 +185,7 @@ impl PureTime {
         if second > 59 {
             return Err(ParseError::OutOfRangeSecond);
         }
-        if !has_point(rest) {
+        if !has_decimal_mark(rest) {
             return Ok(PureTime {
                 hour: 0,
                 minute,
@@ -231,8 +231,8 @@ fn second_there(front: u8x8, fits: usize) -> Second
 
 /// Whether a decimal mark, `.` or `,`, follows the second of a time that is given from its minute on.
 #[inline]
-fn has_point(rest: &[u8]) -> bool
-    ensures value { result ≡ has_point rest.now }
+fn has_decimal_mark(rest: &[u8]) -> bool
+    ensures value { result ≡ has_decimal_mark rest.now }
     ensures there { IsTrue result → 6 ≤ length rest.now }
 {
     let byte = byte_at(rest, 5);

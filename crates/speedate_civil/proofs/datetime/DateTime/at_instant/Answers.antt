@@ -1,14 +1,9 @@
-use Rattle.std.proofs.Common.{◌≡◌, ◌∙◌, ap, sym, subst, ℕ, rules}
-use Rattle.std.proofs.lemmas.Int.{to_z-of_z}
-use mir.Syntax.{w64}
-use mir.Val.{SFits}
+use Rattle.std.proofs.Common.{◌≡◌, ◌∙◌, ap, sym, subst, ℕ, rules, w64, SFits}
+use Rattle.speedate_civil.proofs.Names.{to_z-of_z, DateAndTime, IsShownAt, date_time_at, time_at}
 use Rattle.speedate_base.specs.UnixTime.{parts as instant_parts}
 use Rattle.speedate_civil.specs.Date.{parts as date_parts}
-use Rattle.speedate_civil.specs.DateAndTime.{DateAndTime}
 use Rattle.speedate_civil.proofs.DateTimeInstantLemmas.{date_time_at-shown}
-use Rattle.speedate_civil.specs.DateTimeTimestamp.{IsShownAt, date_time_at}
 use Rattle.speedate_civil.specs.Time.{parts as time_parts}
-use Rattle.speedate_civil.specs.TimeOfDay.{time_at}
 use Rattle.speedate_civil.proofs.datetime.DateTime.at_instant.Goals as goal
 
 pub returns-clause-shown : goal.returns-clause-shown

@@ -1,10 +1,8 @@
 use Rattle.std.proofs.Common.{◌∙◌, ap}
-use Rattle.speedate_base.specs.DecimalTimestamp.{decimal_instant}
+use Rattle.speedate_civil.proofs.Names.{decimal_instant, UnitRow, instant_date_time}
 use Rattle.speedate_base.specs.IntFloat.{parts as decimal_parts}
-use Rattle.speedate_base.specs.Timestamp.{UnitRow}
 use Rattle.speedate_civil.specs.DateTime.{parts}
 use Rattle.speedate_civil.proofs.DateTimeInstantLemmas.{date_time_decimal-nearest}
-use Rattle.speedate_civil.specs.DateTimeTimestamp.{instant_date_time}
 use Rattle.speedate_civil.proofs.ReadLemmas.{read-result}
 use Rattle.speedate_civil.proofs.datetime.DateTime.from_decimal_with_config.Goals as goal
 

@@ -1,5 +1,4 @@
-use Rattle.std.proofs.Common.{rules}
-use Rattle.std.proofs.lemmas.List.{drop-drop}
+use Rattle.std.proofs.Common.{rules, drop-drop}
 use Rattle.speedate_civil.proofs.time.fraction.Fraction.after_second.Goals as goal
 
 pub returns-clause-length : goal.returns-clause-length
