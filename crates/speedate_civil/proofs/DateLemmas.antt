@@ -1,6 +1,9 @@
 -- The text by which a date is printed is read as the date, whatever follows it.
 use Rattle.std.proofs.Common.{◌≡◌, ℕ, List, ◌++◌, ◌≤◌, true, length, Ok, rules, arith, ap, sym, subst, le-leb}
-use Rattle.speedate_civil.proofs.Names.{is_in_range, IsInRange, two_digits-printed, four_digits-printed, Ymd, IsDate, month_length, date_text, date_front, date_answer, date_numbers}
+use Rattle.std.specs.Int.{is_in_range, IsInRange}
+use Rattle.speedate_base.proofs.DigitLemmas.{two_digits-printed, four_digits-printed}
+use Rattle.speedate_civil.specs.Calendar.{Ymd, IsDate, month_length}
+use Rattle.speedate_civil.specs.DateText.{date_text, date_front, date_answer, date_numbers}
 
 -- no month is longer than 31 days
 pub month_length-small : (year month : ℕ) → month_length year month ≤ 31

@@ -1,6 +1,14 @@
 -- Laws of the order of dates: it is that of the day numbers, and that of the texts.
 use Rattle.std.proofs.Common.{◌≡◌, ℕ, ◌+◌, ◌-◌, ◌/◌, ◌%◌, ◌<◌, List, [], ◌++◌, refl, nat_cmp, Ordering, Equal, rules, arith, ◌∙◌, ap}
-use Rattle.speedate_civil.proofs.Names.{slice_cmp, ordering_then, nat_tests, digit, Ymd, IsDay, date_order, date_text, days_of_months, days_before_year, day_number}
+use Rattle.std.specs.Cmp.Lexicographic.{slice_cmp}
+use Rattle.std.specs.Ordering.{ordering_then}
+use Rattle.std.proofs.lemmas.Bool.Decides.{nat_tests}
+use Rattle.speedate_base.specs.Digits.{digit}
+use Rattle.speedate_civil.specs.Calendar.{Ymd, IsDay}
+use Rattle.speedate_civil.specs.DateOrder.{date_order}
+use Rattle.speedate_civil.specs.DateText.{date_text}
+unfoldable use Rattle.speedate_civil.specs.DayNumber.{days_of_months, days_before_year}
+use Rattle.speedate_civil.specs.DayNumber.{day_number}
 use Rattle.speedate_civil.proofs.DayNumberLemmas.{days_of_months-next, days_of_months-rises, days_before_year-next, days_before_year-rises, ordinal_day-small}
 
 -- an earlier year has smaller day numbers

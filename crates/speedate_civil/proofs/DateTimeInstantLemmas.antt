@@ -1,8 +1,16 @@
 -- The date-time of a timestamp lies as many microseconds after 1970-01-01T00:00:00 as the timestamp means.
 use Rattle.std.proofs.Common.{◌≡◌, ℕ, true, int_le, length, Option, ℤ, pos, ◌+ℤ◌, ◌*ℤ◌, IfOk, Ok, refl, arith, ◌∙◌, ap, sym, subst}
-use Rattle.speedate_civil.proofs.Names.{ints, TimestampUnit, decimal_row, decimal_scale, decimal_size, decimal_microsecond, decimal_instant, IsNearest, DecimalParts, Instant, timestamp_microsecond, instant_at, instant_answer, unit_table}
-use Rattle.speedate_civil.proofs.Names.{first_second, range_table, range_answer, DateAndTime, local_second, local_microsecond, IsShownAt, later_instant, later_answer, sum_table, date_time_at, instant_date_time, date_time_timestamp_answer}
-use Rattle.speedate_civil.proofs.Names.{date_time_decimal_answer, meant_microsecond, nearest-is, scale-some, meets-value, instant_microsecond, instant_at-microsecond}
+use Rattle.std.proofs.lemmas.Int.{ints}
+use Rattle.speedate_base.specs.declared.config.TimestampUnit.{TimestampUnit}
+use Rattle.speedate_base.specs.DecimalTimestamp.{decimal_row, decimal_scale, decimal_size, decimal_microsecond, decimal_instant}
+use Rattle.speedate_base.specs.Nearest.{IsNearest}
+use Rattle.speedate_base.specs.Numbers.{DecimalParts}
+use Rattle.speedate_base.specs.Timestamp.{Instant, timestamp_microsecond, instant_at, instant_answer, unit_table, first_second, range_table, range_answer}
+use Rattle.speedate_civil.specs.DateAndTime.{DateAndTime, local_second, local_microsecond}
+use Rattle.speedate_civil.specs.DateTimeTimestamp.{IsShownAt, later_instant, later_answer, sum_table, date_time_at, instant_date_time, date_time_timestamp_answer, date_time_decimal_answer, meant_microsecond}
+use Rattle.speedate_base.proofs.NearestLemmas.{nearest-is, scale-some}
+use Rattle.speedate_base.proofs.RequirementLemmas.{meets-value}
+use Rattle.speedate_base.proofs.TimestampLemmas.{instant_microsecond, instant_at-microsecond}
 use Rattle.speedate_civil.proofs.DayNumberLemmas.{day_number-date_after}
 use Rattle.speedate_civil.proofs.ReadLemmas.{read-map, read-rows, read-then, read-value}
 

@@ -1,8 +1,15 @@
 -- The text by which a date-time is printed is read as the date-time, where its offset is absent or whole minutes, whatever follows
 -- it that is no part of it.
 use Rattle.std.proofs.Common.{◌≡◌, ℕ, ◌+◌, true, List, [], ◌∷◌, ◌++◌, length, Ok, refl, ◌∙◌, ap, arith, sym, append-nil}
-use Rattle.speedate_civil.proofs.Names.{MicrosecondsPrecisionOverflowBehavior, capital_t, IsWholeMinutes, alone, result_and_then, DateAndTime, IsDateAndTime, date_time_front, date_time_answer, date_time_text, end_fault, time_text}
-use Rattle.speedate_civil.proofs.Names.{is_after_time, alone-whole}
+use Rattle.speedate_base.specs.declared.config.MicrosecondsPrecisionOverflowBehavior.{MicrosecondsPrecisionOverflowBehavior}
+use Rattle.speedate_base.specs.Ascii.{capital_t}
+use Rattle.speedate_base.specs.Offset.{IsWholeMinutes}
+use Rattle.speedate_base.specs.Requirement.{alone, result_and_then}
+use Rattle.speedate_civil.specs.DateAndTime.{DateAndTime, IsDateAndTime}
+use Rattle.speedate_civil.specs.DateTimeText.{date_time_front, date_time_answer, date_time_text}
+use Rattle.speedate_civil.specs.OffsetText.{end_fault}
+use Rattle.speedate_civil.specs.TimeText.{time_text, is_after_time}
+use Rattle.speedate_base.proofs.RequirementLemmas.{alone-whole}
 use Rattle.speedate_civil.proofs.DateLemmas.{date_text-front}
 use Rattle.speedate_civil.proofs.FrontLemmas.{date_time_front-is}
 use Rattle.speedate_civil.proofs.TimeLemmas.{time_text-front, nothing-after}

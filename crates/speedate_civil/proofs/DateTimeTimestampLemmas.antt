@@ -1,7 +1,14 @@
 -- The seconds of a date-time without an offset, as a timestamp, and its microsecond lead back to it.
 use Rattle.std.proofs.Common.{◌≡◌, ℕ, ◌<◌, ◌≤◌, ℤ, pos, ◌+ℤ◌, ◌-ℤ◌, ◌*ℤ◌, unsigned_abs, Ok, rules, arith}
-use Rattle.speedate_civil.proofs.Names.{int_div_euclid, int_rem_euclid, nat_tests, ints, seconds_per_day, DateAndTime, IsDateAndTime, local_second, later_answer, date_time_at, instant_date_time, date_time_timestamp_answer, epoch_day}
-use Rattle.speedate_civil.proofs.Names.{meets-all, instant_of_seconds}
+use Rattle.std.specs.Int.{int_div_euclid, int_rem_euclid}
+use Rattle.std.proofs.lemmas.Bool.Decides.{nat_tests}
+use Rattle.std.proofs.lemmas.Int.{ints}
+use Rattle.speedate_base.specs.Offset.{seconds_per_day}
+use Rattle.speedate_civil.specs.DateAndTime.{DateAndTime, IsDateAndTime, local_second}
+use Rattle.speedate_civil.specs.DateTimeTimestamp.{later_answer, date_time_at, instant_date_time, date_time_timestamp_answer}
+use Rattle.speedate_civil.specs.DayNumber.{epoch_day}
+use Rattle.speedate_base.proofs.RequirementLemmas.{meets-all}
+use Rattle.speedate_base.proofs.TimestampLemmas.{instant_of_seconds}
 use Rattle.speedate_base.specs.declared.config.TimestampUnit.TheVariants as unit
 use Rattle.speedate_civil.proofs.DateNumberedLemmas.{date_after-day_number}
 use Rattle.speedate_civil.proofs.DayNumberLemmas.{day_number-small}

@@ -1,6 +1,11 @@
 -- What every `DateTime` is, and how large its seconds are.
 use Rattle.std.proofs.Common.{rules, ◌<◌, arith, Option, ℤ, pos, ◌-ℤ◌, ◌≤ℤ◌, unsigned_abs, unwrap_or}
-use Rattle.speedate_civil.proofs.Names.{ForSome, ints, IsOffset, seconds_per_day, first_second, last_second, DateTime, DateAndTime, IsDateAndTime, local_second, utc_second}
+use Rattle.std.specs.Option.{ForSome}
+use Rattle.std.proofs.lemmas.Int.{ints}
+use Rattle.speedate_base.specs.Offset.{IsOffset, seconds_per_day}
+use Rattle.speedate_base.specs.Timestamp.{first_second, last_second}
+use Rattle.speedate_civil.specs.declared.datetime.DateTime.{DateTime}
+use Rattle.speedate_civil.specs.DateAndTime.{DateAndTime, IsDateAndTime, local_second, utc_second}
 use Rattle.speedate_civil.specs.DateTime.{parts}
 use Rattle.speedate_civil.proofs.DayNumberLemmas.{day_number-small}
 use Rattle.speedate_civil.proofs.DateValueLemmas.{is_date}

@@ -1,5 +1,6 @@
 -- What every `Date` is.
-use Rattle.speedate_civil.proofs.Names.{Date, IsDate, IsDay}
+use Rattle.speedate_civil.specs.declared.date.Date.{Date}
+use Rattle.speedate_civil.specs.Calendar.{IsDate, IsDay}
 use Rattle.speedate_civil.specs.Date.{parts}
 
 pub is_day : (date : Date) → IsDay (parts date)

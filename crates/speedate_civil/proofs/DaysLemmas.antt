@@ -1,6 +1,7 @@
 -- Days that are added to a date and counted again, and their order.
 use Rattle.std.proofs.Common.{◌≡◌, ℕ, ℤ, pos, ◌+ℤ◌, ◌-ℤ◌, Option, IfSome, int_cmp, nat_cmp, rules}
-use Rattle.speedate_civil.proofs.Names.{Date, day_number}
+use Rattle.speedate_civil.specs.declared.date.Date.{Date}
+use Rattle.speedate_civil.specs.DayNumber.{day_number}
 use Rattle.speedate_civil.specs.Date.{parts}
 
 -- a number of days leads to a day number, so it is the days up to it

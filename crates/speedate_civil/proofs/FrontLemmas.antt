@@ -1,8 +1,24 @@
 -- What is read at the front of a text is the same without the bytes after it.
-use Rattle.speedate_civil.proofs.Names.{nat_tests, common_steps, is_ascii_digit, prefix_len, drop-take, MicrosecondsPrecisionOverflowBehavior, ParseError, colon, hyphen, run_length, run_digits, two_digit_value, AllHold, alone, meets}
-use Rattle.speedate_civil.proofs.Names.{result_and_then, Ymd, Clock, at_hour, is_decimal_mark, clock_answer, clock_front, hour_table, hour_range, minute_clock, minute_digits, minute_table, has_second, has_decimal_mark, DateAndTime}
-use Rattle.speedate_civil.proofs.Names.{date_front, date_answer, date_numbers, date_table, date_time_answer, date_time_front, separator_table, end_fault, offset_digits_length, offset_front, signed_front, TimeOfDay, time_front, time_answer}
-use Rattle.speedate_civil.proofs.Names.{time_of, meets-all, meets-ok, meets-value}
+use Rattle.std.proofs.lemmas.Bool.Decides.{nat_tests}
+use Rattle.std.proofs.lemmas.Grind.{common_steps}
+use Rattle.std.specs.Char.{is_ascii_digit}
+use Rattle.std.specs.List.{prefix_len}
+use Rattle.std.proofs.lemmas.List.{drop-take}
+use Rattle.speedate_base.specs.declared.config.MicrosecondsPrecisionOverflowBehavior.{MicrosecondsPrecisionOverflowBehavior}
+use Rattle.speedate_base.specs.declared.faults.ParseError.{ParseError}
+use Rattle.speedate_base.specs.Ascii.{colon, hyphen}
+use Rattle.speedate_base.specs.DigitRuns.{run_length, run_digits}
+use Rattle.speedate_base.specs.Digits.{two_digit_value}
+use Rattle.speedate_base.specs.Requirement.{AllHold, alone, meets, result_and_then}
+use Rattle.speedate_civil.specs.Calendar.{Ymd}
+use Rattle.speedate_civil.specs.ClockText.{Clock, at_hour, is_decimal_mark, clock_answer, clock_front, hour_table, hour_range, minute_clock, minute_digits, minute_table, has_second, has_decimal_mark}
+use Rattle.speedate_civil.specs.DateAndTime.{DateAndTime}
+use Rattle.speedate_civil.specs.DateText.{date_front, date_answer, date_numbers, date_table}
+use Rattle.speedate_civil.specs.DateTimeText.{date_time_answer, date_time_front, separator_table}
+use Rattle.speedate_civil.specs.OffsetText.{end_fault, offset_digits_length, offset_front, signed_front}
+use Rattle.speedate_civil.specs.TimeOfDay.{TimeOfDay}
+use Rattle.speedate_civil.specs.TimeText.{time_front, time_answer, time_of}
+use Rattle.speedate_base.proofs.RequirementLemmas.{meets-all, meets-ok, meets-value}
 use Rattle.std.proofs.Common.{◌≡◌, ℕ, zero, suc, ◌+◌, ◌-◌, ◌≤◌, Bool, true, false, ◌&&◌, ◌==◌, List, [], ◌∷◌, length, take, drop, slice_index, if◌then◌else◌, Option, ℤ, IfOk, Result, Ok, refl, rules, arith, ap, ap₂, sym, ◌∙◌, le-leb, length-drop, length-take-le, get_or-take, take-take}
 use Rattle.speedate_base.specs.declared.faults.ParseError.TheVariants as fault
 use Rattle.speedate_civil.proofs.OffsetLemmas.{offset-cases}

@@ -1,8 +1,22 @@
 -- Laws of the order by instants: it is total, among values with offsets and among those without; without offsets it is the
 -- order of the texts; and if the offsets are equal it is that of what clocks show.
 use Rattle.std.proofs.Common.{◌≡◌, ℕ, ◌<◌, Bool, true, false, ◌&&◌, ◌∷◌, ◌==◌, ℤ, ◌-ℤ◌, Option, None, refl, is_some, nat_cmp, int_cmp, Ordering, rules, arith, ◌∙◌, ap, sym}
-use Rattle.speedate_civil.proofs.Names.{IsTotalOrder, on_total, slice_cmp, ordering_then, ordering_reverse, on, and_comm, nat_tests, ints, capital_t, seconds_per_day, Instant, fraction_text, DateAndTime, IsDateAndTime, date_order}
-use Rattle.speedate_civil.proofs.Names.{date_time_text, instant_order, by_instant, time_instant, time_instant_order, date_time_instant, date_time_instant_order, BothOrNeither, IsNotAfter, TimeOfDay, IsTime, second_of_day, time_text}
+use Rattle.std.specs.Cmp.{IsTotalOrder, on_total}
+use Rattle.std.specs.Cmp.Lexicographic.{slice_cmp}
+use Rattle.std.specs.Ordering.{ordering_then, ordering_reverse, on}
+use Rattle.std.proofs.Math.Bool.{and_comm}
+use Rattle.std.proofs.lemmas.Bool.Decides.{nat_tests}
+use Rattle.std.proofs.lemmas.Int.{ints}
+use Rattle.speedate_base.specs.Ascii.{capital_t}
+use Rattle.speedate_base.specs.Offset.{seconds_per_day}
+use Rattle.speedate_base.specs.Timestamp.{Instant}
+use Rattle.speedate_civil.specs.ClockText.{fraction_text}
+use Rattle.speedate_civil.specs.DateAndTime.{DateAndTime, IsDateAndTime}
+use Rattle.speedate_civil.specs.DateOrder.{date_order}
+use Rattle.speedate_civil.specs.DateTimeText.{date_time_text}
+use Rattle.speedate_civil.specs.InstantOrder.{instant_order, by_instant, time_instant, time_instant_order, date_time_instant, date_time_instant_order, BothOrNeither, IsNotAfter}
+use Rattle.speedate_civil.specs.TimeOfDay.{TimeOfDay, IsTime, second_of_day}
+use Rattle.speedate_civil.specs.TimeText.{time_text}
 use Rattle.speedate_civil.proofs.DateOrderLemmas.{date_order-day_number, date_text-front-order, digits-order}
 
 -- instants are ordered one after another

@@ -1,4 +1,3 @@
-mod Names
 mod AfterTimeLemmas
 mod DaysLemmas
 mod ClockLemmas

@@ -1,6 +1,10 @@
 -- The month of a day of the year, and the days before a month, by a line through the months of a year whose February has 30 days.
 use Rattle.std.proofs.Common.{◌≡◌, ℕ, ◌+◌, ◌-◌, ◌*◌, ◌/◌, ◌%◌, ◌<◌, ◌≤◌, ◌==◌, if◌then◌else◌, nat_lt, refl, arith, below_none, below_more}
-use Rattle.speedate_civil.proofs.Names.{IsInRange, nat_tests, february_length, month_length, days_of_months, year_length}
+use Rattle.std.specs.Int.{IsInRange}
+use Rattle.std.proofs.lemmas.Bool.Decides.{nat_tests}
+use Rattle.speedate_civil.specs.Calendar.{february_length, month_length}
+unfoldable use Rattle.speedate_civil.specs.DayNumber.{days_of_months}
+use Rattle.speedate_civil.specs.DayNumber.{year_length}
 use Rattle.speedate_civil.proofs.DayNumberLemmas.{leap_day, leap_day-small, february_length-is, year_length-is}
 use Rattle.speedate_civil.proofs.ReadLemmas.{if_cases}
 

@@ -1,11 +1,36 @@
 -- The texts of RFC 3339 by its rules are those that the strict readers take.
 use Rattle.std.proofs.Common.{◌≡◌, ◌⊎◌, ℕ, ◌+◌, ◌*◌, ◌≤◌, zero, suc, Bool, true, false, ◌==◌, List, [], ◌∷◌, ◌++◌, length, take, drop, nat_le, nat_lt, slice_index, Option, Some, ℤ, pos, IfOk, Result, Ok, refl, ◌↔◌, rules, arith, ap, subst, sym, ◌∙◌, inl, inr, leb-true, ltb-true, eqb-true, get_or-drop, length-append, length-drop, length-take-le, take_all, take-append-drop}
-use Rattle.speedate_civil.proofs.Names.{is_ascii_digit, prefix_len, IsOk, drop-append_seam, not-true, nat_tests, drop_more, nil_from_length, prefix_len-le-length, MicrosecondsPrecisionOverflowBehavior, ParseError, colon, comma, full_stop}
-use Rattle.speedate_civil.proofs.Names.{hyphen, plus_sign, capital_t, capital_z, small_t, small_z, run_length, two_digits_at, two_digit_text, two_digit_value, four_digit_value, with_sign, refuses_digits, Requirement, ◌implies◌, AllHold}
-use Rattle.speedate_civil.proofs.Names.{alone, meets, result_map, result_and_then, DateTime, Time, Ymd, IsDate, Clock, clock_front, has_decimal_mark, has_second, is_decimal_mark, minute_text, DateAndTime, date_front, date_table, date_text}
-use Rattle.speedate_civil.proofs.Names.{date_time_answer, date_time_front, separator_table, end_fault, is_plus_or_minus, offset_digits, offset_front, offset_ranges, signed_front, IsFullDate, IsDateTime, IsTwoDigits, IsSecfrac, IsPartialTime}
-use Rattle.speedate_civil.proofs.Names.{IsNumoffset, IsTimeOffset, IsFullTime, offset_place, standard_date_time, standard_offset, standard_time, strict_date_time_answer, strict_time_answer, TimeOfDay, time_of, time_front, time_answer}
-use Rattle.speedate_civil.proofs.Names.{run_length-append, run-digits, alone-iff, alone-whole, meets-all, meets-ok, meets-value}
+use Rattle.std.specs.Char.{is_ascii_digit}
+use Rattle.std.specs.List.{prefix_len}
+use Rattle.std.specs.Result.{IsOk}
+use Rattle.std.proofs.Math.Seq.{drop-append_seam}
+use Rattle.std.proofs.lemmas.Bool.{not-true}
+use Rattle.std.proofs.lemmas.Bool.Decides.{nat_tests}
+use Rattle.std.proofs.lemmas.List.{drop_more, nil_from_length}
+use Rattle.std.proofs.lemmas.List.Sums.{prefix_len-le-length}
+use Rattle.speedate_base.specs.declared.config.MicrosecondsPrecisionOverflowBehavior.{MicrosecondsPrecisionOverflowBehavior}
+use Rattle.speedate_base.specs.declared.faults.ParseError.{ParseError}
+use Rattle.speedate_base.specs.Ascii.{colon, comma, full_stop, hyphen, plus_sign, capital_t, capital_z, small_t, small_z}
+use Rattle.speedate_base.specs.DigitRuns.{run_length}
+use Rattle.speedate_base.specs.Digits.{two_digits_at, two_digit_text, two_digit_value, four_digit_value}
+use Rattle.speedate_base.specs.Numbers.{with_sign}
+use Rattle.speedate_base.specs.Config.{refuses_digits}
+use Rattle.speedate_base.specs.Requirement.{Requirement, ◌implies◌, AllHold, alone, meets, result_map, result_and_then}
+use Rattle.speedate_civil.specs.declared.datetime.DateTime.{DateTime}
+use Rattle.speedate_civil.specs.declared.time.Time.{Time}
+use Rattle.speedate_civil.specs.Calendar.{Ymd, IsDate}
+use Rattle.speedate_civil.specs.ClockText.{Clock, clock_front, has_decimal_mark, has_second, is_decimal_mark, minute_text}
+use Rattle.speedate_civil.specs.DateAndTime.{DateAndTime}
+use Rattle.speedate_civil.specs.DateText.{date_front, date_table, date_text}
+use Rattle.speedate_civil.specs.DateTimeText.{date_time_answer, date_time_front, separator_table}
+use Rattle.speedate_civil.specs.OffsetText.{end_fault, is_plus_or_minus, offset_digits, offset_front, offset_ranges, signed_front}
+use Rattle.speedate_civil.specs.Rfc3339Text.{IsFullDate, IsDateTime, IsTwoDigits, IsSecfrac, IsPartialTime, IsNumoffset, IsTimeOffset, IsFullTime}
+use Rattle.speedate_civil.specs.StrictText.{offset_place, standard_date_time, standard_offset, standard_time, strict_date_time_answer, strict_time_answer}
+use Rattle.speedate_civil.specs.TimeOfDay.{TimeOfDay}
+use Rattle.speedate_civil.specs.TimeText.{time_of, time_front, time_answer}
+use Rattle.speedate_base.proofs.DigitRunLemmas.{run_length-append}
+use Rattle.speedate_base.proofs.NumberLemmas.{run-digits}
+use Rattle.speedate_base.proofs.RequirementLemmas.{alone-iff, alone-whole, meets-all, meets-ok, meets-value}
 use Rattle.speedate_civil.proofs.ClockLemmas.{run_length-none, clock-secfrac, clock-whole}
 use Rattle.speedate_civil.proofs.DateLemmas.{date_text-front}
 use Rattle.speedate_civil.specs.DateTime.{parts as date_time_parts}

@@ -1,6 +1,7 @@
 -- What every `Time` is.
 use Rattle.std.proofs.Common.{arith}
-use Rattle.speedate_civil.proofs.Names.{Time, IsTime}
+use Rattle.speedate_civil.specs.declared.time.Time.{Time}
+use Rattle.speedate_civil.specs.TimeOfDay.{IsTime}
 use Rattle.speedate_civil.specs.Time.{parts}
 
 pub is_time : (time : Time) → IsTime (parts time)

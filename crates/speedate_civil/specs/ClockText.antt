@@ -3,7 +3,9 @@
 -- Departs from it: there is no second 60; a fraction has at most six digits, or further ones are dropped; the second may be
 -- left out, with its fraction; the decimal mark may be a comma, as in ISO 8601.
 use Rattle.std.specs.Prelude.{ℕ, ◌+◌, Bool, ◌&&◌, ◌||◌, List, [], ◌∷◌, ◌++◌, length, drop, nat_le, nat_lt, ◌==◌, slice_index, if◌then◌else◌, Result, Ok}
-use Rattle.speedate_civil.specs.Steps.{MicrosecondsPrecisionOverflowBehavior, ParseError, Requirement, ◌else_fault◌, ◌implies◌, meets, result_map}
+use Rattle.speedate_base.specs.declared.config.MicrosecondsPrecisionOverflowBehavior.{MicrosecondsPrecisionOverflowBehavior}
+use Rattle.speedate_base.specs.declared.faults.ParseError.{ParseError}
+use Rattle.speedate_base.specs.Requirement.{Requirement, ◌else_fault◌, ◌implies◌, meets, result_map}
 use Rattle.speedate_base.specs.declared.faults.ParseError.TheVariants as fault
 use Rattle.speedate_base.specs.Ascii.{colon, comma, full_stop}
 use Rattle.speedate_base.specs.DigitRuns.{run_length, run_digits, fraction_value}

@@ -1,7 +1,9 @@
 -- The text of a date, `YYYY-MM-DD` (RFC 3339 5.6, full-date; the ranges of month and day are those of its 5.7).
 -- Departs from it nowhere.
 use Rattle.std.specs.Prelude.{ℕ, List, ◌∷◌, ◌++◌, length, nat_le, ◌==◌, slice_index, Result, Ok}
-use Rattle.speedate_civil.specs.Steps.{ParseError, Requirement, ◌else_fault◌, meets, alone, ◌>>=◌}
+use Rattle.speedate_base.specs.declared.faults.ParseError.{ParseError}
+use Rattle.speedate_base.specs.Requirement.{Requirement, ◌else_fault◌, meets, alone}
+use Rattle.speedate_civil.specs.Steps.{◌>>=◌}
 use Rattle.speedate_base.specs.declared.faults.ParseError.TheVariants as fault
 use Rattle.speedate_base.specs.Ascii.{hyphen}
 use Rattle.speedate_base.specs.Digits.{four_digits_at, four_digit_value, four_digit_text, two_digits_at, two_digit_value, two_digit_text}

@@ -1,6 +1,9 @@
 -- Date-times from timestamps (Unix time), and from texts that are a timestamp instead.
 use Rattle.std.specs.Prelude.{◌≡◌, ℕ, ◌+◌, ◌/◌, ◌%◌, ◌^◌, List, [], ◌∷◌, nat_lt, Option, Some, None, ℤ, pos, ◌+ℤ◌, int_lt, Result, Ok}
-use Rattle.speedate_civil.specs.Steps.{MicrosecondsPrecisionOverflowBehavior, ParseError, Requirement, ◌else_fault◌, meets, result_map, ◌>>=◌}
+use Rattle.speedate_base.specs.declared.config.MicrosecondsPrecisionOverflowBehavior.{MicrosecondsPrecisionOverflowBehavior}
+use Rattle.speedate_base.specs.declared.faults.ParseError.{ParseError}
+use Rattle.speedate_base.specs.Requirement.{Requirement, ◌else_fault◌, meets, result_map}
+use Rattle.speedate_civil.specs.Steps.{◌>>=◌}
 use Rattle.speedate_base.specs.declared.config.TimestampUnit.{TimestampUnit}
 use Rattle.speedate_base.specs.declared.faults.ParseError.TheVariants as fault
 use Rattle.speedate_base.specs.DecimalTimestamp.{decimal_row, decimal_instant, digits_table}

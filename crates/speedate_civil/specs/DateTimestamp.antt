@@ -2,7 +2,9 @@
 use Rattle.std.specs.Prelude.{ℕ, Bool, true, ◌&&◌, ◌==◌, List, [], ◌∷◌, ℤ, pos, ◌+ℤ◌, unsigned_abs, Result, Ok, option_map}
 use Rattle.std.specs.Int.{int_div_euclid, int_rem_euclid}
 use Rattle.speedate_base.specs.declared.config.TimestampUnit.{TimestampUnit}
-use Rattle.speedate_civil.specs.Steps.{ParseError, ◌else_fault◌, ◌implies◌, meets, ◌>>=◌}
+use Rattle.speedate_base.specs.declared.faults.ParseError.{ParseError}
+use Rattle.speedate_base.specs.Requirement.{◌else_fault◌, ◌implies◌, meets}
+use Rattle.speedate_civil.specs.Steps.{◌>>=◌}
 use Rattle.speedate_base.specs.declared.faults.ParseError.TheVariants as fault
 use Rattle.speedate_base.specs.Numbers.{whole_number}
 use Rattle.speedate_base.specs.Offset.{seconds_per_day}

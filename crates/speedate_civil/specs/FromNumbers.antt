@@ -1,7 +1,8 @@
 -- Values from their numbers: what numbers have to meet (the ranges are those of RFC 3339 5.7), and in which order it is looked at.
 use Rattle.std.specs.Prelude.{ℕ, pos, List, [], ◌∷◌, nat_le, Option, ℤ, Result, Ok}
 use Rattle.std.specs.Int.{is_in_range}
-use Rattle.speedate_civil.specs.Steps.{ParseError, Requirement, ◌else_fault◌, meets}
+use Rattle.speedate_base.specs.declared.faults.ParseError.{ParseError}
+use Rattle.speedate_base.specs.Requirement.{Requirement, ◌else_fault◌, meets}
 use Rattle.speedate_base.specs.declared.faults.ParseError.TheVariants as fault
 use Rattle.speedate_base.specs.Offset.{offset_table}
 use Rattle.speedate_base.specs.Timestamp.{Instant}

@@ -1,6 +1,7 @@
 -- What a clock tells: a moment since 1970-01-01T00:00:00 in UTC (Unix time), or none if it stands before that.
 use Rattle.std.specs.Prelude.{◌∷◌, Option, Some, None, ℤ, pos, ◌+ℤ◌, int_le, Result, Err}
-use Rattle.speedate_civil.specs.Steps.{ParseError, ◌else_fault◌, meets, result_map}
+use Rattle.speedate_base.specs.declared.faults.ParseError.{ParseError}
+use Rattle.speedate_base.specs.Requirement.{◌else_fault◌, meets, result_map}
 use Rattle.speedate_base.specs.declared.faults.ParseError.TheVariants as fault
 use Rattle.speedate_base.specs.Offset.{offset_table}
 use Rattle.speedate_base.specs.Timestamp.{Instant, last_second}

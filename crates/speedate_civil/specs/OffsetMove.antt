@@ -1,6 +1,7 @@
 -- Times and date-times at other offsets: the same clock with another offset, or the same instant as another clock shows it.
 use Rattle.std.specs.Prelude.{List, [], ◌∷◌, ◌++◌, ◌&&◌, Option, Some, ℤ, pos, ◌+ℤ◌, int_le, int_lt, unsigned_abs, Result, Ok, is_some}
-use Rattle.speedate_civil.specs.Steps.{ParseError, Requirement, ◌else_fault◌, meets}
+use Rattle.speedate_base.specs.declared.faults.ParseError.{ParseError}
+use Rattle.speedate_base.specs.Requirement.{Requirement, ◌else_fault◌, meets}
 use Rattle.speedate_base.specs.declared.faults.ParseError.TheVariants as fault
 use Rattle.speedate_base.specs.Offset.{seconds_per_day, offset_table}
 use Rattle.speedate_civil.specs.DateAndTime.{DateAndTime, utc_second}

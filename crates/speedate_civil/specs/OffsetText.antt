@@ -4,7 +4,8 @@
 -- offset 0, which for RFC 3339 4.3 is an unknown one.
 use Rattle.std.specs.Prelude.{ℕ, ◌+◌, ◌*◌, ◌/◌, ◌%◌, Bool, ◌&&◌, ◌||◌, List, [], ◌∷◌, ◌++◌, drop, true, nat_le, nat_lt, ◌==◌, slice_index, if◌then◌else◌, Option, Some, None, ℤ, pos, unsigned_abs, Result, Ok, is_some}
 use Rattle.std.specs.Int.{is_negative}
-use Rattle.speedate_civil.specs.Steps.{ParseError, Requirement, ◌else_fault◌, meets}
+use Rattle.speedate_base.specs.declared.faults.ParseError.{ParseError}
+use Rattle.speedate_base.specs.Requirement.{Requirement, ◌else_fault◌, meets}
 use Rattle.speedate_base.specs.declared.faults.ParseError.TheVariants as fault
 use Rattle.speedate_base.specs.Ascii.{plus_sign, hyphen, colon, capital_z, small_z}
 use Rattle.speedate_base.specs.Digits.{two_digits_at, two_digit_value, two_digit_text}

@@ -1,7 +1,10 @@
 -- The texts of RFC 3339 5.6 alone: what a text that is read as a time or as a date-time has to meet besides.
 -- Departs from it: there is no second 60; if digits past the sixth are refused, a fraction has at most six.
 use Rattle.std.specs.Prelude.{ℕ, ◌+◌, not, ◌||◌, List, [], ◌∷◌, length, drop, nat_lt, ◌==◌, slice_index, if◌then◌else◌, Result, Ok}
-use Rattle.speedate_civil.specs.Steps.{MicrosecondsPrecisionOverflowBehavior, ParseError, Requirement, ◌else_fault◌, meets, ◌>>=◌}
+use Rattle.speedate_base.specs.declared.config.MicrosecondsPrecisionOverflowBehavior.{MicrosecondsPrecisionOverflowBehavior}
+use Rattle.speedate_base.specs.declared.faults.ParseError.{ParseError}
+use Rattle.speedate_base.specs.Requirement.{Requirement, ◌else_fault◌, meets}
+use Rattle.speedate_civil.specs.Steps.{◌>>=◌}
 use Rattle.speedate_base.specs.declared.faults.ParseError.TheVariants as fault
 use Rattle.speedate_base.specs.Ascii.{capital_t, colon, comma, full_stop, small_t}
 use Rattle.speedate_base.specs.DigitRuns.{run_length}

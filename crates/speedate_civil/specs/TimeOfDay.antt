@@ -1,7 +1,8 @@
 -- The time of day.
 use Rattle.std.specs.Prelude.{ℕ, ◌+◌, ◌*◌, ◌/◌, ◌%◌, ◌≤◌, Option, ℤ, pos, ◌-ℤ◌, Result, Ok, [], ◌∷◌, nat_lt}
 use Rattle.std.specs.Option.{ForSome, unwrap_or}
-use Rattle.speedate_civil.specs.Steps.{ParseError, ◌else_fault◌, meets}
+use Rattle.speedate_base.specs.declared.faults.ParseError.{ParseError}
+use Rattle.speedate_base.specs.Requirement.{◌else_fault◌, meets}
 use Rattle.speedate_base.specs.declared.faults.ParseError.TheVariants as fault
 use Rattle.speedate_base.specs.Offset.{IsOffset, seconds_per_day}
 

@@ -2,7 +2,10 @@
 -- Departs from it: as a clock and an offset do.
 use Rattle.std.specs.Prelude.{ℕ, ◌+◌, Bool, not, ◌&&◌, ◌||◌, ◌==◌, List, ◌∷◌, ◌++◌, drop, slice_index, if◌then◌else◌, Option, ℤ, Result, Ok, is_some}
 use Rattle.std.specs.Char.{is_ascii_digit}
-use Rattle.speedate_civil.specs.Steps.{MicrosecondsPrecisionOverflowBehavior, ParseError, alone, ◌>>=◌}
+use Rattle.speedate_base.specs.declared.config.MicrosecondsPrecisionOverflowBehavior.{MicrosecondsPrecisionOverflowBehavior}
+use Rattle.speedate_base.specs.declared.faults.ParseError.{ParseError}
+use Rattle.speedate_base.specs.Requirement.{alone}
+use Rattle.speedate_civil.specs.Steps.{◌>>=◌}
 use Rattle.speedate_base.specs.Ascii.{colon}
 use Rattle.speedate_base.specs.Digits.{two_digit_text}
 use Rattle.speedate_civil.specs.ClockText.{Clock, clock_front, is_decimal_mark, minute_text, fraction_text}

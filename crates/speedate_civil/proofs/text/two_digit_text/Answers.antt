@@ -1,5 +1,12 @@
 use Rattle.std.proofs.Common.{rules, ◌≡◌, ◌∙◌, ap, sym, refl, ℕ, ◌+◌, ◌*◌, ◌-◌, ◌<◌, List, [], map, get_or, take, drop, arith, nat_lt, inl, inr, ltb-true}
-use Rattle.speedate_civil.proofs.Names.{cases_lt, get_or_past, AllPass-from_list_all, range_with_len, flat_map, IsAscii, get_or-map-range_with_len, IsCharBoundary-from_ascii, two_digit_text}
+use Rattle.std.proofs.lemmas.Bool.{cases_lt}
+use Rattle.std.proofs.lemmas.List.{get_or_past}
+use Rattle.std.proofs.lemmas.List.Sums.{AllPass-from_list_all}
+use Rattle.std.specs.List.{range_with_len, flat_map}
+use Rattle.std.specs.Str.{IsAscii}
+use Rattle.std.proofs.lemmas.List.FromFn.{get_or-map-range_with_len}
+use Rattle.std.proofs.lemmas.Str.{IsCharBoundary-from_ascii}
+use Rattle.speedate_base.specs.Digits.{two_digit_text}
 use Rattle.speedate_civil.proofs.text.two_digit_text.Goals as goal
 
 -- the numbers below 100, each in two digits

@@ -1,6 +1,6 @@
 use Rattle.std.proofs.Common.{◌≡◌, rules, pos, ◌+ℤ◌}
 use Rattle.speedate_civil.specs.Date.{parts}
-use Rattle.speedate_civil.proofs.Names.{day_number}
+use Rattle.speedate_civil.specs.DayNumber.{day_number}
 use Rattle.speedate_civil.proofs.DaysLemmas.{days-counted}
 use Rattle.speedate_civil.proofs.date.Date.checked_add_days.Goals as goal
 

@@ -1,6 +1,6 @@
 use Rattle.std.proofs.Common.{◌≡◌, ◌∙◌, ap, sym, rules, ℤ, pos, ◌-ℤ◌, int_cmp, w32, of_z, to_z}
 use Rattle.speedate_civil.specs.Date.{parts}
-use Rattle.speedate_civil.proofs.Names.{days_between, day_number}
+use Rattle.speedate_civil.specs.DayNumber.{days_between, day_number}
 use Rattle.speedate_civil.proofs.DateOrderLemmas.{date_order-day_number}
 use Rattle.speedate_civil.proofs.DateValueLemmas.{is_day}
 use Rattle.speedate_civil.proofs.DaysLemmas.{day-difference-order}

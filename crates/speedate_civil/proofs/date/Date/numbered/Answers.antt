@@ -1,6 +1,7 @@
 use Rattle.std.proofs.Common.{rules, ◌≡◌, arith, ◌∙◌, ap, sym}
 use Rattle.speedate_civil.specs.Date.{parts}
-use Rattle.speedate_civil.proofs.Names.{date_after, day_number}
+unfoldable use Rattle.speedate_civil.specs.DayNumber.{date_after}
+use Rattle.speedate_civil.specs.DayNumber.{day_number}
 use Rattle.speedate_civil.proofs.DateNumberedLemmas.{date_after-day_number}
 use Rattle.speedate_civil.proofs.DateValueLemmas.{is_day}
 use Rattle.speedate_civil.proofs.DayNumberLemmas.{year_length-is, leap_day-small}

@@ -1,5 +1,5 @@
 use Rattle.std.proofs.Common.{arith}
-use Rattle.speedate_civil.proofs.Names.{ints}
+use Rattle.std.proofs.lemmas.Int.{ints}
 use Rattle.speedate_civil.specs.Date.{parts}
 use Rattle.speedate_civil.proofs.DayNumberLemmas.{day_number-small}
 use Rattle.speedate_civil.proofs.DateValueLemmas.{is_day}

@@ -1,6 +1,10 @@
 use Rattle.std.proofs.Common.{◌∙◌, ap, true, ℕ, List, option_map}
 use Rattle.speedate_civil.specs.Date.{parts}
-use Rattle.speedate_civil.proofs.Names.{whole_number, date_answer, date_text, date_timestamp_answer, date_or_timestamp, or_number, text-alone, text-canonical}
+use Rattle.speedate_base.specs.Numbers.{whole_number}
+use Rattle.speedate_civil.specs.DateText.{date_answer, date_text}
+use Rattle.speedate_civil.specs.DateTimestamp.{date_timestamp_answer, date_or_timestamp}
+use Rattle.speedate_civil.specs.NumberText.{or_number}
+use Rattle.speedate_base.proofs.TextLemmas.{text-alone, text-canonical}
 use Rattle.speedate_civil.proofs.DateLemmas.{date_text-front, date_text-reads}
 use Rattle.speedate_civil.proofs.DateValueLemmas.{is_date}
 use Rattle.speedate_civil.proofs.date.Date.to_text.Goals as goal

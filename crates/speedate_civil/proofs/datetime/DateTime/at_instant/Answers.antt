@@ -1,5 +1,8 @@
 use Rattle.std.proofs.Common.{◌≡◌, ◌∙◌, ap, sym, subst, ℕ, rules, w64, SFits}
-use Rattle.speedate_civil.proofs.Names.{to_z-of_z, DateAndTime, IsShownAt, date_time_at, time_at}
+use Rattle.std.proofs.lemmas.Int.{to_z-of_z}
+use Rattle.speedate_civil.specs.DateAndTime.{DateAndTime}
+use Rattle.speedate_civil.specs.DateTimeTimestamp.{IsShownAt, date_time_at}
+use Rattle.speedate_civil.specs.TimeOfDay.{time_at}
 use Rattle.speedate_base.specs.UnixTime.{parts as instant_parts}
 use Rattle.speedate_civil.specs.Date.{parts as date_parts}
 use Rattle.speedate_civil.proofs.DateTimeInstantLemmas.{date_time_at-shown}

@@ -1,5 +1,6 @@
 use Rattle.std.proofs.Common.{◌≡◌, ◌∙◌, ap, sym, subst, rules}
-use Rattle.speedate_civil.proofs.Names.{ordering_reverse, date_time_instant, date_time_instant_order, IsNotAfter}
+use Rattle.std.specs.Ordering.{ordering_reverse}
+use Rattle.speedate_civil.specs.InstantOrder.{date_time_instant, date_time_instant_order, IsNotAfter}
 use Rattle.speedate_civil.specs.DateTime.{parts}
 use Rattle.speedate_civil.proofs.InstantOrderLemmas.{date_time_text-order, by_instant-reversed, by_instant-transitive}
 use Rattle.speedate_civil.proofs.DateTimeValueLemmas.{is_date_and_time}

@@ -1,5 +1,7 @@
 use Rattle.std.proofs.Common.{◌∙◌, ap}
-use Rattle.speedate_civil.proofs.Names.{decimal_instant, UnitRow, instant_date_time}
+use Rattle.speedate_base.specs.DecimalTimestamp.{decimal_instant}
+use Rattle.speedate_base.specs.Timestamp.{UnitRow}
+use Rattle.speedate_civil.specs.DateTimeTimestamp.{instant_date_time}
 use Rattle.speedate_base.specs.IntFloat.{parts as decimal_parts}
 use Rattle.speedate_civil.specs.DateTime.{parts}
 use Rattle.speedate_civil.proofs.DateTimeInstantLemmas.{date_time_decimal-nearest}

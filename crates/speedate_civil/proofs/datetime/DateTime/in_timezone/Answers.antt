@@ -1,5 +1,14 @@
 use Rattle.std.proofs.Common.{arith, ◌≡◌, rules, Result, Some, IfOk, ℤ, ◌+ℤ◌, w32, w64, SFits}
-use Rattle.speedate_civil.proofs.Names.{nat_tests, to_z-of_z, ParseError, AllHold, Instant, DateTime, DateAndTime, utc_second, IsShownAt, move_table, meets-all}
+use Rattle.std.proofs.lemmas.Bool.Decides.{nat_tests}
+use Rattle.std.proofs.lemmas.Int.{to_z-of_z}
+use Rattle.speedate_base.specs.declared.faults.ParseError.{ParseError}
+use Rattle.speedate_base.specs.Requirement.{AllHold}
+use Rattle.speedate_base.specs.Timestamp.{Instant}
+use Rattle.speedate_civil.specs.declared.datetime.DateTime.{DateTime}
+use Rattle.speedate_civil.specs.DateAndTime.{DateAndTime, utc_second}
+use Rattle.speedate_civil.specs.DateTimeTimestamp.{IsShownAt}
+use Rattle.speedate_civil.specs.OffsetMove.{move_table}
+use Rattle.speedate_base.proofs.RequirementLemmas.{meets-all}
 use Rattle.speedate_civil.specs.DateTime.{parts}
 use Rattle.speedate_civil.proofs.OffsetMoveLemmas.{second-moved, instant-kept}
 use Rattle.speedate_civil.proofs.datetime.DateTime.in_timezone.Goals as goal

@@ -1,5 +1,8 @@
 use Rattle.std.proofs.Common.{◌∙◌, ap, sym, Err}
-use Rattle.speedate_civil.proofs.Names.{alone, result_and_then, end_fault, DateAndTime, alone-longer}
+use Rattle.speedate_base.specs.Requirement.{alone, result_and_then}
+use Rattle.speedate_civil.specs.OffsetText.{end_fault}
+use Rattle.speedate_civil.specs.DateAndTime.{DateAndTime}
+use Rattle.speedate_base.proofs.RequirementLemmas.{alone-longer}
 use Rattle.speedate_civil.specs.DateTime.{parts}
 use Rattle.speedate_civil.proofs.datetime.DateTime.parse_bytes_rfc3339_with_config.Goals as goal
 

@@ -1,5 +1,13 @@
 use Rattle.std.proofs.Common.{◌∙◌, ap, Ok, Err}
-use Rattle.speedate_civil.proofs.Names.{err_from_is_err_and, MicrosecondsPrecisionOverflowBehavior, TimeConfig, Choices, meets, result_and_then, DateAndTime, standard_date_time, date_time_answer, meets-read}
+use Rattle.std.proofs.lemmas.Result.{err_from_is_err_and}
+use Rattle.speedate_base.specs.declared.config.MicrosecondsPrecisionOverflowBehavior.{MicrosecondsPrecisionOverflowBehavior}
+use Rattle.speedate_base.specs.declared.config.TimeConfig.{TimeConfig}
+use Rattle.speedate_base.specs.Config.{Choices}
+use Rattle.speedate_base.specs.Requirement.{meets, result_and_then}
+use Rattle.speedate_civil.specs.DateAndTime.{DateAndTime}
+use Rattle.speedate_civil.specs.StrictText.{standard_date_time}
+use Rattle.speedate_civil.specs.DateTimeText.{date_time_answer}
+use Rattle.speedate_base.proofs.RequirementLemmas.{meets-read}
 use Rattle.speedate_civil.specs.DateTime.{parts}
 use Rattle.speedate_civil.proofs.Rfc3339Lemmas.{date-time-standard}
 use Rattle.speedate_civil.proofs.datetime.DateTime.parse_bytes_strict.Goals as goal

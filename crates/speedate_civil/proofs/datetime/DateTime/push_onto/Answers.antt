@@ -1,5 +1,6 @@
 use Rattle.std.proofs.Common.{arith, ◌≡◌, ℕ, List, [], ◌∷◌, ◌++◌, lit<}
-use Rattle.speedate_civil.proofs.Names.{common_steps, capital_t}
+use Rattle.std.proofs.lemmas.Grind.{common_steps}
+use Rattle.speedate_base.specs.Ascii.{capital_t}
 use Rattle.speedate_civil.proofs.datetime.DateTime.push_onto.Goals as goal
 
 -- three pieces that were appended one after another

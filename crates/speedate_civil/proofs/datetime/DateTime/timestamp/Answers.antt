@@ -1,5 +1,7 @@
 use Rattle.std.proofs.Common.{rules, ◌≡◌, ◌∙◌, ◌<◌, ap, sym, subst, arith, None, Ok, ℤ, unsigned_abs}
-use Rattle.speedate_civil.proofs.Names.{ints, DateAndTime, IsDateAndTime, local_second, date_time_timestamp_answer}
+use Rattle.std.proofs.lemmas.Int.{ints}
+use Rattle.speedate_civil.specs.DateAndTime.{DateAndTime, IsDateAndTime, local_second}
+use Rattle.speedate_civil.specs.DateTimeTimestamp.{date_time_timestamp_answer}
 use Rattle.speedate_base.specs.declared.config.TimestampUnit.TheVariants as unit
 use Rattle.speedate_civil.specs.DateTime.{parts}
 use Rattle.speedate_civil.proofs.DateTimeTimestampLemmas.{date_time_timestamp-leads_back}

@@ -1,5 +1,9 @@
 use Rattle.std.proofs.Common.{◌∙◌, ap}
-use Rattle.speedate_civil.proofs.Names.{number_answer, date_time_answer, date_time_text, date_time_number_answer, date_time_or_timestamp, or_number, text-alone, text-canonical}
+use Rattle.speedate_base.specs.Numbers.{number_answer}
+use Rattle.speedate_civil.specs.DateTimeText.{date_time_answer, date_time_text}
+use Rattle.speedate_civil.specs.DateTimeTimestamp.{date_time_number_answer, date_time_or_timestamp}
+use Rattle.speedate_civil.specs.NumberText.{or_number}
+use Rattle.speedate_base.proofs.TextLemmas.{text-alone, text-canonical}
 use Rattle.speedate_civil.specs.DateTime.{parts}
 use Rattle.speedate_civil.proofs.AfterTimeLemmas.{date_time_text-front-iff}
 use Rattle.speedate_civil.proofs.DateTimeLemmas.{date_time_text-reads}

@@ -1,6 +1,6 @@
 use Rattle.std.proofs.Common.{◌≡◌, ◌∙◌, subst, rules}
 use Rattle.speedate_civil.specs.Time.{parts}
-use Rattle.speedate_civil.proofs.Names.{time_instant, time_instant_order, IsNotAfter}
+use Rattle.speedate_civil.specs.InstantOrder.{time_instant, time_instant_order, IsNotAfter}
 use Rattle.speedate_civil.proofs.InstantOrderLemmas.{time_text-order, by_instant-transitive}
 use Rattle.speedate_civil.proofs.TimeValueLemmas.{is_time}
 use Rattle.speedate_civil.proofs.time.Time.cmp_instant.Goals as goal

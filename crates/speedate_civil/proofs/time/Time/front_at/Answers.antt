@@ -1,5 +1,7 @@
 use Rattle.std.proofs.Common.{rules, ◌∙◌, ap, sym, ℕ, ◌+◌, List, Ok, drop, drop-drop}
-use Rattle.speedate_civil.proofs.Names.{err_from_is_err_and, offset_front, TimeOfDay}
+use Rattle.std.proofs.lemmas.Result.{err_from_is_err_and}
+use Rattle.speedate_civil.specs.OffsetText.{offset_front}
+use Rattle.speedate_civil.specs.TimeOfDay.{TimeOfDay}
 use Rattle.speedate_civil.specs.PureTime.{parts}
 use Rattle.speedate_civil.proofs.TimeLemmas.{time_front-after}
 use Rattle.speedate_civil.proofs.time.Time.front_at.Goals as goal

@@ -1,5 +1,9 @@
 use Rattle.std.proofs.Common.{arith, ap, Ok, Err}
-use Rattle.speedate_civil.proofs.Names.{err_from_is_err_and, meets, result_and_then, TimeOfDay, standard_time, meets-read}
+use Rattle.std.proofs.lemmas.Result.{err_from_is_err_and}
+use Rattle.speedate_base.specs.Requirement.{meets, result_and_then}
+use Rattle.speedate_civil.specs.TimeOfDay.{TimeOfDay}
+use Rattle.speedate_civil.specs.StrictText.{standard_time}
+use Rattle.speedate_base.proofs.RequirementLemmas.{meets-read}
 use Rattle.speedate_civil.specs.Time.{parts}
 use Rattle.speedate_civil.proofs.Rfc3339Lemmas.{time-standard}
 use Rattle.speedate_civil.proofs.time.Time.parse_bytes_strict.Goals as goal

@@ -1,5 +1,10 @@
 use Rattle.std.proofs.Common.{◌≡◌, ◌∙◌, ap, arith, sym, ℕ, ◌+◌, length, Ok, Err}
-use Rattle.speedate_civil.proofs.Names.{nat_tests, alone, result_and_then, end_fault, TimeOfDay, time_of, alone-longer, alone-whole}
+use Rattle.std.proofs.lemmas.Bool.Decides.{nat_tests}
+use Rattle.speedate_base.specs.Requirement.{alone, result_and_then}
+use Rattle.speedate_civil.specs.OffsetText.{end_fault}
+use Rattle.speedate_civil.specs.TimeOfDay.{TimeOfDay}
+use Rattle.speedate_civil.specs.TimeText.{time_of}
+use Rattle.speedate_base.proofs.RequirementLemmas.{alone-longer, alone-whole}
 use Rattle.speedate_civil.specs.PureTime.{parts}
 use Rattle.speedate_civil.proofs.TimeLemmas.{time_front-after}
 use Rattle.speedate_civil.proofs.time.Time.parse_whole.Goals as goal

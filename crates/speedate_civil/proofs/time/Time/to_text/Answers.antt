@@ -1,6 +1,7 @@
 use Rattle.std.proofs.Common.{◌∙◌, ap}
 use Rattle.speedate_civil.specs.Time.{parts}
-use Rattle.speedate_civil.proofs.Names.{text-alone, text-canonical, time_answer, time_text}
+use Rattle.speedate_base.proofs.TextLemmas.{text-alone, text-canonical}
+use Rattle.speedate_civil.specs.TimeText.{time_answer, time_text}
 use Rattle.speedate_civil.proofs.AfterTimeLemmas.{time_text-front-iff}
 use Rattle.speedate_civil.proofs.TimeLemmas.{time_text-reads}
 use Rattle.speedate_civil.proofs.TimeValueLemmas.{is_time}

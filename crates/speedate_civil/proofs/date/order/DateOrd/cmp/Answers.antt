@@ -1,8 +1,7 @@
 use Rattle.std.proofs.Common.{◌≡◌, rules, sym, ◌∙◌}
 use Rattle.speedate_civil.specs.Date.{parts}
-use Rattle.speedate_civil.proofs.Names.{date_order}
-use Rattle.speedate_civil.proofs.DateOrderLemmas.{date_text-order}
-use Rattle.speedate_civil.proofs.DateOrderLemmas.{date_order-day_number}
+use Rattle.speedate_civil.specs.DateOrder.{date_order}
+use Rattle.speedate_civil.proofs.DateOrderLemmas.{date_text-order, date_order-day_number}
 use Rattle.speedate_civil.proofs.DateValueLemmas.{is_day}
 use Rattle.speedate_civil.proofs.date.order.DateOrd.cmp.Goals as goal
 

@@ -1,6 +1,15 @@
 use Rattle.std.proofs.Common.{rules, ◌≡◌, ◌∙◌, ap, sym, subst, ℕ, ◌+◌, ◌≤◌, true, List, length, get_or, take, drop, ◌-◌, Ok, arith, slice_index, ◌==◌, codes, get_or-drop}
-use Rattle.speedate_civil.proofs.Names.{common_steps, and_from, take_rest, err_from_is_err_and, MicrosecondsPrecisionOverflowBehavior, colon, two_digits_at, two_digit_value, eight_at, fit_length, fit_digits, neighbours, result_map, Clock}
-use Rattle.speedate_civil.proofs.Names.{at_hour, clock_answer, clock_front, fit_length-all}
+use Rattle.std.proofs.lemmas.Grind.{common_steps}
+use Rattle.std.proofs.lemmas.Bool.{and_from}
+use Rattle.std.proofs.lemmas.List.{take_rest}
+use Rattle.std.proofs.lemmas.Result.{err_from_is_err_and}
+use Rattle.speedate_base.specs.declared.config.MicrosecondsPrecisionOverflowBehavior.{MicrosecondsPrecisionOverflowBehavior}
+use Rattle.speedate_base.specs.Ascii.{colon}
+use Rattle.speedate_base.specs.Digits.{two_digits_at, two_digit_value}
+use Rattle.speedate_base.specs.Pattern.{eight_at, fit_length, fit_digits, neighbours}
+use Rattle.speedate_base.specs.Requirement.{result_map}
+use Rattle.speedate_civil.specs.ClockText.{Clock, at_hour, clock_answer, clock_front}
+use Rattle.speedate_base.proofs.PatternLemmas.{fit_length-all}
 use Rattle.speedate_civil.specs.PureTime.{parts}
 use Rattle.speedate_civil.proofs.time.pure.PureTime.parse.Goals as goal
 
