@@ -126,7 +126,11 @@ fn expect_read<R: AllocGlobal + Abort>(rt: &R, steps: (usize, usize), call: u64)
     source.fails = call;
     let (end, source, sink) = run_over(source, Sink::new(rt.alloc(), steps.1));
     let found = (end, source.calls, OUTPUT.starts_with(&sink.taken));
-    let want = ((Err(RunError::Read), (true, false), 0), call.saturating_add(1), true);
+    let want = (
+        (Err(RunError::Read), (true, false), 0),
+        call.saturating_add(1),
+        true,
+    );
     same(rt, found, want, &(steps, call));
 }
 
@@ -143,7 +147,11 @@ fn expect_write<R: AllocGlobal + Abort>(
     sink.refuses = refuses;
     let (end, _, sink) = run_over(Source::new(INPUT, steps.0), sink);
     let found = (end, sink.calls, OUTPUT.starts_with(&sink.taken));
-    let want = ((Err(RunError::Write), (false, true), 0), call.saturating_add(1), true);
+    let want = (
+        (Err(RunError::Write), (false, true), 0),
+        call.saturating_add(1),
+        true,
+    );
     same(rt, found, want, &(steps, fails, refuses));
 }
 

@@ -21,7 +21,11 @@ fn a_read_is_one_call(rt: HostRuntime) {
 #[test]
 fn a_write_is_one_call(rt: HostRuntime) {
     let failed = Err(Failed);
-    for (fails, refuses, want) in [(NEVER, NEVER, Ok(4)), (0, NEVER, failed), (NEVER, 0, failed)] {
+    for (fails, refuses, want) in [
+        (NEVER, NEVER, Ok(4)),
+        (0, NEVER, failed),
+        (NEVER, 0, failed),
+    ] {
         let mut sink = Sink::new(rt.alloc(), 4);
         sink.fails = fails;
         sink.refuses = refuses;
