@@ -5,39 +5,19 @@ use std::fmt::Debug;
 use std::io::{self, ErrorKind, Read, Write};
 use std::process::Abort;
 
-/// Calls of an end, counted from 0.
-#[derive(Clone, Copy, Debug)]
-pub enum Calls {
-    None,
-    One(u64),
-    From(u64),
-}
-
-impl Calls {
-    /// Whether this call is one of them: 3 is one of `From(2)`, and none of `One(2)`.
-    pub fn has(self, call: u64) -> bool {
-        match self {
-            Calls::None => false,
-            Calls::One(one) => call == one,
-            Calls::From(first) => call >= first,
-        }
-    }
-}
+/// In place of a call of an end, counted from 0: there is none.
+pub const NEVER: u64 = u64::MAX;
 
 /// A reader of bytes that gives some of them a call, and counts its calls.
 #[derive(Drop)]
 pub struct Source<'a> {
     pub rest: &'a [u8],
     pub step: usize,
-    /// Which calls fail.
-    pub fails: Calls,
-    /// Which calls give nothing, as if the bytes were out.
-    pub pauses: Calls,
-    /// Whether the end of the bytes is a failure.
-    pub ends: bool,
+    /// Which call fails.
+    pub fails: u64,
+    /// Which call gives nothing, as if the bytes were out.
+    pub pauses: u64,
     pub calls: u64,
-    /// How many bytes the last call gave.
-    pub latest: usize,
 }
 
 impl<'a> Source<'a> {
@@ -46,11 +26,9 @@ impl<'a> Source<'a> {
         Source {
             rest: bytes,
             step,
-            fails: Calls::None,
-            pauses: Calls::None,
-            ends: true,
+            fails: NEVER,
+            pauses: NEVER,
             calls: 0,
-            latest: 0,
         }
     }
 }
@@ -59,16 +37,15 @@ impl Read for Source<'_> {
     fn read(&mut self, buffer: &mut [u8]) -> io::Result<usize> {
         let call = self.calls;
         self.calls = call.saturating_add(1);
-        if self.fails.has(call) || (self.rest.is_empty() && !self.ends) {
+        if call == self.fails {
             return Err(io::Error::from(ErrorKind::Interrupted));
         }
-        if self.pauses.has(call) {
+        if call == self.pauses {
             return Ok(0);
         }
         let count = self.step.min(self.rest.len()).min(buffer.len());
         buffer[..count].copy_from_slice(&self.rest[..count]);
         self.rest = &self.rest[count..];
-        self.latest = count;
         Ok(count)
     }
 }
@@ -78,10 +55,10 @@ impl Read for Source<'_> {
 pub struct Sink {
     pub taken: Vec<u8>,
     pub step: usize,
-    /// Which writes fail.
-    pub fails: Calls,
-    /// Which writes take nothing.
-    pub refuses: Calls,
+    /// Which write fails.
+    pub fails: u64,
+    /// Which write takes nothing.
+    pub refuses: u64,
     pub flush_fails: bool,
     pub calls: u64,
     pub flushes: u64,
@@ -93,8 +70,8 @@ impl Sink {
         Sink {
             taken: Vec::new(alloc),
             step,
-            fails: Calls::None,
-            refuses: Calls::None,
+            fails: NEVER,
+            refuses: NEVER,
             flush_fails: false,
             calls: 0,
             flushes: 0,
@@ -106,10 +83,10 @@ impl Write for Sink {
     fn write(&mut self, bytes: &[u8]) -> io::Result<usize> {
         let call = self.calls;
         self.calls = call.saturating_add(1);
-        if self.fails.has(call) {
+        if call == self.fails {
             return Err(io::Error::from(ErrorKind::BrokenPipe));
         }
-        if self.refuses.has(call) {
+        if call == self.refuses {
             return Ok(0);
         }
         let count = self.step.min(bytes.len());

@@ -78,18 +78,14 @@ impl<R: Read> Watched<R> {
         ensures refused { 2 ^ 64 - 1 ≤ self.old.reads →
             IsErr result × (self.new.inner ≡ self.old.inner) }
     {
-        if self.reads == u64::MAX {
-            self.failed = true;
-            return Err(Failed);
-        }
-        self.reads += 1;
-        match self.inner.read(buffer) {
-            Ok(count) => Ok(count),
-            Err(_) => {
-                self.failed = true;
-                Err(Failed)
+        if self.reads < u64::MAX {
+            self.reads += 1;
+            if let Ok(count) = self.inner.read(buffer) {
+                return Ok(count);
             }
         }
+        self.failed = true;
+        Err(Failed)
     }
 }
 
@@ -110,12 +106,8 @@ impl<W: Write> Watched<W> {
     {
         self.flushed = false;
         match self.inner.write(bytes) {
-            Ok(0) if !bytes.is_empty() => {
-                self.failed = true;
-                Err(Failed)
-            }
-            Ok(count) => Ok(count),
-            Err(_) => {
+            Ok(count) if count > 0 || bytes.is_empty() => Ok(count),
+            _ => {
                 self.failed = true;
                 Err(Failed)
             }
@@ -133,17 +125,12 @@ impl<W: Write> Watched<W> {
         ensures reads { self.new.reads ≡ self.old.reads }
     {
         self.flushes = self.flushes.saturating_add(1);
-        match self.inner.flush() {
-            Ok(()) => {
-                self.flushed = true;
-                Ok(())
-            }
-            Err(_) => {
-                self.flushed = false;
-                self.failed = true;
-                Err(Failed)
-            }
+        self.flushed = self.inner.flush().is_ok();
+        if self.flushed {
+            return Ok(());
         }
+        self.failed = true;
+        Err(Failed)
     }
 }
 
