@@ -5,19 +5,39 @@ use std::fmt::Debug;
 use std::io::{self, ErrorKind, Read, Write};
 use std::process::Abort;
 
-/// In place of a call of an end, counted from 0: there is none.
-pub const NEVER: u64 = u64::MAX;
+/// Calls of an end, counted from 0.
+#[derive(Clone, Copy, Debug)]
+pub enum Calls {
+    None,
+    One(u64),
+    From(u64),
+}
+
+impl Calls {
+    /// Whether this call is one of them: 3 is one of `From(2)`, and none of `One(2)`.
+    pub fn has(self, call: u64) -> bool {
+        match self {
+            Calls::None => false,
+            Calls::One(one) => call == one,
+            Calls::From(first) => call >= first,
+        }
+    }
+}
 
 /// A reader of bytes that gives some of them a call, and counts its calls.
 #[derive(Drop)]
 pub struct Source<'a> {
     pub rest: &'a [u8],
     pub step: usize,
-    /// Which call fails.
-    pub fails: u64,
-    /// Which call gives nothing, as if the bytes were out.
-    pub pauses: u64,
+    /// Which calls fail.
+    pub fails: Calls,
+    /// Which calls give nothing, as if the bytes were out.
+    pub pauses: Calls,
+    /// Whether the end of the bytes is a failure.
+    pub ends: bool,
     pub calls: u64,
+    /// How many bytes the last call gave.
+    pub latest: usize,
 }
 
 impl<'a> Source<'a> {
@@ -26,9 +46,11 @@ impl<'a> Source<'a> {
         Source {
             rest: bytes,
             step,
-            fails: NEVER,
-            pauses: NEVER,
+            fails: Calls::None,
+            pauses: Calls::None,
+            ends: true,
             calls: 0,
+            latest: 0,
         }
     }
 }
@@ -37,15 +59,16 @@ impl Read for Source<'_> {
     fn read(&mut self, buffer: &mut [u8]) -> io::Result<usize> {
         let call = self.calls;
         self.calls = call.saturating_add(1);
-        if call == self.fails {
+        if self.fails.has(call) || (self.rest.is_empty() && !self.ends) {
             return Err(io::Error::from(ErrorKind::Interrupted));
         }
-        if call == self.pauses {
+        if self.pauses.has(call) {
             return Ok(0);
         }
         let count = self.step.min(self.rest.len()).min(buffer.len());
         buffer[..count].copy_from_slice(&self.rest[..count]);
         self.rest = &self.rest[count..];
+        self.latest = count;
         Ok(count)
     }
 }
@@ -55,10 +78,10 @@ impl Read for Source<'_> {
 pub struct Sink {
     pub taken: Vec<u8>,
     pub step: usize,
-    /// Which write fails.
-    pub fails: u64,
-    /// Which write takes nothing.
-    pub refuses: u64,
+    /// Which writes fail.
+    pub fails: Calls,
+    /// Which writes take nothing.
+    pub refuses: Calls,
     pub flush_fails: bool,
     pub calls: u64,
     pub flushes: u64,
@@ -70,8 +93,8 @@ impl Sink {
         Sink {
             taken: Vec::new(alloc),
             step,
-            fails: NEVER,
-            refuses: NEVER,
+            fails: Calls::None,
+            refuses: Calls::None,
             flush_fails: false,
             calls: 0,
             flushes: 0,
@@ -83,10 +106,10 @@ impl Write for Sink {
     fn write(&mut self, bytes: &[u8]) -> io::Result<usize> {
         let call = self.calls;
         self.calls = call.saturating_add(1);
-        if call == self.fails {
+        if self.fails.has(call) {
             return Err(io::Error::from(ErrorKind::BrokenPipe));
         }
-        if call == self.refuses {
+        if self.refuses.has(call) {
             return Ok(0);
         }
         let count = self.step.min(bytes.len());

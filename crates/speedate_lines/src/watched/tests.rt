@@ -1,13 +1,14 @@
 //! Each call of a `Watched`, over ends that fail or do not.
 
 use super::{Failed, Watched};
-use crate::ends::{NEVER, Sink, Source, same};
+use crate::ends::{Calls, Sink, Source, same};
+use std::process::Abort;
 
 const INPUT: &[u8] = b"date 2020-01-01";
 
 #[test]
 fn a_read_is_one_call(rt: HostRuntime) {
-    for (fails, want) in [(NEVER, Ok(4)), (0, Err(Failed))] {
+    for (fails, want) in [(Calls::None, Ok(4)), (Calls::One(0), Err(Failed))] {
         let mut source = Source::new(INPUT, 4);
         source.fails = fails;
         let mut input = Watched::new(source);
@@ -20,21 +21,27 @@ fn a_read_is_one_call(rt: HostRuntime) {
 
 #[test]
 fn a_write_is_one_call(rt: HostRuntime) {
-    let failed = Err(Failed);
-    for (fails, refuses, want) in [
-        (NEVER, NEVER, Ok(4)),
-        (0, NEVER, failed),
-        (NEVER, 0, failed),
-    ] {
-        let mut sink = Sink::new(rt.alloc(), 4);
-        sink.fails = fails;
-        sink.refuses = refuses;
-        let mut output = Watched::new(sink);
-        let found = (output.write(INPUT), output.failed());
-        same(&rt, found, (want, want.is_err()), &(fails, refuses));
-        let sink = output.into_inner();
-        same(&rt, (sink.calls, sink.flushes), (1, 0), &(fails, refuses));
-    }
+    expect_write(&rt, Calls::None, Calls::None, Ok(4));
+    expect_write(&rt, Calls::One(0), Calls::None, Err(Failed));
+    expect_write(&rt, Calls::None, Calls::One(0), Err(Failed));
+}
+
+/// A write whose calls fail so, or take nothing, is to answer this, by one call of the writer.
+fn expect_write<R: AllocGlobal + Abort>(
+    rt: &R,
+    fails: Calls,
+    refuses: Calls,
+    want: Result<usize, Failed>,
+) {
+    let mut sink = Sink::new(rt.alloc(), 4);
+    sink.fails = fails;
+    sink.refuses = refuses;
+    let mut output = Watched::new(sink);
+    let found = (output.write(INPUT), output.failed());
+    let row = (fails, refuses);
+    same(rt, found, (want, want.is_err()), &row);
+    let sink = output.into_inner();
+    same(rt, (sink.calls, sink.flushes), (1, 0), &row);
 }
 
 #[test]
