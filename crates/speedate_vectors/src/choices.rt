@@ -9,7 +9,9 @@ use std::process::Abort;
 /// What a text is to name, the text, and the choice, or the fault of an unknown name.
 const NAMES: &str = "\
 unit      's'         Second
+unit      'ms'        Millisecond
 unit      'MS'        Millisecond
+unit      'us'        Microsecond
 unit      'US'        Microsecond
 unit      'inFer'     Infer
 unit      'x'         unknown_timestamp_unit_string
