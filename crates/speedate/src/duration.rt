@@ -154,8 +154,8 @@ impl Duration {
     }
 
     /// Reads a duration from bytes, by a configuration: a second and 123,456 microseconds from
-    /// `b"00:00:01.1234567"` with the behavior `Truncate`. The bytes need not be text. The offset and
-    /// the form of times do not matter.
+    /// `b"00:00:01.1234567"` with the behavior `Truncate`. The bytes need not be text. The offset
+    /// does not matter.
     ///
     /// By default the forms and the faults are those of [`Duration::parse_str`]. The behavior
     /// `Truncate` drops the digits of a clock's second past the sixth. To an ISO 8601 duration it does

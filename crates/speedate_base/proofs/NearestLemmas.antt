@@ -1,11 +1,11 @@
 -- The whole number that is nearest to a fraction is found by rounding down what is twice the fraction.
-use Rattle.std.specs.Prelude.{zero, suc, ◌≡◌, ℕ, ◌+◌, ◌-◌, ◌*◌, ◌/◌, ◌^◌, ◌<◌, ◌≤◌, Bool, true, false, if◌then◌else◌, ℤ, pos, neg_ℤ}
-use Rattle.std.proofs.Common.{◌∙◌, ap, sym, arith, rules, lit<}
+use Rattle.std.specs.Prelude.{zero, suc, ◌≡◌, ℕ, ◌+◌, ◌-◌, ◌*◌, ◌/◌, ◌^◌, ◌<◌, ◌≤◌, Bool, true, false, if◌then◌else◌, ℤ, pos, negsuc, neg_ℤ}
+use Rattle.std.proofs.Common.{◌∙◌, ap, sym, inl, inr, arith, rules, lit<}
 use Rattle.std.proofs.lemmas.Nat.{pow-add}
 use Rattle.std.proofs.lemmas.Bool.{cases_lt}
 use Rattle.std.proofs.lemmas.Bool.Decides.{nat_tests}
 use Rattle.std.proofs.lemmas.Int.{ints}
-use Rattle.std.proofs.Math.Nat.{add-mul-div_right, div-div-eq-div-mul, div-eq_of_lt, one-le-pow}
+use Rattle.std.proofs.Math.Nat.{add-mul-div_right, div-div-eq-div-mul, div-eq_of_lt, mul-div-le, mul-le-mul_left, mul-le-mul_right, one-le-pow}
 use Rattle.speedate_base.specs.Numbers.{with_sign}
 use Rattle.speedate_base.specs.Nearest.{IsNearest, nearest, quotient}
 
@@ -16,6 +16,28 @@ scale-some n = one-le-pow n 10 (lit< tt)
 -- the number that is found is nearest
 pub nearest-is : (n : ℤ) (d : ℕ) → 0 < d → IsNearest n d (nearest n d)
 nearest-is n d some = search rules
+
+-- and no other number is
+one-between : (b a m : ℕ) → b * m < b * a + b → m ≤ a
+one-between b a m below = elim (cases_lt a m) [
+  | inl more ↦ absurd (omega (arith, below, mul-le-mul_left b more))
+  | inr few ↦ few
+]
+
+same-nearest : (n : ℤ) (d : ℕ) (m k : ℤ) → 0 < d → IsNearest n d m → IsNearest n d k → m ≡ k
+same-nearest n d (pos m) (pos k) some first second =
+    let less : m ≤ k = one-between (2 * d) k m (grind (arith, ints, nat_tests)) in
+    let more : k ≤ m = one-between (2 * d) m k (grind (arith, ints, nat_tests)) in
+    ap pos (omega arith)
+same-nearest n d (pos m) (negsuc k) some first second = absurd (grind (arith, ints, nat_tests))
+same-nearest n d (negsuc m) (pos k) some first second = absurd (grind (arith, ints, nat_tests))
+same-nearest n d (negsuc m) (negsuc k) some first second =
+    let less : m ≤ k = one-between (2 * d) k m (grind (arith, ints, nat_tests)) in
+    let more : k ≤ m = one-between (2 * d) m k (grind (arith, ints, nat_tests)) in
+    ap negsuc (omega arith)
+
+pub nearest-only : (n : ℤ) (d : ℕ) (m : ℤ) → 0 < d → IsNearest n d m → m ≡ nearest n d
+nearest-only n d m some is = same-nearest n d m (nearest n d) some is (nearest-is n d some)
 
 -- what is left of rounding where twice the size was rounded first: down, or up for a negative number
 abbrev pub halved : Bool → ℕ → ℕ
@@ -31,7 +53,7 @@ pub nearest-halved : (negative : Bool) (n d : ℕ) → 0 < d
 nearest-halved false n d some = grind (arith, ints, add-mul-div_right (2 * n) 1 some, div-div-eq-div-mul (2 * n + d) d 2)
 nearest-halved true n d some = grind (arith, down n d some, div-div-eq-div-mul (2 * n + (d - 1)) d 2)
 
-pub ruleset nearest_rules = (nearest-halved, scale-some)
+pub ruleset nearest_rules = (nearest-halved, nearest-only, scale-some)
 
 -- a quotient of a part that was rounded in the same way first
 pub quotient-carried : (up : Bool) (a b c d : ℕ) → 0 < c → 0 < d → quotient up (a + quotient up b c) d ≡ quotient up (b + a * c) (c * d)
@@ -40,6 +62,24 @@ quotient-carried false a b c (suc d) some_c some_d =
     grind (arith, add-mul-div_right b a some_c, div-div-eq-div-mul (b + a * c) c (suc d))
 quotient-carried true a b c (suc d) some_c some_d =
     grind (arith, add-mul-div_right (b + (c - 1)) (a + d) some_c, div-div-eq-div-mul (b + (c - 1) + (a + d) * c) c (suc d))
+
+-- a part of a unit, and the rest of one, divided by the scale of the part
+pub part_down : (value unit rest scale : ℕ) → value < scale → rest ≤ 2 * unit → (2 * (value * unit) + rest) / scale ≤ 2 * unit
+part_down value unit rest scale some few =
+    let sum = 2 * (value * unit) + rest in
+    let less : value + 1 ≤ scale = omega arith in
+    let below : sum < scale * (2 * unit) + scale = grind (arith, mul-le-mul_right unit less) in
+    one-between scale (2 * unit) (sum / scale) (omega (arith, below, mul-div-le sum scale))
+
+pub part_up : (value unit rest scale : ℕ) → value < scale → rest ≤ 2 * unit
+    → (2 * (value * unit) + rest + (scale - 1)) / scale ≤ 2 * unit
+part_up value unit rest scale some few =
+    let sum = 2 * (value * unit) + rest + (scale - 1) in
+    let less : value + 1 ≤ scale = omega arith in
+    let below : sum < scale * (2 * unit) + scale = grind (arith, mul-le-mul_right unit less) in
+    one-between scale (2 * unit) (sum / scale) (omega (arith, below, mul-div-le sum scale))
+
+pub ruleset part_rules = (part_down, part_up)
 
 -- whole numbers beside a fraction are not rounded
 pub quotient-whole : (up : Bool) (a n d : ℕ) → 0 < d → quotient up (n + a * d) d ≡ quotient up n d + a

@@ -2,18 +2,18 @@
 use Rattle.std.specs.Prelude.{◌≡◌, ℕ, ◌+◌, ◌-◌, ◌*◌, ◌^◌, ◌<◌, ◌≤◌, ◌&&◌, Bool, true, List, length, take, drop}
 use Rattle.std.specs.Char.{is_ascii_digit}
 use Rattle.std.specs.List.{list_all}
-use Rattle.std.proofs.Common.{arith, ap, sym, ◌∙◌, lit<}
+use Rattle.std.proofs.Common.{arith, ap, ◌∙◌, lit<}
 use Rattle.std.proofs.lemmas.Bool.{and_parts}
 use Rattle.std.proofs.lemmas.Bool.Decides.{nat_tests}
 use Rattle.std.proofs.lemmas.List.{take-append-drop, drop-drop, length-drop}
 use Rattle.std.proofs.lemmas.List.Folds.{list_all-append}
 use Rattle.std.proofs.lemmas.Nat.{pow-add}
-use Rattle.std.proofs.Math.Nat.{mul-le-mul_right}
+use Rattle.std.proofs.Math.Nat.{mul-le-mul_right, pow-le-pow_right}
 use Rattle.speedate_base.specs.DigitRuns.{digits_value}
 use Rattle.speedate_base.proofs.BlockLemmas.{is_number}
 use Rattle.speedate_base.proofs.DigitRunLemmas.{below-power, digits_value-append, digits_value-lt}
 use Rattle.speedate_base.specs.Nearest.{quotient}
-use Rattle.speedate_base.proofs.NearestLemmas.{scale-some, quotient-carried, quotient-multiple}
+use Rattle.speedate_base.proofs.NearestLemmas.{scale-some, quotient-carried}
 
 split : (digits : List ℕ) (count : ℕ) → list_all is_ascii_digit digits ≡ true
     → (list_all is_ascii_digit (take count digits) && list_all is_ascii_digit (drop count digits)) ≡ true
@@ -38,20 +38,13 @@ filled-fits digits count few small all = below-power 8 count _ small (filled-sma
 
 pub ruleset filled_rules = (is_number, filled-small, filled-fits)
 
--- the last block, with zeros after its digits
-pub filled-taken : (up : Bool) (unit count value twice : ℕ) → count ≤ 8
-    → twice ≡ quotient up (2 * (value * 10 ^ (8 - count) * unit) + 0) 100000000 → twice ≡ quotient up (2 * (value * unit)) (10 ^ count)
-filled-taken up unit count value twice few taken =
-    let zeros = 10 ^ (8 - count) in
-    let size = 2 * (value * unit) in
-    let sum : (8 - count) + count ≡ 8 = omega arith in
-    let power : zeros * 10 ^ count ≡ 100000000 = sym (pow-add 10 (8 - count) count) ∙ ap (λ (n : ℕ). 10 ^ n) sum in
-    let product : 2 * (value * zeros * unit) + 0 ≡ size * zeros + 0 * zeros = grind arith in
-    let once = ap (λ (n : ℕ). quotient up (0 + n) (10 ^ count)) (quotient-multiple up size zeros (scale-some (8 - count))) in
-    let bare : 0 + size ≡ size = omega arith in
-    taken ∙ ap (λ (n : ℕ). quotient up n 100000000) product ∙ ap (λ (n : ℕ). quotient up (size * zeros + 0 * zeros) n) (sym power)
-    ∙ sym (quotient-carried up 0 (size * zeros) zeros (10 ^ count) (scale-some (8 - count)) (scale-some count))
-    ∙ once ∙ ap (λ (n : ℕ). quotient up n (10 ^ count)) bare
+-- fewer than eight digits spell less than their scale
+pub scale-few : (count : ℕ) → count < 8 → 10 ^ count ≤ 100000000
+scale-few count few =
+    let within : count ≤ 8 = omega arith in
+    pow-le-pow_right {n = 10} (lit< tt) within
+
+pub ruleset last_rules = (is_number, digits_value-lt, scale-few)
 
 -- a block before digits
 pub block-taken : (up : Bool) (unit : ℕ) (digits : List ℕ) (place value later twice : ℕ) → 8 ≤ place → place ≤ length digits

@@ -1,11 +1,11 @@
 //! Configurations: the unit of timestamps, how times are read, and which offset the values of
 //! timestamps get.
 
-ghost use Rattle.std.specs.Prelude.{◌≡◌, IsTrue, Ok, nat_le};
+ghost use Rattle.std.specs.Prelude.{◌≡◌, IsTrue, Ok};
 ghost use Rattle.std.specs.Option.{ForSome};
 ghost use Rattle.speedate_base.specs.declared.config.TimestampUnit.TheVariants as unit;
 ghost use Rattle.speedate_base.specs.Offset.{IsOffset, is_offset, offset_table};
-ghost use Rattle.speedate_base.specs.Requirement.{◌implies◌, meets, result_map};
+ghost use Rattle.speedate_base.specs.Requirement.{meets, result_map};
 
 mod choice;
 mod date_time;
@@ -58,22 +58,6 @@ pub enum IsoOrder {
     Lax,
     /// Each comes at most once: years, months, weeks, days, and after the `T` hours, minutes, seconds.
     Strict,
-}
-
-impl MicrosecondsPrecisionOverflowBehavior {
-    ghost use Rattle.speedate_base.specs.Config.{refuses_digits};
-
-    /// Whether a text may have `count` digits after its decimal mark, if the first `most` of them reach
-    /// the microsecond: 7 with a `most` of 6 is true for `Truncate` and false for `Error`.
-    #[inline]
-    pub fn takes_digits(self, count: usize, most: usize) -> bool
-        ensures taken { result ≡ (refuses_digits self implies nat_le count most) }
-    {
-        match self {
-            MicrosecondsPrecisionOverflowBehavior::Truncate => true,
-            MicrosecondsPrecisionOverflowBehavior::Error => count <= most,
-        }
-    }
 }
 
 /// Whether an offset in seconds is less than 24 hours, east or west of UTC: true for -86,399, false for

@@ -5,12 +5,14 @@ ghost use Rattle.speedate_base.specs.Numbers.{has_minus, sign_length, with_sign,
 ghost use Rattle.speedate_base.specs.IntFloat.{number_of, JoinsToFloat};
 
 pub(crate) mod digits;
+mod fraction;
 mod int_float;
 pub(crate) mod lanes;
 mod places;
 
 use digits::spelled_number;
 pub use digits::{DigitRun, digit_run, few_digits, run_end};
+pub use fraction::{Fraction, takes_digits};
 pub use int_float::{Decimal, IntFloat};
 pub use lanes::{LANES, eight_bytes, fitting, pairs};
 pub use places::{byte_at, two_digits};

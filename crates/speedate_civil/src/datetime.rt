@@ -21,6 +21,7 @@ pub use now::Moment;
 use speedate_base::config::TimeConfig;
 use speedate_base::faults::ParseError;
 use speedate_base::numbers::byte_at;
+pub use timestamp::instant_date_time;
 
 /// The place of the time, after the ten bytes of a date and a separator.
 const TIME_PLACE: usize = 11;

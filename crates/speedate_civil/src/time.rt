@@ -4,7 +4,6 @@ ghost use Rattle.std.specs.Prelude.{◌≡◌, ◌≤◌};
 ghost use Rattle.std.specs.Option.{ForSome};
 ghost use Rattle.speedate_base.specs.Offset.{IsOffset};
 
-mod fraction;
 mod new;
 mod offset;
 mod order;
@@ -13,7 +12,6 @@ mod strict;
 mod text;
 mod timezone;
 
-pub use fraction::Fraction;
 use offset::read_offset;
 pub(crate) use offset::{clock_shift, end_fault};
 pub use pure::PureTime;

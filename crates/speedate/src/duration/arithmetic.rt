@@ -17,7 +17,7 @@ use super::Duration;
 use speedate_base::faults::ParseError;
 use speedate_base::util::{SECONDS_PER_DAY, UnixTime};
 use speedate_civil::date::Date;
-use speedate_civil::datetime::DateTime;
+use speedate_civil::datetime::{DateTime, instant_date_time};
 
 impl Duration {
     /// The duration from one date-time to another, by their instants in UTC: an hour from
@@ -56,7 +56,7 @@ impl Duration {
         ensures leads_back { IfOk result (λ end. date_time_after (neg_ℤ (signed_length (parts self.now))) (date_time_parts end)
             ≡ Ok (date_time_parts start.now)) }
     {
-        DateTime::of_instant(self.end(start), start.time.tz_offset)
+        instant_date_time(self.end(start), start.time.tz_offset)
     }
 
     /// The date-time so long before another, or after it where the duration is negative, at the same

@@ -9,7 +9,7 @@ ghost use Rattle.speedate.specs.ClockForm.{colon_place, from_minute, has_hours, 
 use super::unsigned::UnsignedDuration;
 use speedate_base::config::MicrosecondsPrecisionOverflowBehavior;
 use speedate_base::faults::ParseError;
-use speedate_base::numbers::{DigitRun, byte_at};
+use speedate_base::numbers::{DigitRun, byte_at, takes_digits};
 use speedate_civil::time::PureTime;
 
 /// How many bytes the hours have at most.
@@ -53,7 +53,7 @@ impl UnsignedDuration {
         if hours > HOURS_MAX {
             return Err(ParseError::DurationHourValueTooLarge);
         }
-        if !behavior.takes_digits(rest.len(), REST_LENGTH_MAX) {
+        if !takes_digits(behavior, rest.len(), REST_LENGTH_MAX) {
             return Err(ParseError::SecondFractionTooLong);
         }
         if rest.len() < 2 {

@@ -13,9 +13,8 @@ ghost use Rattle.speedate.specs.IsoForm.{Component, TimeDesignator, units, unit_
 use super::unsigned::UnsignedDuration;
 use speedate_base::config::IsoOrder;
 use speedate_base::faults::ParseError;
-use speedate_base::numbers::{DigitRun, byte_at, digit_run, few_digits};
+use speedate_base::numbers::{DigitRun, Fraction, byte_at, digit_run, few_digits};
 use speedate_base::util::{SECONDS_PER_DAY, twice_microseconds};
-use speedate_civil::time::Fraction;
 
 /// How many digits of a fraction of a second are whole microseconds.
 const MICROSECOND_LENGTH: usize = 6;

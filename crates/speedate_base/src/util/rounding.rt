@@ -1,10 +1,10 @@
 //! Fractions of a unit of time, rounded by their digits.
 
-ghost use Rattle.std.specs.Prelude.{◌≡◌, ◌+◌, ◌-◌, ◌*◌, ◌^◌, ◌<◌, ◌≤◌, length, take, IsTrue, Bool};
+ghost use Rattle.std.specs.Prelude.{◌≡◌, ℤ, ◌+◌, ◌-◌, ◌*◌, ◌^◌, ◌<◌, ◌≤◌, length, take, IsTrue, Bool};
 ghost use Rattle.std.specs.Char.{is_ascii_digit};
 ghost use Rattle.std.specs.List.{list_all};
 ghost use Rattle.speedate_base.specs.DigitRuns.{digits_value};
-ghost use Rattle.speedate_base.specs.Nearest.{nearest, quotient};
+ghost use Rattle.speedate_base.specs.Nearest.{IsNearest, nearest, quotient};
 ghost use Rattle.speedate_base.specs.Numbers.{with_sign};
 
 use crate::numbers::digits::one_by_one;
@@ -26,6 +26,8 @@ pub fn nearest_microseconds(digits: &[u8], unit: u64, negative: bool) -> u64
     requires unit { unit ≤ LARGEST_UNIT }
     ensures nearest { with_sign negative result
         ≡ nearest (with_sign negative (digits_value digits.now * unit)) (10 ^ length digits.now) }
+    ensures only { (m : ℤ) → IsNearest (with_sign negative (digits_value digits.now * unit)) (10 ^ length digits.now) m
+        → m ≡ with_sign negative result }
     ensures within { result ≤ unit }
 {
     let twice = twice_microseconds(digits, unit, negative);
@@ -45,13 +47,27 @@ pub fn twice_microseconds(digits: &[u8], unit: u64, up: bool) -> u64
     ensures within { result ≤ 2 * unit }
 {
     let mut place = digits.len() - digits.len() % LANES;
-    let mut twice = eight_taken(filled(&digits[place..], LANES), 0, unit, up);
+    let mut twice = last_digits_taken(&digits[place..], unit, up);
     while place > 0 {
         place -= LANES;
         let value = eight_digits(u8x8::from_slice(&digits[place..]));
-        twice = eight_taken(value, twice, unit, up);
+        twice = digits_taken(value, twice, unit, 100_000_000, up);
     }
     twice
+}
+
+/// Twice the microseconds of fewer than eight digits, the last ones.
+#[inline]
+#[tactic(auto, using(crate::proofs::RoundingLemmas::last_rules))]
+fn last_digits_taken(digits: &[u8], unit: u64, up: bool) -> u64
+    requires short { length digits.now < LANES }
+    requires digits { IsTrue (list_all is_ascii_digit digits.now) }
+    requires unit { unit ≤ LARGEST_UNIT }
+    ensures twice { result ≡ quotient up (2 * (digits_value digits.now * unit)) (10 ^ length digits.now) }
+    ensures within { result ≤ 2 * unit }
+{
+    let value = one_by_one(digits).unwrap();
+    digits_taken(value, 0, unit, power_of_ten(digits.len()), up)
 }
 
 /// What fewer than eight digits spell, with zeros after them up to so many places: 120,000 for
@@ -87,20 +103,23 @@ pub(super) fn power_of_ten(exponent: usize) -> u64
     }
 }
 
-/// Twice the microseconds of eight digits, where `rest` is that of the digits after them. Numbers of 128
-/// bits hold it before it is divided.
-#[inline]
-fn eight_taken(value: u64, rest: u64, unit: u64, up: bool) -> u64
-    requires value { value < 100000000 }
+/// Twice the microseconds of digits that spell a value below the scale, where `rest` is that of the
+/// digits after them. Numbers of 128 bits hold it before it is divided.
+#[inline(always)]
+#[tactic(auto, using(crate::proofs::NearestLemmas::part_rules))]
+fn digits_taken(value: u64, rest: u64, unit: u64, scale: u64, up: bool) -> u64
+    requires value { value < scale }
+    requires scale { scale ≤ 100000000 }
     requires rest { rest ≤ 2 * unit }
     requires unit { unit ≤ LARGEST_UNIT }
-    ensures twice { result ≡ quotient up (2 * (value * unit) + rest) (10 ^ 8) }
+    ensures twice { result ≡ quotient up (2 * (value * unit) + rest) scale }
     ensures within { result ≤ 2 * unit }
 {
+    let scale = u128::from(scale);
     let sum = 2 * (u128::from(value) * u128::from(unit)) + u128::from(rest);
     if up {
-        ((sum + 99_999_999) / 100_000_000) as u64
+        ((sum + (scale - 1)) / scale) as u64
     } else {
-        (sum / 100_000_000) as u64
+        (sum / scale) as u64
     }
 }

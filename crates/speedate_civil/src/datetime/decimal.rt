@@ -15,7 +15,7 @@ ghost use Rattle.speedate_civil.specs.DateTimeTimestamp.{instant_date_time, date
 use crate::datetime::DateTime;
 use speedate_base::config::DateTimeConfig;
 use speedate_base::faults::ParseError;
-use speedate_base::numbers::Decimal;
+use speedate_base::numbers::{Decimal, takes_digits};
 use speedate_base::util::{UnixUnit, decimal_to_seconds_micros, decimal_unit};
 
 impl DateTime {
@@ -62,7 +62,7 @@ impl DateTime {
     {
         let unit = decimal_unit(decimal, config.timestamp_unit);
         let behavior = config.time_config.microseconds_precision_overflow_behavior;
-        if !behavior.takes_digits(decimal.fraction.len(), unit.digits) {
+        if !takes_digits(behavior, decimal.fraction.len(), unit.digits) {
             return Err(unit.too_long);
         }
         Self::at_decimal(decimal, unit, config.time_config.unix_timestamp_offset)

@@ -3,8 +3,8 @@
 ghost use Rattle.std.specs.Prelude.{◌≡◌, ◌≤◌, Option};
 ghost use Rattle.speedate_base.specs.Requirement.{result_map};
 
-use super::DateTime;
 use super::timezone::shifted;
+use super::{DateTime, instant_date_time};
 use crate::date::Date;
 use speedate_base::config::is_offset;
 use speedate_base::faults::ParseError;
@@ -70,7 +70,7 @@ impl DateTime {
             second: shifted(moment.second as i64, tz_offset),
             microsecond: moment.microsecond,
         };
-        Self::of_instant(time, Some(tz_offset))
+        instant_date_time(time, Some(tz_offset))
     }
 
     /// The date-time that a clock tells, at an offset in seconds: 1970-01-01T00:00:00Z for a clock that

@@ -169,21 +169,7 @@ impl DateTime {
     {
         let time = timestamp_to_seconds_micros(timestamp, config.timestamp_unit)?;
         let later = later_instant(time, timestamp_microsecond)?;
-        Self::of_instant(later, config.time_config.unix_timestamp_offset)
-    }
-
-    /// The date-time whose clock shows an instant, with the offset attached: 1970-01-01T00:00:01+01:00
-    /// for second 1 and the offset 3,600. Fails with `DateTooSmall` before the year 0000, with
-    /// `DateTooLarge` after the year 9999. The offset is less than 24 hours, which is a condition on the
-    /// caller.
-    #[inline]
-    pub fn of_instant(time: UnixTime, offset: Option<i32>) -> Result<Self, ParseError>
-        requires { ForSome offset IsOffset }
-        ensures answer { result_map parts result ≡ instant_date_time offset (instant_parts time) }
-        ensures shown { IfOk result (λ value. IsShownAt offset (instant_parts time) (parts value)) }
-    {
-        let within = time.in_years()?;
-        Ok(Self::at_instant(within, offset))
+        instant_date_time(later, config.time_config.unix_timestamp_offset)
     }
 
     /// The date-time at an instant of the years 0000 to 9999, with the offset attached.
@@ -253,6 +239,20 @@ impl FromStr for DateTime {
     fn from_str(text: &str) -> Result<Self, ParseError> {
         Self::parse_str(text)
     }
+}
+
+/// The date-time whose clock shows an instant, with the offset attached: 1970-01-01T00:00:01+01:00
+/// for second 1 and the offset 3,600. Fails with `DateTooSmall` before the year 0000, with
+/// `DateTooLarge` after the year 9999. The offset is less than 24 hours, which is a condition on the
+/// caller.
+#[inline]
+pub fn instant_date_time(time: UnixTime, offset: Option<i32>) -> Result<DateTime, ParseError>
+    requires { ForSome offset IsOffset }
+    ensures answer { result_map parts result ≡ instant_date_time offset (instant_parts time) }
+    ensures shown { IfOk result (λ value. IsShownAt offset (instant_parts time) (parts value)) }
+{
+    let within = time.in_years()?;
+    Ok(DateTime::at_instant(within, offset))
 }
 
 /// The instant so many microseconds later. Fails with `TimeTooLarge` if the microseconds exceed

@@ -6,7 +6,7 @@ ghost use Rattle.speedate_civil.specs.DateAndTime.{utc_second};
 ghost use Rattle.speedate_civil.specs.DateTime.{parts};
 ghost use Rattle.speedate_civil.specs.OffsetMove.{date_time_with_offset, date_time_in_timezone};
 
-use super::DateTime;
+use super::{DateTime, instant_date_time};
 use crate::time::clock_shift;
 use speedate_base::faults::ParseError;
 use speedate_base::util::UnixTime;
@@ -44,7 +44,7 @@ impl DateTime {
             second: shifted(self.timestamp(), shift),
             microsecond: self.time.microsecond,
         };
-        Self::of_instant(time, Some(tz_offset))
+        instant_date_time(time, Some(tz_offset))
     }
 }
 

@@ -1,16 +1,16 @@
 //! Times of day without their offsets, at the front of a text.
 
 ghost use Rattle.std.specs.Prelude.{◌≡◌, ◌+◌, ◌≤◌, IfOk, IsTrue, length, drop, codes};
+ghost use Rattle.speedate_base.specs.DigitRuns.{run_length, run_digits, fraction_value};
 ghost use Rattle.speedate_base.specs.Digits.{two_digit_value};
 ghost use Rattle.speedate_base.specs.Pattern.{fit_length};
 ghost use Rattle.speedate_civil.specs.ClockText.{has_decimal_mark};
 ghost use Rattle.speedate_civil.specs.Reader.{second_there};
 
 use crate::time::Time;
-use crate::time::fraction::Fraction;
 use speedate_base::config::MicrosecondsPrecisionOverflowBehavior;
 use speedate_base::faults::ParseError;
-use speedate_base::numbers::{LANES, byte_at, eight_bytes, fitting, pairs};
+use speedate_base::numbers::{Fraction, LANES, byte_at, eight_bytes, fitting, pairs, takes_digits};
 use std::simd::prelude::*;
 
 /// A clock within a longer text: its time of day, without an offset, and how many bytes it takes.
@@ -194,11 +194,11 @@ impl PureTime {
                 size: 5,
             });
         }
-        let fraction = Fraction::after_second(bytes, place);
+        let fraction = fraction_after_second(bytes, place);
         if fraction.length == 0 {
             return Err(ParseError::SecondFractionMissing);
         }
-        if !behavior.takes_digits(fraction.length, 6) {
+        if !takes_digits(behavior, fraction.length, 6) {
             return Err(ParseError::SecondFractionTooLong);
         }
         Ok(PureTime {
@@ -227,6 +227,19 @@ fn second_there(front: u8x8, fits: usize) -> Second
         5 => Second::Absent,
         _ => Second::Faulty,
     }
+}
+
+/// The fraction that follows the decimal mark of a clock whose minute begins at `minute`: three digits
+/// that mean 120,000 microseconds for `b"12:13:14.120Z"` at place 3.
+#[inline(always)]
+fn fraction_after_second(bytes: &[u8], minute: usize) -> Fraction
+    requires { minute + 6 ≤ length bytes.now }
+    ensures length { result.length ≡ run_length (drop minute bytes.now) 6 }
+    ensures microsecond { result.microsecond ≡ fraction_value 6 (run_digits (drop minute bytes.now) 6) }
+    ensures within { minute + 6 + result.length ≤ length bytes.now }
+    ensures small { result.microsecond ≤ 999999 }
+{
+    Fraction::read(bytes, minute + 6)
 }
 
 /// Whether a decimal mark, `.` or `,`, follows the second of a time that is given from its minute on.

@@ -12,22 +12,22 @@ use Rattle.speedate.proofs.duration.Duration.after.Goals as goal
 pub returns-clause-ends : goal.returns-clause-ends
 returns-clause-ends c =
     let start = date_time_parts c.args.start.now in
-    IfOk-weaker c.of_instant.result _ _
+    IfOk-weaker c.instant_date_time.result _ _
     (λ end shown. shown-later start (date_time_parts end) (signed_length (parts c.args.self.now))
-    (subst (λ instant. IsShownAt start.time.offset instant (date_time_parts end)) c.end.ensures.instant shown)) c.of_instant.ensures.shown
+    (subst (λ instant. IsShownAt start.time.offset instant (date_time_parts end)) c.end.ensures.instant shown)) c.instant_date_time.ensures.shown
 
 pub returns-clause-between : goal.returns-clause-between
 returns-clause-between c =
-    IfOk-weaker c.of_instant.result _ _
+    IfOk-weaker c.instant_date_time.result _ _
     (λ end same. between-exact (date_time_parts c.args.start.now) (date_time_parts end) (parts c.args.self.now) (is_duration c.args.self.now) same) (returns-clause-ends c)
 
 pub returns-clause-order : goal.returns-clause-order
 returns-clause-order c other =
     let length = signed_length (parts c.args.self.now) in
     let next = signed_length (parts other) in
-    IfOk-weaker c.of_instant.result _ _
+    IfOk-weaker c.instant_date_time.result _ _
     (λ end same. ends-order (date_time_parts c.args.start.now) (date_time_parts end) length next length next refl same) (returns-clause-ends c)
 
 pub returns-clause-leads_back : goal.returns-clause-leads_back
 returns-clause-leads_back c =
-    ends-back c.of_instant.result c.args.start.now (signed_length (parts c.args.self.now)) _ (search rules) (sym (neg_ℤ-neg_ℤ _)) (returns-clause-ends c)
+    ends-back c.instant_date_time.result c.args.start.now (signed_length (parts c.args.self.now)) _ (search rules) (sym (neg_ℤ-neg_ℤ _)) (returns-clause-ends c)

@@ -14,7 +14,7 @@ use Rattle.speedate_civil.proofs.OffsetMoveLemmas.{second-moved, instant-kept}
 use Rattle.speedate_civil.proofs.datetime.DateTime.in_timezone.Goals as goal
 
 -- the offset can be had, and the second is the one that its clock shows
-found : (c : goal.After-of_instant)
+found : (c : goal.After-instant_date_time)
     → AllHold (move_table c.args.tz_offset c.args.self.now.time.tz_offset) × (c.shifted.result ≡ utc_second (parts c.args.self.now) +ℤ c.args.tz_offset)
 found c =
     let local : SFits w64 c.timestamp.result = search rules in
@@ -38,5 +38,5 @@ returns-clause-instant c =
     let offset = c.args.tz_offset in
     let second : SFits w64 c.shifted.result = search rules in
     let given : SFits w32 offset = search rules in
-    let shown = simp to_z-of_z at c.of_instant.ensures.shown in
-    kept c.of_instant.result value offset (record { second = c.shifted.result; microsecond = value.time.microsecond }) (found c).1 shown
+    let shown = simp to_z-of_z at c.instant_date_time.ensures.shown in
+    kept c.instant_date_time.result value offset (record { second = c.shifted.result; microsecond = value.time.microsecond }) (found c).1 shown

@@ -1,5 +1,5 @@
 use Rattle.std.proofs.Common.{rules, drop-drop}
-use Rattle.speedate_civil.proofs.time.fraction.Fraction.after_second.Goals as goal
+use Rattle.speedate_civil.proofs.time.pure.fraction_after_second.Goals as goal
 
 pub returns-clause-length : goal.returns-clause-length
 returns-clause-length c = search (rules, drop-drop)

@@ -5,7 +5,7 @@ use Rattle.speedate_base.specs.DigitRuns.{run_length, run_digits, fraction_value
 use Rattle.speedate_base.specs.Pattern.{eight_at, fit_length}
 use Rattle.speedate_base.proofs.DigitRunLemmas.{fraction_value-take}
 use Rattle.speedate_base.proofs.PatternLemmas.{eight_at-drop}
-use Rattle.speedate_civil.proofs.time.fraction.Fraction.read.Goals as goal
+use Rattle.speedate_base.proofs.numbers.fraction.Fraction.read.Goals as goal
 
 -- the first bytes of a text, so many of them, and 0 where it has none
 abbrev first : ℕ → List ℕ → List ℕ

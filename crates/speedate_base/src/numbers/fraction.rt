@@ -1,11 +1,15 @@
-//! The fraction of a second.
+//! Fractions of a second, by their digits.
 
-ghost use Rattle.std.specs.Prelude.{◌≡◌, ◌+◌, ◌<◌, ◌≤◌, length, drop, replicate, take};
+ghost use Rattle.std.specs.Prelude.{◌≡◌, ◌+◌, ◌<◌, ◌≤◌, length, nat_le, replicate, take};
 ghost use Rattle.speedate_base.specs.Ascii.{digit_zero};
+ghost use Rattle.speedate_base.specs.Config.{refuses_digits};
 ghost use Rattle.speedate_base.specs.DigitRuns.{run_length, run_digits, fraction_value};
 ghost use Rattle.speedate_base.specs.Pattern.{fit_length};
+ghost use Rattle.speedate_base.specs.Requirement.{◌implies◌};
 
-use speedate_base::numbers::{LANES, eight_bytes, fitting, pairs, run_end};
+use super::digits::run_end;
+use super::lanes::{LANES, eight_bytes, fitting, pairs};
+use crate::config::MicrosecondsPrecisionOverflowBehavior;
 use std::simd::prelude::*;
 
 /// A fraction of a second: how many digits it has, and the microsecond that they mean.
@@ -18,19 +22,6 @@ pub struct Fraction {
 }
 
 impl Fraction {
-    /// The fraction that follows the point of a clock whose minute begins at `minute`: three digits
-    /// that mean 120,000 microseconds for `b"12:13:14.120Z"` at place 3.
-    #[inline(always)]
-    pub(crate) fn after_second(bytes: &[u8], minute: usize) -> Self
-        requires { minute + 6 ≤ length bytes.now }
-        ensures length { result.length ≡ run_length (drop minute bytes.now) 6 }
-        ensures microsecond { result.microsecond ≡ fraction_value 6 (run_digits (drop minute bytes.now) 6) }
-        ensures within { minute + 6 + result.length ≤ length bytes.now }
-        ensures small { result.microsecond ≤ 999999 }
-    {
-        Self::read(bytes, minute + 6)
-    }
-
     /// The fraction whose digits begin at `place`: three digits that mean 120,000 microseconds for
     /// `b".120Z"` at place 1. Digits past the sixth are counted, and mean nothing.
     #[inline(always)]
@@ -74,4 +65,20 @@ fn six_places(front: u8x8, count: usize) -> u32
 {
     let [a, _, b, _, c, _, _, _] = pairs(front, u8x8::splat(b'0'), count);
     10_000 * u32::from(a) + 100 * u32::from(b) + u32::from(c)
+}
+
+/// Whether a text may have `count` digits after its decimal mark, if the first `most` of them reach
+/// the microsecond: 7 with a `most` of 6 is true for `Truncate` and false for `Error`.
+#[inline]
+pub fn takes_digits(
+    behavior: MicrosecondsPrecisionOverflowBehavior,
+    count: usize,
+    most: usize,
+) -> bool
+    ensures taken { result ≡ (refuses_digits behavior implies nat_le count most) }
+{
+    match behavior {
+        MicrosecondsPrecisionOverflowBehavior::Truncate => true,
+        MicrosecondsPrecisionOverflowBehavior::Error => count <= most,
+    }
 }
