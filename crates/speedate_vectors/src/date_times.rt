@@ -127,8 +127,7 @@ const FRONTS: &str = "\
 '2026-11-22T12:13:14.1234567 x'      second_fraction_too_long";
 
 /// Texts, those of RFC 3339 and of JSON Schema's tests among them, and the answers of the relaxed reader and
-/// of the strict one, which takes those of RFC 3339 alone. The second 60 stands in both, and is refused.
-/// The second 60 is one of the standard, and refused.
+/// of the strict one, which takes those of RFC 3339 alone. A second 60 is one of the standard, and refused.
 const STRICT: &str = "\
 '1985-04-12T23:20:50.52Z'           1985-04-12T23:20:50.520000Z       1985-04-12T23:20:50.520000Z
 '1996-12-19T16:39:57-08:00'         1996-12-19T16:39:57-08:00         1996-12-19T16:39:57-08:00
