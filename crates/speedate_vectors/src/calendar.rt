@@ -22,28 +22,33 @@ fn expect_day<R: Abort>(rt: &R, date: &Date, day: civil::Date, number: u32) {
     same(rt, found, (day.year(), day.month(), day.day()), number);
 }
 
-#[test]
-fn each_day_is_that_of_jiff(rt: HostRuntime) {
+/// Each day, from the first to the last.
+fn expect_each_day<R: Abort>(rt: &R) {
     let mut next = Date::from_day_number(0);
     let mut civil = civil::Date::new(0, 1, 1).ok();
     for number in 0..3_652_425 {
-        let date = next.expect(&rt, "a date");
-        let day = civil.expect(&rt, "a date");
-        expect_day(&rt, &date, day, number);
+        let date = next.expect(rt, "a date");
+        let day = civil.expect(rt, "a date");
+        expect_day(rt, &date, day, number);
         next = date.next_day();
         civil = day.tomorrow().ok();
     }
     assert!(rt; next.is_none() && civil.is_none());
 }
 
-/// Dates all over the calendar.
-#[test]
-fn days_between_dates_are_those_of_jiff(rt: HostRuntime) {
+/// The days between dates all over the calendar.
+fn expect_days_between<R: Abort>(rt: &R) {
     for step in 0..20_000 {
-        let date = Date::from_day_number(step * 7_919 % 3_652_425).expect(&rt, "a date");
-        let other = Date::from_day_number(step * 104_729 % 3_652_425).expect(&rt, "a date");
-        let days = civil_days(&date, &other).ok().expect(&rt, "days");
-        same(&rt, other.days_since(&date), days, step);
-        same(&rt, date.checked_add_days(days), Some(other), step);
+        let date = Date::from_day_number(step * 7_919 % 3_652_425).expect(rt, "a date");
+        let other = Date::from_day_number(step * 104_729 % 3_652_425).expect(rt, "a date");
+        let days = civil_days(&date, &other).ok().expect(rt, "days");
+        same(rt, other.days_since(&date), days, step);
+        same(rt, date.checked_add_days(days), Some(other), step);
     }
+}
+
+#[test]
+fn the_calendar_is_that_of_jiff(rt: HostRuntime) {
+    expect_each_day(&rt);
+    expect_days_between(&rt);
 }

@@ -1,27 +1,40 @@
 //! Units, behaviors and orders by their names, and the offsets that a configuration takes.
 
-use crate::rows::{offset, quoted, same, words};
-use arrayvec::ArrayString;
-use speedate::{IsoOrder, MicrosecondsPrecisionOverflowBehavior, TimeConfig, TimestampUnit};
-use std::fmt::{Debug, Display, Write};
-use std::process::Abort;
+use crate::rows::{offset, same, words};
+use speedate::ConfigError::{
+    UnknownMicrosecondsPrecisionOverflowBehaviorString, UnknownTimestampUnitString,
+};
+use speedate::IsoOrder::{self, Lax, Strict};
+use speedate::MicrosecondsPrecisionOverflowBehavior::{self, Error, Truncate};
+use speedate::TimeConfig;
+use speedate::TimestampUnit::{self, Infer, Microsecond, Millisecond, Second};
+use std::str::FromStr;
 
-/// What a text is to name, the text, and the choice, or the fault of an unknown name.
-const NAMES: &str = "\
-unit      's'         Second
-unit      'ms'        Millisecond
-unit      'MS'        Millisecond
-unit      'us'        Microsecond
-unit      'US'        Microsecond
-unit      'inFer'     Infer
-unit      'x'         unknown_timestamp_unit_string
-unit      '\u{17f}'   unknown_timestamp_unit_string
-behavior  'TRUNCATE'  Truncate
-behavior  'eRRor'     Error
-behavior  'errors'    unknown_microseconds_precision_overflow_behavior_string
-order     'lax'       Lax
-order     'STRICT'    Strict
-order     'strictly'  none";
+/// Texts, and the unit that each names, if it names one.
+const UNITS: [(&str, Option<TimestampUnit>); 8] = [
+    ("s", Some(Second)),
+    ("ms", Some(Millisecond)),
+    ("MS", Some(Millisecond)),
+    ("us", Some(Microsecond)),
+    ("US", Some(Microsecond)),
+    ("inFer", Some(Infer)),
+    ("x", None),
+    ("\u{17f}", None),
+];
+
+/// Texts, and the behavior that each names, if it names one.
+const BEHAVIORS: [(&str, Option<MicrosecondsPrecisionOverflowBehavior>); 3] = [
+    ("TRUNCATE", Some(Truncate)),
+    ("eRRor", Some(Error)),
+    ("errors", None),
+];
+
+/// Texts, and the order that each names, if it names one.
+const ORDERS: [(&str, Option<IsoOrder>); 3] = [
+    ("lax", Some(Lax)),
+    ("STRICT", Some(Strict)),
+    ("strictly", None),
+];
 
 /// Offsets, and how a configuration takes them.
 const OFFSETS: &str = "\
@@ -30,45 +43,27 @@ const OFFSETS: &str = "\
 -86400       out_of_range_tz
 -2147483648  out_of_range_tz";
 
-/// What was read is to be the choice that is written so, or the fault that is.
-fn expect_named<T: Debug + Copy, E: Display + Copy, R: Abort>(
-    rt: &R,
-    read: Result<T, E>,
-    want: &str,
-    row: &str,
-) {
-    let mut found = ArrayString::<64>::new();
-    let written = match read {
-        Ok(choice) => write!(found, "{choice:?}"),
-        Err(fault) => write!(found, "{fault}"),
-    };
-    assert!(rt; written.is_ok(), "{row}");
-    same(rt, found.as_str(), want, row);
-}
-
 #[test]
 fn choices_of_names(rt: HostRuntime) {
-    for row in NAMES.lines() {
-        let (kind, text, want) = quoted(&rt, row);
-        match kind {
-            "unit" => expect_named(&rt, text.parse::<TimestampUnit>(), want, row),
-            "behavior" => expect_named(
-                &rt,
-                text.parse::<MicrosecondsPrecisionOverflowBehavior>(),
-                want,
-                row,
-            ),
-            _ => expect_named(&rt, IsoOrder::from_name(&text).ok_or("none"), want, row),
-        }
+    for (text, unit) in UNITS {
+        let want = unit.ok_or(UnknownTimestampUnitString);
+        same(&rt, TimestampUnit::from_str(text), want, text);
+    }
+    for (text, behavior) in BEHAVIORS {
+        let want = behavior.ok_or(UnknownMicrosecondsPrecisionOverflowBehaviorString);
+        let read = MicrosecondsPrecisionOverflowBehavior::from_str(text);
+        same(&rt, read, want, text);
+    }
+    for (text, order) in ORDERS {
+        same(&rt, IsoOrder::from_name(text), order, text);
     }
 }
 
 #[test]
 fn names_of_choices(rt: HostRuntime) {
-    same(&rt, TimestampUnit::Microsecond.name(), "us", "a unit");
-    let behavior = MicrosecondsPrecisionOverflowBehavior::Truncate;
-    same(&rt, behavior.name(), "truncate", "a behavior");
-    same(&rt, IsoOrder::Strict.name(), "strict", "an order");
+    same(&rt, Microsecond.name(), "us", "a unit");
+    same(&rt, Truncate.name(), "truncate", "a behavior");
+    same(&rt, Strict.name(), "strict", "an order");
 }
 
 #[test]

@@ -32,6 +32,7 @@ const TEXTS: &str = "\
 
 /// A unit, a behavior, where there is one an offset, a text that may be a timestamp, and the answer.
 const CONFIGURED: &str = "\
+infer  error             '0'                              1970-01-01T00:00:00
 infer  error             '1654646404'                     2022-06-08T00:00:04
 infer  error             '1654646404.'                    2022-06-08T00:00:04
 infer  error             '1654646404.5'                   2022-06-08T00:00:04.500000
@@ -127,8 +128,7 @@ const FRONTS: &str = "\
 '2026-11-22T12:13:14.1234567 x'      second_fraction_too_long";
 
 /// Texts, those of RFC 3339 and of JSON Schema's tests among them, and the answers of the relaxed reader and
-/// of the strict one, which takes those of RFC 3339 alone. The second 60 stands in both, and is refused.
-/// The second 60 is one of the standard, and refused.
+/// of the strict one, which takes those of RFC 3339 alone. A second 60 is one of the standard, and refused.
 const STRICT: &str = "\
 '1985-04-12T23:20:50.52Z'           1985-04-12T23:20:50.520000Z       1985-04-12T23:20:50.520000Z
 '1996-12-19T16:39:57-08:00'         1996-12-19T16:39:57-08:00         1996-12-19T16:39:57-08:00
@@ -201,15 +201,18 @@ fn texts(rt: HostRuntime) {
     for row in TEXTS.lines() {
         let (_, text, want) = quoted(&rt, row);
         expect(&rt, DateTime::parse_str_rfc3339(&text), want, row);
-        expect(&rt, DateTime::parse_str(&text), want, row);
         expect(&rt, text.parse::<DateTime>(), want, row);
+        let read = DateTime::parse_str(&text);
+        expect(&rt, read, want, row);
+        if let Ok(read) = read {
+            let zero = read.time.tz_offset == Some(0);
+            same(&rt, zero, want.ends_with('Z'), row);
+        }
     }
     let read = DateTime::parse_bytes(b"2020-01-01T12:13:14.123456\xe2\x88");
     expect(&rt, read, "invalid_char_tz_sign", "half a minus sign");
     let read = DateTime::parse_bytes_rfc3339(b"0");
     expect(&rt, read, "too_short", "no number");
-    let read = DateTime::parse_str_with_config("0", &DateTimeConfig::default());
-    expect(&rt, read, "1970-01-01T00:00:00", "a number");
 }
 
 #[test]
@@ -217,8 +220,13 @@ fn configured_texts(rt: HostRuntime) {
     for row in CONFIGURED.lines() {
         let (config, text, want) = quoted(&rt, row);
         let config = date_time_config(&rt, config);
+        let read = DateTime::parse_str_with_config(&text, &config);
+        expect(&rt, read, want, row);
         let read = DateTime::parse_bytes_with_config(text.as_bytes(), &config);
         expect(&rt, read, want, row);
+        if config == DateTimeConfig::default() {
+            expect(&rt, DateTime::parse_str(&text), want, row);
+        }
         if text.contains('T') {
             let config = config.time_config;
             let read = DateTime::parse_bytes_rfc3339_with_config(text.as_bytes(), &config);
@@ -286,7 +294,7 @@ fn timestamps(rt: HostRuntime) {
 fn counted(rt: HostRuntime) {
     for row in COUNTED.lines() {
         let [text, second, millisecond, utc_second, utc_millisecond] = words(row);
-        let shown: DateTime = value(&rt, text);
+        let shown = DateTime::parse_str(text).ok().expect(&rt, row);
         same(&rt, shown.timestamp(), value(&rt, second), row);
         same(&rt, shown.timestamp_ms(), value(&rt, millisecond), row);
         same(&rt, shown.timestamp_tz(), value(&rt, utc_second), row);
@@ -299,7 +307,8 @@ fn counted(rt: HostRuntime) {
 fn offsets(rt: HostRuntime) {
     for row in OFFSETS.lines() {
         let [time, offset, shown, moved, ..] = words(row);
-        let (time, offset): (DateTime, i32) = (value(&rt, time), value(&rt, offset));
+        let time = DateTime::parse_str(time).ok().expect(&rt, row);
+        let offset = value(&rt, offset);
         expect(&rt, time.with_timezone_offset(Some(offset)), shown, row);
         expect(&rt, time.in_timezone(offset), moved, row);
     }

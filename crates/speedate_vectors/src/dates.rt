@@ -1,6 +1,6 @@
 //! Dates from texts, numbers and timestamps, and days counted.
 
-use crate::rows::{expect, expect_front, quoted, same, value, words};
+use crate::rows::{expect, expect_front, expect_or_none, quoted, same, value, words};
 use speedate::{Date, DateConfig, is_leap_year, month_length};
 
 /// Texts that are no numbers, and the answer of each reader.
@@ -126,6 +126,7 @@ fn numbers(rt: HostRuntime) {
         let read = Date::parse_bytes_with_config(text.as_bytes(), &config);
         expect(&rt, read, want, row);
         if config == DateConfig::default() {
+            expect(&rt, Date::parse_str(&text), want, row);
             expect(&rt, text.parse::<Date>(), want, row);
         }
     }
@@ -164,14 +165,14 @@ fn parts(rt: HostRuntime) {
 fn days(rt: HostRuntime) {
     for row in DAYS.lines() {
         let [number, text, ordinal, second, next] = words(row);
-        let (number, date): (u32, Date) = (value(&rt, number), value(&rt, text));
-        let second: i64 = value(&rt, second);
+        let date = Date::parse_str(text).ok().expect(&rt, row);
+        let (number, second): (u32, i64) = (value(&rt, number), value(&rt, second));
         same(&rt, date.day_number(), number, row);
-        same(&rt, Date::from_day_number(number), Some(date), row);
+        expect_or_none(&rt, Date::from_day_number(number), text, row);
         same(&rt, date.ordinal_day(), value(&rt, ordinal), row);
         same(&rt, date.timestamp(), second, row);
         same(&rt, date.timestamp_ms(), second.saturating_mul(1000), row);
-        same(&rt, date.next_day(), next.parse().ok(), row);
+        expect_or_none(&rt, date.next_day(), next, row);
     }
     same(&rt, Date::from_day_number(3_652_425), None, "3652425");
     assert!(rt; is_leap_year(2020) && !is_leap_year(1900) && month_length(2000, 2) == 29);
@@ -181,9 +182,10 @@ fn days(rt: HostRuntime) {
 fn days_added(rt: HostRuntime) {
     for row in ADDED.lines() {
         let [date, days, want, ..] = words(row);
-        let (date, days): (Date, i32) = (value(&rt, date), value(&rt, days));
+        let date = Date::parse_str(date).ok().expect(&rt, row);
+        let days: i32 = value(&rt, days);
         let later = date.checked_add_days(days);
-        same(&rt, later, want.parse().ok(), row);
+        expect_or_none(&rt, later, want, row);
         if let Some(later) = later {
             same(&rt, later.days_since(&date), days, row);
         }

@@ -74,6 +74,7 @@ const TEXTS: &str = "\
 'P<0*5000>1D'                     P1D
 'PT0.0000004<9*1000>S'            PT0S
 '0000000001:00'                   PT1H
+'-PT0S'                           -PT0S
 '-0d'                             -PT0S
 'p1d'                             duration_invalid_number
 '00:00:00d'                       duration_invalid_days
@@ -196,7 +197,7 @@ fn parts(rt: HostRuntime) {
 fn totals(rt: HostRuntime) {
     for row in TOTALS.lines() {
         let [text, second, part, millisecond, ..] = words(row);
-        let length: Duration = value(&rt, text);
+        let length = Duration::parse_str(text).ok().expect(&rt, row);
         same(&rt, length.signed_total_seconds(), value(&rt, second), row);
         same(&rt, length.signed_microseconds(), value(&rt, part), row);
         same(&rt, length.signed_total_ms(), value(&rt, millisecond), row);
@@ -207,12 +208,14 @@ fn totals(rt: HostRuntime) {
 fn between(rt: HostRuntime) {
     for row in BETWEEN.lines() {
         let [start, end, want, ..] = words(row);
-        let (start, end): (DateTime, DateTime) = (value(&rt, start), value(&rt, end));
+        let start = DateTime::parse_str(start).ok().expect(&rt, row);
+        let end = DateTime::parse_str(end).ok().expect(&rt, row);
         expect(&rt, Ok(Duration::between(&start, &end)), want, row);
     }
     for row in BETWEEN_DATES.lines() {
         let [start, end, want, ..] = words(row);
-        let (start, end): (Date, Date) = (value(&rt, start), value(&rt, end));
+        let start = Date::parse_str(start).ok().expect(&rt, row);
+        let end = Date::parse_str(end).ok().expect(&rt, row);
         expect(&rt, Ok(Duration::between_dates(&start, &end)), want, row);
     }
 }
@@ -221,13 +224,15 @@ fn between(rt: HostRuntime) {
 fn after(rt: HostRuntime) {
     for row in AFTER.lines() {
         let [start, length, want, ..] = words(row);
-        let (start, length): (DateTime, Duration) = (value(&rt, start), value(&rt, length));
+        let start = DateTime::parse_str(start).ok().expect(&rt, row);
+        let length = Duration::parse_str(length).ok().expect(&rt, row);
         expect(&rt, length.after(&start), want, row);
         expect(&rt, length.negated().before(&start), want, row);
     }
     for row in AFTER_DATE.lines() {
         let [start, length, want, ..] = words(row);
-        let (start, length): (Date, Duration) = (value(&rt, start), value(&rt, length));
+        let start = Date::parse_str(start).ok().expect(&rt, row);
+        let length = Duration::parse_str(length).ok().expect(&rt, row);
         expect(&rt, length.after_date(&start), want, row);
         expect(&rt, length.negated().before_date(&start), want, row);
     }

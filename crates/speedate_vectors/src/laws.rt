@@ -14,6 +14,9 @@ use speedate::{
     MicrosecondsPrecisionOverflowBehavior, Moment, ParseError, Time, TimeConfig, TimeConfigBuilder,
     TimestampUnit,
 };
+use speedate_base::numbers::DigitRun;
+use speedate_base::util::{UnixTime, UnixUnit};
+use speedate_civil::time::{Fraction, PureTime};
 use std::alloc::AllocError;
 
 /// A value of each type that is compared or cloned.
@@ -35,6 +38,8 @@ pub struct Each<'a> {
     pub values: (Date, Time, DateTime, Moment, Duration),
     /// What is read as a number.
     pub numbers: (Decimal<'a>, IntFloat<'a>),
+    /// What the lower crates read and compute.
+    pub parts: (UnixTime, UnixUnit, DigitRun, Fraction, PureTime),
 }
 
 /// A second value of each type that is the same.

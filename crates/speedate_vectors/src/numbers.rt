@@ -65,6 +65,8 @@ fn one_other_byte_among_zeros(rt: HostRuntime) {
         let mut text = [b'0'; 24];
         text[place] = b'x';
         same(&rt, int_parse_bytes(&text), None, place);
+        let text = std::str::from_utf8(&text).ok().expect(&rt, "a text");
+        same(&rt, int_parse_str(text), None, place);
     }
 }
 

@@ -1,7 +1,7 @@
 //! The orders of dates, of times and date-times by instant, and of durations.
 
-use crate::rows::{same, value, words};
-use speedate::{Date, DateTime, Duration, Time};
+use crate::rows::{same, words};
+use speedate::{Date, DateTime, Duration, ParseError, Time};
 use std::cmp::Ordering;
 
 const DATES: &str = "\
@@ -40,7 +40,8 @@ fn sign(order: Ordering) -> &'static str {
 fn dates(rt: HostRuntime) {
     for row in DATES.lines() {
         let [one, order, two, ..] = words(row);
-        let (one, two): (Date, Date) = (value(&rt, one), value(&rt, two));
+        let one = Date::parse_str(one).ok().expect(&rt, row);
+        let two = Date::parse_str(two).ok().expect(&rt, row);
         same(&rt, sign(one.cmp(&two)), order, row);
         same(&rt, one < two, order == "<", row);
         same(&rt, one == two, order == "=", row);
@@ -49,12 +50,16 @@ fn dates(rt: HostRuntime) {
 
 #[test]
 fn times(rt: HostRuntime) {
-    let order = "12:00:00".cmp("12:00:00.000001");
-    same(&rt, sign(order), "<", "two texts");
     for row in TIMES.lines() {
         let [one, order, two, ..] = words(row);
-        let (one, two): (Time, Time) = (value(&rt, one), value(&rt, two));
+        let one = Time::parse_str(one).ok().expect(&rt, row);
+        let two = Time::parse_str(two).ok().expect(&rt, row);
         same(&rt, sign(one.cmp_instant(&two)), order, row);
+        // without offsets they sort as their texts
+        if one.tz_offset.is_none() && two.tz_offset.is_none() {
+            let texts = one.to_text().as_bytes().cmp(two.to_text().as_bytes());
+            same(&rt, sign(texts), order, row);
+        }
     }
 }
 
@@ -62,18 +67,24 @@ fn times(rt: HostRuntime) {
 fn date_times(rt: HostRuntime) {
     for row in DATE_TIMES.lines() {
         let [one, order, two, ..] = words(row);
-        let (one, two): (DateTime, DateTime) = (value(&rt, one), value(&rt, two));
+        let one = DateTime::parse_str(one).ok().expect(&rt, row);
+        let two = DateTime::parse_str(two).ok().expect(&rt, row);
         same(&rt, sign(one.cmp_instant(&two)), order, row);
     }
 }
 
 #[test]
-fn durations(rt: HostRuntime) {
+fn durations(rt: HostRuntime) -> Result<(), ParseError> {
+    let longer = Duration::new(false, 4, 0, 0)?;
+    let shorter = Duration::new(false, 3, 0, 0)?;
+    same(&rt, sign(longer.cmp(&shorter)), "<", "four days back");
     for row in DURATIONS.lines() {
         let [one, order, two, ..] = words(row);
-        let (one, two): (Duration, Duration) = (value(&rt, one), value(&rt, two));
+        let one = Duration::parse_str(one).ok().expect(&rt, row);
+        let two = Duration::parse_str(two).ok().expect(&rt, row);
         same(&rt, sign(one.cmp(&two)), order, row);
         same(&rt, one < two, order == "<", row);
         same(&rt, one == two, order == "=", row);
     }
+    Ok(())
 }

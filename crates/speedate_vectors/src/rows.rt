@@ -1,10 +1,9 @@
 //! Tables of tests. A table is a text, and each of its lines a row: words, and where a text is read that
 //! text in quotes, the answer to it last. `<9*5000>` in quotes stands for 5,000 times `9`.
 
-use arrayvec::ArrayString;
-use speedate::{DateTimeConfig, IsoOrder, ParseError, TimeConfig};
+use speedate::{Date, DateTime, DateTimeConfig, Duration, IsoOrder, ParseError, Time, TimeConfig};
 use std::alloc::{AllocError, Global};
-use std::fmt::{Debug, Display, Write};
+use std::fmt::{Debug, Display};
 use std::process::Abort;
 use std::str::FromStr;
 
@@ -93,25 +92,54 @@ pub fn same<T: PartialEq + Debug + Copy, W: Display + Copy, R: Abort>(
     assert_eq!(rt; found, want, "{row}");
 }
 
-/// The answer to a row is to be the value that is written so, or the fault of that name.
-pub fn expect<T: Display + Copy, R: Abort>(
-    rt: &R,
-    answer: Result<T, ParseError>,
-    want: &str,
-    row: &str,
-) {
+/// A value that is printed as one text.
+pub trait HasText: Copy {
+    /// The text that `to_text` gives is to be the one that the row wants.
+    fn expect_text<R: Abort>(&self, rt: &R, want: &str, row: &str);
+}
+
+impl HasText for Date {
+    fn expect_text<R: Abort>(&self, rt: &R, want: &str, row: &str) {
+        same(rt, self.to_text().as_str(), want, row);
+    }
+}
+
+impl HasText for Time {
+    fn expect_text<R: Abort>(&self, rt: &R, want: &str, row: &str) {
+        same(rt, self.to_text().as_str(), want, row);
+    }
+}
+
+impl HasText for DateTime {
+    fn expect_text<R: Abort>(&self, rt: &R, want: &str, row: &str) {
+        same(rt, self.to_text().as_str(), want, row);
+    }
+}
+
+impl HasText for Duration {
+    fn expect_text<R: Abort>(&self, rt: &R, want: &str, row: &str) {
+        same(rt, self.to_text().as_str(), want, row);
+    }
+}
+
+/// The answer to a row is to be the value that is printed so, or the fault of that name.
+pub fn expect<T: HasText, R: Abort>(rt: &R, answer: Result<T, ParseError>, want: &str, row: &str) {
     match answer {
-        Ok(value) => {
-            let mut text = ArrayString::<64>::new();
-            assert!(rt; write!(text, "{value}").is_ok(), "{row}");
-            same(rt, text.as_str(), want, row);
-        }
+        Ok(value) => value.expect_text(rt, want, row),
         Err(fault) => same(rt, fault.name(), want, row),
     }
 }
 
-/// The answer to a row is to be the value that is written so and that many bytes, or the fault of that name.
-pub fn expect_front<T: Display + Copy, R: Abort>(
+/// What a row gives is to be the value that is printed so, or none.
+pub fn expect_or_none<T: HasText, R: Abort>(rt: &R, found: Option<T>, want: &str, row: &str) {
+    match found {
+        Some(value) => value.expect_text(rt, want, row),
+        None => same(rt, "none", want, row),
+    }
+}
+
+/// The answer to a row is to be the value that is printed so and that many bytes, or the fault of that name.
+pub fn expect_front<T: HasText, R: Abort>(
     rt: &R,
     answer: Result<(T, usize), ParseError>,
     want: &str,

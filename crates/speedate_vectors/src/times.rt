@@ -29,6 +29,7 @@ error     -  '12:13:12.1234567'        second_fraction_too_long
 error     -  '24:13:12.1234567'        out_of_range_hour
 error     -  '12:13x'                  invalid_char_tz_sign
 error     -  '12:13:12\u{2013}01:00'   invalid_char_tz_sign
+error     -  '12:13\u{2212}'           invalid_char_tz_hour
 error     -  '12:13+0x'                invalid_char_tz_hour
 error     -  '12:13+02'                invalid_char_tz_minute
 error     -  '12:00:00+24:60'          out_of_range_tz_minute
@@ -132,6 +133,7 @@ const OFFSETS: &str = "\
 00:30:00+01:00  0            00:30:00Z              time_too_large
 12:00:00        0            12:00:00Z              tz_required
 12:00:00        86400        out_of_range_tz        out_of_range_tz
+12:00:00Z       86400        out_of_range_tz        out_of_range_tz
 12:00:00Z       -2147483648  out_of_range_tz        out_of_range_tz";
 
 #[test]
@@ -144,6 +146,9 @@ fn texts(rt: HostRuntime) {
         if config == TimeConfig::default() {
             expect(&rt, Time::parse_str(&text), want, row);
             expect(&rt, text.parse::<Time>(), want, row);
+        }
+        if let Ok(read) = read {
+            same(&rt, read.tz_offset == Some(0), want.ends_with('Z'), row);
         }
     }
 }
@@ -212,7 +217,7 @@ fn parts(rt: HostRuntime) {
 fn since_midnight(rt: HostRuntime) {
     for row in SINCE_MIDNIGHT.lines() {
         let [time, second, millisecond, ..] = words(row);
-        let time: Time = value(&rt, time);
+        let time = Time::parse_str(time).ok().expect(&rt, row);
         same(&rt, time.total_seconds(), value(&rt, second), row);
         same(&rt, time.total_ms(), value(&rt, millisecond), row);
     }
@@ -222,7 +227,8 @@ fn since_midnight(rt: HostRuntime) {
 fn offsets(rt: HostRuntime) {
     for row in OFFSETS.lines() {
         let [time, offset, shown, moved, ..] = words(row);
-        let (time, offset): (Time, i32) = (value(&rt, time), value(&rt, offset));
+        let time = Time::parse_str(time).ok().expect(&rt, row);
+        let offset = value(&rt, offset);
         expect(&rt, time.with_timezone_offset(Some(offset)), shown, row);
         expect(&rt, time.in_timezone(offset), moved, row);
     }
