@@ -53,6 +53,17 @@ const LONG: &str = "\
 '<x*69633>|date 1999-12-31' err line_too_long|ok 1999-12-31|
 '<|date 2020-02-29|*20000>' <err unknown_kind|ok 2020-02-29|*20000>";
 
+/// Inputs that the first read gives whole, and how many writes their answers take: one for the complete
+/// lines, one for a last line that no line feed ends, and a further one whenever another answer, here of
+/// 17 bytes, might not fit after those that wait.
+const WRITES: [(&str, u64); 5] = [
+    ("", 0),
+    ("x|x|x|", 1),
+    ("x|x|x", 2),
+    ("<x|*3853>", 1),
+    ("<x|*3854>", 2),
+];
+
 /// How a run ended, whether the input and the output had failed, and both ends.
 #[derive(Drop)]
 struct Ended<'a> {
@@ -145,4 +156,15 @@ fn answers_each_line(rt: HostRuntime) -> Result<(), AllocError> {
 #[test]
 fn limits_a_line(rt: HostRuntime) -> Result<(), AllocError> {
     expect_rows(&rt, LONG, [4096, 4097, 65_536, usize::MAX])
+}
+
+#[test]
+fn answers_are_written_together(rt: HostRuntime) -> Result<(), AllocError> {
+    for (row, writes) in WRITES {
+        let input = bytes(&rt, row)?;
+        let source = Source::new(&input, usize::MAX);
+        let ended = run_over(source, Sink::new(rt.alloc(), usize::MAX));
+        same(&rt, ended.sink.calls, writes, &row);
+    }
+    Ok(())
 }
