@@ -1,27 +1,25 @@
 -- Where the hours of a clock end, and where no letter of a day stands: among digits, and in a clock.
-use Rattle.std.proofs.Common.{rules}
+use Rattle.std.proofs.Common.{rules, arith, ◌∙◌, ap, sym, get_or, inl, inr, ap₂}
 use Rattle.std.specs.Prelude.{◌≡◌, ℕ, ◌-◌, ◌^◌, ◌<◌, min, Bool, true, false, List, length, take, ◌==◌, ◌&&◌, nat_lt, nat_le, refl, ◌+◌, ◌||◌, [], ◌∷◌, drop, if◌then◌else◌, Ok}
 use Rattle.std.specs.Char.{is_ascii_digit}
 use Rattle.std.specs.List.{list_all, list_any, prefix_len}
-use Rattle.std.proofs.Common.{arith, ◌∙◌, ap, sym, get_or, inl, inr, ap₂}
 use Rattle.std.proofs.lemmas.Bool.{cases_lt, eqb-true}
 use Rattle.std.proofs.lemmas.Bool.Decides.{nat_tests}
 use Rattle.std.proofs.lemmas.List.{get_or_past, take-append-drop, drop_more, take_rest}
 use Rattle.std.proofs.lemmas.List.Sums.{position_or_len_is, passes_at_first, prefix_len_passes}
 use Rattle.speedate_base.specs.declared.config.MicrosecondsPrecisionOverflowBehavior.{MicrosecondsPrecisionOverflowBehavior}
 use Rattle.speedate_base.specs.Ascii.{colon}
-use Rattle.speedate_base.specs.DigitRuns.{run_length, digits_value}
+use Rattle.speedate_base.specs.Digits.{run_length, digits_value, two_digits_at}
 use Rattle.speedate_base.proofs.DigitRunLemmas.{run_length-ended, run-whole}
 use Rattle.speedate_base.proofs.NumberLemmas.{run-digits}
 use Rattle.speedate.specs.ClockForm.{hours, colon_place, has_hours, after_hours, from_minute, hours_table, hours_range, clock_numbers, clock_form}
 use Rattle.std.proofs.lemmas.List.Folds.{list_any-append}
 use Rattle.speedate_base.specs.declared.faults.ParseError.TheVariants as fault
-use Rattle.speedate_base.specs.Digits.{two_digits_at}
 use Rattle.speedate_base.specs.Requirement.{◌else_fault◌, ◌implies◌, meets, result_and_then}
 use Rattle.speedate_base.proofs.RequirementLemmas.{and_then-ok, meets-ok, meets-value}
-use Rattle.speedate_civil.specs.ClockText.{Clock, has_decimal_mark, has_second, minute_clock, minute_digits, minute_table, minute_front, clock_answer}
+use Rattle.speedate_civil.specs.Time.{Clock, has_decimal_mark, has_second, minute_clock, minute_digits, minute_table, minute_front, clock_answer}
 use Rattle.speedate.specs.DayForm.{is_day_letter}
-use Rattle.speedate.specs.DurationAnswer.{has_days}
+use Rattle.speedate.specs.Duration.{has_days}
 use Rattle.speedate.specs.DurationNumbers.{UnsignedDuration}
 
 digit-no_colon : (byte : ℕ) → is_ascii_digit byte ≡ true → (byte == colon) ≡ false

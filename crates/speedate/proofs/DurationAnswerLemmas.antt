@@ -1,7 +1,6 @@
 -- How the answer to an ISO 8601 duration goes on from item to item.
-use Rattle.std.proofs.Common.{rules}
+use Rattle.std.proofs.Common.{rules, arith, ap, sym, ◌∙◌, lt_irrefl}
 use Rattle.std.specs.Prelude.{◌≡◌, ℕ, zero, suc, ◌-◌, ◌<◌, Bool, false, not, List, [], ◌∷◌, ◌++◌, length, drop, slice_index, if◌then◌else◌, Result, Ok, Err, refl}
-use Rattle.std.proofs.Common.{arith, ap, sym, ◌∙◌, lt_irrefl}
 use Rattle.std.proofs.Math.Seq.{drop-append_seam}
 use Rattle.std.proofs.lemmas.List.{length-append}
 use Rattle.speedate_base.specs.declared.config.IsoOrder.{IsoOrder}
@@ -12,7 +11,7 @@ use Rattle.speedate_base.specs.Ascii.{capital_p, capital_t}
 use Rattle.speedate_base.specs.Numbers.{IsSign}
 use Rattle.speedate_base.specs.Requirement.{meets, result_and_then}
 use Rattle.speedate_base.proofs.RequirementLemmas.{meets-all, meets-and_then}
-use Rattle.speedate.specs.DurationAnswer.{iso_after, iso_from, iso_form, unsigned_answer, duration_answer}
+use Rattle.speedate.specs.Duration.{iso_after, iso_from, iso_form, unsigned_answer, duration_answer}
 use Rattle.speedate.specs.DurationNumbers.{signed_form}
 use Rattle.speedate.specs.IsoForm.{Item, TimeDesignator, item_text, Sums, item_at, item_table, with_item, sums_length}
 use Rattle.speedate.specs.Reader.{item_front}

@@ -3,7 +3,7 @@ use Rattle.std.proofs.Common.{rules}
 use Rattle.std.specs.Prelude.{◌≡◌, Ok}
 use Rattle.speedate.specs.DurationNumbers.{DurationNumbers, IsDuration, length_microseconds, of_length, normal_form}
 use Rattle.speedate.specs.declared.duration.Duration.{Duration}
-use Rattle.speedate.specs.Duration.{parts}
+use Rattle.speedate.specs.Duration.{duration_numbers}
 
 -- numbers in their ranges are those of their length
 pub of_length-only : (numbers : DurationNumbers) → IsDuration numbers → of_length numbers.positive (length_microseconds numbers) ≡ numbers
@@ -13,5 +13,5 @@ of_length-only numbers valid = search rules
 pub normal_form-same : (numbers : DurationNumbers) → IsDuration numbers → normal_form numbers ≡ Ok numbers
 normal_form-same numbers valid = search rules
 
-pub is_duration : (duration : Duration) → IsDuration (parts duration)
+pub is_duration : (duration : Duration) → IsDuration (duration_numbers duration)
 is_duration duration = search rules

@@ -1,10 +1,9 @@
 -- The duration between two values, and the value a duration after another: lengths with their sign, and the instants and dates
 -- that they lead to.
-use Rattle.std.proofs.Common.{rules}
+use Rattle.std.proofs.Common.{rules, arith, ◌∙◌, ap, sym}
 use Rattle.std.specs.Prelude.{◌≡◌, ℕ, ◌+◌, ◌*◌, ◌<◌, ◌≤◌, Bool, true, not, ◌||◌, ◌==◌, ℤ, pos, neg_ℤ, ◌+ℤ◌, ◌-ℤ◌, ◌*ℤ◌, ◌≤ℤ◌, Option, Result, Ok, Err, IfOk, unsigned_abs, refl, [], ◌∷◌, if◌then◌else◌}
 use Rattle.std.specs.Option.{ok_or, unwrap_or}
 use Rattle.std.specs.Ordering.{int_cmp}
-use Rattle.std.proofs.Common.{arith, ◌∙◌, ap, sym}
 use Rattle.std.proofs.lemmas.Int.{ints}
 use Rattle.std.proofs.lemmas.Result.{IfOk-weaker}
 use Rattle.speedate_base.specs.declared.faults.ParseError.{ParseError}
@@ -13,25 +12,21 @@ use Rattle.speedate_base.specs.Offset.{seconds_per_day}
 use Rattle.speedate_base.specs.Timestamp.{Instant, first_second, last_second, instant_at}
 use Rattle.speedate_base.proofs.TimestampLemmas.{instant_at-microsecond, instant_at-is}
 use Rattle.speedate_civil.specs.declared.datetime.DateTime.{DateTime}
-use Rattle.speedate_civil.specs.DateAndTime.{DateAndTime, IsDateAndTime, local_second, local_microsecond, utc_microsecond}
-use Rattle.speedate_civil.specs.DateTime.{parts as date_time_parts}
-use Rattle.speedate_civil.specs.DateTimeTimestamp.{IsShownAt, instant_date_time}
+use Rattle.speedate_civil.specs.DateTime.{DateAndTime, IsDateAndTime, local_second, local_microsecond, utc_microsecond, date_and_time, IsShownAt, instant_date_time}
 use Rattle.speedate_civil.proofs.DateTimeInstantLemmas.{instant_date_time-shown}
 use Rattle.speedate_civil.proofs.DateTimeTimestampLemmas.{instant_date_time-local}
 use Rattle.speedate_civil.proofs.DateTimeValueLemmas.{is_date_and_time, offset-small, local_second-late, local_second-early}
 use Rattle.speedate.proofs.DurationLemmas.{of_length-only}
-use Rattle.speedate.specs.DurationMove.{signed_length, duration_of_length, with_positive_zero, duration_between, date_time_after, negated, signed_days, date_after_days}
+use Rattle.speedate.specs.Duration.{signed_length, duration_of_length, with_positive_zero, duration_between, date_time_after, negated, signed_days, date_after_days, is_whole_days}
 use Rattle.speedate.specs.DurationNumbers.{DurationNumbers, IsDuration, length_seconds, length_microseconds, of_length, signed_seconds, signed_microsecond}
 use Rattle.speedate_base.specs.declared.faults.ParseError.TheVariants as fault
 use Rattle.speedate_base.specs.Requirement.{◌else_fault◌}
 use Rattle.speedate_base.proofs.RequirementLemmas.{meets-all}
 use Rattle.speedate_civil.specs.declared.date.Date.{Date}
-use Rattle.speedate_civil.specs.Calendar.{Ymd}
-use Rattle.speedate_civil.specs.Date.{parts as date_parts}
-use Rattle.speedate_civil.specs.DayNumber.{day_number, date_counted, days_between}
+use Rattle.speedate_civil.specs.Calendar.{Ymd, day_number, date_counted, days_between}
+use Rattle.speedate_civil.specs.Date.{ymd}
 use Rattle.speedate_civil.proofs.DateNumberedLemmas.{date_numbered-is}
 use Rattle.speedate_civil.proofs.DateValueLemmas.{is_day}
-use Rattle.speedate.specs.DurationText.{is_whole_days}
 
 -- seconds and microseconds with one sign, joined
 signs-joined : (negative : Bool) (seconds microseconds : ℕ)
@@ -131,10 +126,10 @@ between-ends earlier later length same =
 -- and as much earlier than the end lies the start
 pub ends-back : (result : Result DateTime ParseError) (start : DateTime) (length back : ℤ)
     → IfOk result (λ end. end.time.tz_offset ≡ start.time.tz_offset) → length ≡ neg_ℤ back
-    → IfOk result (λ end. utc_microsecond (date_time_parts end) ≡ utc_microsecond (date_time_parts start) +ℤ length)
-    → IfOk result (λ end. date_time_after back (date_time_parts end) ≡ Ok (date_time_parts start))
+    → IfOk result (λ end. utc_microsecond (date_and_time end) ≡ utc_microsecond (date_and_time start) +ℤ length)
+    → IfOk result (λ end. date_time_after back (date_and_time end) ≡ Ok (date_and_time start))
 ends-back (Ok end) start length back attached turned same =
-    date_time_after-exact back (date_time_parts end) (date_time_parts start) (is_date_and_time start) (sym attached) (opposite _ _ length back turned same)
+    date_time_after-exact back (date_and_time end) (date_and_time start) (is_date_and_time start) (sym attached) (opposite _ _ length back turned same)
 ends-back (Err fault) start length back attached turned same = tt
 
 -- there are fewer than 3,652,427 days between two date-times
@@ -156,9 +151,9 @@ days-back : (positive : Bool) (day start end : ℕ) → pos end -ℤ pos start �
 days-back positive day start end same = search (rules)
 
 pub date-back : (numbers : DurationNumbers) (start : Date) (end : Ymd) → is_whole_days numbers ≡ true
-    → days_between (date_parts start) end ≡ signed_days numbers → date_after_days (negated numbers) end ≡ Ok (date_parts start)
+    → days_between (ymd start) end ≡ signed_days numbers → date_after_days (negated numbers) end ≡ Ok (ymd start)
 date-back numbers start end whole moved =
-    let date = date_parts start in
+    let date = ymd start in
     let outside = if not numbers.positive then fault.DateTooLarge else fault.DateTooSmall in
     meets-all ((is_whole_days numbers else_fault fault.DateNotExact) ∷ []) _ (whole, tt)
     ∙ ap (λ (n : ℤ). ok_or (date_counted n) outside) (days-back numbers.positive numbers.day (day_number date) (day_number end) moved)

@@ -1,13 +1,12 @@
 -- What is printed of a duration is short.
-use Rattle.std.proofs.Common.{rules}
+use Rattle.std.proofs.Common.{rules, arith, lit<}
 use Rattle.std.specs.Prelude.{ℕ, suc, ◌+◌, ◌/◌, ◌%◌, ◌^◌, ◌<◌, ◌≤◌, Bool, List, [], ◌∷◌, length, if◌then◌else◌}
 use Rattle.std.specs.Fmt.{decimal}
-use Rattle.std.proofs.Common.{arith, lit<}
 use Rattle.std.proofs.lemmas.List.{length-append}
 use Rattle.std.proofs.lemmas.Fmt.{length-decimal-le}
 use Rattle.std.proofs.lemmas.Str.{encode_ascii}
 use Rattle.speedate_base.specs.Ascii.{capital_d, capital_h, capital_m, capital_y}
-use Rattle.speedate.specs.DurationText.{counted_text, kept_digit, without_last_zeros, short_fraction_text, start_text}
+use Rattle.speedate.specs.Duration.{counted_text, kept_digit, without_last_zeros, short_fraction_text, start_text}
 
 -- what stays is no more than there was
 kept-length : (digit : ℕ) (rest : List ℕ) → length (kept_digit digit rest) ≤ suc (length rest)

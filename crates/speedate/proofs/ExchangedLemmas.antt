@@ -1,10 +1,9 @@
 -- In the lax order the answer to a text of a duration does not depend on the order of two neighbouring components of one side.
 use Rattle.std.proofs.lemmas.Int.{ints}
-use Rattle.std.proofs.Common.{rules}
+use Rattle.std.proofs.Common.{rules, arith, ap, sym, ◌∙◌, append_assoc}
 use Rattle.std.specs.Prelude.{◌≡◌, ℕ, ◌≤◌, Bool, true, false, not, ◌&&◌, ◌||◌, List, [], ◌∷◌, ◌++◌, nat_le, if◌then◌else◌, Option, Result, Err, refl}
 use Rattle.std.specs.Option.{is_some}
 use Rattle.std.specs.List.{flat_map}
-use Rattle.std.proofs.Common.{arith, ap, sym, ◌∙◌, append_assoc}
 use Rattle.std.proofs.lemmas.Bool.{or_from}
 use Rattle.std.proofs.lemmas.Bool.Decides.{nat_tests}
 use Rattle.speedate_base.specs.declared.config.IsoOrder.{IsoOrder}
@@ -12,12 +11,12 @@ use Rattle.speedate_base.specs.declared.config.IsoOrder.TheVariants as order
 use Rattle.speedate_base.specs.declared.config.MicrosecondsPrecisionOverflowBehavior.{MicrosecondsPrecisionOverflowBehavior}
 use Rattle.speedate_base.specs.declared.faults.ParseError.{ParseError}
 use Rattle.speedate_base.specs.declared.faults.ParseError.TheVariants as fault
-use Rattle.speedate_base.specs.DigitRuns.{digits_value}
+use Rattle.speedate_base.specs.Digits.{digits_value}
 use Rattle.speedate_base.specs.Requirement.{meets, result_and_then}
-use Rattle.speedate.specs.DurationAnswer.{iso_from, duration_answer}
+use Rattle.speedate.specs.Duration.{iso_from, duration_answer}
 use Rattle.speedate.proofs.DurationAnswerLemmas.{iso_from-item, duration_answer-iso}
 use Rattle.speedate.specs.DurationNumbers.{UnsignedDuration, signed_form}
-use Rattle.speedate.specs.Exchanged.{has_decimal_mark, IsWhole, AreWhole, IsPlain, AreExchanged}
+use Rattle.speedate.specs.IsoOrder.{has_decimal_mark, IsWhole, AreWhole, IsPlain, AreExchanged}
 use Rattle.speedate.specs.IsoForm.{DurationUnit, units, unit_in, ComponentText, Item, Component, item_text, item_at, item_table, Sums, no_sums, with_component, with_item, with_items}
 use Rattle.speedate.proofs.IsoItemLemmas.{item_at-amount}
 

@@ -1,9 +1,8 @@
 -- Where the order of the standard is asked for, a duration is what the lax order makes of it, or is refused for its order.
-use Rattle.std.proofs.Common.{rules}
+use Rattle.std.proofs.Common.{rules, arith, ap, sym, ◌∙◌, subst, inl}
 use Rattle.std.specs.Prelude.{◌≡◌, ℕ, zero, suc, ◌-◌, Bool, true, false, not, ◌&&◌, List, [], ◌∷◌, ◌++◌, length, take, drop, slice_index, ◌==◌, if◌then◌else◌, Option, Some, Result, Ok, Err, refl}
 use Rattle.std.specs.List.{flat_map}
 use Rattle.std.specs.Option.{is_some}
-use Rattle.std.proofs.Common.{arith, ap, sym, ◌∙◌, subst, inl}
 use Rattle.std.proofs.lemmas.Bool.{eqb-true, false≢true}
 use Rattle.std.proofs.lemmas.Bool.Decides.{nat_tests}
 use Rattle.std.proofs.lemmas.List.{append-nil, take-append-drop}
@@ -18,10 +17,9 @@ use Rattle.speedate_base.proofs.NumberLemmas.{sign-of_text}
 use Rattle.speedate_base.specs.Requirement.{meets, AllHold, result_and_then}
 use Rattle.speedate_base.proofs.RequirementLemmas.{meets-all}
 use Rattle.speedate.specs.DurationNumbers.{DurationNumbers, UnsignedDuration, signed_form}
-use Rattle.speedate.specs.DurationAnswer.{form_answer}
-use Rattle.speedate.specs.DurationAnswer.{iso_after, iso_from, iso_form, unsigned_answer, duration_answer}
+use Rattle.speedate.specs.Duration.{form_answer, iso_after, iso_from, iso_form, unsigned_answer, duration_answer}
 use Rattle.speedate.proofs.DurationAnswerLemmas.{iso_from-item, duration_answer-iso}
-use Rattle.speedate.specs.InOrder.{IsLaxOrRefused, IsAnswerInOrder, are_in_order, IsMadeOf, is_iso}
+use Rattle.speedate.specs.IsoOrder.{IsLaxOrRefused, IsAnswerInOrder, are_in_order, IsMadeOf, is_iso}
 use Rattle.speedate.specs.IsoForm.{DurationUnit, units, unit_in, ComponentText, Item, TimeDesignator, Component, item_text, item_at, item_table, units_after, Sums, no_sums, with_component, with_item, with_items, AreGood, sums_length, Ends}
 use Rattle.speedate.proofs.IsoFormLemmas.{answer-only, iso_after-is}
 use Rattle.speedate.proofs.IsoItemLemmas.{item_at-text}

@@ -1,8 +1,7 @@
 -- The good fronts of an ISO 8601 duration: only one of them is followed by an end, and that end is the answer.
-use Rattle.std.proofs.Common.{rules}
+use Rattle.std.proofs.Common.{rules, ap, ap₂, sym, ◌∙◌, append_assoc, subst}
 use Rattle.std.specs.Prelude.{◌≡◌, MatchBool, ℕ, zero, suc, ◌-◌, Bool, true, false, not, List, [], ◌∷◌, ◌++◌, length, drop, slice_index, ◌==◌, if◌then◌else◌, Result, Ok, Err, refl}
 use Rattle.std.specs.List.{flat_map}
-use Rattle.std.proofs.Common.{ap, ap₂, sym, ◌∙◌, append_assoc, subst}
 use Rattle.std.proofs.lemmas.Bool.{false≢true}
 use Rattle.std.proofs.lemmas.List.{append_cancel_left}
 use Rattle.std.proofs.Math.Seq.{drop-nil}
@@ -13,7 +12,7 @@ use Rattle.speedate_base.specs.Ascii.{capital_p}
 use Rattle.speedate_base.specs.Numbers.{has_minus, sign_length}
 use Rattle.speedate_base.specs.Requirement.{meets, AllHold, result_and_then}
 use Rattle.speedate_base.proofs.RequirementLemmas.{meets-all, meets-next, meets-value}
-use Rattle.speedate.specs.DurationAnswer.{iso_after, iso_form, form_answer, unsigned_answer, duration_answer, IsGrammarAnswer}
+use Rattle.speedate.specs.Duration.{iso_after, iso_form, form_answer, unsigned_answer, duration_answer, IsGrammarAnswer}
 use Rattle.speedate.specs.DurationNumbers.{UnsignedDuration, signed_form}
 use Rattle.speedate.specs.IsoForm.{Item, item_text, IsItem, item_at, Sums, no_sums, with_item, with_items, item_table, AreGood, sums_length, Ends, IsAnswerFrom}
 use Rattle.speedate.proofs.IsoItemLemmas.{item_at-text, item-front}

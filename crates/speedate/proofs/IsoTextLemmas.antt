@@ -1,12 +1,11 @@
 -- The text by which a duration is printed is read as the duration.
-use Rattle.std.proofs.Common.{rules}
+use Rattle.std.proofs.Common.{rules, arith, ap, sym, ◌∙◌, append_assoc, lit<}
 use Rattle.std.proofs.lemmas.Int.{ints}
 use Rattle.std.specs.Prelude.{◌≡◌, ℕ, ◌+◌, ◌*◌, ◌/◌, ◌%◌, ◌^◌, ◌<◌, ◌≤◌, Bool, true, false, not, ◌&&◌, ◌==◌, if◌then◌else◌, List, [], ◌∷◌, ◌++◌, length, drop, Some, Result, Ok, codes, refl}
 use Rattle.std.specs.Char.{is_ascii_digit}
 use Rattle.std.specs.Fmt.{decimal}
 use Rattle.std.specs.List.{list_all}
 use Rattle.std.specs.Option.{is_some}
-use Rattle.std.proofs.Common.{arith, ap, sym, ◌∙◌, append_assoc, lit<}
 use Rattle.std.proofs.lemmas.Bool.{and_from, and_parts, eqb-true, lt-ltb, le-leb}
 use Rattle.std.proofs.lemmas.Bool.Decides.{nat_tests}
 use Rattle.std.proofs.lemmas.Fmt.{digits_decimal, digits_value-decimal, decimal_nonempty, decimal_digit}
@@ -18,22 +17,20 @@ use Rattle.speedate_base.specs.declared.config.IsoOrder.TheVariants as order
 use Rattle.speedate_base.specs.declared.config.MicrosecondsPrecisionOverflowBehavior.{MicrosecondsPrecisionOverflowBehavior}
 use Rattle.speedate_base.specs.declared.config.MicrosecondsPrecisionOverflowBehavior.TheVariants as behavior
 use Rattle.speedate_base.specs.Ascii.{full_stop, capital_d, capital_h, capital_m, capital_s, capital_t, capital_y}
-use Rattle.speedate_base.specs.Digits.{six_digit_text}
-use Rattle.speedate_base.specs.DigitRuns.{digits_value}
+use Rattle.speedate_base.specs.Digits.{six_digit_text, digits_value}
 use Rattle.speedate_base.proofs.DigitRunLemmas.{digits_value-lt}
 use Rattle.speedate_base.proofs.NearestLemmas.{nearest-exact, scale-some}
 use Rattle.speedate_base.specs.Requirement.{AllHold, result_and_then}
 use Rattle.speedate_base.proofs.RequirementLemmas.{meets-all}
 use Rattle.speedate_base.proofs.TextLemmas.{text-distinct}
-use Rattle.speedate.specs.DurationAnswer.{iso_from, iso_form, unsigned_answer, duration_answer}
+use Rattle.speedate.specs.Duration.{iso_from, iso_form, unsigned_answer, duration_answer, counted_text, kept_digit, without_last_zeros, short_fraction_text, seconds_text, hours_text, days_text, start_text, rest_text, is_whole_days, duration_text}
 use Rattle.speedate.proofs.DurationAnswerLemmas.{iso_from-item, iso_from-end}
 use Rattle.speedate.proofs.IsoItemLemmas.{item_at-amount}
 use Rattle.speedate_base.specs.declared.faults.ParseError.{ParseError}
-use Rattle.speedate.specs.InOrder.{IsLaxOrRefused}
+use Rattle.speedate.specs.IsoOrder.{IsLaxOrRefused}
 use Rattle.speedate.proofs.InOrderLemmas.{duration-both}
 use Rattle.speedate.proofs.DurationLemmas.{normal_form-same}
 use Rattle.speedate.specs.DurationNumbers.{DurationNumbers, UnsignedDuration, IsDuration, signed_form}
-use Rattle.speedate.specs.DurationText.{counted_text, kept_digit, without_last_zeros, short_fraction_text, seconds_text, hours_text, days_text, start_text, rest_text, is_whole_days, duration_text}
 use Rattle.speedate.specs.IsoForm.{DurationUnit, unit, units, unit_in, units_after, ComponentText, TimeDesignator, Component, IsItem, IsFraction, Sums, fraction_seconds, fraction_microseconds, with_amount, with_component, with_item, are_counted, item_table}
 
 -- a number without leading zeros is digits that spell it

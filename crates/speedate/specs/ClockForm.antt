@@ -7,10 +7,10 @@ use Rattle.speedate_base.specs.declared.config.MicrosecondsPrecisionOverflowBeha
 use Rattle.speedate_base.specs.declared.faults.ParseError.{ParseError}
 use Rattle.speedate_base.specs.declared.faults.ParseError.TheVariants as fault
 use Rattle.speedate_base.specs.Ascii.{colon}
-use Rattle.speedate_base.specs.DigitRuns.{digits_value}
+use Rattle.speedate_base.specs.Digits.{digits_value}
 use Rattle.speedate_base.specs.Config.{refuses_digits}
 use Rattle.speedate_base.specs.Requirement.{Requirement, ◌else_fault◌, ◌implies◌, meets, result_and_then}
-use Rattle.speedate_civil.specs.ClockText.{Clock, minute_front}
+use Rattle.speedate_civil.specs.Time.{Clock, minute_front}
 use Rattle.speedate.specs.DurationNumbers.{UnsignedDuration}
 
 -- how many bytes come before the first `:`, or how many there are if there is none

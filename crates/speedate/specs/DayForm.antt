@@ -5,7 +5,7 @@ use Rattle.speedate_base.specs.declared.config.MicrosecondsPrecisionOverflowBeha
 use Rattle.speedate_base.specs.declared.faults.ParseError.{ParseError}
 use Rattle.speedate_base.specs.declared.faults.ParseError.TheVariants as fault
 use Rattle.speedate_base.specs.Ascii.{capital_d, small_d}
-use Rattle.speedate_base.specs.DigitRuns.{run_length, run_value}
+use Rattle.speedate_base.specs.Digits.{run_length, run_value}
 use Rattle.speedate_base.specs.Requirement.{Requirement, ◌else_fault◌, meets, result_and_then}
 use Rattle.speedate.specs.ClockForm.{clock_form}
 use Rattle.speedate.specs.DurationNumbers.{UnsignedDuration}

@@ -1,17 +1,190 @@
--- What contracts see of a `Duration`, and of one without its sign.
+-- Durations: from texts, in print, and between and after other values.
+use Rattle.std.specs.Prelude.{◌≡◌, MatchBool, ℕ, zero, suc, ◌-◌, Bool, not, ◌||◌, List, [], ◌∷◌, length, drop, slice_index, nat_lt, ◌==◌, if◌then◌else◌, Result, Ok, Err, ◌/◌, ◌%◌, ◌&&◌, ◌++◌, codes, true, false, ℤ, pos, negsuc, ◌+ℤ◌, ◌-ℤ◌, int_le, unsigned_abs}
+use Rattle.std.specs.Fmt.{decimal}
+use Rattle.std.specs.List.{list_any}
+use Rattle.std.specs.Option.{ok_or}
+use Rattle.speedate_base.specs.declared.config.IsoOrder.{IsoOrder}
+use Rattle.speedate_base.specs.declared.config.MicrosecondsPrecisionOverflowBehavior.{MicrosecondsPrecisionOverflowBehavior}
+use Rattle.speedate_base.specs.declared.faults.ParseError.TheVariants as fault
+use Rattle.speedate_base.specs.declared.faults.ParseError.{ParseError}
+use Rattle.speedate_base.specs.Ascii.{capital_p, hyphen, full_stop, digit_zero, capital_d, capital_h, capital_m, capital_s, capital_t, capital_y}
+use Rattle.speedate_base.specs.Digits.{six_digit_text}
+use Rattle.speedate_base.specs.Numbers.{has_minus, sign_length, with_sign}
+use Rattle.speedate_base.specs.Requirement.{meets, result_and_then, ◌else_fault◌, result_map}
+use Rattle.speedate_base.specs.Timestamp.{instant_at}
+use Rattle.speedate_civil.specs.Calendar.{Ymd, date_added, days_between}
+use Rattle.speedate_civil.specs.DateTime.{DateAndTime, local_microsecond, utc_microsecond, instant_date_time}
 use Rattle.speedate.specs.declared.duration.Duration.{Duration}
 use Rattle.speedate.specs.declared.duration.unsigned.UnsignedDuration.{UnsignedDuration as StructUnsignedDuration}
-use Rattle.speedate.specs.DurationNumbers.{DurationNumbers, UnsignedDuration}
+use Rattle.speedate.specs.ClockForm.{clock_form}
+use Rattle.speedate.specs.DayForm.{is_day_letter, day_form}
+use Rattle.speedate.specs.DurationNumbers.{DurationNumbers, UnsignedDuration, signed_form, length_microseconds, of_length}
+use Rattle.speedate.specs.IsoForm.{Sums, no_sums, item_text, item_at, item_table, with_item, sums_length, IsAnswerFrom}
 
 -- the numbers of a duration
-abbrev pub parts : Duration → DurationNumbers
-parts duration = record {
+abbrev pub duration_numbers : Duration → DurationNumbers
+duration_numbers duration = record {
   positive = duration.positive;
   day = duration.day;
   second = duration.second;
   microsecond = duration.microsecond;
 }
 
+infix 15 ◌gives◌
+-- what a call answers, by its numbers, is this answer
+abbrev pub ◌gives◌ : Result Duration ParseError → Result DurationNumbers ParseError → Type 0
+result gives answer = result_map duration_numbers result ≡ answer
+
 -- those of a length without its sign
-abbrev pub unsigned_parts : StructUnsignedDuration → UnsignedDuration
-unsigned_parts length = record { day = length.day; second = length.second; microsecond = length.microsecond }
+abbrev pub unsigned_numbers : StructUnsignedDuration → UnsignedDuration
+unsigned_numbers length = record { day = length.day; second = length.second; microsecond = length.microsecond }
+
+-- The answer to a text of a duration, as a function, which reads the items of an ISO 8601 duration from the left, and as a
+-- relation. Which form a text has is the library's own rule.
+
+-- the answer to what is left of a text after some items, where so many bytes are those of the last of them
+unfoldable pub iso_after : ℕ → Sums → List ℕ → Result UnsignedDuration ParseError
+iso_after skipped sums [] = if sums.some then Ok (sums_length sums) else Err fault.TooShort
+iso_after zero sums (byte ∷ rest) =
+    let item = item_at (byte ∷ rest) in
+    meets (item_table sums item) (iso_after (length (item_text item) - 1) (with_item item sums) rest)
+iso_after (suc skipped) sums (byte ∷ rest) = iso_after skipped sums rest
+
+-- the answer to a text after items
+abbrev pub iso_from : Sums → List ℕ → Result UnsignedDuration ParseError
+iso_from sums text = iso_after 0 sums text
+
+-- the length that a text says after its `P`, or the text's fault
+abbrev pub iso_form : IsoOrder → List ℕ → Result UnsignedDuration ParseError
+iso_form order text = iso_from (no_sums order) text
+
+-- a text has days: the letter of a day stands anywhere in it, or it is too short for a clock
+abbrev pub has_days : List ℕ → Bool
+has_days text = nat_lt (length text) 5 || list_any is_day_letter text
+
+-- the length that a text says as days or as a clock, or the text's fault
+unfoldable pub form_answer : MicrosecondsPrecisionOverflowBehavior → List ℕ → Result UnsignedDuration ParseError
+form_answer behavior text =
+    if length text == 0 then Err fault.TooShort
+    else (if has_days text then day_form behavior text else clock_form behavior text)
+
+-- the answer to a text without a sign: that of an ISO 8601 duration if it begins with `P`
+unfoldable pub unsigned_answer : IsoOrder → MicrosecondsPrecisionOverflowBehavior → List ℕ → Result UnsignedDuration ParseError
+unsigned_answer order behavior text =
+    if slice_index text 0 == capital_p then iso_form order (drop 1 text) else form_answer behavior text
+
+-- the answer to a text: the duration that it is, or its fault. The sign and the normal form are applied last
+abbrev pub duration_answer : IsoOrder → MicrosecondsPrecisionOverflowBehavior → List ℕ → Result DurationNumbers ParseError
+duration_answer order behavior text =
+    result_and_then (signed_form (not (has_minus text))) (unsigned_answer order behavior (drop (sign_length text) text))
+
+-- the same as a relation: after the sign and a `P` a text is good items and an end
+abbrev pub IsDurationAnswer : IsoOrder → MicrosecondsPrecisionOverflowBehavior → List ℕ → Result DurationNumbers ParseError → Type 0
+IsDurationAnswer order behavior text answer =
+    let rest = drop (sign_length text) text in
+    (form : Result UnsignedDuration ParseError)
+    × MatchBool (slice_index rest 0 == capital_p) (IsAnswerFrom (no_sums order) (drop 1 rest) form) (form ≡ form_answer behavior rest)
+    × (answer ≡ result_and_then (signed_form (not (has_minus text))) form)
+
+-- an answer is the grammar's: the relation allows it, and allows no other
+pub record IsGrammarAnswer (order : IsoOrder) (behavior : MicrosecondsPrecisionOverflowBehavior) (text : List ℕ) (answer : Result DurationNumbers ParseError) : Type 0 where
+  pub is_allowed : IsDurationAnswer order behavior text answer
+  pub is_only : (other : Result DurationNumbers ParseError) → IsDurationAnswer order behavior text other → other ≡ answer
+
+-- The text of a duration (ISO 8601, duration): years of 365 days, days, hours, minutes and seconds, each if it is not 0.
+-- Departs from it: a sign may come first, and the years and days are fixed lengths.
+
+-- a number and its designator, or nothing for 0
+abbrev pub counted_text : ℕ → ℕ → List ℕ
+counted_text number unit = if number == 0 then [] else decimal number ++ unit ∷ []
+
+-- a digit before others; nothing for a zero that no digit follows
+abbrev pub kept_digit : ℕ → List ℕ → List ℕ
+kept_digit digit [] = if digit == digit_zero then [] else digit ∷ []
+kept_digit digit (next ∷ rest) = digit ∷ next ∷ rest
+
+-- digits without the zeros at their end
+abbrev pub without_last_zeros : List ℕ → List ℕ
+without_last_zeros [] = []
+without_last_zeros (digit ∷ digits) = kept_digit digit (without_last_zeros digits)
+
+-- a point and the digits of a microsecond without the zeros at their end, or nothing for 0
+abbrev pub short_fraction_text : ℕ → List ℕ
+short_fraction_text microsecond = if microsecond == 0 then [] else full_stop ∷ without_last_zeros (six_digit_text microsecond)
+
+-- a duration is whole days
+abbrev pub is_whole_days : DurationNumbers → Bool
+is_whole_days numbers = (numbers.second == 0) && (numbers.microsecond == 0)
+
+-- years and days
+abbrev pub days_text : DurationNumbers → List ℕ
+days_text numbers = counted_text (numbers.day / 365) capital_y ++ counted_text (numbers.day % 365) capital_d
+
+-- seconds with their fraction
+abbrev pub seconds_text : ℕ → ℕ → List ℕ
+seconds_text second microsecond =
+    if (second == 0) && (microsecond == 0) then [] else decimal second ++ short_fraction_text microsecond ++ capital_s ∷ []
+
+-- hours, minutes and seconds
+abbrev pub hours_text : DurationNumbers → List ℕ
+hours_text numbers =
+    counted_text (numbers.second / 3600) capital_h ++ counted_text (numbers.second / 60 % 60) capital_m
+    ++ seconds_text (numbers.second % 60) numbers.microsecond
+
+-- what follows the days: `T`, hours, minutes and seconds; nothing after whole days; `T0S` if there is nothing else
+abbrev pub rest_text : DurationNumbers → List ℕ
+rest_text numbers =
+    if is_whole_days numbers then (if numbers.day == 0 then codes "T0S" else []) else capital_t ∷ hours_text numbers
+
+-- `P`, after `-` if the duration is negative
+abbrev pub start_text : Bool → List ℕ
+start_text positive = if positive then capital_p ∷ [] else hyphen ∷ capital_p ∷ []
+
+-- the text of a duration
+abbrev pub duration_text : DurationNumbers → List ℕ
+duration_text numbers = start_text numbers.positive ++ days_text numbers ++ rest_text numbers
+
+-- The duration between two values, and the value a duration after another, by microseconds of any size.
+
+-- the length of a duration in microseconds, with its sign
+abbrev pub signed_length : DurationNumbers → ℤ
+signed_length numbers = with_sign (not numbers.positive) (length_microseconds numbers)
+
+-- the duration of so many microseconds; zero is positive
+abbrev pub duration_of_length : ℤ → DurationNumbers
+duration_of_length (pos length) = of_length true length
+duration_of_length (negsuc below) = of_length false (suc below)
+
+-- a duration with the other sign
+abbrev pub negated : DurationNumbers → DurationNumbers
+negated numbers = record numbers { positive = not numbers.positive }
+
+-- a duration, but positive zero for negative zero
+abbrev pub with_positive_zero : DurationNumbers → DurationNumbers
+with_positive_zero numbers = record numbers { positive = numbers.positive || (length_microseconds numbers == 0) }
+
+-- the duration from one date-time to another, by their instants in UTC; it is negative if the other one is earlier
+abbrev pub duration_between : DateAndTime → DateAndTime → DurationNumbers
+duration_between earlier later = duration_of_length (utc_microsecond later -ℤ utc_microsecond earlier)
+
+-- the date-time so many microseconds after another, at its offset, or the fault of a date that is outside the years 0000 to
+-- 9999 there
+abbrev pub date_time_after : ℤ → DateAndTime → Result DateAndTime ParseError
+date_time_after length start = instant_date_time start.time.offset (instant_at (local_microsecond start +ℤ length))
+
+-- the duration from one date to another, in whole days; zero is positive
+abbrev pub duration_between_dates : Ymd → Ymd → DurationNumbers
+duration_between_dates earlier later =
+    let days = days_between earlier later in
+    record { positive = int_le (pos 0) days; day = unsigned_abs days; second = 0; microsecond = 0 }
+
+-- the days of a duration with its sign
+abbrev pub signed_days : DurationNumbers → ℤ
+signed_days numbers = with_sign (not numbers.positive) numbers.day
+
+-- the date a duration after another, or the fault: of a duration which is not whole days, or of a date outside the years 0000
+-- to 9999, which is after them if the duration is positive
+abbrev pub date_after_days : DurationNumbers → Ymd → Result Ymd ParseError
+date_after_days numbers start =
+    meets ((is_whole_days numbers else_fault fault.DateNotExact) ∷ [])
+    (ok_or (date_added (signed_days numbers) start) (if numbers.positive then fault.DateTooLarge else fault.DateTooSmall))

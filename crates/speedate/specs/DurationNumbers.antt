@@ -1,7 +1,10 @@
 -- The numbers of a duration, its length, and the numbers that have a length.
 use Rattle.std.specs.Prelude.{ℕ, ◌+◌, ◌*◌, ◌/◌, ◌%◌, ◌<◌, ◌≤◌, Bool, not, nat_le, List, [], ◌∷◌, ℤ, Result, Ok}
-use Rattle.speedate_base.specs.declared.faults.ParseError.{ParseError}
+use Rattle.std.specs.Cmp.{IsTotalOrder, bool_cmp_total, int_cmp_total, on_total, then_total}
+use Rattle.std.specs.Ordering.{bool_cmp, int_cmp, on, then_cmp}
+use Rattle.std.specs.declared.cmp.Ordering.{Ordering}
 use Rattle.speedate_base.specs.declared.faults.ParseError.TheVariants as fault
+use Rattle.speedate_base.specs.declared.faults.ParseError.{ParseError}
 use Rattle.speedate_base.specs.Numbers.{with_sign}
 use Rattle.speedate_base.specs.Offset.{seconds_per_day}
 use Rattle.speedate_base.specs.Requirement.{Requirement, ◌else_fault◌, meets}
@@ -77,3 +80,23 @@ signed_milliseconds numbers = with_sign (not numbers.positive) (1000 * length_se
 -- the microseconds of a second with the sign
 abbrev pub signed_microsecond : DurationNumbers → ℤ
 signed_microsecond numbers = with_sign (not numbers.positive) numbers.microsecond
+
+-- the days, and the seconds of a day, with the sign
+abbrev pub signed_day : DurationNumbers → ℤ
+signed_day numbers = with_sign (not numbers.positive) numbers.day
+
+abbrev pub signed_second : DurationNumbers → ℤ
+signed_second numbers = with_sign (not numbers.positive) numbers.second
+
+-- the order of durations: negative before positive, then by the days, the seconds and the microseconds with the sign. So the
+-- negative one of no length comes before the positive one
+abbrev pub duration_order : DurationNumbers → DurationNumbers → Ordering
+duration_order =
+    then_cmp (on (λ numbers. numbers.positive) bool_cmp)
+    (then_cmp (on signed_day int_cmp) (then_cmp (on signed_second int_cmp) (on signed_microsecond int_cmp)))
+
+-- durations are ordered one after another
+pub duration_order-total : IsTotalOrder duration_order
+duration_order-total =
+    then_total (on_total (λ (numbers : DurationNumbers). numbers.positive) bool_cmp_total)
+    (then_total (on_total signed_day int_cmp_total) (then_total (on_total signed_second int_cmp_total) (on_total signed_microsecond int_cmp_total)))

@@ -12,8 +12,8 @@ use Rattle.speedate_base.specs.declared.config.IsoOrder.{IsoOrder}
 use Rattle.speedate_base.specs.declared.config.IsoOrder.TheVariants as order
 use Rattle.speedate_base.specs.declared.faults.ParseError.{ParseError}
 use Rattle.speedate_base.specs.declared.faults.ParseError.TheVariants as fault
-use Rattle.speedate_base.specs.Ascii.{comma, full_stop, capital_d, capital_h, capital_m, capital_s, capital_t, capital_w, capital_y}
-use Rattle.speedate_base.specs.DigitRuns.{run_length, digits_value}
+use Rattle.speedate_base.specs.Ascii.{capital_d, capital_h, capital_m, capital_s, capital_t, capital_w, capital_y}
+use Rattle.speedate_base.specs.Digits.{run_length, digits_value, is_decimal_mark}
 use Rattle.speedate_base.specs.Nearest.{nearest}
 use Rattle.speedate_base.specs.Offset.{seconds_per_day}
 use Rattle.speedate_base.specs.Requirement.{Requirement, ◌else_fault◌, meets, AllHold}
@@ -58,10 +58,6 @@ pub data Item : Type 0 where
 abbrev pub item_text : Item → List ℕ
 item_text TimeDesignator = capital_t ∷ []
 item_text (Component component) = component.number ++ component.fraction ++ component.designator ∷ []
-
--- a decimal mark
-abbrev pub is_decimal_mark : ℕ → Bool
-is_decimal_mark byte = (byte == full_stop) || (byte == comma)
 
 -- a fraction is nothing, or a decimal mark and digits, possibly none
 abbrev pub IsFraction : List ℕ → Type 0

@@ -2,10 +2,7 @@
 
 ghost use Rattle.std.specs.Prelude.{◌≡◌, ℕ, ◌<◌, ◌≤◌, IfOk, List, unsigned_abs};
 ghost use Rattle.speedate_base.specs.Requirement.{result_map};
-ghost use Rattle.speedate.specs.DurationAnswer.{duration_answer, IsGrammarAnswer};
 ghost use Rattle.speedate.specs.DurationNumbers.{length_seconds, length_microseconds, normal_form, signed_form, signed_seconds, signed_microsecond, signed_milliseconds};
-ghost use Rattle.speedate.specs.Exchanged.{AreExchanged};
-ghost use Rattle.speedate.specs.InOrder.{IsAnswerInOrder};
 
 mod arithmetic;
 mod clock;
@@ -56,7 +53,8 @@ pub struct Duration {
 impl Duration {
     ghost use Rattle.speedate_base.specs.declared.config.IsoOrder.TheVariants as order;
     ghost use Rattle.speedate_base.specs.declared.config.MicrosecondsPrecisionOverflowBehavior.TheVariants as behavior;
-    ghost use Rattle.speedate.specs.Duration.{parts, unsigned_parts};
+    ghost use Rattle.speedate.specs.Duration.{duration_numbers, unsigned_numbers, ◌gives◌, duration_answer, IsGrammarAnswer};
+    ghost use Rattle.speedate.specs.IsoOrder.{AreExchanged, IsAnswerInOrder};
 
     /// The duration of days, seconds and microseconds of any size, with the same length: 2 days, 101
     /// seconds and 123 microseconds for 1 day, 86,500 seconds and 1,000,123 microseconds.
@@ -68,9 +66,8 @@ impl Duration {
     /// - `DurationDaysTooLarge` if the days exceed 999,999,999.
     #[inline]
     pub fn new(positive: bool, day: u32, second: u32, microsecond: u32) -> Result<Self, ParseError>
-        ensures answer { result_map parts result
-            ≡ normal_form (record { positive = positive; day = day; second = second; microsecond = microsecond }) }
-        ensures length { IfOk result (λ duration. length_microseconds (parts duration)
+        ensures answer { result gives normal_form (record { positive = positive; day = day; second = second; microsecond = microsecond }) }
+        ensures length { IfOk result (λ duration. length_microseconds (duration_numbers duration)
             ≡ length_microseconds (record { positive = positive; day = day; second = second; microsecond = microsecond })) }
     {
         let second = second
@@ -135,7 +132,7 @@ impl Duration {
     /// - `ExtraCharacters` if something follows the clock.
     #[inline(always)]
     pub fn parse_str(text: &str) -> Result<Self, ParseError>
-        ensures answer { result_map parts result ≡ duration_answer order.Lax behavior.Error text.now }
+        ensures answer { result gives duration_answer order.Lax behavior.Error text.now }
     {
         Self::parse_bytes(text.as_bytes())
     }
@@ -144,7 +141,7 @@ impl Duration {
     /// The forms and the faults are those of [`Duration::parse_str`].
     #[inline(always)]
     pub fn parse_bytes(bytes: &[u8]) -> Result<Self, ParseError>
-        ensures answer { result_map parts result ≡ duration_answer order.Lax behavior.Error bytes.now }
+        ensures answer { result gives duration_answer order.Lax behavior.Error bytes.now }
     {
         Self::parse(
             bytes,
@@ -171,11 +168,11 @@ impl Duration {
     /// them or before them, can change places: `b"P1DT2H3M"` and `b"P1DT3M2H"` have the same answer.
     #[inline(always)]
     pub fn parse_bytes_with_config(bytes: &[u8], config: &TimeConfig) -> Result<Self, ParseError>
-        ensures answer { result_map parts result ≡ duration_answer config.now.iso_order config.now.microseconds_precision_overflow_behavior bytes.now }
-        ensures grammar { IsGrammarAnswer config.now.iso_order config.now.microseconds_precision_overflow_behavior bytes.now (result_map parts result) }
-        ensures order { IsAnswerInOrder config.now.iso_order config.now.microseconds_precision_overflow_behavior bytes.now (result_map parts result) }
+        ensures answer { result gives duration_answer config.now.iso_order config.now.microseconds_precision_overflow_behavior bytes.now }
+        ensures grammar { IsGrammarAnswer config.now.iso_order config.now.microseconds_precision_overflow_behavior bytes.now (result_map duration_numbers result) }
+        ensures order { IsAnswerInOrder config.now.iso_order config.now.microseconds_precision_overflow_behavior bytes.now (result_map duration_numbers result) }
         ensures exchanged { (other : List ℕ) → config.now.iso_order ≡ order.Lax → AreExchanged bytes.now other
-            → result_map parts result ≡ duration_answer config.now.iso_order config.now.microseconds_precision_overflow_behavior other }
+            → result gives duration_answer config.now.iso_order config.now.microseconds_precision_overflow_behavior other }
     {
         Self::parse(
             bytes,
@@ -192,7 +189,7 @@ impl Duration {
         order: IsoOrder,
         behavior: MicrosecondsPrecisionOverflowBehavior,
     ) -> Result<Self, ParseError>
-        ensures answer { result_map parts result ≡ duration_answer order behavior bytes.now }
+        ensures answer { result gives duration_answer order behavior bytes.now }
     {
         let (negative, length) = sign(bytes);
         let size = UnsignedDuration::parse(&bytes[length..], order, behavior)?;
@@ -202,7 +199,7 @@ impl Duration {
     /// Puts the sign on a length, and brings it into its normal form.
     #[inline(always)]
     fn signed(positive: bool, size: UnsignedDuration) -> Result<Self, ParseError>
-        ensures answer { result_map parts result ≡ signed_form positive (unsigned_parts size) }
+        ensures answer { result gives signed_form positive (unsigned_numbers size) }
     {
         // Most lengths are in their normal form as they are read.
         if size.day <= DAYS_MAX && size.second < SECONDS_PER_DAY && size.microsecond < 1_000_000 {
@@ -219,7 +216,7 @@ impl Duration {
     /// The length in whole seconds, with the sign, cut toward zero: -86,401 for `-P1DT1.5S`.
     #[inline]
     pub fn signed_total_seconds(&self) -> i64
-        ensures second { result ≡ signed_seconds (parts self.now) }
+        ensures second { result ≡ signed_seconds (duration_numbers self.now) }
         ensures small { unsigned_abs result < 86400000000000 }
     {
         with_sign(!self.positive, self.seconds())
@@ -228,7 +225,7 @@ impl Duration {
     /// The length in whole milliseconds, with the sign, cut toward zero: -1,001 for `-PT1.0019S`.
     #[inline]
     pub fn signed_total_ms(&self) -> i64
-        ensures millisecond { result ≡ signed_milliseconds (parts self.now) }
+        ensures millisecond { result ≡ signed_milliseconds (duration_numbers self.now) }
     {
         let milliseconds = 1000 * self.seconds() + u64::from(self.microsecond / 1000);
         with_sign(!self.positive, milliseconds)
@@ -238,7 +235,7 @@ impl Duration {
     /// [`Duration::signed_total_seconds`] leaves.
     #[inline]
     pub fn signed_microseconds(&self) -> i32
-        ensures microsecond { result ≡ signed_microsecond (parts self.now) }
+        ensures microsecond { result ≡ signed_microsecond (duration_numbers self.now) }
         ensures small { unsigned_abs result < 1000000 }
     {
         let microseconds = self.microsecond as i32;
@@ -252,7 +249,7 @@ impl Duration {
     /// The length in whole seconds, without the sign.
     #[inline]
     fn seconds(&self) -> u64
-        ensures seconds { result ≡ length_seconds (parts self.now) }
+        ensures seconds { result ≡ length_seconds (duration_numbers self.now) }
     {
         u64::from(self.day) * u64::from(SECONDS_PER_DAY) + u64::from(self.second)
     }
@@ -263,14 +260,14 @@ impl FromStr for Duration {
 
     ghost use Rattle.speedate_base.specs.declared.config.IsoOrder.TheVariants as order;
     ghost use Rattle.speedate_base.specs.declared.config.MicrosecondsPrecisionOverflowBehavior.TheVariants as behavior;
-    ghost use Rattle.speedate.specs.Duration.{parts};
+    ghost use Rattle.speedate.specs.Duration.{◌gives◌, duration_answer};
 
-    ghost from_str_gives = { λ text result. result_map parts result ≡ duration_answer order.Lax behavior.Error text };
+    ghost from_str_gives = { λ text result. result gives duration_answer order.Lax behavior.Error text };
 
     /// The answer of [`Duration::parse_str`]: `"PT90M".parse()` gives an hour and a half.
     #[inline]
     fn from_str(text: &str) -> Result<Self, ParseError>
-        ensures answer { result_map parts result ≡ duration_answer order.Lax behavior.Error text.now }
+        ensures answer { result gives duration_answer order.Lax behavior.Error text.now }
     {
         Self::parse_str(text)
     }

@@ -7,7 +7,7 @@ use Rattle.std.proofs.lemmas.Bool.Decides.{nat_tests}
 use Rattle.std.proofs.lemmas.List.{length-take-le, length-drop, take_rest, drop-drop}
 use Rattle.std.proofs.lemmas.List.Sums.{prefix_len-le-length}
 use Rattle.std.proofs.Math.Seq.{take-add}
-use Rattle.speedate_base.specs.DigitRuns.{run_length, digits_value}
+use Rattle.speedate_base.specs.Digits.{run_length, digits_value}
 use Rattle.speedate_base.proofs.DigitRunLemmas.{run-front, run-on, digits_value-append, run-whole}
 
 -- the eight bytes from a place on

@@ -11,8 +11,7 @@ use Rattle.std.proofs.lemmas.Bool.Decides.{nat_tests}
 use Rattle.std.proofs.lemmas.Nat.{pow-add}
 use Rattle.std.proofs.Math.Seq.{take-add}
 use Rattle.std.proofs.Math.Nat.{mul-le-mul_right, pow-succ', pow-le-pow_right}
-use Rattle.speedate_base.specs.Digits.{one_digit_value}
-use Rattle.speedate_base.specs.DigitRuns.{run_length, digits_value, fraction_value}
+use Rattle.speedate_base.specs.Digits.{one_digit_value, run_length, digits_value, fraction_value}
 
 -- a digit stands within its text
 pub digit-within : (bytes : List ℕ) (place : ℕ) → is_ascii_digit (get_or bytes place 0) ≡ true → place < length bytes

@@ -7,9 +7,8 @@ use Rattle.std.proofs.lemmas.Bool.{cases_lt, eqb-true, and_parts, false≢true, 
 use Rattle.std.proofs.lemmas.List.Sums.{prefix_len_passes, take_while-cons}
 use Rattle.std.proofs.lemmas.List.{get_or-drop, take-append-drop, drop-drop, drop_more, take_all, length-drop, length-take-le}
 use Rattle.speedate_base.specs.Ascii.{full_stop}
-use Rattle.speedate_base.specs.DigitRuns.{run_length, run_digits}
-use Rattle.speedate_base.specs.Numbers.{has_minus, sign_length, point_place, is_decimal, decimal_parts, IsSign, JoinsTo, DecimalParts, Fractional, NoNumber, whole_or, whole_number, number_answer}
-use Rattle.speedate_base.specs.IntFloat.{parts, number_of, JoinsToFloat}
+use Rattle.speedate_base.specs.Digits.{run_length, run_digits}
+use Rattle.speedate_base.specs.Numbers.{has_minus, sign_length, point_place, is_decimal, decimal_parts, IsSign, JoinsTo, DecimalParts, Fractional, NoNumber, whole_or, whole_number, number_answer, decimal_of, number_of, JoinsToFloat}
 use Rattle.speedate_base.specs.declared.numbers.int_float.IntFloat.{IntFloat}
 use Rattle.speedate_base.specs.declared.numbers.int_float.IntFloat.TheVariants as number
 
@@ -57,7 +56,7 @@ tested d text None test is same = search (rules, decimal_parts-join)
 -- so what is answered as a decimal joins to its text
 pub number_of-joins : (read : IntFloat) (text : List ℕ) → number_of read ≡ number_answer text → JoinsToFloat read text
 number_of-joins (number.Int n) text same = tt
-number_of-joins (number.Float decimal) text same = tested (parts decimal) text (whole_number text) (is_decimal text) refl same
+number_of-joins (number.Float decimal) text same = tested (decimal_of decimal) text (whole_number text) (is_decimal text) refl same
 number_of-joins number.Err text same = tt
 
 -- a text that goes on after its digits is no whole number

@@ -5,7 +5,7 @@ use Rattle.std.proofs.Common.{arith, rules}
 use Rattle.std.proofs.lemmas.List.{get_or-drop}
 use Rattle.std.proofs.lemmas.Bool.Decides.{nat_tests}
 use lib.Lanes.{number_l}
-use Rattle.speedate_base.specs.Pattern.{eight_at, fits_byte, fit_length}
+use Rattle.speedate_base.specs.Digits.{eight_at, fits_byte, fit_length}
 
 -- a list of eight is made of eight
 pub by_eight : (P : List ℕ → Type 0) → ((a b c d e f g h : ℕ) → P (a ∷ b ∷ c ∷ d ∷ e ∷ f ∷ g ∷ h ∷ [])) → (bytes : List ℕ) → length bytes ≡ 8 → P bytes

@@ -2,14 +2,8 @@ pub mod Ascii
 pub mod Requirement
 pub mod Fault
 pub mod Digits
-pub mod DigitRuns
-pub mod Pattern
 pub mod Numbers
-pub mod IntFloat
 pub mod Offset
 pub mod Nearest
 pub mod Timestamp
-pub mod DecimalTimestamp
-pub mod UnixTime
 pub mod Config
-pub mod Choice

@@ -1,9 +1,12 @@
--- Whole numbers and decimals, as texts. This grammar is the library's own.
-use Rattle.std.specs.Prelude.{◌≡◌, ◌⊎◌, MatchBool, codes, ℕ, ◌+◌, ◌^◌, Bool, ◌&&◌, ◌||◌, List, [], ◌∷◌, ◌++◌, length, slice_index, nat_lt, nat_le, ◌==◌, if◌then◌else◌, Option, Some, None, ℤ, pos, neg_ℤ}
+-- Whole numbers and decimals, as texts and as what is read of them. This grammar is the library's own.
+use Rattle.std.specs.Prelude.{◌≡◌, ◌⊎◌, MatchBool, codes, ℕ, ◌+◌, ◌^◌, Bool, ◌&&◌, ◌||◌, List, [], ◌∷◌, ◌++◌, length, slice_index, nat_lt, nat_le, ◌==◌, if◌then◌else◌, Option, Some, None, ℤ, pos, neg_ℤ, true, false}
 use Rattle.std.specs.Char.{is_ascii_digit}
 use Rattle.std.specs.List.{list_all}
+use Rattle.speedate_base.specs.declared.numbers.int_float.Decimal.{Decimal}
+use Rattle.speedate_base.specs.declared.numbers.int_float.IntFloat.TheVariants as number
+use Rattle.speedate_base.specs.declared.numbers.int_float.IntFloat.{IntFloat}
 use Rattle.speedate_base.specs.Ascii.{plus_sign, hyphen, full_stop}
-use Rattle.speedate_base.specs.DigitRuns.{run_length, run_digits, run_value}
+use Rattle.speedate_base.specs.Digits.{run_length, run_digits, run_value}
 
 -- a text begins with `-`
 abbrev pub has_minus : List ℕ → Bool
@@ -89,3 +92,23 @@ IsSign negative sign = MatchBool negative (sign ≡ codes "-") ((sign ≡ []) �
 abbrev pub JoinsTo : DecimalParts → List ℕ → Type 0
 JoinsTo decimal text =
     (sign : List ℕ) × IsSign decimal.negative sign × (text ≡ sign ++ decimal.whole ++ full_stop ∷ decimal.fraction)
+
+-- the parts of a `Decimal`
+abbrev pub decimal_of : Decimal → DecimalParts
+decimal_of decimal = record { negative = decimal.negative; whole = decimal.whole.now; fraction = decimal.fraction.now }
+
+-- what was read, as a number
+abbrev pub number_of : IntFloat → Number
+number_of (number.Int n) = Whole n
+number_of (number.Float decimal) = Fractional (decimal_of decimal)
+number_of number.Err = NoNumber
+
+-- a decimal that was read joins to its text
+abbrev pub JoinsToFloat : IntFloat → List ℕ → Type 0
+JoinsToFloat (number.Float decimal) text = JoinsTo (decimal_of decimal) text
+JoinsToFloat other text = Unit {0}
+
+-- what was read is no number
+abbrev pub is_no_number : IntFloat → Bool
+is_no_number number.Err = true
+is_no_number other = false

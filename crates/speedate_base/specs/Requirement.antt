@@ -1,5 +1,5 @@
 -- A grammar as an ordered table: each row is a test of the text and the fault of a text that fails it.
-use Rattle.std.specs.Prelude.{◌≡◌, ℕ, Bool, true, List, [], ◌∷◌, length, ◌==◌, Result, Ok, Err, if◌then◌else◌}
+use Rattle.std.specs.Prelude.{◌≡◌, ℕ, Bool, true, List, [], ◌∷◌, length, ◌==◌, Result, Ok, Err, if◌then◌else◌, Option, Some, None}
 use Rattle.std.specs.Result.{result_map_both, result_flatten}
 use Rattle.speedate_base.specs.declared.faults.ParseError.{ParseError}
 
@@ -43,3 +43,13 @@ alone fault text front = meets ((length text == front.1 else_fault fault front.0
 -- what is answered to a value that was read; a fault stays
 abbrev pub result_and_then : {A B : Type 0} → (A → Result B ParseError) → Result A ParseError → Result B ParseError
 result_and_then next answer = result_flatten (result_map next answer)
+
+infixl 10 ◌>>=◌
+abbrev pub ◌>>=◌ : {A B : Type 0} → Result A ParseError → (A → Result B ParseError) → Result B ParseError
+answer >>= next = result_and_then next answer
+
+-- the answer of a table; but if that is a fault and the text is a number, the answer to that number
+abbrev pub or_number : {A : Type 0} → Option (Result A ParseError) → Result A ParseError → Result A ParseError
+or_number number (Ok value) = Ok value
+or_number (Some answer) (Err fault) = answer
+or_number None (Err fault) = Err fault

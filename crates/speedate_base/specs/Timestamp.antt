@@ -1,11 +1,18 @@
 -- Timestamps in seconds, milliseconds or microseconds since 1970-01-01T00:00:00 (Unix time), and the instants that they mean.
-use Rattle.std.specs.Prelude.{ℕ, ◌^◌, Bool, true, IsTrue, nat_le, nat_lt, if◌then◌else◌, List, [], ◌∷◌, ℤ, pos, neg_ℤ, ◌*ℤ◌, int_le, unsigned_abs, Result, Ok}
+use Rattle.std.specs.Prelude.{ℕ, ◌^◌, Bool, true, IsTrue, nat_le, nat_lt, if◌then◌else◌, List, [], ◌∷◌, ℤ, pos, neg_ℤ, ◌*ℤ◌, int_le, unsigned_abs, Result, Ok, ◌*◌, ◌++◌, length}
 use Rattle.std.specs.Int.{int_div_euclid, int_rem_euclid}
-use Rattle.speedate_base.specs.declared.config.TimestampUnit.{TimestampUnit}
+use Rattle.speedate_base.specs.declared.config.MicrosecondsPrecisionOverflowBehavior.{MicrosecondsPrecisionOverflowBehavior}
 use Rattle.speedate_base.specs.declared.config.TimestampUnit.TheVariants as unit
-use Rattle.speedate_base.specs.declared.faults.ParseError.{ParseError}
+use Rattle.speedate_base.specs.declared.config.TimestampUnit.{TimestampUnit}
 use Rattle.speedate_base.specs.declared.faults.ParseError.TheVariants as fault
-use Rattle.speedate_base.specs.Requirement.{Requirement, ◌else_fault◌, meets}
+use Rattle.speedate_base.specs.declared.faults.ParseError.{ParseError}
+use Rattle.speedate_base.specs.declared.util.unit.UnixUnit.{UnixUnit}
+use Rattle.speedate_base.specs.declared.util.unix_time.UnixTime.{UnixTime}
+use Rattle.speedate_base.specs.Config.{refuses_digits}
+use Rattle.speedate_base.specs.Digits.{digits_value}
+use Rattle.speedate_base.specs.Nearest.{nearest}
+use Rattle.speedate_base.specs.Numbers.{DecimalParts, with_sign}
+use Rattle.speedate_base.specs.Requirement.{Requirement, ◌else_fault◌, meets, ◌implies◌}
 
 -- an instant: seconds since 1970-01-01T00:00:00, rounded down, and the microseconds that are left, below a million
 pub record Instant : Type 0 where
@@ -84,3 +91,41 @@ range_table instant =
 -- the instant, or the fault of one outside those years
 abbrev pub range_answer : Instant → Result Instant ParseError
 range_answer instant = meets (range_table instant) (Ok instant)
+
+-- Decimal timestamps (Unix time): what they mean to the nearest microsecond, and how many digits a text may have after its point.
+
+-- a decimal is its digits, as one number, over ten to the number of those after the point
+abbrev pub decimal_digits : DecimalParts → ℕ
+decimal_digits decimal = digits_value (decimal.whole ++ decimal.fraction)
+
+abbrev pub decimal_scale : DecimalParts → ℕ
+decimal_scale decimal = 10 ^ length decimal.fraction
+
+-- the unit of a decimal timestamp: an inferred one goes by the whole decimal
+abbrev pub decimal_row : TimestampUnit → DecimalParts → UnitRow
+decimal_row unit decimal = unit_row unit (nat_le (decimal_digits decimal) (inferred_seconds_max * decimal_scale decimal))
+
+-- a decimal in microseconds, with its sign: the numerator of a fraction whose denominator is its scale
+abbrev pub decimal_size : UnitRow → DecimalParts → ℤ
+decimal_size row decimal = with_sign decimal.negative (decimal_digits decimal * row.microseconds)
+
+-- the microseconds since 1970-01-01T00:00:00 that it means, to the nearest
+abbrev pub decimal_microsecond : UnitRow → DecimalParts → ℤ
+decimal_microsecond row decimal = nearest (decimal_size row decimal) (decimal_scale decimal)
+
+-- the instant that it means, to the nearest microsecond
+abbrev pub decimal_instant : UnitRow → DecimalParts → Instant
+decimal_instant row decimal = instant_at (decimal_microsecond row decimal)
+
+-- what a decimal in a text has to meet if its digits are counted
+abbrev pub digits_table : MicrosecondsPrecisionOverflowBehavior → UnitRow → DecimalParts → List Requirement
+digits_table behavior row decimal =
+    ((refuses_digits behavior implies nat_le (length decimal.fraction) row.digits) else_fault row.too_long) ∷ []
+
+-- the numbers of an instant
+abbrev pub instant_of : UnixTime → Instant
+instant_of time = record { second = time.second; microsecond = time.microsecond }
+
+-- the row of a unit
+abbrev pub row : UnixUnit → UnitRow
+row unit = record { microseconds = unit.microseconds; digits = unit.digits; too_long = unit.too_long }

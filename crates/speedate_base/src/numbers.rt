@@ -1,8 +1,7 @@
 //! Whole numbers and decimals, and the digits that they are made of.
 
 ghost use Rattle.std.specs.Prelude.{◌≡◌, ◌^◌, ◌<◌, ◌≤◌, length, Some, None, if◌then◌else◌};
-ghost use Rattle.speedate_base.specs.Numbers.{has_minus, sign_length, with_sign, fits_i64, whole_number, point_place, decimal_answer, number_answer};
-ghost use Rattle.speedate_base.specs.IntFloat.{number_of, JoinsToFloat};
+ghost use Rattle.speedate_base.specs.Numbers.{has_minus, sign_length, with_sign, fits_i64, whole_number, point_place, decimal_answer, number_answer, number_of, JoinsToFloat};
 
 pub(crate) mod digits;
 mod fraction;
@@ -15,7 +14,7 @@ pub use digits::{DigitRun, digit_run, few_digits, run_end};
 pub use fraction::{Fraction, takes_digits};
 pub use int_float::{Decimal, IntFloat};
 pub use lanes::{LANES, eight_bytes, fitting, pairs};
-pub use places::{byte_at, two_digits};
+pub use places::{byte_at, is_decimal_mark, two_digits};
 
 /// The whole number that a text is: -12 for `"-012"`.
 ///

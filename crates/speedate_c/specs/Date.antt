@@ -2,7 +2,7 @@
 use Rattle.std.specs.Prelude.{Result}
 use Rattle.speedate.specs.declared.ParseError.{ParseError}
 use Rattle.speedate.specs.Calendar.{Ymd}
-use Rattle.speedate.specs.FromNumbers.{new_date_answer}
+use Rattle.speedate.specs.Date.{new_date_answer}
 use Rattle.speedate_c.specs.declared.date.SpeedateDate.{SpeedateDate}
 
 -- the date of its numbers, or the fault of the first that is out of range

@@ -1,7 +1,7 @@
 -- What a date-time from outside says, and how a date-time is written.
 use Rattle.std.specs.Prelude.{Result}
 use Rattle.speedate.specs.declared.ParseError.{ParseError}
-use Rattle.speedate.specs.DateAndTime.{DateAndTime}
+use Rattle.speedate.specs.DateTime.{DateAndTime}
 use Rattle.speedate.specs.Requirement.{result_and_then, result_map}
 use Rattle.speedate_c.specs.Date.{date_of, shown_date}
 use Rattle.speedate_c.specs.Time.{time_of, shown_time}

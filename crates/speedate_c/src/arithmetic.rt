@@ -1,7 +1,7 @@
 //! The duration between two values, and the value a duration after another, as C sees them.
 
 ghost use Rattle.std.specs.Prelude.{◌≡◌, neg_ℤ};
-ghost use Rattle.speedate.specs.DurationMove.{date_after_days, date_time_after, duration_between, duration_between_dates, negated, signed_length};
+ghost use Rattle.speedate.specs.Duration.{date_after_days, date_time_after, duration_between, duration_between_dates, negated, signed_length};
 ghost use Rattle.speedate_c.specs.After.{after_answer, after_value, with_value};
 ghost use Rattle.speedate_c.specs.Code.{value_out_of_range};
 ghost use Rattle.speedate_c.specs.Date.{date_of, shown_date};

@@ -2,11 +2,8 @@
 
 ghost use Rattle.std.specs.Option.{option_map};
 ghost use Rattle.std.specs.Prelude.{◌≡◌, ◌≢◌, ◌≤◌, length, slice_get};
-ghost use Rattle.speedate.specs.Date.{parts};
-ghost use Rattle.speedate.specs.DateOrder.{date_order};
-ghost use Rattle.speedate.specs.DateText.{date_answer, date_front, date_text};
-ghost use Rattle.speedate.specs.DateTimestamp.{date_or_timestamp, date_timestamp_answer};
-ghost use Rattle.speedate.specs.DayNumber.{date_added, date_numbered, day_number, days_between, midnight_millisecond, midnight_second, ordinal_day};
+ghost use Rattle.speedate.specs.Date.{ymd, date_answer, date_front, date_text, date_or_timestamp, date_timestamp_answer, ◌gives◌};
+ghost use Rattle.speedate.specs.Calendar.{date_order, date_added, date_numbered, day_number, days_between, midnight_millisecond, midnight_second, ordinal_day};
 ghost use Rattle.speedate.specs.Requirement.{result_map};
 ghost use Rattle.speedate_c.specs.After.{after_answer, after_front, after_optional_date, after_text, after_value, with_option, with_value};
 ghost use Rattle.speedate_c.specs.Code.{answer_code, buffer_too_small, config_out_of_range, order_number, success, value_out_of_range};
@@ -34,7 +31,7 @@ impl SpeedateDate {
     /// The date of the numbers, or the fault of the first that is out of range.
     #[inline]
     pub(crate) fn to_value(&self) -> Result<Date, ParseError>
-        ensures answer { result_map parts result ≡ date_of self.now }
+        ensures answer { result gives date_of self.now }
     {
         Date::new(self.year, self.month, self.day)
     }
@@ -42,8 +39,8 @@ impl SpeedateDate {
     /// The numbers of a date.
     #[inline]
     pub(crate) fn from_value(date: &Date) -> Self
-        ensures numbers { result ≡ shown_date (parts date.now) }
-        ensures leads_back { date_of result ≡ Ok (parts date.now) }
+        ensures numbers { result ≡ shown_date (ymd date.now) }
+        ensures leads_back { date_of result ≡ Ok (ymd date.now) }
     {
         SpeedateDate {
             year: date.year,
@@ -56,7 +53,7 @@ impl SpeedateDate {
 /// Writes the date of an answer, and gives the code.
 #[inline]
 pub(crate) fn write_date(answer: Result<Date, ParseError>, out: &mut SpeedateDate) -> i32
-    ensures after { (result, out.new) ≡ after_answer shown_date out.old (result_map parts answer) }
+    ensures after { (result, out.new) ≡ after_answer shown_date out.old (result_map ymd answer) }
 {
     let date = answer_or_return!(answer);
     *out = SpeedateDate::from_value(&date);
@@ -66,7 +63,7 @@ pub(crate) fn write_date(answer: Result<Date, ParseError>, out: &mut SpeedateDat
 /// Writes a date, if there is one, and gives the code.
 #[inline]
 fn write_some(date: Option<Date>, out: &mut SpeedateDate) -> i32
-    ensures after { (result, out.new) ≡ after_optional_date shown_date out.old (option_map parts date) }
+    ensures after { (result, out.new) ≡ after_optional_date shown_date out.old (option_map ymd date) }
 {
     match date {
         Some(date) => {
@@ -80,7 +77,7 @@ fn write_some(date: Option<Date>, out: &mut SpeedateDate) -> i32
 /// Prints a date into a buffer, and gives the code.
 #[inline]
 fn print_date(date: &Date, buffer: &mut [u8], text_length: &mut usize) -> i32
-    ensures after { (result, buffer.new, text_length.new) ≡ after_text (date_text (parts date.now)) buffer.old text_length.old }
+    ensures after { (result, buffer.new, text_length.new) ≡ after_text (date_text (ymd date.now)) buffer.old text_length.old }
     ensures room { 11 ≤ length buffer.old → result ≡ success }
 {
     write_text(date.to_text().as_str(), buffer, text_length)

@@ -1,13 +1,8 @@
 //! Date-times as C sees them.
 
 ghost use Rattle.std.specs.Prelude.{◌≡◌, ◌≢◌, ◌≤◌, length};
-ghost use Rattle.speedate.specs.DateAndTime.{local_millisecond, local_second, utc_millisecond, utc_second};
-ghost use Rattle.speedate.specs.DateTime.{parts};
-ghost use Rattle.speedate.specs.DateTimeText.{date_time_answer, date_time_front, date_time_text};
-ghost use Rattle.speedate.specs.DateTimeTimestamp.{date_time_or_timestamp, date_time_timestamp_answer};
-ghost use Rattle.speedate.specs.StrictText.{strict_date_time_answer};
-ghost use Rattle.speedate.specs.InstantOrder.{date_time_instant_order};
-ghost use Rattle.speedate.specs.OffsetMove.{date_time_in_timezone};
+ghost use Rattle.speedate.specs.DateTime.{local_millisecond, local_second, utc_millisecond, utc_second, date_and_time, date_time_answer, date_time_front, date_time_text, date_time_or_timestamp, date_time_timestamp_answer, date_time_instant_order, date_time_in_timezone, ◌gives◌};
+ghost use Rattle.speedate.specs.Standard.{strict_date_time_answer};
 ghost use Rattle.speedate.specs.Requirement.{result_map};
 ghost use Rattle.speedate_c.specs.After.{after_answer, after_front, after_text, after_value, with_option, with_value};
 ghost use Rattle.speedate_c.specs.Code.{answer_code, buffer_too_small, config_out_of_range, order_number, value_out_of_range};
@@ -36,7 +31,7 @@ impl SpeedateDateTime {
     /// at first.
     #[inline]
     pub(crate) fn to_value(&self) -> Result<DateTime, ParseError>
-        ensures answer { result_map parts result ≡ date_time_of self.now }
+        ensures answer { result gives date_time_of self.now }
     {
         let date = self.date.to_value()?;
         let time = self.time.to_value()?;
@@ -46,8 +41,8 @@ impl SpeedateDateTime {
     /// The numbers of a date-time.
     #[inline]
     fn from_value(value: &DateTime) -> Self
-        ensures numbers { result ≡ shown_date_time (parts value.now) }
-        ensures leads_back { date_time_of result ≡ Ok (parts value.now) }
+        ensures numbers { result ≡ shown_date_time (date_and_time value.now) }
+        ensures leads_back { date_time_of result ≡ Ok (date_and_time value.now) }
     {
         SpeedateDateTime {
             date: SpeedateDate::from_value(&value.date),
@@ -62,7 +57,7 @@ pub(crate) fn write_date_time(
     answer: Result<DateTime, ParseError>,
     out: &mut SpeedateDateTime,
 ) -> i32
-    ensures after { (result, out.new) ≡ after_answer shown_date_time out.old (result_map parts answer) }
+    ensures after { (result, out.new) ≡ after_answer shown_date_time out.old (result_map date_and_time answer) }
 {
     let value = answer_or_return!(answer);
     *out = SpeedateDateTime::from_value(&value);

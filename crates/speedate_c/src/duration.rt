@@ -1,11 +1,8 @@
 //! Durations as C sees them.
 
 ghost use Rattle.std.specs.Prelude.{◌≡◌, ◌≢◌, ◌≤◌, ◌↔◌, IsOk, if◌then◌else◌, length, nat_le};
-ghost use Rattle.speedate.specs.Duration.{parts};
-ghost use Rattle.speedate.specs.DurationAnswer.{duration_answer};
-ghost use Rattle.speedate.specs.DurationNumbers.{IsDuration, normal_form, signed_microsecond, signed_milliseconds, signed_seconds};
-ghost use Rattle.speedate.specs.DurationOrder.{duration_order};
-ghost use Rattle.speedate.specs.DurationText.{duration_text};
+ghost use Rattle.speedate.specs.Duration.{duration_numbers, duration_answer, duration_text, ◌gives◌};
+ghost use Rattle.speedate.specs.DurationNumbers.{IsDuration, normal_form, signed_microsecond, signed_milliseconds, signed_seconds, duration_order};
 ghost use Rattle.speedate.specs.Requirement.{result_map};
 ghost use Rattle.speedate_c.specs.After.{after_answer, after_text, after_value, with_option, with_value};
 ghost use Rattle.speedate_c.specs.Code.{answer_code, buffer_too_small, config_out_of_range, order_number, value_out_of_range};
@@ -35,7 +32,7 @@ impl SpeedateDuration {
     /// The duration of the numbers, or the fault of the first that is out of range.
     #[inline]
     pub(crate) fn to_value(&self) -> Result<Duration, ParseError>
-        ensures answer { result_map parts result ≡ duration_of self.now }
+        ensures answer { result gives duration_of self.now }
         ensures ranges { IsOk result ↔ ((self.now.negative ≤ 1) × IsDuration (numbers_of self.now)) }
     {
         if self.negative > 1 {
@@ -61,8 +58,8 @@ impl SpeedateDuration {
     /// The numbers of a duration.
     #[inline]
     pub(crate) fn from_value(duration: &Duration) -> Self
-        ensures numbers { result ≡ shown_duration (parts duration.now) }
-        ensures leads_back { duration_of result ≡ Ok (parts duration.now) }
+        ensures numbers { result ≡ shown_duration (duration_numbers duration.now) }
+        ensures leads_back { duration_of result ≡ Ok (duration_numbers duration.now) }
     {
         SpeedateDuration {
             negative: if duration.positive { 0 } else { 1 },
@@ -76,7 +73,7 @@ impl SpeedateDuration {
 /// Writes the duration of an answer, and gives the code.
 #[inline]
 fn write_duration(answer: Result<Duration, ParseError>, out: &mut SpeedateDuration) -> i32
-    ensures after { (result, out.new) ≡ after_answer shown_duration out.old (result_map parts answer) }
+    ensures after { (result, out.new) ≡ after_answer shown_duration out.old (result_map duration_numbers answer) }
 {
     let duration = answer_or_return!(answer);
     *out = SpeedateDuration::from_value(&duration);

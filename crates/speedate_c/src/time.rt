@@ -1,13 +1,10 @@
 //! Times of day as C sees them.
 
 ghost use Rattle.std.specs.Prelude.{◌≡◌, ◌≢◌, ◌≤◌, length};
-ghost use Rattle.speedate.specs.InstantOrder.{time_instant_order};
-ghost use Rattle.speedate.specs.OffsetMove.{time_in_timezone};
+ghost use Rattle.speedate.specs.DateTime.{time_instant_order, time_in_timezone};
 ghost use Rattle.speedate.specs.Requirement.{result_map};
-ghost use Rattle.speedate.specs.Time.{parts};
-ghost use Rattle.speedate.specs.TimeOfDay.{millisecond_of_day, second_of_day, timestamp_answer};
-ghost use Rattle.speedate.specs.StrictText.{strict_time_answer};
-ghost use Rattle.speedate.specs.TimeText.{time_answer, time_front, time_text};
+ghost use Rattle.speedate.specs.Time.{time_of_day, millisecond_of_day, second_of_day, timestamp_answer, time_answer, time_front, time_text, ◌gives◌};
+ghost use Rattle.speedate.specs.Standard.{strict_time_answer};
 ghost use Rattle.speedate_c.specs.After.{after_answer, after_front, after_text, after_value, with_option, with_value};
 ghost use Rattle.speedate_c.specs.Code.{answer_code, buffer_too_small, config_out_of_range, order_number, value_out_of_range};
 ghost use Rattle.speedate_c.specs.Config.{choices_of};
@@ -40,7 +37,7 @@ impl SpeedateTime {
     /// The time of the numbers, or the fault of one that is out of range.
     #[inline]
     pub(crate) fn to_value(&self) -> Result<Time, ParseError>
-        ensures answer { result_map parts result ≡ time_of self.now }
+        ensures answer { result gives time_of self.now }
     {
         let clock = Time::new(self.hour, self.minute, self.second, self.microsecond, None)?;
         let tz_offset = offset(self.has_offset, self.offset)?;
@@ -56,8 +53,8 @@ impl SpeedateTime {
     /// The numbers of a time.
     #[inline]
     pub(crate) fn from_value(time: &Time) -> Self
-        ensures numbers { result ≡ shown_time (parts time.now) }
-        ensures leads_back { time_of result ≡ Ok (parts time.now) }
+        ensures numbers { result ≡ shown_time (time_of_day time.now) }
+        ensures leads_back { time_of result ≡ Ok (time_of_day time.now) }
     {
         let (has_offset, offset) = match time.tz_offset {
             Some(seconds) => (1, seconds),
@@ -77,7 +74,7 @@ impl SpeedateTime {
 /// Writes the time of an answer, and gives the code.
 #[inline]
 fn write_time(answer: Result<Time, ParseError>, out: &mut SpeedateTime) -> i32
-    ensures after { (result, out.new) ≡ after_answer shown_time out.old (result_map parts answer) }
+    ensures after { (result, out.new) ≡ after_answer shown_time out.old (result_map time_of_day answer) }
 {
     let time = answer_or_return!(answer);
     *out = SpeedateTime::from_value(&time);

@@ -4,17 +4,12 @@ use Rattle.std.proofs.lemmas.Bool.Decides.{nat_tests}
 use Rattle.std.specs.Char.{is_ascii_digit}
 use Rattle.speedate_base.specs.declared.config.MicrosecondsPrecisionOverflowBehavior.{MicrosecondsPrecisionOverflowBehavior}
 use Rattle.speedate_base.specs.Ascii.{colon, full_stop}
-use Rattle.speedate_base.specs.DigitRuns.{run_length}
-use Rattle.speedate_base.specs.Digits.{six_digit_text, two_digit_text}
+use Rattle.speedate_base.specs.Digits.{run_length, six_digit_text, two_digit_text, is_decimal_mark}
 use Rattle.speedate_base.specs.Offset.{IsWholeMinutes}
 use Rattle.speedate_base.specs.Requirement.{meets}
-use Rattle.speedate_civil.specs.ClockText.{Clock, clock_front, is_decimal_mark, minute_text}
-use Rattle.speedate_civil.specs.DateAndTime.{DateAndTime, IsDateAndTime}
-use Rattle.speedate_civil.specs.DateText.{date_front}
-use Rattle.speedate_civil.specs.DateTimeText.{date_time_front, date_time_text, separator_table}
-use Rattle.speedate_civil.specs.OffsetText.{begins_offset, offset_front}
-use Rattle.speedate_civil.specs.TimeOfDay.{TimeOfDay, IsTime}
-use Rattle.speedate_civil.specs.TimeText.{clock_text, continues_fraction, is_after_time, time_front, time_text}
+use Rattle.speedate_civil.specs.Time.{Clock, clock_front, minute_text, begins_offset, offset_front, TimeOfDay, IsTime, clock_text, continues_fraction, is_after_time, time_front, time_text}
+use Rattle.speedate_civil.specs.DateTime.{DateAndTime, IsDateAndTime, date_time_front, date_time_text, separator_table}
+use Rattle.speedate_civil.specs.Date.{date_front}
 use Rattle.std.proofs.Common.{◌≡◌, ◌↔◌, ℕ, ◌≤◌, ◌<◌, Bool, true, false, ◌==◌, List, ◌∷◌, ◌++◌, length, drop, slice_index, None, IfOk, Ok, refl, rules, arith, ◌∙◌, ap, sym}
 use Rattle.speedate_civil.proofs.DateTimeLemmas.{date_time_text-front}
 use Rattle.speedate_civil.proofs.ReadLemmas.{read-then, read-value}

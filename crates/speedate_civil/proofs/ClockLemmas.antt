@@ -5,11 +5,10 @@ use Rattle.std.specs.List.{list_all}
 use Rattle.std.proofs.Math.Seq.{take-append_seam}
 use Rattle.speedate_base.specs.declared.config.MicrosecondsPrecisionOverflowBehavior.{MicrosecondsPrecisionOverflowBehavior}
 use Rattle.speedate_base.specs.Ascii.{full_stop}
-use Rattle.speedate_base.specs.DigitRuns.{run_length, fraction_value}
-use Rattle.speedate_base.specs.Digits.{six_digit_text}
+use Rattle.speedate_base.specs.Digits.{run_length, fraction_value, six_digit_text, is_decimal_mark}
 use Rattle.speedate_base.specs.Config.{refuses_digits}
 use Rattle.speedate_base.specs.Requirement.{◌implies◌}
-use Rattle.speedate_civil.specs.ClockText.{clock_answer, is_decimal_mark, minute_text}
+use Rattle.speedate_civil.specs.Time.{clock_answer, minute_text}
 use Rattle.speedate_base.proofs.DigitRunLemmas.{run_length-append}
 use Rattle.speedate_base.proofs.DigitLemmas.{two_digits-printed, two_digit_value-printed, six_digits-printed, fraction_value-printed}
 use Rattle.std.proofs.Common.{◌≡◌, ℕ, ◌+◌, ◌<◌, ◌≤◌, Bool, true, false, List, ◌∷◌, ◌++◌, length, nat_le, slice_index, Ok, rules, arith}

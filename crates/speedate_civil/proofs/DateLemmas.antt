@@ -3,7 +3,7 @@ use Rattle.std.proofs.Common.{◌≡◌, ℕ, List, ◌++◌, ◌≤◌, true, l
 use Rattle.std.specs.Int.{is_in_range, IsInRange}
 use Rattle.speedate_base.proofs.DigitLemmas.{two_digits-printed, four_digits-printed}
 use Rattle.speedate_civil.specs.Calendar.{Ymd, IsDate, month_length}
-use Rattle.speedate_civil.specs.DateText.{date_text, date_front, date_answer, date_numbers}
+use Rattle.speedate_civil.specs.Date.{date_text, date_front, date_answer, date_numbers}
 
 -- no month is longer than 31 days
 pub month_length-small : (year month : ℕ) → month_length year month ≤ 31

@@ -1,8 +1,7 @@
 -- Each date of the years to 9999 is the date of its day number.
 use Rattle.std.proofs.Common.{◌≡◌, ℕ, ◌≤◌, Some, arith}
-use Rattle.speedate_civil.specs.Calendar.{Ymd, IsDay}
-use Rattle.speedate_civil.specs.DayNumber.{day_number, date_numbered}
-unfoldable use Rattle.speedate_civil.specs.DayNumber.{date_after}
+use Rattle.speedate_civil.specs.Calendar.{Ymd, IsDay, day_number, date_numbered}
+unfoldable use Rattle.speedate_civil.specs.Calendar.{date_after}
 use Rattle.speedate_civil.proofs.DateOrderLemmas.{day_number-distinct}
 use Rattle.speedate_civil.proofs.DayNumberLemmas.{day_number-small, date_after-IsDay, day_number-date_after}
 

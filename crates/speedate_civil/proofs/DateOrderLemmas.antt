@@ -4,11 +4,9 @@ use Rattle.std.specs.Cmp.Lexicographic.{slice_cmp}
 use Rattle.std.specs.Ordering.{ordering_then}
 use Rattle.std.proofs.lemmas.Bool.Decides.{nat_tests}
 use Rattle.speedate_base.specs.Digits.{digit}
-use Rattle.speedate_civil.specs.Calendar.{Ymd, IsDay}
-use Rattle.speedate_civil.specs.DateOrder.{date_order}
-use Rattle.speedate_civil.specs.DateText.{date_text}
-unfoldable use Rattle.speedate_civil.specs.DayNumber.{days_of_months, days_before_year}
-use Rattle.speedate_civil.specs.DayNumber.{day_number}
+use Rattle.speedate_civil.specs.Calendar.{Ymd, IsDay, date_order, day_number}
+use Rattle.speedate_civil.specs.Date.{date_text}
+unfoldable use Rattle.speedate_civil.specs.Calendar.{days_of_months, days_before_year}
 use Rattle.speedate_civil.proofs.DayNumberLemmas.{days_of_months-next, days_of_months-rises, days_before_year-next, days_before_year-rises, ordinal_day-small}
 
 -- an earlier year has smaller day numbers

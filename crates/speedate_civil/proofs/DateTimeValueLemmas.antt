@@ -5,13 +5,12 @@ use Rattle.std.proofs.lemmas.Int.{ints}
 use Rattle.speedate_base.specs.Offset.{IsOffset, seconds_per_day}
 use Rattle.speedate_base.specs.Timestamp.{first_second, last_second}
 use Rattle.speedate_civil.specs.declared.datetime.DateTime.{DateTime}
-use Rattle.speedate_civil.specs.DateAndTime.{DateAndTime, IsDateAndTime, local_second, utc_second}
-use Rattle.speedate_civil.specs.DateTime.{parts}
+use Rattle.speedate_civil.specs.DateTime.{DateAndTime, IsDateAndTime, local_second, utc_second, date_and_time}
 use Rattle.speedate_civil.proofs.DayNumberLemmas.{day_number-small}
 use Rattle.speedate_civil.proofs.DateValueLemmas.{is_date}
 use Rattle.speedate_civil.proofs.TimeValueLemmas.{is_time}
 
-pub is_date_and_time : (value : DateTime) → IsDateAndTime (parts value)
+pub is_date_and_time : (value : DateTime) → IsDateAndTime (date_and_time value)
 is_date_and_time value = record { date = is_date value.date; time = is_time value.time }
 
 -- an offset, or 0 for none

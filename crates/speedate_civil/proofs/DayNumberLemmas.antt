@@ -1,9 +1,8 @@
 -- Laws of day numbers: how long years and months are, and that each day has one number more than the day before.
 use Rattle.std.proofs.Common.{◌≡◌, ℕ, zero, suc, ◌+◌, ◌-◌, ◌*◌, ◌/◌, ◌≤◌, true, false, if◌then◌else◌, refl, rules, arith, subst, add-one, add-zero, add-suc}
 use Rattle.std.proofs.lemmas.Bool.Decides.{nat_tests}
-use Rattle.speedate_civil.specs.Calendar.{Ymd, is_leap_year, february_length, month_length, IsDay}
-unfoldable use Rattle.speedate_civil.specs.DayNumber.{days_of_months, days_before_year, date_after}
-use Rattle.speedate_civil.specs.DayNumber.{year_length, ordinal_day, day_number, day_after}
+use Rattle.speedate_civil.specs.Calendar.{Ymd, is_leap_year, february_length, month_length, IsDay, year_length, ordinal_day, day_number, day_after}
+unfoldable use Rattle.speedate_civil.specs.Calendar.{days_of_months, days_before_year, date_after}
 
 -- the 29 February of a year, counted
 abbrev pub leap_day : ℕ → ℕ

@@ -7,17 +7,12 @@ use Rattle.std.proofs.lemmas.List.{drop-take}
 use Rattle.speedate_base.specs.declared.config.MicrosecondsPrecisionOverflowBehavior.{MicrosecondsPrecisionOverflowBehavior}
 use Rattle.speedate_base.specs.declared.faults.ParseError.{ParseError}
 use Rattle.speedate_base.specs.Ascii.{colon, hyphen}
-use Rattle.speedate_base.specs.DigitRuns.{run_length, run_digits}
-use Rattle.speedate_base.specs.Digits.{two_digit_value}
+use Rattle.speedate_base.specs.Digits.{run_length, run_digits, two_digit_value, is_decimal_mark}
 use Rattle.speedate_base.specs.Requirement.{AllHold, alone, meets, result_and_then}
 use Rattle.speedate_civil.specs.Calendar.{Ymd}
-use Rattle.speedate_civil.specs.ClockText.{Clock, at_hour, is_decimal_mark, clock_answer, clock_front, hour_table, hour_range, minute_clock, minute_digits, minute_table, has_second, has_decimal_mark}
-use Rattle.speedate_civil.specs.DateAndTime.{DateAndTime}
-use Rattle.speedate_civil.specs.DateText.{date_front, date_answer, date_numbers, date_table}
-use Rattle.speedate_civil.specs.DateTimeText.{date_time_answer, date_time_front, separator_table}
-use Rattle.speedate_civil.specs.OffsetText.{end_fault, offset_digits_length, offset_front, signed_front}
-use Rattle.speedate_civil.specs.TimeOfDay.{TimeOfDay}
-use Rattle.speedate_civil.specs.TimeText.{time_front, time_answer, time_of}
+use Rattle.speedate_civil.specs.Time.{Clock, at_hour, clock_answer, clock_front, hour_table, hour_range, minute_clock, minute_digits, minute_table, has_second, has_decimal_mark, end_fault, offset_digits_length, offset_front, signed_front, TimeOfDay, time_front, time_answer, time_of}
+use Rattle.speedate_civil.specs.DateTime.{DateAndTime, date_time_answer, date_time_front, separator_table}
+use Rattle.speedate_civil.specs.Date.{date_front, date_answer, date_numbers, date_table}
 use Rattle.speedate_base.proofs.RequirementLemmas.{meets-all, meets-ok, meets-value}
 use Rattle.std.proofs.Common.{◌≡◌, ℕ, zero, suc, ◌+◌, ◌-◌, ◌≤◌, Bool, true, false, ◌&&◌, ◌==◌, List, [], ◌∷◌, length, take, drop, slice_index, if◌then◌else◌, Option, ℤ, IfOk, Result, Ok, refl, rules, arith, ap, ap₂, sym, ◌∙◌, le-leb, length-drop, length-take-le, get_or-take, take-take}
 use Rattle.speedate_base.specs.declared.faults.ParseError.TheVariants as fault

@@ -10,13 +10,9 @@ use Rattle.std.proofs.lemmas.Int.{ints}
 use Rattle.speedate_base.specs.Ascii.{capital_t}
 use Rattle.speedate_base.specs.Offset.{seconds_per_day}
 use Rattle.speedate_base.specs.Timestamp.{Instant}
-use Rattle.speedate_civil.specs.ClockText.{fraction_text}
-use Rattle.speedate_civil.specs.DateAndTime.{DateAndTime, IsDateAndTime}
-use Rattle.speedate_civil.specs.DateOrder.{date_order}
-use Rattle.speedate_civil.specs.DateTimeText.{date_time_text}
-use Rattle.speedate_civil.specs.InstantOrder.{instant_order, by_instant, time_instant, time_instant_order, date_time_instant, date_time_instant_order, BothOrNeither, IsNotAfter}
-use Rattle.speedate_civil.specs.TimeOfDay.{TimeOfDay, IsTime, second_of_day}
-use Rattle.speedate_civil.specs.TimeText.{time_text}
+use Rattle.speedate_civil.specs.Time.{fraction_text, TimeOfDay, IsTime, second_of_day, time_text}
+use Rattle.speedate_civil.specs.DateTime.{DateAndTime, IsDateAndTime, date_time_text, instant_order, by_instant, time_instant, time_instant_order, date_time_instant, date_time_instant_order, BothOrNeither, IsNotAfter}
+use Rattle.speedate_civil.specs.Calendar.{date_order}
 use Rattle.speedate_civil.proofs.DateOrderLemmas.{date_order-day_number, date_text-front-order, digits-order}
 
 -- instants are ordered one after another

@@ -2,9 +2,8 @@
 use Rattle.std.proofs.Common.{◌≡◌, ℕ, ◌+◌, ◌-◌, ◌*◌, ◌/◌, ◌%◌, ◌<◌, ◌≤◌, ◌==◌, if◌then◌else◌, nat_lt, refl, arith, below_none, below_more}
 use Rattle.std.specs.Int.{IsInRange}
 use Rattle.std.proofs.lemmas.Bool.Decides.{nat_tests}
-use Rattle.speedate_civil.specs.Calendar.{february_length, month_length}
-unfoldable use Rattle.speedate_civil.specs.DayNumber.{days_of_months}
-use Rattle.speedate_civil.specs.DayNumber.{year_length}
+use Rattle.speedate_civil.specs.Calendar.{february_length, month_length, year_length}
+unfoldable use Rattle.speedate_civil.specs.Calendar.{days_of_months}
 use Rattle.speedate_civil.proofs.DayNumberLemmas.{leap_day, leap_day-small, february_length-is, year_length-is}
 use Rattle.speedate_civil.proofs.ReadLemmas.{if_cases}
 

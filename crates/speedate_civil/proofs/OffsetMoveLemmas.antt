@@ -2,8 +2,7 @@
 use Rattle.std.proofs.Common.{◌≡◌, ℤ, pos, ◌+ℤ◌, ◌-ℤ◌, Ok, unwrap_or, rules, arith}
 use Rattle.std.proofs.lemmas.Int.{ints}
 use Rattle.speedate_base.specs.Requirement.{AllHold, meets}
-use Rattle.speedate_civil.specs.DateAndTime.{DateAndTime, local_second, utc_second}
-use Rattle.speedate_civil.specs.OffsetMove.{move_table}
+use Rattle.speedate_civil.specs.DateTime.{DateAndTime, local_second, utc_second, move_table}
 
 -- where a clock moves by the difference of the offsets, its second is the instant's and the offset
 pub second-moved : (value : DateAndTime) (offset shift local second : ℤ)

@@ -11,33 +11,25 @@ use Rattle.std.proofs.lemmas.List.Sums.{prefix_len-le-length}
 use Rattle.speedate_base.specs.declared.config.MicrosecondsPrecisionOverflowBehavior.{MicrosecondsPrecisionOverflowBehavior}
 use Rattle.speedate_base.specs.declared.faults.ParseError.{ParseError}
 use Rattle.speedate_base.specs.Ascii.{colon, comma, full_stop, hyphen, plus_sign, capital_t, capital_z, small_t, small_z}
-use Rattle.speedate_base.specs.DigitRuns.{run_length}
-use Rattle.speedate_base.specs.Digits.{two_digits_at, two_digit_text, two_digit_value, four_digit_value}
+use Rattle.speedate_base.specs.Digits.{run_length, two_digits_at, two_digit_text, two_digit_value, four_digit_value, is_decimal_mark}
 use Rattle.speedate_base.specs.Numbers.{with_sign}
 use Rattle.speedate_base.specs.Config.{refuses_digits}
 use Rattle.speedate_base.specs.Requirement.{Requirement, ◌implies◌, AllHold, alone, meets, result_map, result_and_then}
 use Rattle.speedate_civil.specs.declared.datetime.DateTime.{DateTime}
 use Rattle.speedate_civil.specs.declared.time.Time.{Time}
 use Rattle.speedate_civil.specs.Calendar.{Ymd, IsDate}
-use Rattle.speedate_civil.specs.ClockText.{Clock, clock_front, has_decimal_mark, has_second, is_decimal_mark, minute_text}
-use Rattle.speedate_civil.specs.DateAndTime.{DateAndTime}
-use Rattle.speedate_civil.specs.DateText.{date_front, date_table, date_text}
-use Rattle.speedate_civil.specs.DateTimeText.{date_time_answer, date_time_front, separator_table}
-use Rattle.speedate_civil.specs.OffsetText.{end_fault, is_plus_or_minus, offset_digits, offset_front, offset_ranges, signed_front}
-use Rattle.speedate_civil.specs.Rfc3339Text.{IsFullDate, IsDateTime, IsTwoDigits, IsSecfrac, IsPartialTime, IsNumoffset, IsTimeOffset, IsFullTime}
-use Rattle.speedate_civil.specs.StrictText.{offset_place, standard_date_time, standard_offset, standard_time, strict_date_time_answer, strict_time_answer}
-use Rattle.speedate_civil.specs.TimeOfDay.{TimeOfDay}
-use Rattle.speedate_civil.specs.TimeText.{time_of, time_front, time_answer}
+use Rattle.speedate_civil.specs.Time.{Clock, clock_front, has_decimal_mark, has_second, minute_text, end_fault, is_plus_or_minus, offset_digits, offset_front, offset_ranges, signed_front, TimeOfDay, time_of, time_front, time_answer, time_of_day}
+use Rattle.speedate_civil.specs.DateTime.{DateAndTime, date_time_answer, date_time_front, separator_table, date_and_time}
+use Rattle.speedate_civil.specs.Date.{date_front, date_table, date_text}
+use Rattle.speedate_civil.specs.Standard.{IsFullDate, IsDateTime, IsTwoDigits, IsSecfrac, IsPartialTime, IsNumoffset, IsTimeOffset, IsFullTime, offset_place, standard_date_time, standard_offset, standard_time, strict_date_time_answer, strict_time_answer}
 use Rattle.speedate_base.proofs.DigitRunLemmas.{run_length-append}
 use Rattle.speedate_base.proofs.NumberLemmas.{run-digits}
 use Rattle.speedate_base.proofs.RequirementLemmas.{alone-iff, alone-whole, meets-all, meets-ok, meets-value}
 use Rattle.speedate_civil.proofs.ClockLemmas.{run_length-none, clock-secfrac, clock-whole}
 use Rattle.speedate_civil.proofs.DateLemmas.{date_text-front}
-use Rattle.speedate_civil.specs.DateTime.{parts as date_time_parts}
 use Rattle.speedate_civil.proofs.FrontLemmas.{ClockRead, bytes_from, clock-read, clock-size, date_time_front-is, minute_size, time_front-is}
 use Rattle.speedate_civil.proofs.OffsetLemmas.{offset-cases}
 use Rattle.speedate_civil.proofs.ReadLemmas.{read-rows, read-then, read-value}
-use Rattle.speedate_civil.specs.Time.{parts as time_parts}
 use Rattle.speedate_civil.proofs.TimeLemmas.{front-printed}
 
 -- so many bytes of a text, from a place on, one by one
@@ -322,18 +314,18 @@ strict view result rows answer IsOne is to from = grind (arith, meets-all, meets
 
 -- so a text is taken if and only if it is one of the rules
 pub time-standard : (behavior : MicrosecondsPrecisionOverflowBehavior) (text : List ℕ) (result : Result Time ParseError)
-    → result_map time_parts result ≡ strict_time_answer behavior text → IsOk result ↔ IsFullTime behavior text
+    → result_map time_of_day result ≡ strict_time_answer behavior text → IsOk result ↔ IsFullTime behavior text
 time-standard behavior text result is =
-    strict time_parts result (standard_time text) (time_answer behavior text) (IsFullTime behavior text) is
+    strict time_of_day result (standard_time text) (time_answer behavior text) (IsFullTime behavior text) is
     (λ time read rows.
     let whole = (alone-iff (λ (value : TimeOfDay). end_fault value.offset) text (time_front behavior text) time).0 read in
     read-value _ _ (time, length text) whole (full-time-of behavior text rows) refl)
     (full-time-taken behavior text)
 
 pub date-time-standard : (behavior : MicrosecondsPrecisionOverflowBehavior) (text : List ℕ) (result : Result DateTime ParseError)
-    → result_map date_time_parts result ≡ strict_date_time_answer behavior text → IsOk result ↔ IsDateTime behavior text
+    → result_map date_and_time result ≡ strict_date_time_answer behavior text → IsOk result ↔ IsDateTime behavior text
 date-time-standard behavior text result is =
-    strict date_time_parts result (standard_date_time text) (date_time_answer behavior text) (IsDateTime behavior text) is
+    strict date_and_time result (standard_date_time text) (date_time_answer behavior text) (IsDateTime behavior text) is
     (λ value read rows.
     let whole = (alone-iff (λ (found : DateAndTime). end_fault found.time.offset) text (date_time_front behavior text) value).0 read in
     read-value _ _ (value, length text) whole (date-time-of behavior text rows) refl)

@@ -1,8 +1,7 @@
 -- What every `Time` is.
 use Rattle.std.proofs.Common.{arith}
 use Rattle.speedate_civil.specs.declared.time.Time.{Time}
-use Rattle.speedate_civil.specs.TimeOfDay.{IsTime}
-use Rattle.speedate_civil.specs.Time.{parts}
+use Rattle.speedate_civil.specs.Time.{IsTime, time_of_day}
 
-pub is_time : (time : Time) → IsTime (parts time)
+pub is_time : (time : Time) → IsTime (time_of_day time)
 is_time time = omega arith

@@ -1,6 +1,6 @@
 -- The year of a day number, by cycles of 400 years, centuries, four years and years.
 use Rattle.std.proofs.Common.{◌≡◌, ℕ, ◌+◌, ◌*◌, ◌/◌, ◌%◌, ◌<◌, ◌≤◌, min, arith}
-use Rattle.speedate_civil.specs.DayNumber.{year_length, days_before_year}
+use Rattle.speedate_civil.specs.Calendar.{year_length, days_before_year}
 use Rattle.speedate_civil.proofs.DayNumberLemmas.{year_length-is, days_before_year-is}
 
 -- the days before a century of the first cycle

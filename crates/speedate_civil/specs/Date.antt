@@ -1,7 +1,105 @@
--- What contracts see of a `Date`.
+-- Dates: from their numbers, from texts, and from timestamps.
+use Rattle.std.specs.Prelude.{ℕ, pos, List, [], ◌∷◌, nat_le, ℤ, Result, Ok, ◌++◌, length, ◌==◌, slice_index, Bool, true, ◌&&◌, ◌+ℤ◌, unsigned_abs, option_map, ◌≡◌}
+use Rattle.std.specs.Int.{is_in_range, int_div_euclid, int_rem_euclid}
+use Rattle.speedate_base.specs.declared.config.TimestampUnit.{TimestampUnit}
+use Rattle.speedate_base.specs.declared.faults.ParseError.TheVariants as fault
+use Rattle.speedate_base.specs.declared.faults.ParseError.{ParseError}
+use Rattle.speedate_base.specs.Ascii.{hyphen}
+use Rattle.speedate_base.specs.Digits.{four_digits_at, four_digit_value, four_digit_text, two_digits_at, two_digit_value, two_digit_text}
+use Rattle.speedate_base.specs.Numbers.{whole_number}
+use Rattle.speedate_base.specs.Offset.{seconds_per_day}
+use Rattle.speedate_base.specs.Requirement.{Requirement, ◌else_fault◌, meets, alone, ◌>>=◌, ◌implies◌, or_number, result_map, with_size}
+use Rattle.speedate_base.specs.Timestamp.{Instant, instant_answer, range_answer}
 use Rattle.speedate_civil.specs.declared.date.Date.{Date}
-use Rattle.speedate_civil.specs.Calendar.{Ymd}
+use Rattle.speedate_civil.specs.Calendar.{Ymd, month_length, epoch_day, date_after}
 
 -- the numbers of a date
-abbrev pub parts : Date → Ymd
-parts date = record { year = date.year; month = date.month; day = date.day }
+abbrev pub ymd : Date → Ymd
+ymd date = record { year = date.year; month = date.month; day = date.day }
+
+infix 15 ◌gives◌
+-- what a call answers, by its numbers, is this answer
+abbrev pub ◌gives◌ : Result Date ParseError → Result Ymd ParseError → Type 0
+result gives answer = result_map ymd result ≡ answer
+
+infix 15 ◌gives_front◌
+-- the same of a value at the front of a text, and how many bytes it takes
+abbrev pub ◌gives_front◌ : Result (Date × ℕ) ParseError → Result (Ymd × ℕ) ParseError → Type 0
+result gives_front front = result_map (with_size ymd) result ≡ front
+
+-- what a month and a day have to meet
+abbrev pub day_table : Ymd → List Requirement
+day_table date =
+    (is_in_range 1 12 date.month else_fault fault.OutOfRangeMonth)
+    ∷ (is_in_range 1 (month_length date.year date.month) date.day else_fault fault.OutOfRangeDay)
+    ∷ []
+
+-- the date of its numbers: the year is looked at first
+abbrev pub new_date_answer : ℕ → ℕ → ℕ → Result Ymd ParseError
+new_date_answer year month day =
+    let date : Ymd = record { year = year; month = month; day = day } in
+    meets ((nat_le year 9999 else_fault fault.DateTooLarge) ∷ day_table date) (Ok date)
+
+-- The text of a date, `YYYY-MM-DD` (RFC 3339 5.6, full-date; the ranges of month and day are those of its 5.7).
+-- Departs from it nowhere.
+
+-- the numbers at the places of a date
+abbrev pub date_numbers : List ℕ → Ymd
+date_numbers text = record {
+  year = four_digit_value text 0;
+  month = two_digit_value text 5;
+  day = two_digit_value text 8;
+}
+
+-- what the first ten bytes of a text have to meet to be a date
+abbrev pub date_table : List ℕ → List Requirement
+date_table text = let date = date_numbers text in
+    (nat_le 10 (length text) else_fault fault.TooShort)
+    ∷ (four_digits_at text 0 else_fault fault.InvalidCharYear)
+    ∷ (slice_index text 4 == hyphen else_fault fault.InvalidCharDateSep)
+    ∷ (two_digits_at text 5 else_fault fault.InvalidCharMonth)
+    ∷ (slice_index text 7 == hyphen else_fault fault.InvalidCharDateSep)
+    ∷ (two_digits_at text 8 else_fault fault.InvalidCharDay)
+    ∷ day_table date
+
+-- the date at the front of a text, and how many bytes it takes, or the text's fault
+abbrev pub date_front : List ℕ → Result (Ymd × ℕ) ParseError
+date_front text = meets (date_table text) (Ok (date_numbers text, 10))
+
+-- the date that a text is, or the text's fault
+abbrev pub date_answer : List ℕ → Result Ymd ParseError
+date_answer text = do
+  date ← date_front text
+  alone (λ read. fault.ExtraCharacters) text date
+
+-- the one text by which a date is printed
+abbrev pub date_text : Ymd → List ℕ
+date_text date =
+    four_digit_text date.year ++ hyphen ∷ two_digit_text date.month ++ hyphen ∷ two_digit_text date.day
+
+-- Dates from timestamps (Unix time), and from texts that are a timestamp instead.
+
+-- the number of the day on which a second since 1970-01-01T00:00:00 lies
+abbrev pub day_at : ℤ → ℕ
+day_at second = unsigned_abs (int_div_euclid second (pos seconds_per_day) +ℤ pos epoch_day)
+
+-- the second of that day
+abbrev pub second_at : ℤ → ℕ
+second_at second = unsigned_abs (int_rem_euclid second (pos seconds_per_day))
+
+-- the date of an instant, or the fault of one that is no midnight, if an exact date is asked for
+abbrev pub instant_date : Bool → Instant → Result Ymd ParseError
+instant_date exact instant =
+    let is_midnight = (second_at instant.second == 0) && (instant.microsecond == 0) in
+    meets (((exact implies is_midnight) else_fault fault.DateNotExact) ∷ []) (Ok (date_after (day_at instant.second)))
+
+-- the date of a timestamp, or the fault: the unit's comes first, then those of the years
+abbrev pub date_timestamp_answer : TimestampUnit → Bool → ℤ → Result Ymd ParseError
+date_timestamp_answer unit exact timestamp = do
+  instant ← instant_answer unit timestamp
+  within ← range_answer instant
+  instant_date exact within
+
+-- the date that a text is, as its text or as an exact timestamp, or the text's fault
+abbrev pub date_or_timestamp : TimestampUnit → List ℕ → Result Ymd ParseError
+date_or_timestamp unit text = or_number (option_map (date_timestamp_answer unit true) (whole_number text)) (date_answer text)

@@ -5,7 +5,7 @@ use Rattle.speedate_base.specs.declared.faults.ParseError.TheVariants as fault
 use Rattle.speedate_base.specs.Digits.{two_digits_at, two_digit_value}
 use Rattle.speedate_civil.specs.declared.time.pure.Second.{Second}
 use Rattle.speedate_civil.specs.declared.time.pure.Second.TheVariants as second
-use Rattle.speedate_civil.specs.ClockText.{has_second}
+use Rattle.speedate_civil.specs.Time.{has_second}
 
 -- the second of a clock that is given from its minute on
 abbrev pub second_there : List ℕ → Second

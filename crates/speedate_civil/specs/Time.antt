@@ -1,13 +1,322 @@
--- What contracts see of a `Time`.
+-- Times of day: from their numbers, and from texts, a clock and an offset.
+use Rattle.std.specs.Prelude.{ℕ, ◌+◌, ◌*◌, ◌/◌, ◌%◌, ◌≤◌, Option, ℤ, pos, ◌-ℤ◌, Result, Ok, [], ◌∷◌, nat_lt, List, nat_le, Bool, ◌&&◌, ◌||◌, ◌++◌, length, drop, ◌==◌, slice_index, if◌then◌else◌, true, Some, None, unsigned_abs, is_some, not, ◌≡◌}
+use Rattle.std.specs.Char.{is_ascii_digit}
+use Rattle.std.specs.Int.{is_negative}
+use Rattle.std.specs.Option.{ForSome, unwrap_or}
+use Rattle.speedate_base.specs.declared.config.MicrosecondsPrecisionOverflowBehavior.{MicrosecondsPrecisionOverflowBehavior}
+use Rattle.speedate_base.specs.declared.faults.ParseError.TheVariants as fault
+use Rattle.speedate_base.specs.declared.faults.ParseError.{ParseError}
+use Rattle.speedate_base.specs.Ascii.{colon, full_stop, plus_sign, hyphen, capital_z, small_z}
+use Rattle.speedate_base.specs.Config.{refuses_digits}
+use Rattle.speedate_base.specs.Digits.{run_length, run_digits, fraction_value, two_digits_at, two_digit_value, two_digit_text, six_digit_text, is_decimal_mark}
+use Rattle.speedate_base.specs.Numbers.{with_sign}
+use Rattle.speedate_base.specs.Offset.{IsOffset, seconds_per_day, offset_table}
+use Rattle.speedate_base.specs.Requirement.{◌else_fault◌, meets, Requirement, ◌implies◌, result_map, alone, ◌>>=◌, with_size}
 use Rattle.speedate_civil.specs.declared.time.Time.{Time}
-use Rattle.speedate_civil.specs.TimeOfDay.{TimeOfDay}
+use Rattle.speedate_civil.specs.declared.time.pure.PureTime.{PureTime}
+
+-- a time of day by its numbers, and its offset from UTC in seconds, if it has one
+pub record TimeOfDay : Type 0 where
+  pub hour : ℕ
+  pub minute : ℕ
+  pub second : ℕ
+  pub microsecond : ℕ
+  pub offset : Option ℤ
+
+-- its numbers are in their ranges (RFC 3339 5.7, without the leap second)
+pub record IsTime (time : TimeOfDay) : Type 0 where
+  pub hour : time.hour ≤ 23
+  pub minute : time.minute ≤ 59
+  pub second : time.second ≤ 59
+  pub microsecond : time.microsecond ≤ 999999
+  pub offset : ForSome time.offset IsOffset
+
+-- the seconds since midnight
+abbrev pub second_of_day : TimeOfDay → ℕ
+second_of_day time = 3600 * time.hour + 60 * time.minute + time.second
+
+-- the seconds since midnight in UTC: the offset is subtracted (RFC 3339 4.2), and an absent one counts as 0, which is the
+-- library's own rule; a time at an offset can lie on the day before, or on the day after
+abbrev pub utc_second_of_day : TimeOfDay → ℤ
+utc_second_of_day time = pos (second_of_day time) -ℤ unwrap_or time.offset (pos 0)
+
+-- the milliseconds since midnight, rounded down
+abbrev pub millisecond_of_day : TimeOfDay → ℕ
+millisecond_of_day time = 1000 * second_of_day time + time.microsecond / 1000
+
+-- the microseconds since midnight
+abbrev pub microsecond_of_day : TimeOfDay → ℕ
+microsecond_of_day time = 1000000 * second_of_day time + time.microsecond
+
+-- the time so many seconds and less than a million microseconds after midnight
+abbrev pub time_at : ℕ → ℕ → Option ℤ → TimeOfDay
+time_at seconds microsecond offset = record {
+  hour = seconds / 3600;
+  minute = seconds / 60 % 60;
+  second = seconds % 60;
+  microsecond = microsecond;
+  offset = offset;
+}
+
+-- the time so many seconds and microseconds after midnight, with the offset attached, if it is still that day
+abbrev pub timestamp_answer : ℕ → ℕ → Option ℤ → Result TimeOfDay ParseError
+timestamp_answer seconds microseconds offset =
+    let whole = seconds + microseconds / 1000000 in
+    meets ((nat_lt whole seconds_per_day else_fault fault.TimeTooLarge) ∷ []) (Ok (time_at whole (microseconds % 1000000) offset))
 
 -- the numbers of a time
-abbrev pub parts : Time → TimeOfDay
-parts time = record {
+abbrev pub time_of_day : Time → TimeOfDay
+time_of_day time = record {
   hour = time.hour;
   minute = time.minute;
   second = time.second;
   microsecond = time.microsecond;
   offset = time.tz_offset;
 }
+
+infix 15 ◌gives◌
+-- what a call answers, by its numbers, is this answer
+abbrev pub ◌gives◌ : Result Time ParseError → Result TimeOfDay ParseError → Type 0
+result gives answer = result_map time_of_day result ≡ answer
+
+infix 15 ◌gives_front◌
+-- the same of a value at the front of a text, and how many bytes it takes
+abbrev pub ◌gives_front◌ : Result (Time × ℕ) ParseError → Result (TimeOfDay × ℕ) ParseError → Type 0
+result gives_front front = result_map (with_size time_of_day) result ≡ front
+
+-- what microseconds of a second have to meet
+abbrev pub microsecond_row : ℕ → Requirement
+microsecond_row microsecond = nat_le microsecond 999999 else_fault fault.TimeTooLarge
+
+-- the time of its numbers
+abbrev pub new_time_answer : ℕ → ℕ → ℕ → ℕ → Option ℤ → Result TimeOfDay ParseError
+new_time_answer hour minute second microsecond offset =
+    meets (
+    (nat_le hour 23 else_fault fault.OutOfRangeHour)
+    ∷ (nat_le minute 59 else_fault fault.OutOfRangeMinute)
+    ∷ (nat_le second 59 else_fault fault.OutOfRangeSecond)
+    ∷ microsecond_row microsecond
+    ∷ offset_table offset)
+    (Ok (record { hour = hour; minute = minute; second = second; microsecond = microsecond; offset = offset }))
+
+-- A clock at the front of a text: an hour, a minute, and a second with a fraction (RFC 3339 5.6, partial-time; the
+-- ranges are those of its 5.7). `text` begins with the hour, and `rest` with the minute.
+-- Departs from it: there is no second 60; a fraction has at most six digits, or further ones are dropped; the second may be
+-- left out, with its fraction; the decimal mark may be a comma, as in ISO 8601.
+
+-- the numbers of a clock, and how many bytes of the text it takes
+pub record Clock : Type 0 where
+  pub hour : ℕ
+  pub minute : ℕ
+  pub second : ℕ
+  pub microsecond : ℕ
+  pub size : ℕ
+
+-- a second follows the minute, after `:`
+abbrev pub has_second : List ℕ → Bool
+has_second rest = slice_index rest 2 == colon
+
+-- a decimal mark stands where the second ends
+abbrev pub has_decimal_mark : List ℕ → Bool
+has_decimal_mark rest = is_decimal_mark (slice_index rest 5)
+
+-- a fraction follows the second
+abbrev pub has_fraction : List ℕ → Bool
+has_fraction rest = has_second rest && has_decimal_mark rest
+
+-- the clock of hour 0 whose minute stands at the front of a text
+abbrev pub minute_clock : List ℕ → Clock
+minute_clock rest = record {
+  hour = 0;
+  minute = two_digit_value rest 0;
+  second = if has_second rest then two_digit_value rest 3 else 0;
+  microsecond = if has_fraction rest then fraction_value 6 (run_digits rest 6) else 0;
+  size = if has_fraction rest then 6 + run_length rest 6 else (if has_second rest then 5 else 2);
+}
+
+-- a clock with an hour before its minute: two digits and `:`, three bytes more
+abbrev pub at_hour : ℕ → Clock → Clock
+at_hour hour clock = record clock { hour = hour; size = 3 + clock.size }
+
+-- what a text has to meet to begin with an hour
+abbrev pub hour_table : List ℕ → List Requirement
+hour_table text =
+    (nat_le 5 (length text) else_fault fault.TooShort)
+    ∷ (two_digits_at text 0 else_fault fault.InvalidCharHour)
+    ∷ (slice_index text 2 == colon else_fault fault.InvalidCharTimeSep)
+    ∷ []
+
+-- then the characters of its minute
+abbrev pub minute_digits : List ℕ → List Requirement
+minute_digits rest = (two_digits_at rest 0 else_fault fault.InvalidCharMinute) ∷ []
+
+-- then the range of its hour
+abbrev pub hour_range : List ℕ → List Requirement
+hour_range text = (nat_le (two_digit_value text 0) 23 else_fault fault.OutOfRangeHour) ∷ []
+
+-- then the range of its minute, its second, and the fraction
+abbrev pub minute_table : MicrosecondsPrecisionOverflowBehavior → List ℕ → List Requirement
+minute_table behavior rest =
+    (nat_le (two_digit_value rest 0) 59 else_fault fault.OutOfRangeMinute)
+    ∷ ((has_second rest implies two_digits_at rest 3) else_fault fault.InvalidCharSecond)
+    ∷ ((has_second rest implies nat_le (two_digit_value rest 3) 59) else_fault fault.OutOfRangeSecond)
+    ∷ ((has_fraction rest implies nat_lt 0 (run_length rest 6)) else_fault fault.SecondFractionMissing)
+    ∷ (((has_fraction rest && refuses_digits behavior) implies nat_le (run_length rest 6) 6) else_fault fault.SecondFractionTooLong)
+    ∷ []
+
+-- the clock whose minute begins a text, given that it is two digits, or the text's fault
+abbrev pub clock_answer : MicrosecondsPrecisionOverflowBehavior → List ℕ → Result Clock ParseError
+clock_answer behavior rest = meets (minute_table behavior rest) (Ok (minute_clock rest))
+
+-- the clock, from its minute on, at the front of a text, or the text's fault
+abbrev pub minute_front : MicrosecondsPrecisionOverflowBehavior → List ℕ → Result Clock ParseError
+minute_front behavior rest = meets (minute_digits rest) (clock_answer behavior rest)
+
+-- the clock, from its hour on, at the front of a text, or the text's fault
+abbrev pub clock_front : MicrosecondsPrecisionOverflowBehavior → List ℕ → Result Clock ParseError
+clock_front behavior text =
+    let rest = drop 3 text in
+    meets (hour_table text) (meets (minute_digits rest) (meets (hour_range text)
+    (result_map (at_hour (two_digit_value text 0)) (clock_answer behavior rest))))
+
+-- a minute and a second in print
+abbrev pub minute_text : ℕ → ℕ → List ℕ
+minute_text minute second = two_digit_text minute ++ colon ∷ two_digit_text second
+
+-- a microsecond in print: nothing for 0, otherwise a point and six digits
+abbrev pub fraction_text : ℕ → List ℕ
+fraction_text microsecond = if microsecond == 0 then [] else full_stop ∷ six_digit_text microsecond
+
+-- the numbers of a clock that was read
+abbrev pub clock_of : PureTime → Clock
+clock_of time = record {
+  hour = time.hour;
+  minute = time.minute;
+  second = time.second;
+  microsecond = time.microsecond;
+  size = time.size;
+}
+
+-- The offset after a time (RFC 3339 5.6, time-offset; the ranges are those of its 5.7). `rest` is what follows the time,
+-- and `numbers` what follows the sign.
+-- Departs from it: the offset may be left out, and so may its `:`; the sign may be U+2212, as in ISO 8601; `-00:00` is the
+-- offset 0, which for RFC 3339 4.3 is an unknown one.
+
+-- a byte is `+` or `-`
+abbrev pub is_plus_or_minus : ℕ → Bool
+is_plus_or_minus byte = (byte == plus_sign) || (byte == hyphen)
+
+-- a byte is UTC itself, `Z` or `z`
+abbrev pub is_utc : ℕ → Bool
+is_utc byte = (byte == capital_z) || (byte == small_z)
+
+-- the three bytes of U+2212, the minus sign
+abbrev pub has_minus_sign : List ℕ → Bool
+has_minus_sign rest = (slice_index rest 0 == 0xe2) && (slice_index rest 1 == 0x88) && (slice_index rest 2 == 0x92)
+
+-- the place of its minute, after the hour and an optional `:`
+abbrev pub offset_minute_place : List ℕ → ℕ
+offset_minute_place numbers = if slice_index numbers 2 == colon then 3 else 2
+
+-- how many bytes its hour and minute take
+abbrev pub offset_digits_length : List ℕ → ℕ
+offset_digits_length numbers = offset_minute_place numbers + 2
+
+-- its minute
+abbrev pub offset_minute : List ℕ → ℕ
+offset_minute numbers = two_digit_value numbers (offset_minute_place numbers)
+
+-- its size in seconds
+abbrev pub offset_size : List ℕ → ℕ
+offset_size numbers = 3600 * two_digit_value numbers 0 + 60 * offset_minute numbers
+
+-- what its digits after the sign have to be
+abbrev pub offset_digits : List ℕ → List Requirement
+offset_digits numbers =
+    (two_digits_at numbers 0 else_fault fault.InvalidCharTzHour)
+    ∷ (two_digits_at numbers (offset_minute_place numbers) else_fault fault.InvalidCharTzMinute)
+    ∷ []
+
+-- then the ranges of its numbers
+abbrev pub offset_ranges : List ℕ → List Requirement
+offset_ranges numbers =
+    (nat_le (offset_minute numbers) 59 else_fault fault.OutOfRangeTzMinute)
+    ∷ (nat_lt (offset_size numbers) seconds_per_day else_fault fault.OutOfRangeTz)
+    ∷ []
+
+-- the offset after a sign of so many bytes, and how many both take, or the fault
+abbrev pub signed_front : Bool → ℕ → List ℕ → Result (Option ℤ × ℕ) ParseError
+signed_front west sign numbers =
+    meets (offset_digits numbers) (meets (offset_ranges numbers)
+    (Ok (Some (with_sign west (offset_size numbers)), sign + offset_digits_length numbers)))
+
+-- the offset that follows a time, if any, and how many bytes it takes, or the fault of what follows it
+abbrev pub offset_front : List ℕ → Result (Option ℤ × ℕ) ParseError
+offset_front rest =
+    if is_plus_or_minus (slice_index rest 0) then signed_front (slice_index rest 0 == hyphen) 1 (drop 1 rest)
+    else (if is_utc (slice_index rest 0) then Ok (Some (pos 0), 1)
+    else (if has_minus_sign rest then signed_front true 3 (drop 3 rest)
+    else Ok (None, 0)))
+
+-- an offset begins a text: a sign, `Z` or `z`
+abbrev pub begins_offset : List ℕ → Bool
+begins_offset rest = is_plus_or_minus (slice_index rest 0) || is_utc (slice_index rest 0) || has_minus_sign rest
+
+-- the fault of a text that goes on after a time with this offset, or after one without
+abbrev pub end_fault : Option ℤ → ParseError
+end_fault offset = if is_some offset then fault.ExtraCharacters else fault.InvalidCharTzSign
+
+-- hours and minutes in print
+abbrev pub offset_size_text : ℕ → List ℕ
+offset_size_text size = two_digit_text (size / 3600) ++ colon ∷ two_digit_text (size / 60 % 60)
+
+-- the one text by which an offset is printed: nothing, `Z`, or a sign, hours and minutes
+abbrev pub offset_text : Option ℤ → List ℕ
+offset_text None = []
+offset_text (Some offset) = let size = unsigned_abs offset in
+    if size == 0 then capital_z ∷ []
+    else (if is_negative offset then hyphen else plus_sign) ∷ offset_size_text size
+
+-- The text of a time of day, `HH:MM:SS` with a fraction and an offset (RFC 3339 5.6, full-time).
+-- Departs from it: as a clock and an offset do.
+
+-- the time of a clock and an offset
+abbrev pub time_of : Clock → Option ℤ → TimeOfDay
+time_of clock offset = record {
+  hour = clock.hour;
+  minute = clock.minute;
+  second = clock.second;
+  microsecond = clock.microsecond;
+  offset = offset;
+}
+
+-- the time at the front of a text, a clock and the offset that follows it, and how many bytes it takes, or the text's fault
+abbrev pub time_front : MicrosecondsPrecisionOverflowBehavior → List ℕ → Result (TimeOfDay × ℕ) ParseError
+time_front behavior text = do
+  clock ← clock_front behavior text
+  offset ← offset_front (drop clock.size text)
+  Ok (time_of clock offset.0, clock.size + offset.1)
+
+-- the time that a text is, or the text's fault
+abbrev pub time_answer : MicrosecondsPrecisionOverflowBehavior → List ℕ → Result TimeOfDay ParseError
+time_answer behavior text = do
+  time ← time_front behavior text
+  alone (λ read. end_fault read.offset) text time
+
+-- an hour, a minute and a second in print
+abbrev pub clock_text : TimeOfDay → List ℕ
+clock_text time = two_digit_text time.hour ++ colon ∷ minute_text time.minute time.second
+
+-- the one text by which a time is printed
+abbrev pub time_text : TimeOfDay → List ℕ
+time_text time = clock_text time ++ fraction_text time.microsecond ++ offset_text time.offset
+
+-- a text goes on with a fraction after such a microsecond in print: with a decimal mark after none, with a digit after six
+abbrev pub continues_fraction : ℕ → List ℕ → Bool
+continues_fraction microsecond rest =
+    if microsecond == 0 then is_decimal_mark (slice_index rest 0) else is_ascii_digit (slice_index rest 0)
+
+-- a text that follows a time in print is no part of it: an offset ends it, otherwise neither a fraction nor an offset begins
+abbrev pub is_after_time : TimeOfDay → List ℕ → Bool
+is_after_time time rest =
+    is_some time.offset || (not (continues_fraction time.microsecond rest) && not (begins_offset rest))

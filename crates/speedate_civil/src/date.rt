@@ -88,9 +88,7 @@ impl Date {
     ghost use Rattle.speedate_base.specs.Requirement.{result_map, with_size};
     ghost use Rattle.speedate_civil.specs.declared.date.Date.{Date};
     ghost use Rattle.speedate_civil.specs.Calendar.{Ymd};
-    ghost use Rattle.speedate_civil.specs.Date.{parts};
-    ghost use Rattle.speedate_civil.specs.DateText.{date_front, date_answer, date_text};
-    ghost use Rattle.speedate_civil.specs.DateTimestamp.{date_or_timestamp};
+    ghost use Rattle.speedate_civil.specs.Date.{ymd, date_front, date_answer, date_text, date_or_timestamp, ◌gives◌, ◌gives_front◌};
 
     /// Reads a date from a text, and no timestamp: 29 February 2020 from `"2020-02-29"`.
     ///
@@ -105,7 +103,7 @@ impl Date {
     /// - `ExtraCharacters` if the text has more than ten bytes.
     #[inline]
     pub fn parse_str_rfc3339(text: &str) -> Result<Self, ParseError>
-        ensures answer { result_map parts result ≡ date_answer text.now }
+        ensures answer { result gives date_answer text.now }
     {
         Self::parse_bytes_rfc3339(text.as_bytes())
     }
@@ -114,7 +112,7 @@ impl Date {
     /// not be text. The form and the faults are those of [`Date::parse_str_rfc3339`].
     #[inline]
     pub fn parse_bytes_rfc3339(bytes: &[u8]) -> Result<Self, ParseError>
-        ensures answer { result_map parts result ≡ date_answer bytes.now }
+        ensures answer { result gives date_answer bytes.now }
         ensures no_number { OnOk result (number_answer bytes.now ≡ NoNumber) }
     {
         let (date, size) = Self::parse_front(bytes)?;
@@ -129,11 +127,11 @@ impl Date {
     /// timestamps. The faults are those of [`Date::parse_str_rfc3339`] except `ExtraCharacters`.
     #[inline]
     pub fn parse_front(bytes: &[u8]) -> Result<(Self, usize), ParseError>
-        ensures answer { result_map (with_size parts) result ≡ date_front bytes.now }
+        ensures answer { result gives_front date_front bytes.now }
         ensures within { IfOk result (λ front. front.1 ≤ length bytes.now) }
         ensures whole { (date : Ymd)
-            → (date_answer bytes.now ≡ Ok date) ↔ (result_map (with_size parts) result ≡ Ok (date, length bytes.now)) }
-        ensures alone { IfOk result (λ front. date_answer (take front.1 bytes.now) ≡ Ok (parts front.0)) }
+            → (date_answer bytes.now ≡ Ok date) ↔ (result gives_front Ok (date, length bytes.now)) }
+        ensures alone { IfOk result (λ front. date_answer (take front.1 bytes.now) ≡ Ok (ymd front.0)) }
     {
         if bytes.len() < TEXT_LENGTH {
             return Err(ParseError::TooShort);
@@ -167,15 +165,15 @@ impl Date {
     /// of a text too, whatever follows it. No other date has the same text.
     #[inline]
     pub fn to_text(&self) -> ArrayString<TEXT_LENGTH>
-        ensures text { result.bytes ≡ date_text (parts self.now) }
-        ensures reads_back { date_answer result.bytes ≡ Ok (parts self.now) }
+        ensures text { result.bytes ≡ date_text (ymd self.now) }
+        ensures reads_back { date_answer result.bytes ≡ Ok (ymd self.now) }
         ensures reads_back_with_config { (config : DateConfig)
-            → date_or_timestamp config.timestamp_unit result.bytes ≡ Ok (parts self.now) }
-        ensures reads_front { (rest : List ℕ) → date_front (result.bytes ++ rest) ≡ Ok (parts self.now, length result.bytes) }
+            → date_or_timestamp config.timestamp_unit result.bytes ≡ Ok (ymd self.now) }
+        ensures reads_front { (rest : List ℕ) → date_front (result.bytes ++ rest) ≡ Ok (ymd self.now, length result.bytes) }
         ensures canonical { (config : DateConfig)
             → result_map date_text (date_or_timestamp config.timestamp_unit result.bytes) ≡ Ok result.bytes }
         ensures distinct { (other : Date)
-            → (result.bytes ≡ date_text (parts other)) ↔ (parts self.now ≡ parts other) }
+            → (result.bytes ≡ date_text (ymd other)) ↔ (ymd self.now ≡ ymd other) }
     {
         let mut text = ArrayString::new();
         self.push_onto(&mut text);
@@ -187,7 +185,7 @@ impl Date {
     #[inline(always)]
     pub fn push_onto<const LENGTH: usize>(&self, text: &mut ArrayString<LENGTH>)
         requires room { array_string_len text.old + TEXT_LENGTH ≤ LENGTH }
-        ensures text { text.new.bytes ≡ text.old.bytes ++ date_text (parts self.now) }
+        ensures text { text.new.bytes ≡ text.old.bytes ++ date_text (ymd self.now) }
     {
         text.push_str(two_digit_text((self.year / 100) as u8));
         text.push_str(two_digit_text((self.year % 100) as u8));
@@ -199,12 +197,11 @@ impl Date {
 }
 
 impl fmt::Display for Date {
-    ghost use Rattle.speedate_civil.specs.Date.{parts};
-    ghost use Rattle.speedate_civil.specs.DateText.{date_text};
+    ghost use Rattle.speedate_civil.specs.Date.{ymd, date_text};
 
-    ghost output = { λ date. Some (date_text (parts date)) };
+    ghost output = { λ date. Some (date_text (ymd date)) };
 
-    ghost styled_output = { λ date _. Some (date_text (parts date)) };
+    ghost styled_output = { λ date _. Some (date_text (ymd date)) };
 
     fn fmt<W: fmt::Write>(&self, f: &mut fmt::Formatter<W>) -> fmt::Result {
         f.write_str(self.to_text().as_str())

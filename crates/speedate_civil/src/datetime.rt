@@ -4,8 +4,7 @@ ghost use Rattle.std.specs.Prelude.{◌≡◌, ◌≤◌, ◌↔◌, IfOk, IsTru
 ghost use Rattle.speedate_base.specs.declared.config.MicrosecondsPrecisionOverflowBehavior.TheVariants as behavior;
 ghost use Rattle.speedate_base.specs.Numbers.{NoNumber, number_answer};
 ghost use Rattle.speedate_base.specs.Requirement.{result_map, with_size};
-ghost use Rattle.speedate_civil.specs.DateAndTime.{DateAndTime};
-ghost use Rattle.speedate_civil.specs.DateTimeText.{is_separator, date_time_front, date_time_answer};
+ghost use Rattle.speedate_civil.specs.DateTime.{DateAndTime, is_separator, date_time_front, date_time_answer};
 
 mod decimal;
 mod now;
@@ -45,7 +44,7 @@ pub struct DateTime {
 
 impl DateTime {
     ghost use Rattle.speedate_base.specs.Offset.{IsWholeMinutes};
-    ghost use Rattle.speedate_civil.specs.DateTime.{parts};
+    ghost use Rattle.speedate_civil.specs.DateTime.{date_and_time, ◌gives◌, ◌gives_front◌};
 
     /// Reads a date-time from a text, and no timestamp: 12:13:14 on 29 February 2020 in UTC from
     /// `"2020-02-29T12:13:14Z"`.
@@ -58,7 +57,7 @@ impl DateTime {
     /// - those of [`Time::parse_str`] for what follows the separator.
     #[inline(always)]
     pub fn parse_str_rfc3339(text: &str) -> Result<Self, ParseError>
-        ensures answer { result_map parts result ≡ date_time_answer behavior.Error text.now }
+        ensures answer { result gives date_time_answer behavior.Error text.now }
         ensures minutes { IfOk result (λ value. IsWholeMinutes value.time.tz_offset) }
     {
         Self::parse_bytes_rfc3339(text.as_bytes())
@@ -69,7 +68,7 @@ impl DateTime {
     /// [`DateTime::parse_str_rfc3339`].
     #[inline(always)]
     pub fn parse_bytes_rfc3339(bytes: &[u8]) -> Result<Self, ParseError>
-        ensures answer { result_map parts result ≡ date_time_answer behavior.Error bytes.now }
+        ensures answer { result gives date_time_answer behavior.Error bytes.now }
         ensures minutes { IfOk result (λ value. IsWholeMinutes value.time.tz_offset) }
         ensures no_number { OnOk result (number_answer bytes.now ≡ NoNumber) }
     {
@@ -86,8 +85,7 @@ impl DateTime {
         bytes: &[u8],
         config: &TimeConfig,
     ) -> Result<Self, ParseError>
-        ensures answer { result_map parts result
-            ≡ date_time_answer config.now.microseconds_precision_overflow_behavior bytes.now }
+        ensures answer { result gives date_time_answer config.now.microseconds_precision_overflow_behavior bytes.now }
         ensures minutes { IfOk result (λ value. IsWholeMinutes value.time.tz_offset) }
         ensures no_number { OnOk result (number_answer bytes.now ≡ NoNumber) }
     {
@@ -106,15 +104,14 @@ impl DateTime {
     /// `InvalidCharDateTimeSep`, then those of [`Time::parse_front`].
     #[inline(always)]
     pub fn parse_front(bytes: &[u8], config: &TimeConfig) -> Result<(Self, usize), ParseError>
-        ensures answer { result_map (with_size parts) result
-            ≡ date_time_front config.now.microseconds_precision_overflow_behavior bytes.now }
+        ensures answer { result gives_front date_time_front config.now.microseconds_precision_overflow_behavior bytes.now }
         ensures within { IfOk result (λ front. front.1 ≤ length bytes.now) }
         ensures whole { (value : DateAndTime)
             → (date_time_answer config.now.microseconds_precision_overflow_behavior bytes.now ≡ Ok value)
-            ↔ (result_map (with_size parts) result ≡ Ok (value, length bytes.now)) }
+            ↔ (result gives_front Ok (value, length bytes.now)) }
         ensures alone { IfOk result (λ front.
             date_time_answer config.now.microseconds_precision_overflow_behavior (take front.1 bytes.now)
-            ≡ Ok (parts front.0)) }
+            ≡ Ok (date_and_time front.0)) }
         ensures minutes { IfOk result (λ front. IsWholeMinutes front.0.time.tz_offset) }
         ensures no_number { OnOk result (number_answer bytes.now ≡ NoNumber) }
     {

@@ -57,9 +57,7 @@ impl Time {
     ghost use Rattle.speedate_base.specs.declared.config.MicrosecondsPrecisionOverflowBehavior.TheVariants as behavior;
     ghost use Rattle.speedate_base.specs.Offset.{IsWholeMinutes, seconds_per_day};
     ghost use Rattle.speedate_base.specs.Requirement.{result_map, with_size};
-    ghost use Rattle.speedate_civil.specs.Time.{parts};
-    ghost use Rattle.speedate_civil.specs.TimeOfDay.{TimeOfDay, second_of_day, millisecond_of_day, microsecond_of_day, time_at, timestamp_answer};
-    ghost use Rattle.speedate_civil.specs.TimeText.{time_front, time_answer};
+    ghost use Rattle.speedate_civil.specs.Time.{time_of_day, TimeOfDay, second_of_day, millisecond_of_day, microsecond_of_day, time_at, timestamp_answer, time_front, time_answer, ◌gives◌, ◌gives_front◌};
 
     /// Reads a time from a text: 12:13:14 and a half, an hour east of UTC, from `"12:13:14.5+01:00"`.
     ///
@@ -86,7 +84,7 @@ impl Time {
     /// - `ExtraCharacters` if something follows the offset.
     #[inline(always)]
     pub fn parse_str(text: &str) -> Result<Self, ParseError>
-        ensures answer { result_map parts result ≡ time_answer behavior.Error text.now }
+        ensures answer { result gives time_answer behavior.Error text.now }
         ensures minutes { IfOk result (λ time. IsWholeMinutes time.tz_offset) }
     {
         Self::parse_bytes(text.as_bytes())
@@ -96,7 +94,7 @@ impl Time {
     /// faults are those of [`Time::parse_str`].
     #[inline(always)]
     pub fn parse_bytes(bytes: &[u8]) -> Result<Self, ParseError>
-        ensures answer { result_map parts result ≡ time_answer behavior.Error bytes.now }
+        ensures answer { result gives time_answer behavior.Error bytes.now }
         ensures minutes { IfOk result (λ time. IsWholeMinutes time.tz_offset) }
     {
         Self::parse_whole(bytes, MicrosecondsPrecisionOverflowBehavior::Error)
@@ -108,8 +106,7 @@ impl Time {
     /// `SecondFractionTooLong`. The offset of the configuration does not matter.
     #[inline(always)]
     pub fn parse_bytes_with_config(bytes: &[u8], config: &TimeConfig) -> Result<Self, ParseError>
-        ensures answer { result_map parts result
-            ≡ time_answer config.now.microseconds_precision_overflow_behavior bytes.now }
+        ensures answer { result gives time_answer config.now.microseconds_precision_overflow_behavior bytes.now }
         ensures minutes { IfOk result (λ time. IsWholeMinutes time.tz_offset) }
     {
         Self::parse_whole(bytes, config.microseconds_precision_overflow_behavior)
@@ -125,15 +122,14 @@ impl Time {
     /// order, except `InvalidCharTzSign` and `ExtraCharacters`.
     #[inline(always)]
     pub fn parse_front(bytes: &[u8], config: &TimeConfig) -> Result<(Self, usize), ParseError>
-        ensures answer { result_map (with_size parts) result
-            ≡ time_front config.now.microseconds_precision_overflow_behavior bytes.now }
+        ensures answer { result gives_front time_front config.now.microseconds_precision_overflow_behavior bytes.now }
         ensures within { IfOk result (λ front. front.1 ≤ length bytes.now) }
         ensures whole { (time : TimeOfDay)
             → (time_answer config.now.microseconds_precision_overflow_behavior bytes.now ≡ Ok time)
-            ↔ (result_map (with_size parts) result ≡ Ok (time, length bytes.now)) }
+            ↔ (result gives_front Ok (time, length bytes.now)) }
         ensures alone { IfOk result (λ front.
             time_answer config.now.microseconds_precision_overflow_behavior (take front.1 bytes.now)
-            ≡ Ok (parts front.0)) }
+            ≡ Ok (time_of_day front.0)) }
         ensures minutes { IfOk result (λ front. IsWholeMinutes front.0.tz_offset) }
     {
         Self::front_at(bytes, 0, config.microseconds_precision_overflow_behavior)
@@ -145,7 +141,7 @@ impl Time {
         bytes: &[u8],
         behavior: MicrosecondsPrecisionOverflowBehavior,
     ) -> Result<Self, ParseError>
-        ensures answer { result_map parts result ≡ time_answer behavior bytes.now }
+        ensures answer { result gives time_answer behavior bytes.now }
         ensures minutes { IfOk result (λ time. IsWholeMinutes time.tz_offset) }
     {
         let clock = PureTime::parse(bytes, 0, behavior)?;
@@ -164,7 +160,7 @@ impl Time {
         behavior: MicrosecondsPrecisionOverflowBehavior,
     ) -> Result<(Self, usize), ParseError>
         requires { place ≤ length bytes.now }
-        ensures answer { result_map (with_size parts) result ≡ time_front behavior (drop place bytes.now) }
+        ensures answer { result gives_front time_front behavior (drop place bytes.now) }
         ensures within { IfOk result (λ front. place + front.1 ≤ length bytes.now) }
         ensures minutes { IfOk result (λ front. IsWholeMinutes front.0.tz_offset) }
     {
@@ -181,8 +177,8 @@ impl Time {
         timestamp_second: u32,
         timestamp_microsecond: u32,
     ) -> Result<Self, ParseError>
-        ensures answer { result_map parts result ≡ timestamp_answer timestamp_second timestamp_microsecond None }
-        ensures instant { IfOk result (λ time. microsecond_of_day (parts time)
+        ensures answer { result gives timestamp_answer timestamp_second timestamp_microsecond None }
+        ensures instant { IfOk result (λ time. microsecond_of_day (time_of_day time)
             ≡ 1000000 * timestamp_second + timestamp_microsecond) }
     {
         Self::from_timestamp_with_config(
@@ -201,9 +197,8 @@ impl Time {
         timestamp_microsecond: u32,
         config: &TimeConfig,
     ) -> Result<Self, ParseError>
-        ensures answer { result_map parts result
-            ≡ timestamp_answer timestamp_second timestamp_microsecond config.now.unix_timestamp_offset }
-        ensures instant { IfOk result (λ time. microsecond_of_day (parts time)
+        ensures answer { result gives timestamp_answer timestamp_second timestamp_microsecond config.now.unix_timestamp_offset }
+        ensures instant { IfOk result (λ time. microsecond_of_day (time_of_day time)
             ≡ 1000000 * timestamp_second + timestamp_microsecond) }
     {
         let second = u64::from(timestamp_second) + u64::from(timestamp_microsecond / 1_000_000);
@@ -223,7 +218,7 @@ impl Time {
         requires second { second < seconds_per_day }
         requires microsecond { microsecond ≤ 999999 }
         requires offset { ForSome tz_offset IsOffset }
-        ensures time { parts result ≡ time_at second microsecond tz_offset }
+        ensures time { time_of_day result ≡ time_at second microsecond tz_offset }
     {
         Time {
             hour: (second / 3600) as u8,
@@ -237,7 +232,7 @@ impl Time {
     /// The seconds since midnight, whatever the offset: 43,994 for 12:13:14.5.
     #[inline]
     pub fn total_seconds(&self) -> u32
-        ensures seconds { result ≡ second_of_day (parts self.now) }
+        ensures seconds { result ≡ second_of_day (time_of_day self.now) }
     {
         3600 * u32::from(self.hour) + 60 * u32::from(self.minute) + u32::from(self.second)
     }
@@ -246,7 +241,7 @@ impl Time {
     /// 12:13:14.5.
     #[inline]
     pub fn total_ms(&self) -> u32
-        ensures milliseconds { result ≡ millisecond_of_day (parts self.now) }
+        ensures milliseconds { result ≡ millisecond_of_day (time_of_day self.now) }
     {
         1000 * self.total_seconds() + self.microsecond / 1000
     }
@@ -257,10 +252,9 @@ impl FromStr for Time {
 
     ghost use Rattle.speedate_base.specs.declared.config.MicrosecondsPrecisionOverflowBehavior.TheVariants as behavior;
     ghost use Rattle.speedate_base.specs.Requirement.{result_map};
-    ghost use Rattle.speedate_civil.specs.Time.{parts};
-    ghost use Rattle.speedate_civil.specs.TimeText.{time_answer};
+    ghost use Rattle.speedate_civil.specs.Time.{time_of_day, time_answer, ◌gives◌};
 
-    ghost from_str_gives = { λ text result. result_map parts result ≡ time_answer behavior.Error text };
+    ghost from_str_gives = { λ text result. result gives time_answer behavior.Error text };
 
     /// The answer of [`Time::parse_str`]: `"12:13Z".parse()` gives 12:13:00 in UTC.
     #[inline]

@@ -4,8 +4,7 @@ use Rattle.std.specs.Prelude.{codes, Result, Ok}
 use Rattle.std.proofs.lemmas.Bool.{lt-ltb, le-ltb}
 use Rattle.speedate.specs.declared.ParseError.{ParseError}
 use Rattle.speedate.specs.Ascii.{line_feed}
-use Rattle.speedate_lines.specs.Lines.{longest_line}
-use Rattle.speedate_lines.specs.Answer.{kinds, kind_and_text, answer_by_kind, line_answer, reply, err_answer}
+use Rattle.speedate_lines.specs.Lines.{longest_line, kinds, kind_and_text, answer_by_kind, line_answer, reply, err_answer}
 
 pub line_answer-long : (line : List ℕ) → longest_line < length line → line_answer line ≡ err_answer (codes "line_too_long")
 unfolding line_answer

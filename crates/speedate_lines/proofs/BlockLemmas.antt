@@ -1,9 +1,8 @@
 -- What stands in a block of which a part was written.
-use Rattle.std.proofs.Common.{rules}
-use Rattle.std.proofs.Common.{◌≡◌, ◌∙◌, ap, sym, ℕ, ◌+◌, ◌-◌, ◌≤◌, List, ◌++◌, length, take, drop, min, arith}
+use Rattle.std.proofs.Common.{rules, ◌≡◌, ◌∙◌, ap, sym, ℕ, ◌+◌, ◌-◌, ◌≤◌, List, ◌++◌, length, take, drop, min, arith}
 use Rattle.std.proofs.lemmas.List.{length-take-le, length-drop, length-append, take-append-le, take-take, take_at, take_min}
 use Rattle.std.proofs.lemmas.Slice.{between_is}
-use Rattle.speedate_lines.specs.Block.{kept_part}
+use Rattle.speedate_lines.specs.Run.{kept_part}
 use Rattle.std.proofs.Math.Seq.{take-append-add}
 
 -- the front of a block is what was kept, and then what was written after it

@@ -5,9 +5,8 @@ use Rattle.std.proofs.lemmas.List.{take_all, length-take}
 use Rattle.std.proofs.lemmas.List.Elements.{All-take}
 use Rattle.std.proofs.lemmas.Grind.{flat_map-append}
 use Rattle.speedate.specs.Ascii.{line_feed}
-use Rattle.speedate_lines.specs.Lines.{Pieces, pieces, onto_first, complete_lines, unfinished_line, last_line, lines}
-use Rattle.speedate_lines.specs.Block.{kept_part}
-use Rattle.speedate_lines.specs.Answer.{line_answer, answers}
+use Rattle.speedate_lines.specs.Lines.{Pieces, pieces, onto_first, complete_lines, unfinished_line, last_line, lines, line_answer, answers}
+use Rattle.speedate_lines.specs.Run.{kept_part}
 use Rattle.speedate_lines.proofs.AnswerLemmas.{line_answer-long}
 use Rattle.speedate_lines.proofs.LineLemmas.{EndsNoLine, IsFree, pieces-onto_first, unfinished-free, pieces-append}
 

@@ -1,12 +1,11 @@
 -- What has gone out of some bytes, step by step.
-use Rattle.std.proofs.Common.{rules}
-use Rattle.std.proofs.Common.{◌≡◌, ◌∙◌, ap, sym, subst, List, [], ◌++◌, ℕ, refl, append_assoc, take, drop, take-append-drop, Result}
+use Rattle.std.proofs.Common.{rules, ◌≡◌, ◌∙◌, ap, sym, subst, List, [], ◌++◌, ℕ, refl, append_assoc, take, drop, take-append-drop, Result}
 use Rattle.std.specs.Prelude.{Option, OnErr}
 use Rattle.std.specs.Io.KnownBytes.{Appends, Keeps}
 use Rattle.std.proofs.lemmas.List.{take_rest}
 use Rattle.std.proofs.Math.Bool.{or-false}
 use Rattle.std.proofs.KnownBytes.{Appends-nil, Appends-trans, Appends-kept}
-use Rattle.speedate_lines.specs.Sent.{AppendsBut, AppendsBeginning, AppendsFrom}
+use Rattle.speedate_lines.specs.Run.{AppendsBut, AppendsBeginning, AppendsFrom}
 
 -- nothing has been written
 pub AppendsBut-all : (a : Option (List ℕ)) (bytes : List ℕ) → AppendsBut bytes a a bytes

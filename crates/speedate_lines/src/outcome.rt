@@ -1,7 +1,7 @@
 //! How the program ends.
 
 ghost use Rattle.std.specs.Prelude.{◌≡◌};
-ghost use Rattle.speedate_lines.specs.Outcome.{outcome_of};
+ghost use Rattle.speedate_lines.specs.Run.{outcome_of};
 
 use crate::run::RunError;
 

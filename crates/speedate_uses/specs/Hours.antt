@@ -5,9 +5,8 @@ use Rattle.speedate.specs.declared.MicrosecondsPrecisionOverflowBehavior.TheVari
 use Rattle.speedate.specs.declared.ParseError.{ParseError}
 use Rattle.speedate.specs.declared.ParseError.TheVariants as fault
 use Rattle.speedate.specs.Ascii.{space}
-use Rattle.speedate.specs.DateAndTime.{DateAndTime}
-use Rattle.speedate.specs.DateTimeText.{date_time_front}
-use Rattle.speedate.specs.DurationAnswer.{duration_answer}
+use Rattle.speedate.specs.DateTime.{DateAndTime, date_time_front}
+use Rattle.speedate.specs.Duration.{duration_answer}
 use Rattle.speedate.specs.DurationNumbers.{DurationNumbers, signed_seconds}
 use Rattle.speedate.specs.Requirement.{result_map, result_and_then}
 

@@ -3,9 +3,7 @@ use Rattle.std.specs.Prelude.{ℕ, Bool, false, ◌&&◌, List, Result, Ok, Err}
 use Rattle.std.specs.Ordering.{is_le}
 use Rattle.speedate.specs.declared.MicrosecondsPrecisionOverflowBehavior.{MicrosecondsPrecisionOverflowBehavior}
 use Rattle.speedate.specs.declared.ParseError.{ParseError}
-use Rattle.speedate.specs.DateAndTime.{DateAndTime}
-use Rattle.speedate.specs.DateTimeText.{date_time_front}
-use Rattle.speedate.specs.InstantOrder.{date_time_instant_order}
+use Rattle.speedate.specs.DateTime.{DateAndTime, date_time_front, date_time_instant_order}
 
 -- a date-time that was read lies between two others by instant, both among them; what was refused does not
 abbrev pub lies_between : DateAndTime → DateAndTime → Result (DateAndTime × ℕ) ParseError → Bool

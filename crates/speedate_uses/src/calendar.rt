@@ -1,16 +1,15 @@
 //! A calendar: what a month is called, and how many days are left to a date.
 
 ghost use Rattle.std.specs.Prelude.{◌≡◌, ◌-◌, IsSomeAnd, slice_get};
-ghost use Rattle.speedate.specs.Date.{parts};
-ghost use Rattle.speedate.specs.DateText.{date_answer};
-ghost use Rattle.speedate.specs.DayNumber.{days_between};
+ghost use Rattle.speedate.specs.Date.{ymd, date_answer};
+ghost use Rattle.speedate.specs.Calendar.{days_between};
 ghost use Rattle.speedate.specs.Requirement.{result_map};
 
 use speedate::{Date, ParseError};
 
 /// The days from `start` to the date that `text` is: 2 from 2020-02-28 to `"2020-03-01"`.
 pub fn days_until(start: &Date, text: &str) -> Result<i32, ParseError>
-    ensures days { result ≡ result_map (days_between (parts start.now)) (date_answer text.now) }
+    ensures days { result ≡ result_map (days_between (ymd start.now)) (date_answer text.now) }
 {
     let date = Date::parse_str_rfc3339(text)?;
     Ok(date.days_since(start))

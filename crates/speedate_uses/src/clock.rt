@@ -3,8 +3,7 @@
 ghost use Rattle.std.specs.Prelude.{◌≡◌, ◌/◌, ◌%◌, Option};
 ghost use Rattle.std.specs.Time.{system_time_nanos};
 ghost use Rattle.speedate.specs.declared.Moment.{Moment};
-ghost use Rattle.speedate.specs.DateTime.{parts};
-ghost use Rattle.speedate.specs.Moment.{now_answer};
+ghost use Rattle.speedate.specs.DateTime.{date_and_time, now_answer, ◌gives◌};
 ghost use Rattle.speedate.specs.Requirement.{result_map};
 
 use speedate::{DateTime, Moment, ParseError};
@@ -13,7 +12,7 @@ use std::time::{Clock, SystemTime};
 /// The date-time that the machine's clock tells, as a clock at an offset, in seconds, shows it. The faults
 /// are those of [`DateTime::now`], `SystemTimeError` too where the clock cannot be read.
 pub fn local_time(clock: &impl Clock, tz_offset: i32) -> Result<DateTime, ParseError>
-    ensures told { (told : Option Moment) × (result_map parts result ≡ now_answer tz_offset told) }
+    ensures told { (told : Option Moment) × (result gives now_answer tz_offset told) }
 {
     DateTime::now(|| told(clock), tz_offset)
 }

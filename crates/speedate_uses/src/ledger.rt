@@ -3,8 +3,8 @@
 ghost use Rattle.std.specs.Prelude.{◌≡◌, OnErr, OnOk};
 ghost use Rattle.std.specs.List.{IsAllAdjacentAnswer};
 ghost use Rattle.std.specs.List.Sorted.{IsPermutation, IsSortedByKey, IsStableByKey};
-ghost use Rattle.speedate.specs.Date.{parts};
-ghost use Rattle.speedate.specs.DateOrder.{date_order};
+ghost use Rattle.speedate.specs.Date.{ymd};
+ghost use Rattle.speedate.specs.Calendar.{date_order};
 ghost use Rattle.speedate_uses.specs.Ledger.{is_in_order};
 
 use speedate::Date;
@@ -41,8 +41,8 @@ pub struct Entry {
 /// Sorts the entries of a ledger by date, the earliest first. Those of one day stay in their order.
 pub fn sort_by_date<A: Allocator>(alloc: A, entries: &mut [Entry]) -> Result<(), AllocError>
     ensures same { IsPermutation entries.old entries.new }
-    ensures sorted { OnOk result (IsSortedByKey (λ entry. parts entry.date) date_order entries.new) }
-    ensures stable { IsStableByKey (λ entry. parts entry.date) date_order entries.old entries.new }
+    ensures sorted { OnOk result (IsSortedByKey (λ entry. ymd entry.date) date_order entries.new) }
+    ensures stable { IsStableByKey (λ entry. ymd entry.date) date_order entries.old entries.new }
     ensures err { OnErr result (entries.new ≡ entries.old) }
 {
     entries.sort_by_key(alloc, |entry| entry.date)

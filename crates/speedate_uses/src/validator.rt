@@ -2,10 +2,10 @@
 
 ghost use Rattle.std.specs.Prelude.{◌≡◌, Err, MatchResult, Ok};
 ghost use Rattle.speedate.specs.declared.ParseError.{ParseError};
-ghost use Rattle.speedate.specs.DateTime.{parts};
+ghost use Rattle.speedate.specs.DateTime.{date_and_time, ◌gives◌};
 ghost use Rattle.speedate.specs.Fault.{fault_documentation, fault_name};
 ghost use Rattle.speedate.specs.Requirement.{result_map};
-ghost use Rattle.speedate.specs.StrictText.{strict_date_time_answer};
+ghost use Rattle.speedate.specs.Standard.{strict_date_time_answer};
 
 use speedate::{DateTime, MicrosecondsPrecisionOverflowBehavior, ParseError};
 
@@ -23,7 +23,7 @@ pub struct FieldFault<'a> {
 /// The date-time that a field has, or what is wrong with it.
 pub fn date_time_field<'a>(field: &'a str, text: &str) -> Result<DateTime, FieldFault<'a>>
     ensures answer { MatchResult result
-        (λ value. strict_date_time_answer MicrosecondsPrecisionOverflowBehavior.Truncate text.now ≡ Ok (parts value))
+        (λ value. strict_date_time_answer MicrosecondsPrecisionOverflowBehavior.Truncate text.now ≡ Ok (date_and_time value))
         (λ found. (fault : ParseError) × (found.field.now ≡ field.now) × (found.fault.now ≡ fault_name fault) × (found.text.now ≡ fault_documentation fault)
         × (strict_date_time_answer MicrosecondsPrecisionOverflowBehavior.Truncate text.now ≡ Err fault)) }
 {
@@ -40,8 +40,7 @@ pub fn date_time_field<'a>(field: &'a str, text: &str) -> Result<DateTime, Field
 /// The date-time that a text of JSON Schema's format `date-time` is, or the fault of a text that is none:
 /// digits past the microsecond are dropped.
 pub fn schema_date_time(text: &str) -> Result<DateTime, ParseError>
-    ensures answer { result_map parts result
-        ≡ strict_date_time_answer MicrosecondsPrecisionOverflowBehavior.Truncate text.now }
+    ensures answer { result gives strict_date_time_answer MicrosecondsPrecisionOverflowBehavior.Truncate text.now }
 {
     DateTime::parse_bytes_strict(
         text.as_bytes(),

@@ -2,16 +2,11 @@
 
 ghost use Rattle.std.specs.Prelude.{◌≡◌, ◌<◌, ◌≤◌, ◌+ℤ◌, ◌-ℤ◌, ◌*ℤ◌, IfOk, Ok, pos, neg_ℤ, unsigned_abs};
 ghost use Rattle.std.specs.Ordering.{int_cmp};
-ghost use Rattle.speedate_base.specs.Requirement.{result_map};
-ghost use Rattle.speedate_base.specs.Timestamp.{instant_at};
-ghost use Rattle.speedate_base.specs.UnixTime.{parts as instant_parts};
-ghost use Rattle.speedate_civil.specs.Date.{parts as date_parts};
-ghost use Rattle.speedate_civil.specs.DateAndTime.{local_microsecond, utc_microsecond};
-ghost use Rattle.speedate_civil.specs.DateTime.{parts as date_time_parts};
-ghost use Rattle.speedate_civil.specs.DayNumber.{days_between};
+ghost use Rattle.speedate_base.specs.Timestamp.{instant_at, instant_of};
+ghost use Rattle.speedate_civil.specs.DateTime.{local_microsecond, utc_microsecond, date_and_time};
+ghost use Rattle.speedate_civil.specs.Calendar.{days_between};
 ghost use Rattle.speedate.specs.declared.duration.Duration.{Duration};
-ghost use Rattle.speedate.specs.Duration.{parts};
-ghost use Rattle.speedate.specs.DurationMove.{signed_length, duration_of_length, negated, with_positive_zero, duration_between, date_time_after, duration_between_dates, signed_days, date_after_days};
+ghost use Rattle.speedate.specs.Duration.{duration_numbers, signed_length, duration_of_length, negated, with_positive_zero, duration_between, date_time_after, duration_between_dates, signed_days, date_after_days};
 
 use super::Duration;
 use speedate_base::faults::ParseError;
@@ -20,19 +15,21 @@ use speedate_civil::date::Date;
 use speedate_civil::datetime::{DateTime, instant_date_time};
 
 impl Duration {
+    ghost use Rattle.speedate_civil.specs.DateTime.{◌gives◌};
+
     /// The duration from one date-time to another, by their instants in UTC: an hour from
     /// 2020-01-01T12:00:00Z to 2020-01-01T12:00:00-01:00. It is negative where `later` is the earlier
     /// one, and has at most 3,652,426 days. A date-time without an offset is taken to be in UTC. If the
     /// offsets are equal, [`Duration::after`] leads from the one exactly to the other.
     #[inline]
     pub fn between(earlier: &DateTime, later: &DateTime) -> Duration
-        ensures answer { parts result ≡ duration_between (date_time_parts earlier.now) (date_time_parts later.now) }
-        ensures length { signed_length (parts result)
-            ≡ utc_microsecond (date_time_parts later.now) -ℤ utc_microsecond (date_time_parts earlier.now) }
-        ensures ends { IfOk (date_time_after (signed_length (parts result)) (date_time_parts earlier.now))
-            (λ end. utc_microsecond end ≡ utc_microsecond (date_time_parts later.now)) }
+        ensures answer { duration_numbers result ≡ duration_between (date_and_time earlier.now) (date_and_time later.now) }
+        ensures length { signed_length (duration_numbers result)
+            ≡ utc_microsecond (date_and_time later.now) -ℤ utc_microsecond (date_and_time earlier.now) }
+        ensures ends { IfOk (date_time_after (signed_length (duration_numbers result)) (date_and_time earlier.now))
+            (λ end. utc_microsecond end ≡ utc_microsecond (date_and_time later.now)) }
         ensures leads_back { later.now.time.tz_offset ≡ earlier.now.time.tz_offset
-            → date_time_after (signed_length (parts result)) (date_time_parts earlier.now) ≡ Ok (date_time_parts later.now) }
+            → date_time_after (signed_length (duration_numbers result)) (date_and_time earlier.now) ≡ Ok (date_and_time later.now) }
         ensures days { result.day ≤ 3652426 }
     {
         Self::of_microseconds(utc_microsecond(later) - utc_microsecond(earlier))
@@ -44,17 +41,17 @@ impl Duration {
     /// is after the year 9999. [`Duration::before`] leads back.
     #[inline(always)]
     pub fn after(&self, start: &DateTime) -> Result<DateTime, ParseError>
-        ensures answer { result_map date_time_parts result ≡ date_time_after (signed_length (parts self.now)) (date_time_parts start.now) }
-        ensures ends { IfOk result (λ end. utc_microsecond (date_time_parts end)
-            ≡ utc_microsecond (date_time_parts start.now) +ℤ signed_length (parts self.now)) }
+        ensures answer { result gives date_time_after (signed_length (duration_numbers self.now)) (date_and_time start.now) }
+        ensures ends { IfOk result (λ end. utc_microsecond (date_and_time end)
+            ≡ utc_microsecond (date_and_time start.now) +ℤ signed_length (duration_numbers self.now)) }
         ensures offset { IfOk result (λ end. end.time.tz_offset ≡ start.now.time.tz_offset) }
-        ensures between { IfOk result (λ end. duration_between (date_time_parts start.now) (date_time_parts end)
-            ≡ with_positive_zero (parts self.now)) }
-        ensures order { (other : Duration) → IfOk result (λ end. IfOk (date_time_after (signed_length (parts other)) (date_time_parts start.now))
-            (λ next. int_cmp (utc_microsecond (date_time_parts end)) (utc_microsecond next)
-            ≡ int_cmp (signed_length (parts self.now)) (signed_length (parts other)))) }
-        ensures leads_back { IfOk result (λ end. date_time_after (neg_ℤ (signed_length (parts self.now))) (date_time_parts end)
-            ≡ Ok (date_time_parts start.now)) }
+        ensures between { IfOk result (λ end. duration_between (date_and_time start.now) (date_and_time end)
+            ≡ with_positive_zero (duration_numbers self.now)) }
+        ensures order { (other : Duration) → IfOk result (λ end. IfOk (date_time_after (signed_length (duration_numbers other)) (date_and_time start.now))
+            (λ next. int_cmp (utc_microsecond (date_and_time end)) (utc_microsecond next)
+            ≡ int_cmp (signed_length (duration_numbers self.now)) (signed_length (duration_numbers other)))) }
+        ensures leads_back { IfOk result (λ end. date_time_after (neg_ℤ (signed_length (duration_numbers self.now))) (date_and_time end)
+            ≡ Ok (date_and_time start.now)) }
     {
         instant_date_time(self.end(start), start.time.tz_offset)
     }
@@ -64,19 +61,18 @@ impl Duration {
     /// of [`Duration::after`], which leads back.
     #[inline]
     pub fn before(&self, start: &DateTime) -> Result<DateTime, ParseError>
-        ensures answer { result_map date_time_parts result
-            ≡ date_time_after (neg_ℤ (signed_length (parts self.now))) (date_time_parts start.now) }
-        ensures ends { IfOk result (λ end. utc_microsecond (date_time_parts end)
-            ≡ utc_microsecond (date_time_parts start.now) -ℤ signed_length (parts self.now)) }
+        ensures answer { result gives date_time_after (neg_ℤ (signed_length (duration_numbers self.now))) (date_and_time start.now) }
+        ensures ends { IfOk result (λ end. utc_microsecond (date_and_time end)
+            ≡ utc_microsecond (date_and_time start.now) -ℤ signed_length (duration_numbers self.now)) }
         ensures offset { IfOk result (λ end. end.time.tz_offset ≡ start.now.time.tz_offset) }
-        ensures between { IfOk result (λ end. duration_between (date_time_parts end) (date_time_parts start.now)
-            ≡ with_positive_zero (parts self.now)) }
+        ensures between { IfOk result (λ end. duration_between (date_and_time end) (date_and_time start.now)
+            ≡ with_positive_zero (duration_numbers self.now)) }
         ensures order { (other : Duration) → IfOk result (λ end.
-            IfOk (date_time_after (neg_ℤ (signed_length (parts other))) (date_time_parts start.now))
-            (λ next. int_cmp (utc_microsecond (date_time_parts end)) (utc_microsecond next)
-            ≡ int_cmp (signed_length (parts other)) (signed_length (parts self.now)))) }
-        ensures leads_back { IfOk result (λ end. date_time_after (signed_length (parts self.now)) (date_time_parts end)
-            ≡ Ok (date_time_parts start.now)) }
+            IfOk (date_time_after (neg_ℤ (signed_length (duration_numbers other))) (date_and_time start.now))
+            (λ next. int_cmp (utc_microsecond (date_and_time end)) (utc_microsecond next)
+            ≡ int_cmp (signed_length (duration_numbers other)) (signed_length (duration_numbers self.now)))) }
+        ensures leads_back { IfOk result (λ end. date_time_after (signed_length (duration_numbers self.now)) (date_and_time end)
+            ≡ Ok (date_and_time start.now)) }
     {
         self.negated().after(start)
     }
@@ -84,8 +80,8 @@ impl Duration {
     /// The duration with the other sign: -PT1S for PT1S, and PT0S for -PT0S.
     #[inline]
     pub fn negated(&self) -> Duration
-        ensures numbers { parts result ≡ negated (parts self.now) }
-        ensures length { signed_length (parts result) ≡ neg_ℤ (signed_length (parts self.now)) }
+        ensures numbers { duration_numbers result ≡ negated (duration_numbers self.now) }
+        ensures length { signed_length (duration_numbers result) ≡ neg_ℤ (signed_length (duration_numbers self.now)) }
     {
         Duration {
             positive: !self.positive,
@@ -95,12 +91,43 @@ impl Duration {
         }
     }
 
+    /// The duration of so many microseconds.
+    #[inline]
+    fn of_microseconds(length: i64) -> Duration
+        ensures numbers { duration_numbers result ≡ duration_of_length length }
+    {
+        let size = length.unsigned_abs();
+        let (seconds, per_day) = (size / 1_000_000, u64::from(SECONDS_PER_DAY));
+        Duration {
+            positive: length >= 0,
+            day: (seconds / per_day) as u32,
+            second: (seconds % per_day) as u32,
+            microsecond: (size % 1_000_000) as u32,
+        }
+    }
+
+    /// The instant this long after a date-time, as a clock at its offset shows it.
+    #[inline]
+    fn end(&self, start: &DateTime) -> UnixTime
+        ensures instant { instant_of result
+            ≡ instant_at (local_microsecond (date_and_time start.now) +ℤ signed_length (duration_numbers self.now)) }
+    {
+        carried(
+            start.timestamp() + self.signed_total_seconds(),
+            start.time.microsecond as i32 + self.signed_microseconds(),
+        )
+    }
+}
+
+impl Duration {
+    ghost use Rattle.speedate_civil.specs.Date.{ymd, ◌gives◌};
+
     /// The duration from one date to another, whole days: two days from 2020-02-28 to 2020-03-01. It is
     /// negative where `later` is the earlier one.
     #[inline]
     pub fn between_dates(earlier: &Date, later: &Date) -> Duration
-        ensures answer { parts result ≡ duration_between_dates (date_parts earlier.now) (date_parts later.now) }
-        ensures leads_back { date_after_days (parts result) (date_parts earlier.now) ≡ Ok (date_parts later.now) }
+        ensures answer { duration_numbers result ≡ duration_between_dates (ymd earlier.now) (ymd later.now) }
+        ensures leads_back { date_after_days (duration_numbers result) (ymd earlier.now) ≡ Ok (ymd later.now) }
     {
         let days = later.days_since(earlier);
         Duration {
@@ -121,9 +148,9 @@ impl Duration {
     ///   9999.
     #[inline]
     pub fn after_date(&self, start: &Date) -> Result<Date, ParseError>
-        ensures answer { result_map date_parts result ≡ date_after_days (parts self.now) (date_parts start.now) }
-        ensures days { IfOk result (λ end. days_between (date_parts start.now) (date_parts end) ≡ signed_days (parts self.now)) }
-        ensures leads_back { IfOk result (λ end. date_after_days (negated (parts self.now)) (date_parts end) ≡ Ok (date_parts start.now)) }
+        ensures answer { result gives date_after_days (duration_numbers self.now) (ymd start.now) }
+        ensures days { IfOk result (λ end. days_between (ymd start.now) (ymd end) ≡ signed_days (duration_numbers self.now)) }
+        ensures leads_back { IfOk result (λ end. date_after_days (negated (duration_numbers self.now)) (ymd end) ≡ Ok (ymd start.now)) }
     {
         if self.second != 0 || self.microsecond != 0 {
             return Err(ParseError::DateNotExact);
@@ -141,38 +168,11 @@ impl Duration {
     /// two days and 2020-03-01. The faults are those of [`Duration::after_date`], which leads back.
     #[inline]
     pub fn before_date(&self, start: &Date) -> Result<Date, ParseError>
-        ensures answer { result_map date_parts result ≡ date_after_days (negated (parts self.now)) (date_parts start.now) }
-        ensures days { IfOk result (λ end. days_between (date_parts end) (date_parts start.now) ≡ signed_days (parts self.now)) }
-        ensures leads_back { IfOk result (λ end. date_after_days (parts self.now) (date_parts end) ≡ Ok (date_parts start.now)) }
+        ensures answer { result gives date_after_days (negated (duration_numbers self.now)) (ymd start.now) }
+        ensures days { IfOk result (λ end. days_between (ymd end) (ymd start.now) ≡ signed_days (duration_numbers self.now)) }
+        ensures leads_back { IfOk result (λ end. date_after_days (duration_numbers self.now) (ymd end) ≡ Ok (ymd start.now)) }
     {
         self.negated().after_date(start)
-    }
-
-    /// The duration of so many microseconds.
-    #[inline]
-    fn of_microseconds(length: i64) -> Duration
-        ensures numbers { parts result ≡ duration_of_length length }
-    {
-        let size = length.unsigned_abs();
-        let (seconds, per_day) = (size / 1_000_000, u64::from(SECONDS_PER_DAY));
-        Duration {
-            positive: length >= 0,
-            day: (seconds / per_day) as u32,
-            second: (seconds % per_day) as u32,
-            microsecond: (size % 1_000_000) as u32,
-        }
-    }
-
-    /// The instant this long after a date-time, as a clock at its offset shows it.
-    #[inline]
-    fn end(&self, start: &DateTime) -> UnixTime
-        ensures instant { instant_parts result
-            ≡ instant_at (local_microsecond (date_time_parts start.now) +ℤ signed_length (parts self.now)) }
-    {
-        carried(
-            start.timestamp() + self.signed_total_seconds(),
-            start.time.microsecond as i32 + self.signed_microseconds(),
-        )
     }
 }
 
@@ -180,7 +180,7 @@ impl Duration {
 #[inline]
 fn carried(second: i64, microsecond: i32) -> UnixTime
     requires { unsigned_abs second < 100000000000000 }
-    ensures instant { instant_parts result ≡ instant_at (pos 1000000 *ℤ second +ℤ microsecond) }
+    ensures instant { instant_of result ≡ instant_at (pos 1000000 *ℤ second +ℤ microsecond) }
 {
     UnixTime {
         second: second + i64::from(microsecond.div_euclid(1_000_000)),
@@ -191,7 +191,7 @@ fn carried(second: i64, microsecond: i32) -> UnixTime
 /// The microsecond since 1970-01-01T00:00:00 in UTC at which a date-time lies.
 #[inline]
 fn utc_microsecond(value: &DateTime) -> i64
-    ensures microsecond { result ≡ utc_microsecond (date_time_parts value.now) }
+    ensures microsecond { result ≡ utc_microsecond (date_and_time value.now) }
     ensures small { unsigned_abs result < 500000000000000000 }
 {
     1_000_000 * value.timestamp_tz() + i64::from(value.time.microsecond)

@@ -2,7 +2,7 @@
 
 ghost use Rattle.std.specs.Prelude.{◌≡◌, ◌+◌, ◌-◌, ◌^◌, ◌<◌, ◌≤◌, length, min, position, ◌==◌, false, Ok, Err, IfOk, IsTrue};
 ghost use Rattle.speedate_base.specs.Ascii.{colon};
-ghost use Rattle.speedate_base.specs.DigitRuns.{run_length, run_value};
+ghost use Rattle.speedate_base.specs.Digits.{run_length, run_value};
 ghost use Rattle.speedate_base.specs.Requirement.{meets, result_map};
 ghost use Rattle.speedate.specs.ClockForm.{colon_place, from_minute, has_hours, hours_table, after_hours, clock_form};
 
@@ -22,7 +22,7 @@ const HOURS_MAX: u64 = 2_400_000_000;
 const REST_LENGTH_MAX: usize = 12;
 
 impl UnsignedDuration {
-    ghost use Rattle.speedate.specs.Duration.{unsigned_parts};
+    ghost use Rattle.speedate.specs.Duration.{unsigned_numbers};
 
     /// Reads a duration as a clock shows it, whose hours are the digits at its front: a day, an hour
     /// and three seconds from `b"25:00:03"`.
@@ -35,7 +35,7 @@ impl UnsignedDuration {
     ) -> Result<Self, ParseError>
         requires length { hours.length ≡ run_length bytes.now 0 }
         requires value { hours.value ≡ min (run_value bytes.now 0) (2 ^ 64 - 1) }
-        ensures answer { result_map unsigned_parts result ≡ clock_form behavior bytes.now }
+        ensures answer { result_map unsigned_numbers result ≡ clock_form behavior bytes.now }
     {
         let end = hours_end(bytes, hours.length)?;
         Self::after_hours(&bytes[end + 1..], hours.value, behavior)
@@ -48,7 +48,7 @@ impl UnsignedDuration {
         hours: u64,
         behavior: MicrosecondsPrecisionOverflowBehavior,
     ) -> Result<Self, ParseError>
-        ensures answer { result_map unsigned_parts result ≡ after_hours behavior hours rest.now }
+        ensures answer { result_map unsigned_numbers result ≡ after_hours behavior hours rest.now }
     {
         if hours > HOURS_MAX {
             return Err(ParseError::DurationHourValueTooLarge);

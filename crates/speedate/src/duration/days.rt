@@ -2,7 +2,7 @@
 
 ghost use Rattle.std.specs.Prelude.{◌≡◌, ℕ, List, ◌-◌, ◌^◌, min, codes, ◌∷◌, [], Some, None, Ok, if◌then◌else◌};
 ghost use Rattle.speedate_base.specs.Requirement.{meets, result_map};
-ghost use Rattle.speedate_base.specs.DigitRuns.{run_length, run_value};
+ghost use Rattle.speedate_base.specs.Digits.{run_length, run_value};
 ghost use Rattle.speedate.specs.DayForm.{after_one_of, day_endings, gaps, has_whole_ending, is_day_letter, after_gap, days_table, after_days, day_form};
 ghost use Rattle.std.specs.Option.{option_map};
 
@@ -12,7 +12,7 @@ use speedate_base::faults::ParseError;
 use speedate_base::numbers::{DigitRun, byte_at, digit_run};
 
 impl UnsignedDuration {
-    ghost use Rattle.speedate.specs.Duration.{unsigned_parts};
+    ghost use Rattle.speedate.specs.Duration.{unsigned_numbers};
 
     /// Reads a duration whose days, the digits at its front, come first: a day and ten hours from
     /// `b"1 day, 10:00"`.
@@ -25,7 +25,7 @@ impl UnsignedDuration {
     ) -> Result<Self, ParseError>
         requires length { days.length ≡ run_length bytes.now 0 }
         requires value { days.value ≡ min (run_value bytes.now 0) (2 ^ 64 - 1) }
-        ensures answer { result_map unsigned_parts result ≡ day_form behavior bytes.now }
+        ensures answer { result_map unsigned_numbers result ≡ day_form behavior bytes.now }
     {
         let (count, rest) = days_at_front(bytes, days)?;
         Self::after_days(rest, count, behavior)
@@ -39,7 +39,7 @@ impl UnsignedDuration {
         days: u32,
         behavior: MicrosecondsPrecisionOverflowBehavior,
     ) -> Result<Self, ParseError>
-        ensures answer { result_map unsigned_parts result ≡ after_days behavior days rest.now }
+        ensures answer { result_map unsigned_numbers result ≡ after_days behavior days rest.now }
     {
         let (second, microsecond) = if rest.is_empty() {
             (0, 0)

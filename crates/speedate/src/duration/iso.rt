@@ -3,12 +3,12 @@
 ghost use Rattle.std.specs.Prelude.{◌≡◌, ◌+◌, ◌-◌, ◌*◌, ◌^◌, ◌<◌, ◌≤◌, ◌&&◌, nat_le, nat_lt, min, length, take, drop, slice_index, IsTrue, Bool, true, false, Ok, Err, IfOk, IfErr, IfSome, [], if◌then◌else◌};
 ghost use Rattle.std.specs.Char.{is_ascii_digit};
 ghost use Rattle.std.specs.List.{list_all};
-ghost use Rattle.speedate_base.specs.DigitRuns.{run_length, run_value, digits_value, fraction_value};
+ghost use Rattle.speedate_base.specs.Digits.{run_length, run_value, digits_value, fraction_value, is_decimal_mark};
 ghost use Rattle.std.specs.Option.{ForSome, option_map, is_some};
 ghost use Rattle.speedate_base.specs.declared.faults.ParseError.TheVariants as fault;
 ghost use Rattle.speedate_base.specs.Ascii.{capital_t};
 ghost use Rattle.speedate_base.specs.Requirement.{result_map, with_size};
-ghost use Rattle.speedate.specs.IsoForm.{Component, TimeDesignator, units, unit_in, is_decimal_mark, fraction_length, unit_seconds, next_units_after, fraction_seconds, fraction_microseconds, component_at, item_at, are_counted, with_amount, with_item, item_table, sums_length, no_sums};
+ghost use Rattle.speedate.specs.IsoForm.{Component, TimeDesignator, units, unit_in, fraction_length, unit_seconds, next_units_after, fraction_seconds, fraction_microseconds, component_at, item_at, are_counted, with_amount, with_item, item_table, sums_length, no_sums};
 
 use super::unsigned::UnsignedDuration;
 use speedate_base::config::IsoOrder;
@@ -129,8 +129,7 @@ pub(super) struct Sums {
 }
 
 impl Sums {
-    ghost use Rattle.speedate.specs.Duration.{unsigned_parts};
-    ghost use Rattle.speedate.specs.DurationAnswer.{iso_from, iso_form};
+    ghost use Rattle.speedate.specs.Duration.{unsigned_numbers, iso_from, iso_form};
     ghost use Rattle.speedate.specs.Reader.{unit_parts, IsUnitOf, sums_parts, item_front};
 
     /// Reads all items of a duration, and adds them up.
@@ -139,7 +138,7 @@ impl Sums {
     /// again. These are read straight on, and what is left is read item by item.
     #[inline(always)]
     pub(super) fn read(body: &[u8], order: IsoOrder) -> Result<UnsignedDuration, ParseError>
-        ensures answer { result_map unsigned_parts result ≡ iso_form order body.now }
+        ensures answer { result_map unsigned_numbers result ≡ iso_form order body.now }
     {
         let none = Sums {
             order,
@@ -263,7 +262,7 @@ impl Sums {
     /// The length that all items add up to, if a component is among them.
     #[inline(always)]
     fn length(self) -> Result<UnsignedDuration, ParseError>
-        ensures answer { result_map unsigned_parts result ≡ (if self.some then Ok (sums_length (sums_parts self)) else Err fault.TooShort) }
+        ensures answer { result_map unsigned_numbers result ≡ (if self.some then Ok (sums_length (sums_parts self)) else Err fault.TooShort) }
     {
         if !self.some {
             return Err(ParseError::TooShort);
@@ -278,7 +277,7 @@ impl Sums {
     /// Reads the items of a text one by one, with all that may be wrong in them, and adds them.
     #[inline(always)]
     fn with_items(self, text: &[u8]) -> Result<UnsignedDuration, ParseError>
-        ensures answer { result_map unsigned_parts result ≡ iso_from (sums_parts self) text.now }
+        ensures answer { result_map unsigned_numbers result ≡ iso_from (sums_parts self) text.now }
     {
         let mut sums = self;
         let mut rest = text;

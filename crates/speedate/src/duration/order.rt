@@ -5,31 +5,42 @@ ghost use Rattle.std.proofs.Common.{rules};
 ghost use Rattle.std.specs.Cmp.{po, on_total};
 ghost use Rattle.std.specs.Cmp.Rules.{comparing};
 ghost use Rattle.std.specs.Ordering.{on, as_partial_cmp, bool_cmp, int_cmp, ordering_then};
-ghost use Rattle.speedate.specs.Duration.{parts};
-ghost use Rattle.speedate.specs.DurationMove.{signed_length};
-ghost use Rattle.speedate.specs.DurationOrderTotal.{duration_order-total};
-ghost use Rattle.speedate.specs.DurationOrder.{size_order, duration_order};
+ghost use Rattle.speedate.specs.Duration.{duration_numbers, signed_length};
+ghost use Rattle.speedate.specs.DurationNumbers.{duration_order-total, duration_order, signed_day, signed_second, signed_microsecond};
 
 use super::Duration;
 use std::cmp::Ordering;
 
+/// What durations are ordered by.
+#[derive(Clone, Copy, PartialEq, Eq, PartialOrd, Ord)]
+struct Key {
+    positive: bool,
+    day: i32,
+    second: i32,
+    microsecond: i32,
+}
+
 impl Duration {
-    /// Which of two durations is the shorter one, whatever their signs.
-    #[inline]
-    fn size_cmp(&self, other: &Duration) -> Ordering
-        ensures order { result ≡ size_order (parts self.now) (parts other.now) }
+    fn key(&self) -> Key
+        ensures positive { result.positive ≡ self.now.positive }
+        ensures day { result.day ≡ signed_day (duration_numbers self.now) }
+        ensures second { result.second ≡ signed_second (duration_numbers self.now) }
+        ensures microsecond { result.microsecond ≡ signed_microsecond (duration_numbers self.now) }
     {
-        self.day
-            .cmp(&other.day)
-            .then(self.second.cmp(&other.second))
-            .then(self.microsecond.cmp(&other.microsecond))
+        let sign = if self.positive { 1 } else { -1 };
+        Key {
+            positive: self.positive,
+            day: sign * self.day as i32,
+            second: sign * self.second as i32,
+            microsecond: sign * self.microsecond as i32,
+        }
     }
 }
 
 impl Ord for Duration {
-    ghost cmp = { on parts duration_order };
+    ghost cmp = { on duration_numbers duration_order };
 
-    ghost total = { on_total parts duration_order-total };
+    ghost total = { on_total duration_numbers duration_order-total };
 
     ghost matches_partial_cmp = { Prim.search (comparing, rules) };
 
@@ -40,30 +51,25 @@ impl Ord for Duration {
     /// zero: -PT2S, -PT1S, -PT0S, PT0S and PT1S are in order.
     #[inline]
     fn cmp(&self, other: &Duration) -> Ordering
-        ensures order { result ≡ duration_order (parts self.now) (parts other.now) }
-        ensures length { result ≡ ordering_then (int_cmp (signed_length (parts self.now)) (signed_length (parts other.now)))
+        ensures order { result ≡ duration_order (duration_numbers self.now) (duration_numbers other.now) }
+        ensures length { result ≡ ordering_then (int_cmp (signed_length (duration_numbers self.now)) (signed_length (duration_numbers other.now)))
             (bool_cmp self.now.positive other.now.positive) }
     {
-        match (self.positive, other.positive) {
-            (true, true) => self.size_cmp(other),
-            (false, false) => other.size_cmp(self),
-            (false, true) => Ordering::Less,
-            (true, false) => Ordering::Greater,
-        }
+        self.key().cmp(&other.key())
     }
 }
 
 impl PartialOrd for Duration {
-    ghost partial_cmp = { as_partial_cmp (on parts duration_order) };
+    ghost partial_cmp = { as_partial_cmp (on duration_numbers duration_order) };
 
-    ghost laws = { po (on_total parts duration_order-total) (Prim.search (comparing, rules)) };
+    ghost laws = { po (on_total duration_numbers duration_order-total) (Prim.search (comparing, rules)) };
 
     /// What [`Duration::cmp`] returns, since any two durations have an order:
     /// `Some(Ordering::Less)` for -PT0S and PT0S.
     #[inline]
     fn partial_cmp(&self, other: &Duration) -> Option<Ordering>
-        ensures order { result ≡ Some (duration_order (parts self.now) (parts other.now)) }
-        ensures length { result ≡ Some (ordering_then (int_cmp (signed_length (parts self.now)) (signed_length (parts other.now)))
+        ensures order { result ≡ Some (duration_order (duration_numbers self.now) (duration_numbers other.now)) }
+        ensures length { result ≡ Some (ordering_then (int_cmp (signed_length (duration_numbers self.now)) (signed_length (duration_numbers other.now)))
             (bool_cmp self.now.positive other.now.positive)) }
     {
         Some(self.cmp(other))

@@ -4,7 +4,7 @@ ghost use Rattle.std.specs.Prelude.{◌≡◌, ◌≢◌, ◌+◌, ◌++◌, ◌
 ghost use Rattle.std.specs.Fmt.{decimal};
 ghost use Rattle.arrayvec.specs.ArrayString.{array_string_len};
 ghost use Rattle.speedate_base.specs.Digits.{two_digit_text, six_digit_text};
-ghost use Rattle.speedate.specs.DurationText.{counted_text, without_last_zeros, short_fraction_text, seconds_text, rest_text, duration_text};
+ghost use Rattle.speedate.specs.Duration.{counted_text, without_last_zeros, short_fraction_text, seconds_text, rest_text, duration_text};
 
 use super::Duration;
 use arrayvec::ArrayString;
@@ -154,8 +154,7 @@ impl Duration {
     ghost use Rattle.speedate_base.specs.declared.config.TimeConfig.{TimeConfig};
     ghost use Rattle.speedate_base.specs.Requirement.{result_map};
     ghost use Rattle.speedate.specs.declared.duration.Duration.{Duration};
-    ghost use Rattle.speedate.specs.Duration.{parts};
-    ghost use Rattle.speedate.specs.DurationAnswer.{duration_answer};
+    ghost use Rattle.speedate.specs.Duration.{duration_numbers, duration_answer};
 
     /// The canonical text: `-` if the duration is negative, `P`, the years of 365 days and the days,
     /// and after a `T` the hours, minutes and seconds, each if it is not 0: `-P1Y2DT3H4M5.06S`. The
@@ -165,14 +164,14 @@ impl Duration {
     /// Every configuration reads it back as the duration. No other duration has the same text.
     #[inline]
     pub fn to_text(&self) -> ArrayString<TEXT_MAX>
-        ensures text { result.bytes ≡ duration_text (parts self.now) }
+        ensures text { result.bytes ≡ duration_text (duration_numbers self.now) }
         ensures reads_back { (config : TimeConfig)
-            → duration_answer config.iso_order config.microseconds_precision_overflow_behavior result.bytes ≡ Ok (parts self.now) }
+            → duration_answer config.iso_order config.microseconds_precision_overflow_behavior result.bytes ≡ Ok (duration_numbers self.now) }
         ensures canonical { (config : TimeConfig)
             → result_map duration_text (duration_answer config.iso_order config.microseconds_precision_overflow_behavior result.bytes)
             ≡ Ok result.bytes }
         ensures distinct { (other : Duration)
-            → (result.bytes ≡ duration_text (parts other)) ↔ (parts self.now ≡ parts other) }
+            → (result.bytes ≡ duration_text (duration_numbers other)) ↔ (duration_numbers self.now ≡ duration_numbers other) }
     {
         let mut text = ArrayString::new();
         self.push_onto(&mut text);
@@ -185,7 +184,7 @@ impl Duration {
     #[inline(always)]
     pub fn push_onto<const LENGTH: usize>(&self, text: &mut ArrayString<LENGTH>)
         requires room { array_string_len text.old + TEXT_MAX ≤ LENGTH }
-        ensures text { text.new.bytes ≡ text.old.bytes ++ duration_text (parts self.now) }
+        ensures text { text.new.bytes ≡ text.old.bytes ++ duration_text (duration_numbers self.now) }
         ensures short { array_string_len text.new ≤ array_string_len text.old + TEXT_MAX }
     {
         text.push_str(if self.positive { "P" } else { "-P" });
@@ -199,7 +198,7 @@ impl Duration {
     #[inline(always)]
     fn push_rest<const LENGTH: usize>(&self, text: &mut ArrayString<LENGTH>)
         requires room { array_string_len text.old + 17 ≤ LENGTH }
-        ensures text { text.new.bytes ≡ text.old.bytes ++ rest_text (parts self.now) }
+        ensures text { text.new.bytes ≡ text.old.bytes ++ rest_text (duration_numbers self.now) }
         ensures short { array_string_len text.new ≤ array_string_len text.old + 17 }
     {
         if self.second == 0 && self.microsecond == 0 {
@@ -216,11 +215,11 @@ impl Duration {
 }
 
 impl fmt::Display for Duration {
-    ghost use Rattle.speedate.specs.Duration.{parts};
+    ghost use Rattle.speedate.specs.Duration.{duration_numbers};
 
-    ghost output = { λ duration. Some (duration_text (parts duration)) };
+    ghost output = { λ duration. Some (duration_text (duration_numbers duration)) };
 
-    ghost styled_output = { λ duration _. Some (duration_text (parts duration)) };
+    ghost styled_output = { λ duration _. Some (duration_text (duration_numbers duration)) };
 
     fn fmt<W: fmt::Write>(&self, f: &mut fmt::Formatter<W>) -> fmt::Result {
         f.write_str(self.to_text().as_str())

@@ -2,12 +2,11 @@
 
 ghost use Rattle.std.specs.Prelude.{◌≡◌, ◌-◌, ◌^◌, ◌≤◌, length, min};
 ghost use Rattle.std.specs.List.{list_any};
-ghost use Rattle.speedate_base.specs.DigitRuns.{run_length, run_value};
+ghost use Rattle.speedate_base.specs.Digits.{run_length, run_value};
 ghost use Rattle.speedate_base.specs.Requirement.{result_map};
 ghost use Rattle.speedate.specs.ClockForm.{clock_form};
 ghost use Rattle.speedate.specs.DayForm.{is_day_letter};
-ghost use Rattle.speedate.specs.Duration.{unsigned_parts};
-ghost use Rattle.speedate.specs.DurationAnswer.{has_days, form_answer, unsigned_answer};
+ghost use Rattle.speedate.specs.Duration.{unsigned_numbers, has_days, form_answer, unsigned_answer};
 
 use super::days::is_day_letter;
 use super::iso::Sums;
@@ -25,14 +24,14 @@ pub(super) struct UnsignedDuration {
 
 impl UnsignedDuration {
     /// Reads a duration whose sign was read, in the form that its text has.
-    #[tactic(auto, unfolding(crate::specs::DurationAnswer::unsigned_answer))]
+    #[tactic(auto, unfolding(crate::specs::Duration::unsigned_answer))]
     #[inline(always)]
     pub(super) fn parse(
         bytes: &[u8],
         order: IsoOrder,
         behavior: MicrosecondsPrecisionOverflowBehavior,
     ) -> Result<Self, ParseError>
-        ensures answer { result_map unsigned_parts result ≡ unsigned_answer order behavior bytes.now }
+        ensures answer { result_map unsigned_numbers result ≡ unsigned_answer order behavior bytes.now }
     {
         if byte_at(bytes, 0) == b'P' {
             return Sums::read(&bytes[1..], order);
@@ -41,13 +40,13 @@ impl UnsignedDuration {
     }
 
     /// Reads a duration of days, or one that a clock shows.
-    #[tactic(auto, unfolding(crate::specs::DurationAnswer::form_answer))]
+    #[tactic(auto, unfolding(crate::specs::Duration::form_answer))]
     #[inline(always)]
     fn days_or_clock(
         bytes: &[u8],
         behavior: MicrosecondsPrecisionOverflowBehavior,
     ) -> Result<Self, ParseError>
-        ensures answer { result_map unsigned_parts result ≡ form_answer behavior bytes.now }
+        ensures answer { result_map unsigned_numbers result ≡ form_answer behavior bytes.now }
     {
         if bytes.is_empty() {
             return Err(ParseError::TooShort);
@@ -75,7 +74,7 @@ impl UnsignedDuration {
     ) -> Result<Self, ParseError>
         requires length { hours.length ≡ run_length bytes.now 0 }
         requires value { hours.value ≡ min (run_value bytes.now 0) (2 ^ 64 - 1) }
-        ensures answer { result_map unsigned_parts result ≡ clock_form behavior bytes.now }
+        ensures answer { result_map unsigned_numbers result ≡ clock_form behavior bytes.now }
     {
         Self::from_clock(bytes, hours, behavior)
     }

@@ -3,8 +3,7 @@
 ghost use Rattle.std.specs.Prelude.{◌≡◌, ◌+◌, ◌<◌, ◌≤◌, length, nat_le, replicate, take};
 ghost use Rattle.speedate_base.specs.Ascii.{digit_zero};
 ghost use Rattle.speedate_base.specs.Config.{refuses_digits};
-ghost use Rattle.speedate_base.specs.DigitRuns.{run_length, run_digits, fraction_value};
-ghost use Rattle.speedate_base.specs.Pattern.{fit_length};
+ghost use Rattle.speedate_base.specs.Digits.{run_length, run_digits, fraction_value, fit_length};
 ghost use Rattle.speedate_base.specs.Requirement.{◌implies◌};
 
 use super::digits::run_end;

@@ -25,14 +25,13 @@ pub struct Decimal<'a> {
 
 impl<'a> Decimal<'a> {
     ghost use Rattle.std.specs.Option.{option_map};
-    ghost use Rattle.speedate_base.specs.IntFloat.{parts};
-    ghost use Rattle.speedate_base.specs.Numbers.{decimal_of_digits};
+    ghost use Rattle.speedate_base.specs.Numbers.{decimal_of, decimal_of_digits};
 
     /// The decimal of a sign and the digits before and after its point: that of `"-1.50"` for true,
     /// `b"1"` and `b"50"`. `None` if a byte is no digit, or if there is no digit at all.
     #[inline]
     pub fn new(negative: bool, whole: &'a [u8], fraction: &'a [u8]) -> Option<Self>
-        ensures answer { option_map parts result
+        ensures answer { option_map decimal_of result
             ≡ decimal_of_digits (record { negative = negative; whole = whole.now; fraction = fraction.now }) }
     {
         if !are_digits(whole)
@@ -69,7 +68,7 @@ pub enum IntFloat<'a> {
 }
 
 impl IntFloat<'_> {
-    ghost use Rattle.speedate_base.specs.IntFloat.{is_no_number};
+    ghost use Rattle.speedate_base.specs.Numbers.{is_no_number};
 
     /// Whether it is `Err`: true for the answer to `"1.5e3"`.
     #[inline]

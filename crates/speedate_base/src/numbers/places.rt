@@ -2,7 +2,7 @@
 
 ghost use Rattle.std.specs.Prelude.{◌≡◌, ◌+◌, ◌≤◌, Some, None, length, slice_index, if◌then◌else◌};
 ghost use Rattle.std.specs.Char.{is_ascii_digit};
-ghost use Rattle.speedate_base.specs.Digits.{one_digit_value, two_digits_at, two_digit_value};
+ghost use Rattle.speedate_base.specs.Digits.{is_decimal_mark, one_digit_value, two_digits_at, two_digit_value};
 
 /// The number that the two digits from `place` on spell: 7 for `b"07"` at place 0. `None` if one of the
 /// two bytes is no digit. The text has both, which is a condition on the caller.
@@ -35,4 +35,12 @@ pub fn byte_at(bytes: &[u8], place: usize) -> u8
     ensures byte { result ≡ slice_index bytes.now place }
 {
     if place < bytes.len() { bytes[place] } else { 0 }
+}
+
+/// Whether a byte is a decimal mark, `.` or `,`: both are in ISO 8601.
+#[inline]
+pub fn is_decimal_mark(byte: u8) -> bool
+    ensures value { result ≡ is_decimal_mark byte }
+{
+    byte == b'.' || byte == b','
 }

@@ -3,15 +3,11 @@
 ghost use Rattle.std.specs.Prelude.{◌≡◌, ◌<◌, ◌≤◌, ◌^◌, ◌==◌, ◌*◌, length, IsTrue, IfOk, nat_le, if◌then◌else◌};
 ghost use Rattle.std.specs.Char.{is_ascii_digit};
 ghost use Rattle.std.specs.List.{list_all};
-ghost use Rattle.speedate_base.specs.DecimalTimestamp.{decimal_digits, decimal_scale, decimal_row, decimal_instant};
-ghost use Rattle.speedate_base.specs.UnixTime.{row};
-ghost use Rattle.speedate_base.specs.DigitRuns.{digits_value};
-ghost use Rattle.speedate_base.specs.IntFloat.{parts as decimal_parts};
+ghost use Rattle.speedate_base.specs.Timestamp.{decimal_digits, decimal_scale, decimal_row, decimal_instant, row, IsInYears, inferred_seconds_max, range_answer, instant_of};
+ghost use Rattle.speedate_base.specs.Digits.{digits_value};
+ghost use Rattle.speedate_base.specs.Numbers.{decimal_of, with_sign};
 ghost use Rattle.speedate_base.specs.Nearest.{nearest};
-ghost use Rattle.speedate_base.specs.Numbers.{with_sign};
 ghost use Rattle.speedate_base.specs.Requirement.{result_map};
-ghost use Rattle.speedate_base.specs.Timestamp.{IsInYears, inferred_seconds_max, range_answer};
-ghost use Rattle.speedate_base.specs.UnixTime.{parts};
 
 use super::rounding::{filled, nearest_microseconds};
 use super::unit::{MICROSECOND, MILLISECOND, SECOND, UnixUnit};
@@ -31,7 +27,7 @@ const FAR_MICROSECONDS: u64 = 1 << 60;
 /// 20,000,000,000, otherwise milliseconds.
 #[inline]
 pub fn decimal_unit(decimal: Decimal<'_>, unit: TimestampUnit) -> UnixUnit
-    ensures row { row result ≡ decimal_row unit (decimal_parts decimal.entry) }
+    ensures row { row result ≡ decimal_row unit (decimal_of decimal.entry) }
 {
     match unit {
         TimestampUnit::Second => SECOND,
@@ -51,8 +47,8 @@ pub fn decimal_unit(decimal: Decimal<'_>, unit: TimestampUnit) -> UnixUnit
 #[inline]
 #[tactic(auto, using(crate::proofs::DecimalLemmas::inferred_rules))]
 fn is_inferred_seconds(decimal: Decimal<'_>) -> bool
-    ensures { result ≡ nat_le (decimal_digits (decimal_parts decimal.entry))
-        (inferred_seconds_max * decimal_scale (decimal_parts decimal.entry)) }
+    ensures { result ≡ nat_le (decimal_digits (decimal_of decimal.entry))
+        (inferred_seconds_max * decimal_scale (decimal_of decimal.entry)) }
 {
     // Ten digits spell less than the bound, and twelve of which the first is not 0 spell more.
     if decimal.whole.len() <= 10 {
@@ -78,8 +74,8 @@ pub fn decimal_to_seconds_micros(
     decimal: Decimal<'_>,
     unit: UnixUnit,
 ) -> Result<UnixTime, ParseError>
-    ensures answer { result_map parts result ≡ range_answer (decimal_instant (row unit) (decimal_parts decimal.entry)) }
-    ensures within { IfOk result (λ time. IsInYears (parts time)) }
+    ensures answer { result_map instant_of result ≡ range_answer (decimal_instant (row unit) (decimal_of decimal.entry)) }
+    ensures within { IfOk result (λ time. IsInYears (instant_of time)) }
 {
     let whole = digits_number(decimal.whole).saturating_mul(unit.microseconds);
     if whole > FAR_MICROSECONDS {

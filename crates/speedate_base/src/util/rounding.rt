@@ -3,7 +3,7 @@
 ghost use Rattle.std.specs.Prelude.{◌≡◌, ℤ, ◌+◌, ◌-◌, ◌*◌, ◌^◌, ◌<◌, ◌≤◌, length, take, IsTrue, Bool};
 ghost use Rattle.std.specs.Char.{is_ascii_digit};
 ghost use Rattle.std.specs.List.{list_all};
-ghost use Rattle.speedate_base.specs.DigitRuns.{digits_value};
+ghost use Rattle.speedate_base.specs.Digits.{digits_value};
 ghost use Rattle.speedate_base.specs.Nearest.{IsNearest, nearest, quotient};
 ghost use Rattle.speedate_base.specs.Numbers.{with_sign};
 

@@ -23,13 +23,12 @@ pub struct UnixTime {
 impl UnixTime {
     ghost use Rattle.std.specs.Prelude.{IfOk, pos, ◌*ℤ◌};
     ghost use Rattle.speedate_base.specs.Requirement.{result_map};
-    ghost use Rattle.speedate_base.specs.Timestamp.{IsInYears, instant_at, range_answer};
-    ghost use Rattle.speedate_base.specs.UnixTime.{parts};
+    ghost use Rattle.speedate_base.specs.Timestamp.{IsInYears, instant_at, range_answer, instant_of};
 
     /// The instant of a timestamp in seconds.
     #[inline(always)]
     pub(super) fn from_seconds(timestamp: i64) -> Self
-        ensures { parts result ≡ instant_at (pos 1000000 *ℤ timestamp) }
+        ensures { instant_of result ≡ instant_at (pos 1000000 *ℤ timestamp) }
     {
         UnixTime {
             second: timestamp,
@@ -40,7 +39,7 @@ impl UnixTime {
     /// The instant of a timestamp in milliseconds: second -1 and 999,000 microseconds for -1.
     #[inline(always)]
     pub(super) fn from_milliseconds(timestamp: i64) -> Self
-        ensures { parts result ≡ instant_at (pos 1000 *ℤ timestamp) }
+        ensures { instant_of result ≡ instant_at (pos 1000 *ℤ timestamp) }
     {
         UnixTime {
             second: timestamp.div_euclid(1_000),
@@ -51,7 +50,7 @@ impl UnixTime {
     /// The instant of a timestamp in microseconds: second -1 and 999,999 microseconds for -1.
     #[inline(always)]
     pub(super) fn from_microseconds(timestamp: i64) -> Self
-        ensures { parts result ≡ instant_at timestamp }
+        ensures { instant_of result ≡ instant_at timestamp }
     {
         UnixTime {
             second: timestamp.div_euclid(1_000_000),
@@ -63,8 +62,8 @@ impl UnixTime {
     /// `DateTooSmall` before them and with `DateTooLarge` after them, as for second 253,402,300,800.
     #[inline]
     pub fn in_years(self) -> Result<Self, ParseError>
-        ensures answer { result_map parts result ≡ range_answer (parts self) }
-        ensures within { IfOk result (λ time. IsInYears (parts time)) }
+        ensures answer { result_map instant_of result ≡ range_answer (instant_of self) }
+        ensures within { IfOk result (λ time. IsInYears (instant_of time)) }
     {
         if self.second < FIRST_SECOND {
             return Err(ParseError::DateTooSmall);

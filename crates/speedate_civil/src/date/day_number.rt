@@ -5,9 +5,8 @@ ghost use Rattle.std.specs.Prelude.{◌≡◌, ◌+◌, ◌-◌, ◌*◌, ◌<�
 ghost use Rattle.std.specs.Int.{IsInRange};
 ghost use Rattle.std.specs.Option.{option_map};
 ghost use Rattle.speedate_base.specs.declared.config.TimestampUnit.TheVariants as unit;
-ghost use Rattle.speedate_civil.specs.Date.{parts};
-ghost use Rattle.speedate_civil.specs.DateTimestamp.{date_timestamp_answer};
-ghost use Rattle.speedate_civil.specs.DayNumber.{days_of_months, days_before_year, year_length, ordinal_day, day_number, date_after, date_numbered, next_date, midnight_second, midnight_millisecond};
+ghost use Rattle.speedate_civil.specs.Date.{ymd, date_timestamp_answer};
+ghost use Rattle.speedate_civil.specs.Calendar.{days_of_months, days_before_year, year_length, ordinal_day, day_number, date_after, date_numbered, next_date, midnight_second, midnight_millisecond};
 
 use super::{Date, is_leap_year, month_length};
 use speedate_base::util::SECONDS_PER_DAY;
@@ -104,7 +103,7 @@ fn day_of_year(year: u16, day: u16) -> Date
     requires year { year ≤ 9999 }
     requires day { day < year_length year }
     ensures year { result.year ≡ year }
-    ensures day { ordinal_day (parts result) ≡ day + 1 }
+    ensures day { ordinal_day (ymd result) ≡ day + 1 }
 {
     let february = u16::from(month_length(year, 2));
     let long_day = if day < 31 + february {
@@ -128,8 +127,8 @@ impl Date {
     /// before its month in that year, and of its day less one.
     #[inline]
     pub fn day_number(&self) -> u32
-        ensures number { result ≡ day_number (parts self.now) }
-        ensures numbered { date_numbered result ≡ Some (parts self.now) }
+        ensures number { result ≡ day_number (ymd self.now) }
+        ensures numbered { date_numbered result ≡ Some (ymd self.now) }
     {
         let years = u32::from(self.year) + 399;
         let centuries = years / 100;
@@ -141,8 +140,8 @@ impl Date {
     /// `None` if the number is over 3,652,424, that of 9999-12-31.
     #[inline]
     pub fn from_day_number(number: u32) -> Option<Self>
-        ensures date { option_map parts result ≡ date_numbered number }
-        ensures number { IfSome result (λ date. day_number (parts date) ≡ number) }
+        ensures date { option_map ymd result ≡ date_numbered number }
+        ensures number { IfSome result (λ date. day_number (ymd date) ≡ number) }
     {
         if number > LAST_DAY_NUMBER {
             return None;
@@ -154,8 +153,8 @@ impl Date {
     #[inline]
     pub(crate) fn numbered(number: u32) -> Self
         requires { number ≤ 3652424 }
-        ensures date { parts result ≡ date_after number }
-        ensures number { day_number (parts result) ≡ number }
+        ensures date { ymd result ≡ date_after number }
+        ensures number { day_number (ymd result) ≡ number }
     {
         let (century, day) = century(number % CYCLE_DAYS);
         let (year, day) = year_of_century(century, day);
@@ -166,8 +165,8 @@ impl Date {
     /// The day after the date: 2000-01-01 for 1999-12-31. `None` for 9999-12-31.
     #[inline]
     pub fn next_day(&self) -> Option<Self>
-        ensures date { option_map parts result ≡ next_date (parts self.now) }
-        ensures number { IfSome result (λ next. day_number (parts next) ≡ day_number (parts self.now) + 1) }
+        ensures date { option_map ymd result ≡ next_date (ymd self.now) }
+        ensures number { IfSome result (λ next. day_number (ymd next) ≡ day_number (ymd self.now) + 1) }
     {
         if self.day < month_length(self.year, self.month) {
             Some(Date {
@@ -195,7 +194,7 @@ impl Date {
     /// The day of the year, 1 to 366: 366 for 2020-12-31 (ISO 8601, ordinal date).
     #[inline]
     pub fn ordinal_day(&self) -> u16
-        ensures day { result ≡ ordinal_day (parts self.now) }
+        ensures day { result ≡ ordinal_day (ymd self.now) }
     {
         days_before_month(self.year, self.month) + u16::from(self.day)
     }
@@ -206,8 +205,8 @@ impl Date {
     #[inline]
     #[tactic(auto, using(speedate_base::proofs::TimestampLemmas::instant_of_seconds))]
     pub fn timestamp(&self) -> i64
-        ensures second { result ≡ midnight_second (parts self.now) }
-        ensures leads_back { (exact : Bool) → date_timestamp_answer unit.Second exact result ≡ Ok (parts self.now) }
+        ensures second { result ≡ midnight_second (ymd self.now) }
+        ensures leads_back { (exact : Bool) → date_timestamp_answer unit.Second exact result ≡ Ok (ymd self.now) }
     {
         (i64::from(self.day_number()) - UNIX_EPOCH) * i64::from(SECONDS_PER_DAY)
     }
@@ -216,7 +215,7 @@ impl Date {
     /// is a thousand times [`Date::timestamp`].
     #[inline]
     pub fn timestamp_ms(&self) -> i64
-        ensures millisecond { result ≡ midnight_millisecond (parts self.now) }
+        ensures millisecond { result ≡ midnight_millisecond (ymd self.now) }
     {
         1000 * self.timestamp()
     }

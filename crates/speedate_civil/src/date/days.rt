@@ -3,9 +3,8 @@
 ghost use Rattle.std.specs.Prelude.{◌≡◌, ◌≤◌, IfSome, Some, pos, unsigned_abs};
 ghost use Rattle.std.specs.Option.{option_map};
 ghost use Rattle.std.specs.Ordering.{int_cmp};
-ghost use Rattle.speedate_civil.specs.Date.{parts};
-ghost use Rattle.speedate_civil.specs.DateOrder.{date_order};
-ghost use Rattle.speedate_civil.specs.DayNumber.{date_added, days_between};
+ghost use Rattle.speedate_civil.specs.Date.{ymd};
+ghost use Rattle.speedate_civil.specs.Calendar.{date_order, date_added, days_between};
 
 use super::Date;
 
@@ -15,8 +14,8 @@ impl Date {
     /// the number.
     #[inline(always)]
     pub fn checked_add_days(&self, days: i32) -> Option<Self>
-        ensures date { option_map parts result ≡ date_added days (parts self.now) }
-        ensures counted { IfSome result (λ date. days_between (parts self.now) (parts date) ≡ days) }
+        ensures date { option_map ymd result ≡ date_added days (ymd self.now) }
+        ensures counted { IfSome result (λ date. days_between (ymd self.now) (ymd date) ≡ days) }
     {
         let number = i64::from(self.day_number()) + i64::from(days);
         let number = u32::try_from(number).ok()?;
@@ -28,10 +27,10 @@ impl Date {
     /// [`Date::checked_add_days`] of the other date leads back to this one.
     #[inline]
     pub fn days_since(&self, earlier: &Date) -> i32
-        ensures days { result ≡ days_between (parts earlier.now) (parts self.now) }
-        ensures leads_back { date_added result (parts earlier.now) ≡ Some (parts self.now) }
+        ensures days { result ≡ days_between (ymd earlier.now) (ymd self.now) }
+        ensures leads_back { date_added result (ymd earlier.now) ≡ Some (ymd self.now) }
         ensures small { unsigned_abs result ≤ 3652424 }
-        ensures order { int_cmp result (pos 0) ≡ date_order (parts self.now) (parts earlier.now) }
+        ensures order { int_cmp result (pos 0) ≡ date_order (ymd self.now) (ymd earlier.now) }
     {
         self.day_number() as i32 - earlier.day_number() as i32
     }

@@ -2,8 +2,7 @@
 
 ghost use Rattle.std.specs.Prelude.{◌≡◌};
 ghost use Rattle.speedate_base.specs.Requirement.{result_map};
-ghost use Rattle.speedate_civil.specs.Date.{parts};
-ghost use Rattle.speedate_civil.specs.FromNumbers.{new_date_answer};
+ghost use Rattle.speedate_civil.specs.Date.{ymd, new_date_answer, ◌gives◌};
 
 use super::{Date, is_day};
 use speedate_base::faults::ParseError;
@@ -18,7 +17,7 @@ impl Date {
     /// - `OutOfRangeDay` if the month has no such day.
     #[inline]
     pub fn new(year: u16, month: u8, day: u8) -> Result<Self, ParseError>
-        ensures answer { result_map parts result ≡ new_date_answer year month day }
+        ensures answer { result gives new_date_answer year month day }
     {
         if year > 9999 {
             return Err(ParseError::DateTooLarge);

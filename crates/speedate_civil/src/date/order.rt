@@ -7,19 +7,16 @@ ghost use Rattle.std.specs.Cmp.{po, on_total};
 ghost use Rattle.std.specs.Cmp.Lexicographic.{slice_cmp};
 ghost use Rattle.std.specs.Cmp.Rules.{comparing};
 ghost use Rattle.std.specs.Ordering.{nat_cmp, on, as_partial_cmp};
-ghost use Rattle.speedate_civil.specs.Date.{parts};
-ghost use Rattle.speedate_civil.specs.DateOrder.{date_order};
-ghost use Rattle.speedate_civil.specs.DateOrderTotal.{date_order-total};
-ghost use Rattle.speedate_civil.specs.DateText.{date_text};
-ghost use Rattle.speedate_civil.specs.DayNumber.{day_number};
+ghost use Rattle.speedate_civil.specs.Date.{ymd, date_text};
+ghost use Rattle.speedate_civil.specs.Calendar.{date_order, date_order-total, day_number};
 
 use super::Date;
 use std::cmp::Ordering;
 
 impl Ord for Date {
-    ghost cmp = { on parts date_order };
+    ghost cmp = { on ymd date_order };
 
-    ghost total = { on_total parts date_order-total };
+    ghost total = { on_total ymd date_order-total };
 
     ghost matches_partial_cmp = { Prim.search (comparing, rules) };
 
@@ -29,9 +26,9 @@ impl Ord for Date {
     /// Their texts, as bytes, and their day numbers compare in the same way.
     #[inline]
     fn cmp(&self, other: &Date) -> Ordering
-        ensures order { result ≡ date_order (parts self.now) (parts other.now) }
-        ensures text_order { result ≡ slice_cmp nat_cmp (date_text (parts self.now)) (date_text (parts other.now)) }
-        ensures day_order { result ≡ nat_cmp (day_number (parts self.now)) (day_number (parts other.now)) }
+        ensures order { result ≡ date_order (ymd self.now) (ymd other.now) }
+        ensures text_order { result ≡ slice_cmp nat_cmp (date_text (ymd self.now)) (date_text (ymd other.now)) }
+        ensures day_order { result ≡ nat_cmp (day_number (ymd self.now)) (day_number (ymd other.now)) }
     {
         self.year
             .cmp(&other.year)
@@ -41,16 +38,16 @@ impl Ord for Date {
 }
 
 impl PartialOrd for Date {
-    ghost partial_cmp = { as_partial_cmp (on parts date_order) };
+    ghost partial_cmp = { as_partial_cmp (on ymd date_order) };
 
-    ghost laws = { po (on_total parts date_order-total) (Prim.search (comparing, rules)) };
+    ghost laws = { po (on_total ymd date_order-total) (Prim.search (comparing, rules)) };
 
     /// The answer of [`Date::cmp`], in `Some`: `Some(Ordering::Less)` for 2020-02-29 and 2020-03-01.
     #[inline]
     fn partial_cmp(&self, other: &Date) -> Option<Ordering>
-        ensures order { result ≡ Some (date_order (parts self.now) (parts other.now)) }
-        ensures text_order { result ≡ Some (slice_cmp nat_cmp (date_text (parts self.now)) (date_text (parts other.now))) }
-        ensures day_order { result ≡ Some (nat_cmp (day_number (parts self.now)) (day_number (parts other.now))) }
+        ensures order { result ≡ Some (date_order (ymd self.now) (ymd other.now)) }
+        ensures text_order { result ≡ Some (slice_cmp nat_cmp (date_text (ymd self.now)) (date_text (ymd other.now))) }
+        ensures day_order { result ≡ Some (nat_cmp (day_number (ymd self.now)) (day_number (ymd other.now))) }
     {
         Some(self.cmp(other))
     }

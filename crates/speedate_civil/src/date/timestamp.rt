@@ -4,10 +4,8 @@ ghost use Rattle.std.specs.Prelude.{◌≡◌, ◌==◌, ◌&&◌, Err, IsTrue, 
 ghost use Rattle.speedate_base.specs.Requirement.{result_map, ◌implies◌};
 ghost use Rattle.speedate_base.specs.Timestamp.{first_second, last_second};
 ghost use Rattle.speedate_base.specs.declared.config.TimestampUnit.TheVariants as unit;
-ghost use Rattle.speedate_civil.specs.Date.{parts};
-ghost use Rattle.speedate_civil.specs.DateText.{date_answer};
-ghost use Rattle.speedate_civil.specs.DateTimestamp.{day_at, second_at, date_timestamp_answer, date_or_timestamp};
-ghost use Rattle.speedate_civil.specs.DayNumber.{date_after};
+ghost use Rattle.speedate_civil.specs.Date.{ymd, date_answer, day_at, second_at, date_timestamp_answer, date_or_timestamp, ◌gives◌};
+ghost use Rattle.speedate_civil.specs.Calendar.{date_after};
 ghost use Rattle.speedate_civil.specs.Reader.{may_be_number};
 
 use super::Date;
@@ -27,7 +25,7 @@ impl Date {
     /// [`Date::parse_str_rfc3339`].
     #[inline]
     pub fn parse_str(text: &str) -> Result<Self, ParseError>
-        ensures answer { result_map parts result ≡ date_or_timestamp unit.Infer text.now }
+        ensures answer { result gives date_or_timestamp unit.Infer text.now }
     {
         Self::parse_bytes(text.as_bytes())
     }
@@ -36,7 +34,7 @@ impl Date {
     /// not be text. The forms and the faults are those of [`Date::parse_str`].
     #[inline]
     pub fn parse_bytes(bytes: &[u8]) -> Result<Self, ParseError>
-        ensures answer { result_map parts result ≡ date_or_timestamp unit.Infer bytes.now }
+        ensures answer { result gives date_or_timestamp unit.Infer bytes.now }
     {
         Self::parse_bytes_with_config(bytes, &DateConfig::default())
     }
@@ -45,7 +43,7 @@ impl Date {
     /// from `"1640995200"` in seconds. The faults are those of [`Date::parse_str`].
     #[inline]
     pub fn parse_str_with_config(text: &str, config: &DateConfig) -> Result<Self, ParseError>
-        ensures answer { result_map parts result ≡ date_or_timestamp config.now.timestamp_unit text.now }
+        ensures answer { result gives date_or_timestamp config.now.timestamp_unit text.now }
     {
         Self::parse_bytes_with_config(text.as_bytes(), config)
     }
@@ -55,7 +53,7 @@ impl Date {
     /// [`Date::parse_str`].
     #[inline]
     pub fn parse_bytes_with_config(bytes: &[u8], config: &DateConfig) -> Result<Self, ParseError>
-        ensures answer { result_map parts result ≡ date_or_timestamp config.now.timestamp_unit bytes.now }
+        ensures answer { result gives date_or_timestamp config.now.timestamp_unit bytes.now }
     {
         match Self::parse_bytes_rfc3339(bytes) {
             Ok(date) => Ok(date),
@@ -71,7 +69,7 @@ impl Date {
         config: &DateConfig,
     ) -> Result<Self, ParseError>
         requires { date_answer bytes.now ≡ Err fault }
-        ensures answer { result_map parts result ≡ date_or_timestamp config.now.timestamp_unit bytes.now }
+        ensures answer { result gives date_or_timestamp config.now.timestamp_unit bytes.now }
     {
         if !may_be_number(fault) {
             return Err(fault);
@@ -98,8 +96,7 @@ impl Date {
         require_exact: bool,
         config: &DateConfig,
     ) -> Result<Self, ParseError>
-        ensures answer { result_map parts result
-            ≡ date_timestamp_answer config.now.timestamp_unit require_exact timestamp }
+        ensures answer { result gives date_timestamp_answer config.now.timestamp_unit require_exact timestamp }
     {
         let time = timestamp_to_seconds_micros(timestamp, config.timestamp_unit)?;
         let within = time.in_years()?;
@@ -116,7 +113,7 @@ impl Date {
     pub(crate) fn at_second(second: i64) -> (Self, u32)
         requires after { IsTrue (int_le first_second second) }
         requires before { IsTrue (int_le second last_second) }
-        ensures date { parts result.0 ≡ date_after (day_at second) }
+        ensures date { ymd result.0 ≡ date_after (day_at second) }
         ensures second { result.1 ≡ second_at second }
     {
         let seconds = (second - FIRST_SECOND) as u64;
@@ -131,7 +128,7 @@ impl Date {
 impl FromStr for Date {
     type Err = ParseError;
 
-    ghost from_str_gives = { λ text result. result_map parts result ≡ date_or_timestamp unit.Infer text };
+    ghost from_str_gives = { λ text result. result gives date_or_timestamp unit.Infer text };
 
     /// The answer of [`Date::parse_str`]: `"2020-02-29".parse()` gives 29 February 2020.
     #[inline]

@@ -2,15 +2,12 @@
 
 ghost use Rattle.std.specs.Prelude.{◌≡◌, IfOk};
 ghost use Rattle.std.specs.Option.{ForSome};
-ghost use Rattle.speedate_base.specs.DecimalTimestamp.{decimal_row, decimal_scale, decimal_size, decimal_instant};
-ghost use Rattle.speedate_base.specs.UnixTime.{row};
-ghost use Rattle.speedate_base.specs.IntFloat.{parts as decimal_parts};
+ghost use Rattle.speedate_base.specs.Timestamp.{decimal_row, decimal_scale, decimal_size, decimal_instant, row};
+ghost use Rattle.speedate_base.specs.Numbers.{decimal_of};
 ghost use Rattle.speedate_base.specs.Nearest.{IsNearest};
 ghost use Rattle.speedate_base.specs.Offset.{IsOffset, IsWholeMinutes};
 ghost use Rattle.speedate_base.specs.Requirement.{result_map};
-ghost use Rattle.speedate_civil.specs.DateAndTime.{local_microsecond};
-ghost use Rattle.speedate_civil.specs.DateTime.{parts};
-ghost use Rattle.speedate_civil.specs.DateTimeTimestamp.{instant_date_time, date_time_decimal_answer, date_time_decimal_text};
+ghost use Rattle.speedate_civil.specs.DateTime.{local_microsecond, date_and_time, instant_date_time, date_time_decimal_answer, date_time_decimal_text, ◌gives◌};
 
 use crate::datetime::DateTime;
 use speedate_base::config::DateTimeConfig;
@@ -35,12 +32,11 @@ impl DateTime {
         decimal: Decimal<'_>,
         config: &DateTimeConfig,
     ) -> Result<Self, ParseError>
-        ensures answer { result_map parts result
-            ≡ date_time_decimal_answer config.now.timestamp_unit
-            config.now.time_config.unix_timestamp_offset (decimal_parts decimal.entry) }
+        ensures answer { result gives date_time_decimal_answer config.now.timestamp_unit
+            config.now.time_config.unix_timestamp_offset (decimal_of decimal.entry) }
         ensures nearest { IfOk result (λ value. IsNearest
-            (decimal_size (decimal_row config.now.timestamp_unit (decimal_parts decimal.entry)) (decimal_parts decimal.entry))
-            (decimal_scale (decimal_parts decimal.entry)) (local_microsecond (parts value))) }
+            (decimal_size (decimal_row config.now.timestamp_unit (decimal_of decimal.entry)) (decimal_of decimal.entry))
+            (decimal_scale (decimal_of decimal.entry)) (local_microsecond (date_and_time value))) }
     {
         let unit = decimal_unit(decimal, config.timestamp_unit);
         Self::at_decimal(decimal, unit, config.time_config.unix_timestamp_offset)
@@ -53,10 +49,9 @@ impl DateTime {
         decimal: Decimal<'_>,
         config: &DateTimeConfig,
     ) -> Result<Self, ParseError>
-        ensures answer { result_map parts result
-            ≡ date_time_decimal_text config.now.timestamp_unit
+        ensures answer { result gives date_time_decimal_text config.now.timestamp_unit
             config.now.time_config.microseconds_precision_overflow_behavior
-            config.now.time_config.unix_timestamp_offset (decimal_parts decimal.entry) }
+            config.now.time_config.unix_timestamp_offset (decimal_of decimal.entry) }
         ensures minutes { IsWholeMinutes config.now.time_config.unix_timestamp_offset
             → IfOk result (λ value. IsWholeMinutes value.time.tz_offset) }
     {
@@ -76,8 +71,7 @@ impl DateTime {
         offset: Option<i32>,
     ) -> Result<Self, ParseError>
         requires { ForSome offset IsOffset }
-        ensures answer { result_map parts result
-            ≡ instant_date_time offset (decimal_instant (row unit) (decimal_parts decimal.entry)) }
+        ensures answer { result gives instant_date_time offset (decimal_instant (row unit) (decimal_of decimal.entry)) }
         ensures minutes { IsWholeMinutes offset → IfOk result (λ value. IsWholeMinutes value.time.tz_offset) }
     {
         let time = decimal_to_seconds_micros(decimal, unit)?;

@@ -23,8 +23,7 @@ pub struct Moment {
 }
 
 impl Moment {
-    ghost use Rattle.speedate_civil.specs.FromNumbers.{new_moment_answer};
-    ghost use Rattle.speedate_civil.specs.Moment.{moment_instant};
+    ghost use Rattle.speedate_civil.specs.DateTime.{new_moment_answer, moment_instant};
 
     /// The moment of seconds since 1970-01-01T00:00:00 in UTC, and the microseconds that are left: half
     /// a second after that midnight for 0 and 500,000. Fails with `TimeTooLarge` if the microseconds
@@ -45,8 +44,7 @@ impl Moment {
 
 impl DateTime {
     ghost use Rattle.speedate_civil.specs.declared.datetime.now.Moment.{Moment};
-    ghost use Rattle.speedate_civil.specs.DateTime.{parts};
-    ghost use Rattle.speedate_civil.specs.Moment.{moment_answer, now_answer};
+    ghost use Rattle.speedate_civil.specs.DateTime.{date_and_time, moment_answer, now_answer, ◌gives◌};
 
     /// The date-time of a moment, as a clock at an offset, in seconds, shows it:
     /// 2022-06-08T00:59:59+01:00 for second 1,654,646,399 and 3,600.
@@ -58,7 +56,7 @@ impl DateTime {
     /// - `DateTooLarge` if that clock shows a date after the year 9999.
     #[inline]
     pub fn now_at(moment: Moment, tz_offset: i32) -> Result<Self, ParseError>
-        ensures answer { result_map parts result ≡ moment_answer tz_offset moment }
+        ensures answer { result gives moment_answer tz_offset moment }
     {
         if moment.second > LAST_SECOND as u64 {
             return Err(ParseError::DateTooLarge);
@@ -82,7 +80,7 @@ impl DateTime {
     #[inline]
     pub fn now<F: FnOnce() -> Option<Moment>>(clock: F, tz_offset: i32) -> Result<Self, ParseError>
         requires { F.pre clock }
-        ensures answer { (told : Option Moment) × F.post clock told × (result_map parts result ≡ now_answer tz_offset told) }
+        ensures answer { (told : Option Moment) × F.post clock told × (result gives now_answer tz_offset told) }
     {
         let moment = clock().ok_or(ParseError::SystemTimeError)?;
         Self::now_at(moment, tz_offset)
@@ -91,8 +89,8 @@ impl DateTime {
 
 impl Date {
     ghost use Rattle.speedate_civil.specs.declared.datetime.now.Moment.{Moment};
-    ghost use Rattle.speedate_civil.specs.Date.{parts};
-    ghost use Rattle.speedate_civil.specs.Moment.{today_answer};
+    ghost use Rattle.speedate_civil.specs.Date.{ymd, ◌gives◌};
+    ghost use Rattle.speedate_civil.specs.DateTime.{today_answer};
 
     /// The date that a clock tells, at an offset in seconds: 2022-06-08 for a clock that tells second
     /// 1,654,646,399, and 3,600. The clock and the faults are those of [`DateTime::now`].
@@ -102,7 +100,7 @@ impl Date {
         tz_offset: i32,
     ) -> Result<Self, ParseError>
         requires { F.pre clock }
-        ensures answer { (told : Option Moment) × F.post clock told × (result_map parts result ≡ today_answer tz_offset told) }
+        ensures answer { (told : Option Moment) × F.post clock told × (result gives today_answer tz_offset told) }
     {
         let now = DateTime::now(clock, tz_offset)?;
         Ok(now.date)

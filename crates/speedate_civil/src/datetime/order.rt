@@ -8,11 +8,9 @@ impl DateTime {
     ghost use Rattle.std.specs.Prelude.{◌≡◌, None};
     ghost use Rattle.std.specs.Cmp.Lexicographic.{slice_cmp};
     ghost use Rattle.std.specs.Ordering.{nat_cmp, ordering_reverse};
-    ghost use Rattle.speedate_base.specs.UnixTime.{parts as instant_parts};
+    ghost use Rattle.speedate_base.specs.Timestamp.{instant_of};
     ghost use Rattle.speedate_civil.specs.declared.datetime.DateTime.{DateTime};
-    ghost use Rattle.speedate_civil.specs.DateTime.{parts};
-    ghost use Rattle.speedate_civil.specs.DateTimeText.{date_time_text};
-    ghost use Rattle.speedate_civil.specs.InstantOrder.{date_time_instant, date_time_instant_order, BothOrNeither, IsNotAfter};
+    ghost use Rattle.speedate_civil.specs.DateTime.{date_and_time, date_time_text, date_time_instant, date_time_instant_order, BothOrNeither, IsNotAfter};
 
     /// Compares two date-times by instant: in UTC if both have an offset, and otherwise as clocks show
     /// them. So 2022-01-02T01:00:00+03:00 is less than 2022-01-01T23:00:00Z, and 2022-01-01T23:00:00 is
@@ -24,14 +22,14 @@ impl DateTime {
     /// no order trait.
     #[inline]
     pub fn cmp_instant(&self, other: &DateTime) -> Ordering
-        ensures order { result ≡ date_time_instant_order (parts self.now) (parts other.now) }
+        ensures order { result ≡ date_time_instant_order (date_and_time self.now) (date_and_time other.now) }
         ensures text_order { self.now.time.tz_offset ≡ None → other.now.time.tz_offset ≡ None
-            → result ≡ slice_cmp nat_cmp (date_time_text (parts self.now)) (date_time_text (parts other.now)) }
-        ensures reversed { date_time_instant_order (parts other.now) (parts self.now) ≡ ordering_reverse result }
+            → result ≡ slice_cmp nat_cmp (date_time_text (date_and_time self.now)) (date_time_text (date_and_time other.now)) }
+        ensures reversed { date_time_instant_order (date_and_time other.now) (date_and_time self.now) ≡ ordering_reverse result }
         ensures transitive { (third : DateTime) → BothOrNeither self.now.time.tz_offset other.now.time.tz_offset
             → BothOrNeither other.now.time.tz_offset third.time.tz_offset
-            → IsNotAfter result → IsNotAfter (date_time_instant_order (parts other.now) (parts third))
-            → IsNotAfter (date_time_instant_order (parts self.now) (parts third)) }
+            → IsNotAfter result → IsNotAfter (date_time_instant_order (date_and_time other.now) (date_and_time third))
+            → IsNotAfter (date_time_instant_order (date_and_time self.now) (date_and_time third)) }
     {
         let is_utc = self.time.tz_offset.is_some() && other.time.tz_offset.is_some();
         self.instant(is_utc).cmp(&other.instant(is_utc))
@@ -40,7 +38,7 @@ impl DateTime {
     /// The instant of the date-time, in UTC or as a clock shows it; an absent offset is 0.
     #[inline]
     fn instant(&self, is_utc: bool) -> UnixTime
-        ensures { instant_parts result ≡ date_time_instant is_utc (parts self.now) }
+        ensures { instant_of result ≡ date_time_instant is_utc (date_and_time self.now) }
     {
         UnixTime {
             second: if is_utc {

@@ -3,10 +3,9 @@
 ghost use Rattle.std.specs.Prelude.{◌≡◌, ◌↔◌, ◌≤◌, ◌==◌, ◌||◌, IfOk, IsOk, IsTrue, Ok, length, slice_index};
 ghost use Rattle.speedate_base.specs.Ascii.{capital_t, small_t};
 ghost use Rattle.speedate_base.specs.Requirement.{meets, result_map};
-ghost use Rattle.speedate_civil.specs.StrictText.{standard_date_time, strict_date_time_answer};
+ghost use Rattle.speedate_civil.specs.Standard.{standard_date_time, strict_date_time_answer, IsDateTime};
 ghost use Rattle.speedate_base.specs.Offset.{IsWholeMinutes};
-ghost use Rattle.speedate_civil.specs.DateTime.{parts};
-ghost use Rattle.speedate_civil.specs.Rfc3339Text.{IsDateTime};
+ghost use Rattle.speedate_civil.specs.DateTime.{date_and_time, ◌gives◌};
 
 use crate::datetime::{DateTime, TIME_PLACE};
 use crate::time::require_standard;
@@ -28,7 +27,7 @@ impl DateTime {
         bytes: &[u8],
         behavior: MicrosecondsPrecisionOverflowBehavior,
     ) -> Result<Self, ParseError>
-        ensures answer { result_map parts result ≡ strict_date_time_answer behavior bytes.now }
+        ensures answer { result gives strict_date_time_answer behavior bytes.now }
         ensures standard { IsOk result ↔ IsDateTime behavior bytes.now }
         ensures minutes { IfOk result (λ value. IsWholeMinutes value.time.tz_offset) }
     {

@@ -7,10 +7,8 @@ ghost use Rattle.speedate_base.specs.declared.config.date_time.DateTimeConfig.{D
 ghost use Rattle.speedate_base.specs.Offset.{IsWholeMinutes};
 ghost use Rattle.speedate_base.specs.Requirement.{result_map};
 ghost use Rattle.speedate_civil.specs.declared.datetime.DateTime.{DateTime};
-ghost use Rattle.speedate_civil.specs.DateTime.{parts};
-ghost use Rattle.speedate_civil.specs.DateTimeText.{date_time_answer, date_time_front, date_time_text};
-ghost use Rattle.speedate_civil.specs.DateTimeTimestamp.{date_time_or_timestamp};
-ghost use Rattle.speedate_civil.specs.TimeText.{is_after_time};
+ghost use Rattle.speedate_civil.specs.DateTime.{date_and_time, date_time_answer, date_time_front, date_time_text, date_time_or_timestamp};
+ghost use Rattle.speedate_civil.specs.Time.{is_after_time};
 
 use crate::datetime::DateTime;
 use arrayvec::ArrayString;
@@ -30,23 +28,23 @@ impl DateTime {
     /// printed.
     #[inline]
     pub fn to_text(&self) -> ArrayString<TEXT_MAX>
-        ensures text { result.bytes ≡ date_time_text (parts self.now) }
+        ensures text { result.bytes ≡ date_time_text (date_and_time self.now) }
         ensures reads_back { IsWholeMinutes self.now.time.tz_offset → (config : TimeConfig)
-            → date_time_answer config.microseconds_precision_overflow_behavior result.bytes ≡ Ok (parts self.now) }
+            → date_time_answer config.microseconds_precision_overflow_behavior result.bytes ≡ Ok (date_and_time self.now) }
         ensures reads_back_with_config { IsWholeMinutes self.now.time.tz_offset → (config : DateTimeConfig)
             → date_time_or_timestamp config.timestamp_unit
             config.time_config.microseconds_precision_overflow_behavior
-            config.time_config.unix_timestamp_offset result.bytes ≡ Ok (parts self.now) }
+            config.time_config.unix_timestamp_offset result.bytes ≡ Ok (date_and_time self.now) }
         ensures reads_front { IsWholeMinutes self.now.time.tz_offset → (config : TimeConfig) (rest : List ℕ)
-            → IsTrue (is_after_time (parts self.now).time rest)
+            → IsTrue (is_after_time (date_and_time self.now).time rest)
             ↔ (date_time_front config.microseconds_precision_overflow_behavior (result.bytes ++ rest)
-            ≡ Ok (parts self.now, length result.bytes)) }
+            ≡ Ok (date_and_time self.now, length result.bytes)) }
         ensures canonical { IsWholeMinutes self.now.time.tz_offset → (config : DateTimeConfig)
             → result_map date_time_text (date_time_or_timestamp config.timestamp_unit
             config.time_config.microseconds_precision_overflow_behavior
             config.time_config.unix_timestamp_offset result.bytes) ≡ Ok result.bytes }
         ensures distinct { IsWholeMinutes self.now.time.tz_offset → (other : DateTime) → IsWholeMinutes other.time.tz_offset
-            → (result.bytes ≡ date_time_text (parts other)) ↔ (parts self.now ≡ parts other) }
+            → (result.bytes ≡ date_time_text (date_and_time other)) ↔ (date_and_time self.now ≡ date_and_time other) }
     {
         let mut text = ArrayString::new();
         self.push_onto(&mut text);
@@ -58,7 +56,7 @@ impl DateTime {
     #[inline(always)]
     pub fn push_onto<const LENGTH: usize>(&self, text: &mut ArrayString<LENGTH>)
         requires room { array_string_len text.old + TEXT_MAX ≤ LENGTH }
-        ensures text { text.new.bytes ≡ text.old.bytes ++ date_time_text (parts self.now) }
+        ensures text { text.new.bytes ≡ text.old.bytes ++ date_time_text (date_and_time self.now) }
     {
         self.date.push_onto(text);
         text.push('T');
@@ -67,9 +65,9 @@ impl DateTime {
 }
 
 impl fmt::Display for DateTime {
-    ghost output = { λ value. Some (date_time_text (parts value)) };
+    ghost output = { λ value. Some (date_time_text (date_and_time value)) };
 
-    ghost styled_output = { λ value _. Some (date_time_text (parts value)) };
+    ghost styled_output = { λ value _. Some (date_time_text (date_and_time value)) };
 
     fn fmt<W: fmt::Write>(&self, f: &mut fmt::Formatter<W>) -> fmt::Result {
         f.write_str(self.to_text().as_str())

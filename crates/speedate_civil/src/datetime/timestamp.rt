@@ -6,12 +6,8 @@ ghost use Rattle.speedate_base.specs.declared.config.MicrosecondsPrecisionOverfl
 ghost use Rattle.speedate_base.specs.declared.config.TimestampUnit.TheVariants as unit;
 ghost use Rattle.speedate_base.specs.Offset.{IsOffset, IsWholeMinutes};
 ghost use Rattle.speedate_base.specs.Requirement.{result_map};
-ghost use Rattle.speedate_base.specs.Timestamp.{IsInYears};
-ghost use Rattle.speedate_base.specs.UnixTime.{parts as instant_parts};
-ghost use Rattle.speedate_civil.specs.DateAndTime.{local_second, utc_second, local_millisecond, utc_millisecond, local_microsecond};
-ghost use Rattle.speedate_civil.specs.DateTime.{parts};
-ghost use Rattle.speedate_civil.specs.DateTimeText.{date_time_answer};
-ghost use Rattle.speedate_civil.specs.DateTimeTimestamp.{IsShownAt, later_answer, date_time_at, instant_date_time, date_time_timestamp_answer, meant_microsecond, date_time_or_timestamp};
+ghost use Rattle.speedate_base.specs.Timestamp.{IsInYears, instant_of};
+ghost use Rattle.speedate_civil.specs.DateTime.{local_second, utc_second, local_millisecond, utc_millisecond, local_microsecond, date_and_time, date_time_answer, IsShownAt, later_answer, date_time_at, instant_date_time, date_time_timestamp_answer, meant_microsecond, date_time_or_timestamp, ◌gives◌};
 
 use crate::date::Date;
 use crate::date::timestamp::may_be_number;
@@ -38,7 +34,7 @@ impl DateTime {
     /// - of any other text: those of [`DateTime::parse_str_rfc3339`].
     #[inline(always)]
     pub fn parse_str(text: &str) -> Result<Self, ParseError>
-        ensures answer { result_map parts result ≡ date_time_or_timestamp unit.Infer behavior.Error None text.now }
+        ensures answer { result gives date_time_or_timestamp unit.Infer behavior.Error None text.now }
         ensures minutes { IfOk result (λ value. IsWholeMinutes value.time.tz_offset) }
     {
         Self::parse_bytes(text.as_bytes())
@@ -48,7 +44,7 @@ impl DateTime {
     /// bytes need not be text. The forms and the faults are those of [`DateTime::parse_str`].
     #[inline(always)]
     pub fn parse_bytes(bytes: &[u8]) -> Result<Self, ParseError>
-        ensures answer { result_map parts result ≡ date_time_or_timestamp unit.Infer behavior.Error None bytes.now }
+        ensures answer { result gives date_time_or_timestamp unit.Infer behavior.Error None bytes.now }
         ensures minutes { IfOk result (λ value. IsWholeMinutes value.time.tz_offset) }
     {
         Self::parse_bytes_with_config(bytes, &DateTimeConfig::default())
@@ -67,8 +63,7 @@ impl DateTime {
     /// faults of any other text are those of [`DateTime::parse_bytes_rfc3339_with_config`].
     #[inline(always)]
     pub fn parse_str_with_config(text: &str, config: &DateTimeConfig) -> Result<Self, ParseError>
-        ensures answer { result_map parts result
-            ≡ date_time_or_timestamp config.now.timestamp_unit
+        ensures answer { result gives date_time_or_timestamp config.now.timestamp_unit
             config.now.time_config.microseconds_precision_overflow_behavior
             config.now.time_config.unix_timestamp_offset text.now }
         ensures minutes { IsWholeMinutes config.now.time_config.unix_timestamp_offset
@@ -85,8 +80,7 @@ impl DateTime {
         bytes: &[u8],
         config: &DateTimeConfig,
     ) -> Result<Self, ParseError>
-        ensures answer { result_map parts result
-            ≡ date_time_or_timestamp config.now.timestamp_unit
+        ensures answer { result gives date_time_or_timestamp config.now.timestamp_unit
             config.now.time_config.microseconds_precision_overflow_behavior
             config.now.time_config.unix_timestamp_offset bytes.now }
         ensures minutes { IsWholeMinutes config.now.time_config.unix_timestamp_offset
@@ -107,8 +101,7 @@ impl DateTime {
     ) -> Result<Self, ParseError>
         requires { date_time_answer
             config.now.time_config.microseconds_precision_overflow_behavior bytes.now ≡ Err fault }
-        ensures answer { result_map parts result
-            ≡ date_time_or_timestamp config.now.timestamp_unit
+        ensures answer { result gives date_time_or_timestamp config.now.timestamp_unit
             config.now.time_config.microseconds_precision_overflow_behavior
             config.now.time_config.unix_timestamp_offset bytes.now }
         ensures minutes { IsWholeMinutes config.now.time_config.unix_timestamp_offset
@@ -129,9 +122,8 @@ impl DateTime {
     /// [`DateTime::from_timestamp_with_config`].
     #[inline]
     pub fn from_timestamp(timestamp: i64, timestamp_microsecond: u32) -> Result<Self, ParseError>
-        ensures answer { result_map parts result
-            ≡ date_time_timestamp_answer unit.Infer None timestamp_microsecond timestamp }
-        ensures instant { IfOk result (λ value. local_microsecond (parts value)
+        ensures answer { result gives date_time_timestamp_answer unit.Infer None timestamp_microsecond timestamp }
+        ensures instant { IfOk result (λ value. local_microsecond (date_and_time value)
             ≡ meant_microsecond unit.Infer timestamp_microsecond timestamp) }
     {
         Self::from_timestamp_with_config(
@@ -159,10 +151,9 @@ impl DateTime {
         timestamp_microsecond: u32,
         config: &DateTimeConfig,
     ) -> Result<Self, ParseError>
-        ensures answer { result_map parts result
-            ≡ date_time_timestamp_answer config.now.timestamp_unit
+        ensures answer { result gives date_time_timestamp_answer config.now.timestamp_unit
             config.now.time_config.unix_timestamp_offset timestamp_microsecond timestamp }
-        ensures instant { IfOk result (λ value. local_microsecond (parts value)
+        ensures instant { IfOk result (λ value. local_microsecond (date_and_time value)
             ≡ meant_microsecond config.now.timestamp_unit timestamp_microsecond timestamp) }
         ensures minutes { IsWholeMinutes config.now.time_config.unix_timestamp_offset
             → IfOk result (λ value. IsWholeMinutes value.time.tz_offset) }
@@ -175,10 +166,10 @@ impl DateTime {
     /// The date-time at an instant of the years 0000 to 9999, with the offset attached.
     #[inline]
     pub(super) fn at_instant(time: UnixTime, offset: Option<i32>) -> Self
-        requires within { IsInYears (instant_parts time) }
+        requires within { IsInYears (instant_of time) }
         requires offset { ForSome offset IsOffset }
-        ensures value { parts result ≡ date_time_at offset (instant_parts time) }
-        ensures shown { IsShownAt offset (instant_parts time) (parts result) }
+        ensures value { date_and_time result ≡ date_time_at offset (instant_of time) }
+        ensures shown { IsShownAt offset (instant_of time) (date_and_time result) }
     {
         let (date, second) = Date::at_second(time.second);
         let time = Time::at_second(second, time.microsecond, offset);
@@ -191,10 +182,10 @@ impl DateTime {
     /// microsecond, leads back to a date-time without an offset.
     #[inline]
     pub fn timestamp(&self) -> i64
-        ensures second { result ≡ local_second (parts self.now) }
+        ensures second { result ≡ local_second (date_and_time self.now) }
         ensures small { unsigned_abs result < 300000000000 }
         ensures leads_back { self.now.time.tz_offset ≡ None
-            → date_time_timestamp_answer unit.Second None self.now.time.microsecond result ≡ Ok (parts self.now) }
+            → date_time_timestamp_answer unit.Second None self.now.time.microsecond result ≡ Ok (date_and_time self.now) }
     {
         self.date.timestamp() + i64::from(self.time.total_seconds())
     }
@@ -203,7 +194,7 @@ impl DateTime {
     /// 86,400,123 for 1970-01-02T00:00:00.123+01:00.
     #[inline]
     pub fn timestamp_ms(&self) -> i64
-        ensures millisecond { result ≡ local_millisecond (parts self.now) }
+        ensures millisecond { result ≡ local_millisecond (date_and_time self.now) }
     {
         1000 * self.timestamp() + i64::from(self.time.microsecond / 1000)
     }
@@ -212,7 +203,7 @@ impl DateTime {
     /// 1970-01-02T00:00:00+01:00. A date-time without an offset is taken to be in UTC.
     #[inline]
     pub fn timestamp_tz(&self) -> i64
-        ensures second { result ≡ utc_second (parts self.now) }
+        ensures second { result ≡ utc_second (date_and_time self.now) }
         ensures small { unsigned_abs result < 400000000000 }
     {
         self.timestamp() - i64::from(self.time.tz_offset.unwrap_or(0))
@@ -222,7 +213,7 @@ impl DateTime {
     /// A date-time without an offset is taken to be in UTC.
     #[inline]
     pub fn timestamp_tz_ms(&self) -> i64
-        ensures millisecond { result ≡ utc_millisecond (parts self.now) }
+        ensures millisecond { result ≡ utc_millisecond (date_and_time self.now) }
     {
         1000 * self.timestamp_tz() + i64::from(self.time.microsecond / 1000)
     }
@@ -231,8 +222,7 @@ impl DateTime {
 impl FromStr for DateTime {
     type Err = ParseError;
 
-    ghost from_str_gives = { λ text result. result_map parts result
-        ≡ date_time_or_timestamp unit.Infer behavior.Error None text };
+    ghost from_str_gives = { λ text result. result gives date_time_or_timestamp unit.Infer behavior.Error None text };
 
     /// The answer of [`DateTime::parse_str`]: `"1654560000".parse()` gives midnight on 7 June 2022.
     #[inline]
@@ -248,8 +238,8 @@ impl FromStr for DateTime {
 #[inline]
 pub fn instant_date_time(time: UnixTime, offset: Option<i32>) -> Result<DateTime, ParseError>
     requires { ForSome offset IsOffset }
-    ensures answer { result_map parts result ≡ instant_date_time offset (instant_parts time) }
-    ensures shown { IfOk result (λ value. IsShownAt offset (instant_parts time) (parts value)) }
+    ensures answer { result gives instant_date_time offset (instant_of time) }
+    ensures shown { IfOk result (λ value. IsShownAt offset (instant_of time) (date_and_time value)) }
 {
     let within = time.in_years()?;
     Ok(DateTime::at_instant(within, offset))
@@ -259,8 +249,8 @@ pub fn instant_date_time(time: UnixTime, offset: Option<i32>) -> Result<DateTime
 /// `u32::MAX` together, or if the seconds and those carried exceed `i64::MAX`.
 #[inline]
 fn later_instant(time: UnixTime, microseconds: u32) -> Result<UnixTime, ParseError>
-    ensures later { result_map instant_parts result
-        ≡ later_answer microseconds (instant_parts time) }
+    ensures later { result_map instant_of result
+        ≡ later_answer microseconds (instant_of time) }
 {
     let sum = time
         .microsecond

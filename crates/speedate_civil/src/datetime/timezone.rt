@@ -2,9 +2,7 @@
 
 ghost use Rattle.std.specs.Prelude.{◌≡◌, ◌<◌, ◌+ℤ◌, IfOk, Some, unsigned_abs};
 ghost use Rattle.speedate_base.specs.Requirement.{result_map};
-ghost use Rattle.speedate_civil.specs.DateAndTime.{utc_second};
-ghost use Rattle.speedate_civil.specs.DateTime.{parts};
-ghost use Rattle.speedate_civil.specs.OffsetMove.{date_time_with_offset, date_time_in_timezone};
+ghost use Rattle.speedate_civil.specs.DateTime.{utc_second, date_and_time, date_time_with_offset, date_time_in_timezone, ◌gives◌};
 
 use super::{DateTime, instant_date_time};
 use crate::time::clock_shift;
@@ -17,7 +15,7 @@ impl DateTime {
     /// or more.
     #[inline]
     pub fn with_timezone_offset(&self, tz_offset: Option<i32>) -> Result<Self, ParseError>
-        ensures answer { result_map parts result ≡ date_time_with_offset tz_offset (parts self.now) }
+        ensures answer { result gives date_time_with_offset tz_offset (date_and_time self.now) }
     {
         let time = self.time.with_timezone_offset(tz_offset)?;
         Ok(DateTime { time, ..*self })
@@ -34,9 +32,9 @@ impl DateTime {
     /// - `DateTooLarge` if it shows one after the year 9999.
     #[inline]
     pub fn in_timezone(&self, tz_offset: i32) -> Result<Self, ParseError>
-        ensures answer { result_map parts result ≡ date_time_in_timezone tz_offset (parts self.now) }
+        ensures answer { result gives date_time_in_timezone tz_offset (date_and_time self.now) }
         ensures offset { IfOk result (λ value. value.time.tz_offset ≡ Some tz_offset) }
-        ensures instant { IfOk result (λ value. utc_second (parts value) ≡ utc_second (parts self.now)) }
+        ensures instant { IfOk result (λ value. utc_second (date_and_time value) ≡ utc_second (date_and_time self.now)) }
         ensures microsecond { IfOk result (λ value. value.time.microsecond ≡ self.now.time.microsecond) }
     {
         let shift = clock_shift(self.time.tz_offset, tz_offset)?;

@@ -2,8 +2,7 @@
 
 ghost use Rattle.std.specs.Prelude.{◌≡◌};
 ghost use Rattle.speedate_base.specs.Requirement.{result_map};
-ghost use Rattle.speedate_civil.specs.FromNumbers.{new_time_answer};
-ghost use Rattle.speedate_civil.specs.Time.{parts};
+ghost use Rattle.speedate_civil.specs.Time.{new_time_answer, time_of_day, ◌gives◌};
 
 use super::Time;
 use speedate_base::faults::ParseError;
@@ -27,7 +26,7 @@ impl Time {
         microsecond: u32,
         tz_offset: Option<i32>,
     ) -> Result<Self, ParseError>
-        ensures answer { result_map parts result ≡ new_time_answer hour minute second microsecond tz_offset }
+        ensures answer { result gives new_time_answer hour minute second microsecond tz_offset }
     {
         if hour > 23 {
             return Err(ParseError::OutOfRangeHour);

@@ -8,11 +8,10 @@ impl Time {
     ghost use Rattle.std.specs.Prelude.{◌≡◌, None};
     ghost use Rattle.std.specs.Cmp.Lexicographic.{slice_cmp};
     ghost use Rattle.std.specs.Ordering.{nat_cmp, ordering_reverse};
-    ghost use Rattle.speedate_base.specs.UnixTime.{parts as instant_parts};
+    ghost use Rattle.speedate_base.specs.Timestamp.{instant_of};
     ghost use Rattle.speedate_civil.specs.declared.time.Time.{Time};
-    ghost use Rattle.speedate_civil.specs.InstantOrder.{time_instant, time_instant_order, BothOrNeither, IsNotAfter};
-    ghost use Rattle.speedate_civil.specs.Time.{parts};
-    ghost use Rattle.speedate_civil.specs.TimeText.{time_text};
+    ghost use Rattle.speedate_civil.specs.DateTime.{time_instant, time_instant_order, BothOrNeither, IsNotAfter};
+    ghost use Rattle.speedate_civil.specs.Time.{time_of_day, time_text};
 
     /// Compares two times by instant: in UTC if both have an offset, and otherwise as clocks show them.
     /// So 12:00:00+01:00 is less than 11:30:00Z, and 11:30:00 is less than 12:00:00+01:00. Each time is
@@ -23,13 +22,13 @@ impl Time {
     /// offsets can be equal here, while `==` tells them apart: so this is a call, and no order trait.
     #[inline]
     pub fn cmp_instant(&self, other: &Time) -> Ordering
-        ensures order { result ≡ time_instant_order (parts self.now) (parts other.now) }
+        ensures order { result ≡ time_instant_order (time_of_day self.now) (time_of_day other.now) }
         ensures text_order { self.now.tz_offset ≡ None → other.now.tz_offset ≡ None
-            → result ≡ slice_cmp nat_cmp (time_text (parts self.now)) (time_text (parts other.now)) }
-        ensures reversed { time_instant_order (parts other.now) (parts self.now) ≡ ordering_reverse result }
+            → result ≡ slice_cmp nat_cmp (time_text (time_of_day self.now)) (time_text (time_of_day other.now)) }
+        ensures reversed { time_instant_order (time_of_day other.now) (time_of_day self.now) ≡ ordering_reverse result }
         ensures transitive { (third : Time) → BothOrNeither self.now.tz_offset other.now.tz_offset → BothOrNeither other.now.tz_offset third.tz_offset
-            → IsNotAfter result → IsNotAfter (time_instant_order (parts other.now) (parts third))
-            → IsNotAfter (time_instant_order (parts self.now) (parts third)) }
+            → IsNotAfter result → IsNotAfter (time_instant_order (time_of_day other.now) (time_of_day third))
+            → IsNotAfter (time_instant_order (time_of_day self.now) (time_of_day third)) }
     {
         let is_utc = self.tz_offset.is_some() && other.tz_offset.is_some();
         self.instant(is_utc).cmp(&other.instant(is_utc))
@@ -38,7 +37,7 @@ impl Time {
     /// The instant of the time on 1970-01-01, in UTC or as a clock shows it; an absent offset is 0.
     #[inline]
     fn instant(&self, is_utc: bool) -> UnixTime
-        ensures { instant_parts result ≡ time_instant is_utc (parts self.now) }
+        ensures { instant_of result ≡ time_instant is_utc (time_of_day self.now) }
     {
         let second = i64::from(self.total_seconds());
         let offset = i64::from(self.tz_offset.unwrap_or(0));

@@ -1,16 +1,14 @@
 //! Times of day without their offsets, at the front of a text.
 
 ghost use Rattle.std.specs.Prelude.{◌≡◌, ◌+◌, ◌≤◌, IfOk, IsTrue, length, drop, codes};
-ghost use Rattle.speedate_base.specs.DigitRuns.{run_length, run_digits, fraction_value};
-ghost use Rattle.speedate_base.specs.Digits.{two_digit_value};
-ghost use Rattle.speedate_base.specs.Pattern.{fit_length};
-ghost use Rattle.speedate_civil.specs.ClockText.{has_decimal_mark};
-ghost use Rattle.speedate_civil.specs.Reader.{second_there};
+ghost use Rattle.speedate_base.specs.Digits.{run_length, run_digits, fraction_value, two_digit_value, fit_length};
 
 use crate::time::Time;
 use speedate_base::config::MicrosecondsPrecisionOverflowBehavior;
 use speedate_base::faults::ParseError;
-use speedate_base::numbers::{Fraction, LANES, byte_at, eight_bytes, fitting, pairs, takes_digits};
+use speedate_base::numbers::{
+    Fraction, LANES, byte_at, eight_bytes, fitting, is_decimal_mark, pairs, takes_digits,
+};
 use std::simd::prelude::*;
 
 /// A clock within a longer text: its time of day, without an offset, and how many bytes it takes.
@@ -48,10 +46,8 @@ impl PureTime {
     ghost use Rattle.std.specs.Option.{ForSome};
     ghost use Rattle.speedate_base.specs.Offset.{IsOffset, IsWholeMinutes};
     ghost use Rattle.speedate_base.specs.Requirement.{result_map};
-    ghost use Rattle.speedate_civil.specs.ClockText.{at_hour, clock_answer, clock_front, minute_front};
-    ghost use Rattle.speedate_civil.specs.PureTime.{parts};
-    ghost use Rattle.speedate_civil.specs.Time.{parts as time_parts};
-    ghost use Rattle.speedate_civil.specs.TimeText.{time_of};
+    ghost use Rattle.speedate_civil.specs.Reader.{second_there};
+    ghost use Rattle.speedate_civil.specs.Time.{at_hour, clock_answer, clock_front, minute_front, clock_of, has_decimal_mark, time_of_day, time_of};
 
     /// Reads the clock that begins at `place`, whatever follows it: 12:13:14 and a half, in ten bytes,
     /// from `b"P12:13:14.5Z"` at place 1.
@@ -66,7 +62,7 @@ impl PureTime {
         behavior: MicrosecondsPrecisionOverflowBehavior,
     ) -> Result<Self, ParseError>
         requires { place ≤ length bytes.now }
-        ensures answer { result_map parts result ≡ clock_front behavior (drop place bytes.now) }
+        ensures answer { result_map clock_of result ≡ clock_front behavior (drop place bytes.now) }
         ensures within { IfOk result (λ time. place + time.size ≤ length bytes.now) }
     {
         let text = &bytes[place..];
@@ -90,7 +86,7 @@ impl PureTime {
         if minute > 59 {
             return Err(ParseError::OutOfRangeMinute);
         }
-        let time = Self::after_minute(minute, second_there(front, fits), text, 3, behavior)?;
+        let time = Self::after_minute(minute, Second::in_front(front, fits), text, 3, behavior)?;
         Ok(PureTime {
             hour,
             minute,
@@ -112,7 +108,7 @@ impl PureTime {
         behavior: MicrosecondsPrecisionOverflowBehavior,
     ) -> Result<Self, ParseError>
         requires { place ≤ length bytes.now }
-        ensures answer { result_map parts result ≡ minute_front behavior (drop place bytes.now) }
+        ensures answer { result_map clock_of result ≡ minute_front behavior (drop place bytes.now) }
         ensures within { IfOk result (λ time. place + time.size ≤ length bytes.now) }
     {
         let rest = &bytes[place..];
@@ -138,7 +134,7 @@ impl PureTime {
     #[inline(always)]
     pub(super) fn at_offset(self, tz_offset: Option<i32>) -> Time
         requires { ForSome tz_offset IsOffset }
-        ensures time { time_parts result ≡ time_of (parts self) tz_offset }
+        ensures time { time_of_day result ≡ time_of (clock_of self) tz_offset }
         ensures minutes { IsWholeMinutes tz_offset → IsWholeMinutes result.tz_offset }
     {
         Time {
@@ -164,7 +160,7 @@ impl PureTime {
         requires minute { minute ≡ two_digit_value (drop place bytes.now) 0 }
         requires range { minute ≤ 59 }
         requires second { second ≡ second_there (drop place bytes.now) }
-        ensures answer { result_map parts result ≡ clock_answer behavior (drop place bytes.now) }
+        ensures answer { result_map clock_of result ≡ clock_answer behavior (drop place bytes.now) }
         ensures minute { IfOk result (λ time. time.minute ≡ minute) }
         ensures within { IfOk result (λ time. place + time.size ≤ length bytes.now) }
     {
@@ -185,7 +181,7 @@ impl PureTime {
         if second > 59 {
             return Err(ParseError::OutOfRangeSecond);
         }
-        if !has_decimal_mark(rest) {
+        if !Self::has_decimal_mark(rest) {
             return Ok(PureTime {
                 hour: 0,
                 minute,
@@ -209,23 +205,36 @@ impl PureTime {
             size: 6 + fraction.length,
         })
     }
+
+    /// Whether a decimal mark, `.` or `,`, follows the second of a time that is given from its minute on.
+    #[inline]
+    fn has_decimal_mark(rest: &[u8]) -> bool
+        ensures value { result ≡ has_decimal_mark rest.now }
+        ensures there { IsTrue result → 6 ≤ length rest.now }
+    {
+        is_decimal_mark(byte_at(rest, 5))
+    }
 }
 
-/// The second in the front of a text whose first `fits` bytes are as in
-/// `00:00:00`.
-#[inline(always)]
-fn second_there(front: u8x8, fits: usize) -> Second
-    requires fits { fits ≡ fit_length (codes "00:00:00") front }
-    requires minute { 5 ≤ fits }
-    ensures second { result ≡ second_there (drop 3 front) }
-{
-    if fits == LANES {
-        let [_, _, _, _, _, _, second, _] = pairs(front, u8x8::from_array(*b"00:00:00"), LANES);
-        return Second::Number(second);
-    }
-    match fits {
-        5 => Second::Absent,
-        _ => Second::Faulty,
+impl Second {
+    ghost use Rattle.speedate_civil.specs.Reader.{second_there};
+
+    /// The second in the front of a text whose first `fits` bytes are as in
+    /// `00:00:00`.
+    #[inline(always)]
+    fn in_front(front: u8x8, fits: usize) -> Self
+        requires fits { fits ≡ fit_length (codes "00:00:00") front }
+        requires minute { 5 ≤ fits }
+        ensures second { result ≡ second_there (drop 3 front) }
+    {
+        if fits == LANES {
+            let [_, _, _, _, _, _, second, _] = pairs(front, u8x8::from_array(*b"00:00:00"), LANES);
+            return Second::Number(second);
+        }
+        match fits {
+            5 => Second::Absent,
+            _ => Second::Faulty,
+        }
     }
 }
 
@@ -240,14 +249,4 @@ fn fraction_after_second(bytes: &[u8], minute: usize) -> Fraction
     ensures small { result.microsecond ≤ 999999 }
 {
     Fraction::read(bytes, minute + 6)
-}
-
-/// Whether a decimal mark, `.` or `,`, follows the second of a time that is given from its minute on.
-#[inline]
-fn has_decimal_mark(rest: &[u8]) -> bool
-    ensures value { result ≡ has_decimal_mark rest.now }
-    ensures there { IsTrue result → 6 ≤ length rest.now }
-{
-    let byte = byte_at(rest, 5);
-    byte == b'.' || byte == b','
 }

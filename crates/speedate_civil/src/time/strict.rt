@@ -2,10 +2,9 @@
 
 ghost use Rattle.std.specs.Prelude.{◌≡◌, ◌↔◌, IfOk, IsOk, Ok, drop};
 ghost use Rattle.speedate_base.specs.Requirement.{meets, result_map};
-ghost use Rattle.speedate_civil.specs.StrictText.{standard_offset, standard_time, strict_time_answer};
+ghost use Rattle.speedate_civil.specs.Standard.{standard_offset, standard_time, strict_time_answer, IsFullTime};
 ghost use Rattle.speedate_base.specs.Offset.{IsWholeMinutes};
-ghost use Rattle.speedate_civil.specs.Rfc3339Text.{IsFullTime};
-ghost use Rattle.speedate_civil.specs.Time.{parts};
+ghost use Rattle.speedate_civil.specs.Time.{time_of_day, ◌gives◌};
 
 use crate::time::Time;
 use crate::time::offset::{has_minus_sign, is_utc};
@@ -32,7 +31,7 @@ impl Time {
         bytes: &[u8],
         behavior: MicrosecondsPrecisionOverflowBehavior,
     ) -> Result<Self, ParseError>
-        ensures answer { result_map parts result ≡ strict_time_answer behavior bytes.now }
+        ensures answer { result gives strict_time_answer behavior bytes.now }
         ensures standard { IsOk result ↔ IsFullTime behavior bytes.now }
         ensures minutes { IfOk result (λ time. IsWholeMinutes time.tz_offset) }
     {

@@ -6,8 +6,7 @@ ghost use Rattle.speedate_base.specs.declared.config.TimeConfig.{TimeConfig};
 ghost use Rattle.speedate_base.specs.Offset.{IsWholeMinutes};
 ghost use Rattle.speedate_base.specs.Requirement.{result_map};
 ghost use Rattle.speedate_civil.specs.declared.time.Time.{Time};
-ghost use Rattle.speedate_civil.specs.Time.{parts};
-ghost use Rattle.speedate_civil.specs.TimeText.{time_answer, time_front, clock_text, time_text, is_after_time};
+ghost use Rattle.speedate_civil.specs.Time.{time_of_day, time_answer, time_front, clock_text, time_text, is_after_time};
 
 use crate::text::{push_six_digits, two_digit_text};
 use crate::time::Time;
@@ -29,18 +28,18 @@ impl Time {
     /// the fraction. Seconds of an offset are not printed.
     #[inline]
     pub fn to_text(&self) -> ArrayString<TEXT_MAX>
-        ensures text { result.bytes ≡ time_text (parts self.now) }
+        ensures text { result.bytes ≡ time_text (time_of_day self.now) }
         ensures reads_back { IsWholeMinutes self.now.tz_offset → (config : TimeConfig)
-            → time_answer config.microseconds_precision_overflow_behavior result.bytes ≡ Ok (parts self.now) }
+            → time_answer config.microseconds_precision_overflow_behavior result.bytes ≡ Ok (time_of_day self.now) }
         ensures reads_front { IsWholeMinutes self.now.tz_offset → (config : TimeConfig) (rest : List ℕ)
-            → IsTrue (is_after_time (parts self.now) rest)
+            → IsTrue (is_after_time (time_of_day self.now) rest)
             ↔ (time_front config.microseconds_precision_overflow_behavior (result.bytes ++ rest)
-            ≡ Ok (parts self.now, length result.bytes)) }
+            ≡ Ok (time_of_day self.now, length result.bytes)) }
         ensures canonical { IsWholeMinutes self.now.tz_offset → (config : TimeConfig)
             → result_map time_text (time_answer config.microseconds_precision_overflow_behavior result.bytes)
             ≡ Ok result.bytes }
         ensures distinct { IsWholeMinutes self.now.tz_offset → (other : Time) → IsWholeMinutes other.tz_offset
-            → (result.bytes ≡ time_text (parts other)) ↔ (parts self.now ≡ parts other) }
+            → (result.bytes ≡ time_text (time_of_day other)) ↔ (time_of_day self.now ≡ time_of_day other) }
     {
         let mut text = ArrayString::new();
         self.push_onto(&mut text);
@@ -52,7 +51,7 @@ impl Time {
     #[inline(always)]
     pub fn push_onto<const LENGTH: usize>(&self, text: &mut ArrayString<LENGTH>)
         requires room { array_string_len text.old + TEXT_MAX ≤ LENGTH }
-        ensures text { text.new.bytes ≡ text.old.bytes ++ time_text (parts self.now) }
+        ensures text { text.new.bytes ≡ text.old.bytes ++ time_text (time_of_day self.now) }
         ensures short { array_string_len text.new ≤ array_string_len text.old + TEXT_MAX }
     {
         self.push_clock(text);
@@ -67,7 +66,7 @@ impl Time {
     #[inline(always)]
     fn push_clock<const LENGTH: usize>(&self, text: &mut ArrayString<LENGTH>)
         requires room { array_string_len text.old + 8 ≤ LENGTH }
-        ensures text { text.new.bytes ≡ text.old.bytes ++ clock_text (parts self.now) }
+        ensures text { text.new.bytes ≡ text.old.bytes ++ clock_text (time_of_day self.now) }
         ensures len { array_string_len text.new ≡ array_string_len text.old + 8 }
     {
         text.push_str(two_digit_text(self.hour));
@@ -79,9 +78,9 @@ impl Time {
 }
 
 impl fmt::Display for Time {
-    ghost output = { λ time. Some (time_text (parts time)) };
+    ghost output = { λ time. Some (time_text (time_of_day time)) };
 
-    ghost styled_output = { λ time _. Some (time_text (parts time)) };
+    ghost styled_output = { λ time _. Some (time_text (time_of_day time)) };
 
     fn fmt<W: fmt::Write>(&self, f: &mut fmt::Formatter<W>) -> fmt::Result {
         f.write_str(self.to_text().as_str())

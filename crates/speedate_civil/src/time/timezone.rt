@@ -3,9 +3,8 @@
 ghost use Rattle.std.specs.Prelude.{◌≡◌, ◌&&◌, IfOk, Some, pos, int_le, int_lt};
 ghost use Rattle.speedate_base.specs.Offset.{seconds_per_day};
 ghost use Rattle.speedate_base.specs.Requirement.{result_map};
-ghost use Rattle.speedate_civil.specs.OffsetMove.{time_with_offset, time_in_timezone};
-ghost use Rattle.speedate_civil.specs.Time.{parts};
-ghost use Rattle.speedate_civil.specs.TimeOfDay.{utc_second_of_day};
+ghost use Rattle.speedate_civil.specs.DateTime.{time_with_offset, time_in_timezone};
+ghost use Rattle.speedate_civil.specs.Time.{time_of_day, utc_second_of_day, ◌gives◌};
 
 use super::Time;
 use super::offset::clock_shift;
@@ -18,7 +17,7 @@ impl Time {
     /// `Some(-3600)`. Fails with `OutOfRangeTz` if the offset is 24 hours or more.
     #[inline]
     pub fn with_timezone_offset(&self, tz_offset: Option<i32>) -> Result<Self, ParseError>
-        ensures answer { result_map parts result ≡ time_with_offset tz_offset (parts self.now) }
+        ensures answer { result gives time_with_offset tz_offset (time_of_day self.now) }
     {
         match tz_offset {
             Some(offset) if !is_offset(offset) => Err(ParseError::OutOfRangeTz),
@@ -42,9 +41,9 @@ impl Time {
     /// - `TimeTooLarge` if that clock shows the day before or the day after.
     #[inline]
     pub fn in_timezone(&self, tz_offset: i32) -> Result<Self, ParseError>
-        ensures answer { result_map parts result ≡ time_in_timezone tz_offset (parts self.now) }
+        ensures answer { result gives time_in_timezone tz_offset (time_of_day self.now) }
         ensures offset { IfOk result (λ time. time.tz_offset ≡ Some tz_offset) }
-        ensures instant { IfOk result (λ time. utc_second_of_day (parts time) ≡ utc_second_of_day (parts self.now)) }
+        ensures instant { IfOk result (λ time. utc_second_of_day (time_of_day time) ≡ utc_second_of_day (time_of_day self.now)) }
         ensures microsecond { IfOk result (λ time. time.microsecond ≡ self.now.microsecond) }
     {
         let shift = clock_shift(self.tz_offset, tz_offset)?;

@@ -1,6 +1,6 @@
 use Rattle.std.proofs.Common.{lit<}
-use Rattle.speedate.specs.DateTimeText.{date_time_text}
-use Rattle.speedate.specs.TimeText.{time_text}
+use Rattle.speedate.specs.DateTime.{date_time_text}
+use Rattle.speedate.specs.Time.{time_text}
 use Rattle.speedate_lines.proofs.AnswerLemmas.{reply-printed}
 use Rattle.speedate_lines.proofs.answer.answer_text.Goals as goal
 

@@ -1,7 +1,7 @@
 use Rattle.std.proofs.Common.{rules, ◌≡◌, ap, ℕ, ◌-◌, ◌<◌, ◌≤◌, List, length, take, drop, arith}
 use Rattle.std.proofs.lemmas.Bool.{false≢true, cases_lt}
 use Rattle.std.proofs.lemmas.List.{length-take, length-drop}
-use Rattle.speedate_lines.specs.Block.{longest_read}
+use Rattle.speedate_lines.specs.Run.{longest_read}
 use Rattle.speedate_lines.proofs.BlockLemmas.{take-filled, length-filled}
 use Rattle.speedate_lines.proofs.run.fill.Goals as goal
 

@@ -1,8 +1,7 @@
 use Rattle.std.proofs.Common.{◌≡◌, ◌+◌, ◌-◌, ◌≤◌, ◌^◌, [], ℕ, List, take}
 use Rattle.std.specs.Io.KnownBytes.{Appends, Consumes}
-use Rattle.speedate_lines.specs.Lines.{longest_line, complete_lines, unfinished_line}
-use Rattle.speedate_lines.specs.Answer.{answers}
-use Rattle.speedate_lines.specs.Block.{kept_part}
+use Rattle.speedate_lines.specs.Lines.{longest_line, complete_lines, unfinished_line, answers}
+use Rattle.speedate_lines.specs.Run.{kept_part}
 use Rattle.speedate_lines.proofs.run.run.Given as goal
 
 -- the complete lines of what has been read are answered, and the front of the block is the kept part of its unfinished line

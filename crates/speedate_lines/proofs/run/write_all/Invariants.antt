@@ -1,5 +1,5 @@
 use Rattle.std.proofs.Common.{◌≡◌, length}
-use Rattle.speedate_lines.specs.Sent.{AppendsBut}
+use Rattle.speedate_lines.specs.Run.{AppendsBut}
 use Rattle.speedate_lines.proofs.run.write_all.Given as goal
 
 -- the bytes have been written up to the rest

@@ -2,9 +2,9 @@ use Rattle.std.proofs.Common.{◌≡◌, ℕ, ◌<◌, Bool, arith, ap, ◌∙�
 use Rattle.std.specs.Prelude.{◌↔◌, IsTrue}
 use Rattle.std.specs.Ordering.{is_lt, nat_cmp}
 use Rattle.std.proofs.lemmas.Bool.Decides.{nat_tests}
-use Rattle.speedate_civil.specs.Date.{parts}
+use Rattle.speedate_civil.specs.Date.{ymd}
 use Rattle.speedate_civil.proofs.DateOrderLemmas.{date_order-day_number}
-use Rattle.speedate_civil.specs.DayNumber.{day_number}
+use Rattle.speedate_civil.specs.Calendar.{day_number}
 use Rattle.speedate_civil.proofs.DateValueLemmas.{is_day}
 use Rattle.speedate_vectors.proofs.laws.earlier_date.Goals as goal
 
@@ -16,5 +16,5 @@ pub returns : goal.returns
 returns c =
     let first = c.args.first.now in
     let second = c.args.second.now in
-    let order = date_order-day_number (parts first) (parts second) (is_day first) (is_day second) in
-    record { days = less-is (day_number (parts first)) (day_number (parts second)) c.lt.result (c.lt.ensures ∙ ap is_lt order) }
+    let order = date_order-day_number (ymd first) (ymd second) (is_day first) (is_day second) in
+    record { days = less-is (day_number (ymd first)) (day_number (ymd second)) c.lt.result (c.lt.ensures ∙ ap is_lt order) }

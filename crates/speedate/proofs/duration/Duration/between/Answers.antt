@@ -1,9 +1,8 @@
 use Rattle.std.proofs.Common.{arith, ap, sym, subst, ◌∙◌, ◌≤◌}
 use Rattle.std.proofs.lemmas.Int.{ints}
-use Rattle.speedate_civil.specs.DateTime.{parts as date_time_parts}
+use Rattle.speedate_civil.specs.DateTime.{date_and_time}
 use Rattle.speedate_civil.proofs.DateTimeValueLemmas.{is_date_and_time}
-use Rattle.speedate.specs.Duration.{parts}
-use Rattle.speedate.specs.DurationMove.{signed_length, duration_of_length}
+use Rattle.speedate.specs.Duration.{duration_numbers, signed_length, duration_of_length}
 use Rattle.speedate.specs.DurationNumbers.{DurationNumbers}
 use Rattle.speedate.proofs.DurationMoveLemmas.{signed_length-kept, between-days, between-later, between-ends, date_time_after-exact}
 use Rattle.speedate.proofs.duration.Duration.between.Goals as goal
@@ -18,14 +17,14 @@ returns-clause-length c = ap signed_length (returns-clause-answer c) ∙ signed_
 
 pub returns-clause-ends : goal.returns-clause-ends
 returns-clause-ends c =
-    between-ends (date_time_parts c.args.earlier.now) (date_time_parts c.args.later.now) (signed_length (parts c.of_microseconds.result)) (returns-clause-length c)
+    between-ends (date_and_time c.args.earlier.now) (date_and_time c.args.later.now) (signed_length (duration_numbers c.of_microseconds.result)) (returns-clause-length c)
 
 pub returns-clause-leads_back : goal.returns-clause-leads_back
 returns-clause-leads_back c attached =
-    date_time_after-exact (signed_length (parts c.of_microseconds.result)) (date_time_parts c.args.earlier.now) (date_time_parts c.args.later.now) (is_date_and_time c.args.later.now) attached
+    date_time_after-exact (signed_length (duration_numbers c.of_microseconds.result)) (date_and_time c.args.earlier.now) (date_and_time c.args.later.now) (is_date_and_time c.args.later.now) attached
     (between-later _ _ _ (returns-clause-length c))
 
 pub returns-clause-days : goal.returns-clause-days
 returns-clause-days c =
     subst (λ (numbers : DurationNumbers). numbers.day ≤ 3652426) (sym (returns-clause-answer c))
-    (between-days (date_time_parts c.args.earlier.now) (date_time_parts c.args.later.now) (is_date_and_time c.args.earlier.now) (is_date_and_time c.args.later.now))
+    (between-days (date_and_time c.args.earlier.now) (date_and_time c.args.later.now) (is_date_and_time c.args.earlier.now) (is_date_and_time c.args.later.now))

@@ -1,5 +1,5 @@
 use Rattle.std.proofs.Common.{◌≡◌, ◌+◌, ◌-◌, ◌^◌, ◌<◌, ◌≤◌, length, take, drop}
-use Rattle.speedate_base.specs.DigitRuns.{digits_value, run_length}
+use Rattle.speedate_base.specs.Digits.{digits_value, run_length}
 use Rattle.speedate_base.proofs.numbers.digits.few_digits.Given as goal
 
 abbrev pub invariant-loop-place : goal.invariant-loop-place

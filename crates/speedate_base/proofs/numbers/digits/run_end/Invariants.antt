@@ -1,5 +1,5 @@
 use Rattle.std.proofs.Common.{◌≡◌, ◌+◌, ◌-◌, ◌≤◌, length}
-use Rattle.speedate_base.specs.DigitRuns.{run_length}
+use Rattle.speedate_base.specs.Digits.{run_length}
 use Rattle.speedate_base.proofs.numbers.digits.run_end.Given as goal
 
 abbrev pub invariant-loop-end : goal.invariant-loop-end

@@ -1,7 +1,7 @@
 use Rattle.std.proofs.Common.{◌≡◌, ◌-◌, ◌%◌, ◌^◌, ◌≤◌, true, length, take, min}
 use Rattle.std.specs.List.{list_all}
 use Rattle.std.specs.Char.{is_ascii_digit}
-use Rattle.speedate_base.specs.DigitRuns.{digits_value}
+use Rattle.speedate_base.specs.Digits.{digits_value}
 use Rattle.speedate_base.proofs.numbers.digits.spelled_number.Given as goal
 
 abbrev pub invariant-loop-place : goal.invariant-loop-place

@@ -1,6 +1,5 @@
 use Rattle.std.proofs.Common.{◌≡◌, ℕ, ◌+◌, ◌*◌, List, [], ◌∷◌, length, get_or, arith}
-use Rattle.speedate_base.specs.DigitRuns.{digits_value}
-use Rattle.speedate_base.specs.Pattern.{fit_digits, neighbours}
+use Rattle.speedate_base.specs.Digits.{digits_value, fit_digits, neighbours}
 use Rattle.speedate_base.proofs.PatternLemmas.{by_eight}
 use Rattle.speedate_base.proofs.numbers.lanes.eight_digits.Goals as goal
 

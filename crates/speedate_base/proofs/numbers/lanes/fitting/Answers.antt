@@ -6,7 +6,7 @@ use Rattle.std.proofs.lemmas.List.Sums.{prefix_len-le-length}
 use Rattle.std.proofs.lemmas.Simd.{zip2_splat, tops_compared, length-zip2, mask_l-mod, first_set_mask_l}
 use lib.Lanes.{Each1, zip2, mask_l, sel_l}
 use lib.Count.{count_trailing_zeros}
-use Rattle.speedate_base.specs.Pattern.{fit_length}
+use Rattle.speedate_base.specs.Digits.{fit_length}
 use Rattle.speedate_base.proofs.PatternLemmas.{less}
 use Rattle.speedate_base.proofs.numbers.lanes.fitting.Goals as goal
 

@@ -2,7 +2,7 @@ use Rattle.std.proofs.Common.{◌≡◌, ◌∙◌, ap, ℕ, zero, suc, ◌+◌,
 use Rattle.std.specs.Int.{from_le_bytes}
 use Rattle.std.proofs.lemmas.List.{take_all}
 use lib.Lanes.{number_l, digits_l}
-use Rattle.speedate_base.specs.Pattern.{eight_at}
+use Rattle.speedate_base.specs.Digits.{eight_at}
 use Rattle.speedate_base.proofs.PatternLemmas.{by_eight, from_le_bytes-number}
 use Rattle.speedate_base.proofs.numbers.lanes.last_bytes.Goals as goal
 

@@ -1,6 +1,6 @@
 use Rattle.std.proofs.Common.{◌≡◌, ℕ, ◌+◌, ◌-◌, ◌*◌, ◌/◌, ◌^◌, ◌<◌, ◌≤◌, List, [], ◌∷◌, length, take, drop, get_or, arith, rules, Fits, w8}
 use lib.Lanes.{digits_l}
-use Rattle.speedate_base.specs.Pattern.{eight_at}
+use Rattle.speedate_base.specs.Digits.{eight_at}
 use Rattle.speedate_base.proofs.numbers.lanes.short_bytes.Goals as goal
 
 -- the number of the first four bytes

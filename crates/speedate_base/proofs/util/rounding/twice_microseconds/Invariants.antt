@@ -1,5 +1,5 @@
 use Rattle.std.proofs.Common.{◌≡◌, ◌*◌, ◌%◌, ◌^◌, ◌≤◌, length, drop}
-use Rattle.speedate_base.specs.DigitRuns.{digits_value}
+use Rattle.speedate_base.specs.Digits.{digits_value}
 use Rattle.speedate_base.specs.Nearest.{quotient}
 use Rattle.speedate_base.proofs.util.rounding.twice_microseconds.Given as goal
 

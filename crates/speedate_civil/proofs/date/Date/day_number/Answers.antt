@@ -1,5 +1,5 @@
 use Rattle.std.proofs.Common.{arith}
-use Rattle.speedate_civil.specs.Date.{parts}
+use Rattle.speedate_civil.specs.Date.{ymd}
 use Rattle.speedate_civil.proofs.DayNumberLemmas.{days_before_year-is}
 use Rattle.speedate_civil.proofs.DateNumberedLemmas.{date_numbered-is}
 use Rattle.speedate_civil.proofs.DateValueLemmas.{is_day}
@@ -11,4 +11,4 @@ returns-clause-number c = grind (arith, days_before_year-is)
 pub returns-clause-numbered : goal.returns-clause-numbered
 returns-clause-numbered c =
     let date = c.args.self.now in
-    date_numbered-is _ (parts date) (is_day date) date.year_in_range (omega (arith, days_before_year-is date.year, date.day_in_range.0))
+    date_numbered-is _ (ymd date) (is_day date) date.year_in_range (omega (arith, days_before_year-is date.year, date.day_in_range.0))

@@ -3,7 +3,7 @@ use Rattle.speedate_base.specs.declared.faults.ParseError.TheVariants as fault
 use Rattle.speedate_base.specs.Requirement.{alone, result_and_then}
 use Rattle.speedate_civil.specs.Calendar.{Ymd}
 use Rattle.speedate_base.proofs.RequirementLemmas.{alone-longer}
-use Rattle.speedate_civil.specs.Date.{parts}
+use Rattle.speedate_civil.specs.Date.{ymd}
 use Rattle.speedate_civil.proofs.NumberTextLemmas.{number_answer-date}
 use Rattle.speedate_civil.proofs.date.Date.parse_bytes_rfc3339.Goals as goal
 
@@ -14,5 +14,5 @@ pub returns-then-size-bytes-clause-answer : goal.returns-then-size-bytes-clause-
 returns-then-size-bytes-clause-answer c =
     let bytes = c.args.bytes.now in
     let fault = λ (read : Ymd). fault.ExtraCharacters in
-    sym (alone-longer fault bytes (parts c.in_ok-date.date) c.in_ok-date.size (λ same. c.if-size-bytes.true (sym same)))
+    sym (alone-longer fault bytes (ymd c.in_ok-date.date) c.in_ok-date.size (λ same. c.if-size-bytes.true (sym same)))
     ∙ ap (result_and_then (alone fault bytes)) c.in_ok-date.ensures.answer

@@ -1,15 +1,14 @@
 use Rattle.std.proofs.Common.{◌∙◌, ap, sym, Err}
 use Rattle.speedate_base.specs.Requirement.{alone, result_and_then}
-use Rattle.speedate_civil.specs.OffsetText.{end_fault}
-use Rattle.speedate_civil.specs.DateAndTime.{DateAndTime}
+use Rattle.speedate_civil.specs.Time.{end_fault}
+use Rattle.speedate_civil.specs.DateTime.{DateAndTime, date_and_time}
 use Rattle.speedate_base.proofs.RequirementLemmas.{alone-longer}
-use Rattle.speedate_civil.specs.DateTime.{parts}
 use Rattle.speedate_civil.proofs.datetime.DateTime.parse_bytes_rfc3339_with_config.Goals as goal
 
 pub returns-then-size-bytes-clause-answer : goal.returns-then-size-bytes-clause-answer
 returns-then-size-bytes-clause-answer c =
     let bytes = c.args.bytes.now in
-    let value = parts c.in_ok-value.value in
+    let value = date_and_time c.in_ok-value.value in
     let fault = λ (read : DateAndTime). end_fault read.time.offset in
     ap Err c.end_fault.ensures.fault
     ∙ sym (alone-longer fault bytes value c.in_ok-value.size (λ same. c.if-size-bytes.true (sym same)))

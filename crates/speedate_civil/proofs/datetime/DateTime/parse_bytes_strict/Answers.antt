@@ -4,21 +4,19 @@ use Rattle.speedate_base.specs.declared.config.MicrosecondsPrecisionOverflowBeha
 use Rattle.speedate_base.specs.declared.config.TimeConfig.{TimeConfig}
 use Rattle.speedate_base.specs.Config.{Choices}
 use Rattle.speedate_base.specs.Requirement.{meets, result_and_then}
-use Rattle.speedate_civil.specs.DateAndTime.{DateAndTime}
-use Rattle.speedate_civil.specs.StrictText.{standard_date_time}
-use Rattle.speedate_civil.specs.DateTimeText.{date_time_answer}
+use Rattle.speedate_civil.specs.DateTime.{DateAndTime, date_time_answer, date_and_time}
+use Rattle.speedate_civil.specs.Standard.{standard_date_time}
 use Rattle.speedate_base.proofs.RequirementLemmas.{meets-read}
-use Rattle.speedate_civil.specs.DateTime.{parts}
 use Rattle.speedate_civil.proofs.Rfc3339Lemmas.{date-time-standard}
 use Rattle.speedate_civil.proofs.datetime.DateTime.parse_bytes_strict.Goals as goal
 
 pub returns-in_err-require_standard_date_time-clause-answer : goal.returns-in_err-require_standard_date_time-clause-answer
 returns-in_err-require_standard_date_time-clause-answer c =
     let p = err_from_is_err_and c.from_residual-in_err-require_standard_date_time.result c.from_residual-in_err-require_standard_date_time.ensures.1 in
-    rw (p.1, p.2) (meets-read (standard_date_time c.args.bytes.now) (parts c.in_ok-value.value) _ _ (c.in_ok-value.ensures.answer ∙ ap (λ (behavior : MicrosecondsPrecisionOverflowBehavior). date_time_answer behavior c.args.bytes.now) (ap (λ (config : TimeConfig). config.microseconds_precision_overflow_behavior) c.build-config.ensures.built ∙ ap (λ (chosen : Choices). chosen.behavior) c.microseconds_precision_overflow_behavior.ensures.choices)) c.in_err-require_standard_date_time.ensures.answer)
+    rw (p.1, p.2) (meets-read (standard_date_time c.args.bytes.now) (date_and_time c.in_ok-value.value) _ _ (c.in_ok-value.ensures.answer ∙ ap (λ (behavior : MicrosecondsPrecisionOverflowBehavior). date_time_answer behavior c.args.bytes.now) (ap (λ (config : TimeConfig). config.microseconds_precision_overflow_behavior) c.build-config.ensures.built ∙ ap (λ (chosen : Choices). chosen.behavior) c.microseconds_precision_overflow_behavior.ensures.choices)) c.in_err-require_standard_date_time.ensures.answer)
 
 pub returns-clause-answer : goal.returns-clause-answer
-returns-clause-answer c = meets-read (standard_date_time c.args.bytes.now) (parts c.in_ok-value.value) _ _ (c.in_ok-value.ensures.answer ∙ ap (λ (behavior : MicrosecondsPrecisionOverflowBehavior). date_time_answer behavior c.args.bytes.now) (ap (λ (config : TimeConfig). config.microseconds_precision_overflow_behavior) c.build-config.ensures.built ∙ ap (λ (chosen : Choices). chosen.behavior) c.microseconds_precision_overflow_behavior.ensures.choices)) c.in_ok-require_standard_date_time.ensures.answer
+returns-clause-answer c = meets-read (standard_date_time c.args.bytes.now) (date_and_time c.in_ok-value.value) _ _ (c.in_ok-value.ensures.answer ∙ ap (λ (behavior : MicrosecondsPrecisionOverflowBehavior). date_time_answer behavior c.args.bytes.now) (ap (λ (config : TimeConfig). config.microseconds_precision_overflow_behavior) c.build-config.ensures.built ∙ ap (λ (chosen : Choices). chosen.behavior) c.microseconds_precision_overflow_behavior.ensures.choices)) c.in_ok-require_standard_date_time.ensures.answer
 
 pub returns-in_err-value-clause-standard : goal.returns-in_err-value-clause-standard
 returns-in_err-value-clause-standard c =

@@ -1,7 +1,7 @@
 use Rattle.std.proofs.Common.{rules, sym}
 use Rattle.speedate_base.proofs.RequirementLemmas.{alone-iff}
-use Rattle.speedate_civil.specs.DateAndTime.{DateAndTime}
-use Rattle.speedate_civil.specs.OffsetText.{end_fault}
+use Rattle.speedate_civil.specs.DateTime.{DateAndTime}
+use Rattle.speedate_civil.specs.Time.{end_fault}
 use Rattle.speedate_civil.proofs.FrontLemmas.{date_time_front-alone}
 use Rattle.speedate_civil.proofs.NumberTextLemmas.{number_answer-date}
 use Rattle.speedate_civil.proofs.datetime.DateTime.parse_front.Goals as goal

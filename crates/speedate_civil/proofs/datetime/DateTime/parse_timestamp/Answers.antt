@@ -1,10 +1,8 @@
 use Rattle.std.proofs.Common.{◌∙◌, ap₂, sym, refl, Result, rules}
 use Rattle.speedate_base.specs.declared.faults.ParseError.{ParseError}
 use Rattle.speedate_base.specs.Numbers.{Number}
-use Rattle.speedate_civil.specs.DateAndTime.{DateAndTime}
-use Rattle.speedate_civil.specs.DateTimeText.{date_time_answer}
-use Rattle.speedate_civil.specs.DateTimeTimestamp.{date_time_number_answer}
-use Rattle.speedate_civil.specs.NumberText.{or_number}
+use Rattle.speedate_civil.specs.DateTime.{DateAndTime, date_time_answer, date_time_number_answer}
+use Rattle.speedate_base.specs.Requirement.{or_number}
 use Rattle.speedate_civil.proofs.NumberTextLemmas.{number_answer-refused}
 use Rattle.speedate_civil.proofs.datetime.DateTime.parse_timestamp.Goals as goal
 

@@ -1,17 +1,16 @@
 use Rattle.std.proofs.Common.{arith, ap, Ok, Err}
 use Rattle.std.proofs.lemmas.Result.{err_from_is_err_and}
 use Rattle.speedate_base.specs.Requirement.{meets, result_and_then}
-use Rattle.speedate_civil.specs.TimeOfDay.{TimeOfDay}
-use Rattle.speedate_civil.specs.StrictText.{standard_time}
+use Rattle.speedate_civil.specs.Time.{TimeOfDay, time_of_day}
+use Rattle.speedate_civil.specs.Standard.{standard_time}
 use Rattle.speedate_base.proofs.RequirementLemmas.{meets-read}
-use Rattle.speedate_civil.specs.Time.{parts}
 use Rattle.speedate_civil.proofs.Rfc3339Lemmas.{time-standard}
 use Rattle.speedate_civil.proofs.time.Time.parse_bytes_strict.Goals as goal
 
 pub returns-in_err-require_standard-clause-answer : goal.returns-in_err-require_standard-clause-answer
 returns-in_err-require_standard-clause-answer c =
     let p = err_from_is_err_and c.from_residual-in_err-require_standard.result c.from_residual-in_err-require_standard.ensures.1 in
-    rw (p.1, p.2) (meets-read (standard_time c.args.bytes.now) (parts c.in_ok-time.time) _ _ c.in_ok-time.ensures.answer c.in_err-require_standard.ensures.answer)
+    rw (p.1, p.2) (meets-read (standard_time c.args.bytes.now) (time_of_day c.in_ok-time.time) _ _ c.in_ok-time.ensures.answer c.in_err-require_standard.ensures.answer)
 
 pub returns-clause-answer : goal.returns-clause-answer
 returns-clause-answer c = grind (arith, meets-read)

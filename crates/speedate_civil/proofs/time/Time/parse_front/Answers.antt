@@ -3,11 +3,8 @@ use Rattle.speedate_base.specs.declared.config.MicrosecondsPrecisionOverflowBeha
 use Rattle.speedate_base.specs.declared.faults.ParseError.{ParseError}
 use Rattle.speedate_base.specs.Requirement.{result_map, with_size}
 use Rattle.speedate_civil.specs.declared.time.Time.{Time}
-use Rattle.speedate_civil.specs.OffsetText.{end_fault}
-use Rattle.speedate_civil.specs.TimeOfDay.{TimeOfDay}
-use Rattle.speedate_civil.specs.TimeText.{time_front, time_answer}
+use Rattle.speedate_civil.specs.Time.{end_fault, TimeOfDay, time_front, time_answer, time_of_day}
 use Rattle.speedate_base.proofs.RequirementLemmas.{alone-iff}
-use Rattle.speedate_civil.specs.Time.{parts}
 use Rattle.speedate_civil.proofs.FrontLemmas.{time_front-alone}
 use Rattle.speedate_civil.proofs.time.Time.parse_front.Goals as goal
 
@@ -16,9 +13,9 @@ returns-clause-whole c = λ time.
     rw (c.front_at.ensures.answer) (alone-iff (λ (read : TimeOfDay). end_fault read.offset) c.args.bytes.now _ time)
 
 read-alone : (behavior : MicrosecondsPrecisionOverflowBehavior) (text : List ℕ) (result : Result (Time × ℕ) ParseError)
-    → result_map (with_size parts) result ≡ time_front behavior text → IfOk result (λ front. 0 + front.1 ≤ length text)
-    → IfOk result (λ front. time_answer behavior (take front.1 text) ≡ Ok (parts front.0))
-read-alone behavior text (Ok front) is within = time_front-alone behavior text (parts front.0, front.1) (sym is) (omega (arith, within))
+    → result_map (with_size time_of_day) result ≡ time_front behavior text → IfOk result (λ front. 0 + front.1 ≤ length text)
+    → IfOk result (λ front. time_answer behavior (take front.1 text) ≡ Ok (time_of_day front.0))
+read-alone behavior text (Ok front) is within = time_front-alone behavior text (time_of_day front.0, front.1) (sym is) (omega (arith, within))
 read-alone behavior text (Err fault) is within = tt
 
 pub returns-clause-alone : goal.returns-clause-alone

@@ -1,18 +1,15 @@
 use Rattle.std.proofs.Common.{◌≡◌, ◌∙◌, ap, arith, sym, ℕ, ◌+◌, length, Ok, Err}
 use Rattle.std.proofs.lemmas.Bool.Decides.{nat_tests}
 use Rattle.speedate_base.specs.Requirement.{alone, result_and_then}
-use Rattle.speedate_civil.specs.OffsetText.{end_fault}
-use Rattle.speedate_civil.specs.TimeOfDay.{TimeOfDay}
-use Rattle.speedate_civil.specs.TimeText.{time_of}
+use Rattle.speedate_civil.specs.Time.{end_fault, TimeOfDay, time_of, clock_of}
 use Rattle.speedate_base.proofs.RequirementLemmas.{alone-longer, alone-whole}
-use Rattle.speedate_civil.specs.PureTime.{parts}
 use Rattle.speedate_civil.proofs.TimeLemmas.{time_front-after}
 use Rattle.speedate_civil.proofs.time.Time.parse_whole.Goals as goal
 
 pub returns-clause-answer : goal.returns-clause-answer
 returns-clause-answer c =
     let bytes = c.args.bytes.now in
-    let clock = parts c.in_ok-clock.clock in
+    let clock = clock_of c.in_ok-clock.clock in
     let size : ℕ = clock.size + c.in_ok-tz_offset.size in
     let fault = λ (read : TimeOfDay). end_fault read.offset in
     let same : length bytes ≡ size = grind (arith, nat_tests) in
@@ -23,7 +20,7 @@ returns-clause-answer c =
 pub returns-then-clock-size-clause-answer : goal.returns-then-clock-size-clause-answer
 returns-then-clock-size-clause-answer c =
     let bytes = c.args.bytes.now in
-    let clock = parts c.in_ok-clock.clock in
+    let clock = clock_of c.in_ok-clock.clock in
     let size : ℕ = clock.size + c.in_ok-tz_offset.size in
     let fault = λ (read : TimeOfDay). end_fault read.offset in
     ap Err c.end_fault.ensures.fault

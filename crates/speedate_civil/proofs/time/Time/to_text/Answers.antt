@@ -1,7 +1,6 @@
 use Rattle.std.proofs.Common.{◌∙◌, ap}
-use Rattle.speedate_civil.specs.Time.{parts}
+use Rattle.speedate_civil.specs.Time.{time_of_day, time_answer, time_text}
 use Rattle.speedate_base.proofs.TextLemmas.{text-alone, text-canonical}
-use Rattle.speedate_civil.specs.TimeText.{time_answer, time_text}
 use Rattle.speedate_civil.proofs.AfterTimeLemmas.{time_text-front-iff}
 use Rattle.speedate_civil.proofs.TimeLemmas.{time_text-reads}
 use Rattle.speedate_civil.proofs.TimeValueLemmas.{is_time}
@@ -12,11 +11,11 @@ returns-clause-reads_back c whole config =
     let time = c.args.self.now in
     let behavior = config.microseconds_precision_overflow_behavior in
     let bytes = text-alone _ _ _ c.new-text.ensures c.push_onto.ensures.text in
-    ap (time_answer behavior) bytes ∙ time_text-reads behavior (parts time) (is_time time) whole
+    ap (time_answer behavior) bytes ∙ time_text-reads behavior (time_of_day time) (is_time time) whole
 
 pub returns-clause-reads_front : goal.returns-clause-reads_front
 returns-clause-reads_front c whole config rest =
-    let time = parts c.args.self.now in
+    let time = time_of_day c.args.self.now in
     let behavior = config.microseconds_precision_overflow_behavior in
     let bytes = text-alone _ _ _ c.new-text.ensures c.push_onto.ensures.text in
     rw (bytes) (time_text-front-iff behavior time rest (is_time c.args.self.now) whole)

@@ -2,7 +2,7 @@ use Rattle.std.proofs.Common.{◌≡◌, ◌∙◌, ap, sym, arith, ◌<◌, len
 use Rattle.std.proofs.lemmas.Bool.Decides.{nat_tests}
 use Rattle.std.proofs.lemmas.List.{take_rest}
 use Rattle.std.proofs.lemmas.Result.{err_from_is_err_and}
-use Rattle.speedate.specs.DurationAnswer.{iso_from}
+use Rattle.speedate.specs.Duration.{iso_from}
 use Rattle.speedate.specs.Reader.{sums_parts}
 use Rattle.speedate.proofs.DurationAnswerLemmas.{iso_from-front, iso_from-end}
 use Rattle.speedate.proofs.duration.iso.Sums.with_items.Goals as goal

@@ -1,5 +1,5 @@
 use Rattle.std.proofs.Common.{◌≡◌, length}
-use Rattle.speedate.specs.DurationAnswer.{iso_from}
+use Rattle.speedate.specs.Duration.{iso_from}
 use Rattle.speedate.specs.Reader.{sums_parts}
 use Rattle.speedate.proofs.duration.iso.Sums.with_items.Given as goal
 

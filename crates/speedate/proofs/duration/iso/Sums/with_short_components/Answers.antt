@@ -1,6 +1,6 @@
 use Rattle.std.proofs.Common.{◌∙◌, ap, arith, ◌<◌, length, Ok}
 use Rattle.std.proofs.lemmas.List.{take_rest}
-use Rattle.speedate.specs.DurationAnswer.{iso_from}
+use Rattle.speedate.specs.Duration.{iso_from}
 use Rattle.speedate.specs.Reader.{sums_parts}
 use Rattle.speedate.proofs.DurationAnswerLemmas.{iso_from-front}
 use Rattle.speedate.proofs.duration.iso.Sums.with_short_components.Goals as goal

@@ -1,7 +1,7 @@
 use Rattle.std.proofs.Common.{◌≡◌, ◌∙◌, ap, drop, slice_index, false, rules}
 use Rattle.std.proofs.lemmas.List.{take_rest}
 use Rattle.speedate_base.specs.Ascii.{capital_t}
-use Rattle.speedate.specs.DurationAnswer.{iso_from}
+use Rattle.speedate.specs.Duration.{iso_from}
 use Rattle.speedate.specs.IsoForm.{Sums}
 use Rattle.speedate.specs.Reader.{sums_parts}
 use Rattle.speedate.proofs.DurationAnswerLemmas.{iso_from-time}

@@ -1,7 +1,7 @@
 use Rattle.std.proofs.Common.{◌∙◌, sym, ap, ap₂, ℕ, ◌+◌, ◌-◌, ◌^◌, min, take, drop}
 use Rattle.std.proofs.lemmas.Result.{err_from_is_err_and}
 use Rattle.std.proofs.lemmas.List.{take_rest}
-use Rattle.speedate_base.specs.DigitRuns.{digits_value}
+use Rattle.speedate_base.specs.Digits.{digits_value}
 use Rattle.speedate_base.proofs.RequirementLemmas.{meets-next, meets-value}
 use Rattle.speedate.specs.ClockForm.{hours, clock_form, hours_table, colon_place, after_hours, from_minute}
 use Rattle.speedate.proofs.ClockFormLemmas.{hours-run, after_hours-saturated}

@@ -1,5 +1,5 @@
 use Rattle.std.proofs.lemmas.Result.{err_from_is_err_and}
-use Rattle.speedate_base.specs.DigitRuns.{run_value}
+use Rattle.speedate_base.specs.Digits.{run_value}
 use Rattle.speedate_base.proofs.RequirementLemmas.{meets-next}
 use Rattle.speedate.specs.DayForm.{day_form, days_table, after_gap, after_days}
 use Rattle.speedate.proofs.duration.unsigned.UnsignedDuration.from_days.Goals as goal

@@ -1,8 +1,7 @@
 use Rattle.std.proofs.Common.{rules, ◌≡◌, ◌∙◌, ap, sym, refl, ℕ, zero, suc, ◌≤◌, List, [], ◌∷◌, take, drop, min, replicate, arith, take-take}
 use Rattle.std.specs.Char.{is_ascii_digit}
 use Rattle.std.specs.List.{prefix_len}
-use Rattle.speedate_base.specs.DigitRuns.{run_length, run_digits, fraction_value}
-use Rattle.speedate_base.specs.Pattern.{eight_at, fit_length}
+use Rattle.speedate_base.specs.Digits.{run_length, run_digits, fraction_value, eight_at, fit_length}
 use Rattle.speedate_base.proofs.DigitRunLemmas.{fraction_value-take}
 use Rattle.speedate_base.proofs.PatternLemmas.{eight_at-drop}
 use Rattle.speedate_base.proofs.numbers.fraction.Fraction.read.Goals as goal

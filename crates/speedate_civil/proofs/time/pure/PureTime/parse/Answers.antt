@@ -5,12 +5,10 @@ use Rattle.std.proofs.lemmas.List.{take_rest}
 use Rattle.std.proofs.lemmas.Result.{err_from_is_err_and}
 use Rattle.speedate_base.specs.declared.config.MicrosecondsPrecisionOverflowBehavior.{MicrosecondsPrecisionOverflowBehavior}
 use Rattle.speedate_base.specs.Ascii.{colon}
-use Rattle.speedate_base.specs.Digits.{two_digits_at, two_digit_value}
-use Rattle.speedate_base.specs.Pattern.{eight_at, fit_length, fit_digits, neighbours}
+use Rattle.speedate_base.specs.Digits.{two_digits_at, two_digit_value, eight_at, fit_length, fit_digits, neighbours}
 use Rattle.speedate_base.specs.Requirement.{result_map}
-use Rattle.speedate_civil.specs.ClockText.{Clock, at_hour, clock_answer, clock_front}
+use Rattle.speedate_civil.specs.Time.{Clock, at_hour, clock_answer, clock_front, clock_of}
 use Rattle.speedate_base.proofs.PatternLemmas.{fit_length-all}
-use Rattle.speedate_civil.specs.PureTime.{parts}
 use Rattle.speedate_civil.proofs.time.pure.PureTime.parse.Goals as goal
 
 -- a clock as it looks
@@ -62,4 +60,4 @@ returns-clause-answer c =
     let front = read text _ _ _ c.eight_bytes-front.ensures.bytes c.fitting-fits.ensures.count c.if-fits-lt5.false c.pairs.ensures.numbers in
     let is = ap (clock_front c.args.behavior) (sym (take_rest bytes place)) ∙ decided c.args.behavior text _ front c.if-text-lt5.false c.if-hour-gt23.false
     ∙ ap (result_map (at_hour (get_or c.pairs.result 0 0))) (sym c.in_ok-time.ensures.answer) in
-    ap Ok (renamed (get_or c.pairs.result 0 0) (parts c.in_ok-time.time) _ c.in_ok-time.ensures.minute) ∙ sym is
+    ap Ok (renamed (get_or c.pairs.result 0 0) (clock_of c.in_ok-time.time) _ c.in_ok-time.ensures.minute) ∙ sym is

@@ -1,18 +1,18 @@
 -- Components of an ISO 8601 duration that come in the order of the standard: years, months, weeks and days, and after the `T`
 -- hours, minutes and seconds, each at most once. The standard has no weeks beside other components.
-use Rattle.std.specs.Prelude.{◌≡◌, ◌⊎◌, ℕ, Bool, true, false, ◌&&◌, List, [], ◌∷◌, ◌++◌, drop, slice_index, ◌==◌, if◌then◌else◌, Result, Ok, Err}
+use Rattle.std.specs.Prelude.{◌≡◌, ◌⊎◌, ℕ, Bool, true, false, ◌&&◌, List, [], ◌∷◌, ◌++◌, drop, slice_index, ◌==◌, if◌then◌else◌, Result, Ok, Err, length, nat_lt}
 use Rattle.std.specs.List.{flat_map}
 use Rattle.std.specs.Option.{is_some}
-use Rattle.speedate_base.specs.declared.config.IsoOrder.{IsoOrder}
 use Rattle.speedate_base.specs.declared.config.IsoOrder.TheVariants as order
+use Rattle.speedate_base.specs.declared.config.IsoOrder.{IsoOrder}
 use Rattle.speedate_base.specs.declared.config.MicrosecondsPrecisionOverflowBehavior.{MicrosecondsPrecisionOverflowBehavior}
-use Rattle.speedate_base.specs.declared.faults.ParseError.{ParseError}
 use Rattle.speedate_base.specs.declared.faults.ParseError.TheVariants as fault
+use Rattle.speedate_base.specs.declared.faults.ParseError.{ParseError}
 use Rattle.speedate_base.specs.Ascii.{capital_p}
 use Rattle.speedate_base.specs.Numbers.{sign_length, IsSign}
-use Rattle.speedate.specs.DurationAnswer.{duration_answer}
+use Rattle.speedate.specs.Duration.{duration_answer}
 use Rattle.speedate.specs.DurationNumbers.{DurationNumbers}
-use Rattle.speedate.specs.IsoForm.{DurationUnit, units, unit_in, units_after, Item, TimeDesignator, Component, item_text, no_sums, with_items, AreGood}
+use Rattle.speedate.specs.IsoForm.{DurationUnit, units, unit_in, units_after, Item, TimeDesignator, Component, item_text, no_sums, with_items, AreGood, ComponentText, IsItem, Sums, with_item}
 
 -- the unit of each component is among those that may still come, and a `T` begins anew
 abbrev pub are_in_order : List DurationUnit → List Item → Bool
@@ -47,3 +47,44 @@ pub record IsAnswerInOrder (asked : IsoOrder) (behavior : MicrosecondsPrecisionO
   pub strict : (items : List Item) → asked ≡ order.Strict → IsMadeOf text items
       → answer ≡ (if are_in_order (units false) items then duration_answer order.Lax behavior text else Err fault.DurationUnitOrder)
   pub other_forms : is_iso text ≡ false → answer ≡ duration_answer order.Lax behavior text
+
+-- ISO 8601 durations that differ only in the order of two neighbouring components of one side.
+
+-- a component has a fraction, even if it is only a decimal mark
+abbrev pub has_decimal_mark : ComponentText → Bool
+has_decimal_mark component = nat_lt 0 (length component.fraction)
+
+-- an item is whole: a `T`, or a component that has digits and the designator of a unit of its side
+abbrev pub IsWhole : Sums → Item → Type 0
+IsWhole sums TimeDesignator = Unit {0}
+IsWhole sums (Component component) =
+    IsItem (Component component) × (nat_lt 0 (length component.number) ≡ true) × (is_some (unit_in (units sums.is_time) component.designator) ≡ true)
+
+-- each item of a list is whole, whether it meets its table or not
+abbrev pub AreWhole : Sums → List Item → Type 0
+AreWhole sums [] = Unit {0}
+AreWhole sums (item ∷ items) = IsWhole sums item × AreWhole (with_item item sums) items
+
+-- a component is whole and no decimal mark is in it or before it: in any order it can be refused for its size alone
+abbrev pub IsPlain : Sums → ComponentText → Type 0
+IsPlain sums component = IsWhole sums (Component component) × (has_decimal_mark component ≡ false) × (sums.fraction ≡ false)
+
+-- the text of a duration that has two components, one next to the other, after items and before a rest
+abbrev pub pair_text : List ℕ → List Item → ComponentText → ComponentText → List ℕ → List ℕ
+pair_text sign items first second rest =
+    sign ++ capital_p ∷ (flat_map item_text items ++ (item_text (Component first) ++ (item_text (Component second) ++ rest)))
+
+-- two texts differ only in the order of two neighbouring components of one side, with no decimal mark in them or before them
+pub record AreExchanged (one two : List ℕ) : Type 0 where
+  pub negative : Bool
+  pub sign : List ℕ
+  pub items : List Item
+  pub first : ComponentText
+  pub second : ComponentText
+  pub rest : List ℕ
+  pub is_sign : IsSign negative sign
+  pub are_whole : AreWhole (no_sums order.Lax) items
+  pub is_plain_first : IsPlain (with_items items (no_sums order.Lax)) first
+  pub is_plain_second : IsPlain (with_items items (no_sums order.Lax)) second
+  pub is_one : one ≡ pair_text sign items first second rest
+  pub is_two : two ≡ pair_text sign items second first rest

@@ -1,0 +1,79 @@
+-- What a run has read and written where it ends.
+use Rattle.std.specs.Prelude.{◌≡◌, ℕ, ◌+◌, ◌≤◌, List, [], ◌++◌, length, take, Option, ◌⊎◌, Bool, true, false, codes, Result, Ok, Err}
+use Rattle.std.specs.Io.KnownBytes.{Consumes, IsAtEnd, Appends}
+use Rattle.speedate_lines.specs.declared.run.RunError.TheVariants.{Read, Write}
+use Rattle.speedate_lines.specs.declared.run.RunError.{RunError}
+use Rattle.speedate_lines.specs.Lines.{longest_line, complete_lines, lines, answers}
+
+-- what is kept of an unfinished line: of one that is too long, enough to tell that it is
+abbrev pub kept_part : List ℕ → List ℕ
+kept_part line = take (longest_line + 1) line
+
+-- how many bytes one read gives at most: as many as fit into the block
+abbrev pub longest_read : ℕ
+longest_read = 69633
+
+-- a read put what it read after the first bytes of a block, and nothing at the end of the input
+pub record ReadsAfter (before after : Option (List ℕ)) (kept filled : ℕ) (old new : List ℕ) : Type 0 where
+  pub more : List ℕ
+  pub consumed : Consumes before after more
+  pub one_read : length more ≤ longest_read
+  pub room : kept ≤ length old
+  pub ordered : kept ≤ filled
+  pub within : filled ≤ length new
+  pub text : take filled new ≡ take kept old ++ more
+  pub nothing : filled ≡ kept → (more ≡ []) × IsAtEnd after
+
+-- What has gone out of some bytes, and of the answers of a run that failed.
+
+-- some bytes have been written, except the last ones, which are left
+pub record AppendsBut (left : List ℕ) (old new : Option (List ℕ)) (bytes : List ℕ) : Type 0 where
+  pub written : List ℕ
+  pub sent : Appends old new written
+  pub whole : bytes ≡ written ++ left
+
+-- a beginning of some bytes has been written
+pub record AppendsBeginning (old new : Option (List ℕ)) (bytes : List ℕ) : Type 0 where
+  pub left : List ℕ
+  pub sent : AppendsBut left old new bytes
+
+-- a beginning of some bytes has been written, and in it these first ones at least
+pub record AppendsFrom (first : List ℕ) (old new : Option (List ℕ)) (bytes : List ℕ) : Type 0 where
+  pub further : List ℕ
+  pub left : List ℕ
+  pub sent : Appends old new (first ++ further)
+  pub whole : bytes ≡ first ++ further ++ left
+
+-- what was written is the answers to the complete lines of what was read
+pub record AnswersCompleteLines (unread_old unread_new old new : Option (List ℕ)) : Type 0 where
+  pub text : List ℕ
+  pub consumed : Consumes unread_old unread_new text
+  pub sent : Appends old new (answers (complete_lines text))
+
+-- the answers to the complete lines of a text, or to all its lines if no input is left
+abbrev pub AreDue : Option (List ℕ) → List ℕ → List ℕ → Type 0
+AreDue unread text due = (due ≡ answers (complete_lines text)) ⊎ (IsAtEnd unread × (due ≡ answers (lines text)))
+
+-- what was written is a beginning of the answers that were due after the last read, and all that were due before it
+pub record AnswersBeginning (unread_old unread_new old new : Option (List ℕ)) : Type 0 where
+  pub earlier : List ℕ
+  pub latest : List ℕ
+  pub due : List ℕ
+  pub consumed : Consumes unread_old unread_new (earlier ++ latest)
+  pub one_read : length latest ≤ longest_read
+  pub is_due : AreDue unread_new (earlier ++ latest) due
+  pub sent : AppendsFrom (answers (complete_lines earlier)) old new due
+
+-- How the program tells how a run ended.
+
+-- which of the input and the output of a run has failed: one of them or neither, and never both
+abbrev pub EndsBy : Result (Unit {0}) RunError → Bool → Bool → Type 0
+EndsBy (Ok ended) input output = (input ≡ false) × (output ≡ false)
+EndsBy (Err Read) input output = (input ≡ true) × (output ≡ false)
+EndsBy (Err Write) input output = (input ≡ false) × (output ≡ true)
+
+-- the exit status, and what standard error is told
+abbrev pub outcome_of : Result (Unit {0}) RunError → ℕ × List ℕ
+outcome_of (Ok ended) = (0, codes "")
+outcome_of (Err Read) = (1, codes "input failed")
+outcome_of (Err Write) = (2, codes "output failed")
