@@ -4,7 +4,7 @@ ghost use Rattle.std.specs.Option.{option_map};
 ghost use Rattle.std.specs.Prelude.{◌≡◌, ◌+◌, ◌≤◌, true, false, length, take, drop, bytes_eq, MatchOption, [], ◌∷◌, ◌++◌};
 ghost use Rattle.arrayvec.specs.ArrayString.{array_string_len};
 ghost use Rattle.speedate.specs.Ascii.{line_feed};
-ghost use Rattle.speedate_lines.specs.Lines.{err_answer, kind_and_text, kinds, line_answer, reply_to};
+ghost use Rattle.speedate_lines.specs.Lines.{err_answer, kind_and_text, kinds, line_answer, ok_answer, reply_to};
 
 use arrayvec::ArrayString;
 use speedate::{Date, DateTime, Duration, IsoOrder, Time, TimeConfig};
@@ -85,15 +85,11 @@ fn text_after<'a, const LENGTH: usize>(line: &'a [u8], front: &[u8; LENGTH]) -> 
     }
 }
 
-/// Appends the canonical text of the value that a text was read as, or the name of the text's fault.
+/// Appends the answer to a text by what its reader gives.
 macro_rules! answer {
     ($read:expr, $pending:ident) => {
         match $read {
-            Ok(value) => {
-                $pending.push_str("ok ");
-                value.push_onto($pending);
-                $pending.push('\n');
-            }
+            Ok(value) => accept(value.to_text().as_str(), $pending),
             Err(fault) => refuse(fault.name(), $pending),
         }
     };
@@ -115,6 +111,18 @@ fn answer_text(kind: Kind, text: &[u8], pending: &mut Pending)
             answer!(Duration::parse_bytes_with_config(text, &config), pending)
         }
     }
+}
+
+/// Appends the answer to a text that was read: the canonical text of its value.
+#[inline]
+fn accept(text: &str, pending: &mut Pending)
+    requires short { length text.now ≤ TEXT_MAX }
+    requires room { array_string_len pending.old + ANSWER_MAX ≤ PENDING_MAX }
+    ensures answered { pending.new.bytes ≡ pending.old.bytes ++ (ok_answer text.now ++ line_feed ∷ []) }
+{
+    pending.push_str("ok ");
+    pending.push_str(text);
+    pending.push('\n');
 }
 
 /// Appends the answer to a line that was refused: the name of the reason.

@@ -8,14 +8,20 @@ const INPUT: &[u8] = b"date 2020-01-01";
 
 #[test]
 fn a_read_is_one_call(rt: HostRuntime) {
-    for (fails, want) in [(Calls::None, Ok(4)), (Calls::One(0), Err(Failed))] {
+    for (fails, pauses, want) in [
+        (Calls::None, Calls::None, Ok(4)),
+        (Calls::One(0), Calls::None, Err(Failed)),
+        (Calls::None, Calls::One(0), Ok(0)),
+    ] {
         let mut source = Source::new(INPUT, 4);
         source.fails = fails;
+        source.pauses = pauses;
         let mut input = Watched::new(source);
         let mut buffer = [0; 8];
         let found = (input.read(&mut buffer), input.failed());
-        same(&rt, found, (want, want.is_err()), &fails);
-        same(&rt, input.into_inner().calls, 1, &fails);
+        let row = (fails, pauses);
+        same(&rt, found, (want, want.is_err()), &row);
+        same(&rt, input.into_inner().calls, 1, &row);
     }
 }
 
