@@ -8,8 +8,7 @@ use Rattle.std.proofs.lemmas.Int.{ints}
 use Rattle.std.proofs.lemmas.Result.{IfOk-weaker}
 use Rattle.speedate_base.specs.declared.faults.ParseError.{ParseError}
 use Rattle.speedate_base.specs.Numbers.{with_sign}
-use Rattle.speedate_base.specs.Offset.{seconds_per_day}
-use Rattle.speedate_base.specs.Timestamp.{Instant, first_second, last_second, instant_at}
+use Rattle.speedate_base.specs.Timestamp.{seconds_per_day, Instant, first_second, last_second, instant_at}
 use Rattle.speedate_base.proofs.TimestampLemmas.{instant_at-microsecond, instant_at-is}
 use Rattle.speedate_civil.specs.declared.datetime.DateTime.{DateTime}
 use Rattle.speedate_civil.specs.DateTime.{DateAndTime, IsDateAndTime, local_second, local_microsecond, utc_microsecond, date_and_time, IsShownAt, instant_date_time}

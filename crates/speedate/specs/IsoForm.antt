@@ -15,7 +15,7 @@ use Rattle.speedate_base.specs.declared.faults.ParseError.TheVariants as fault
 use Rattle.speedate_base.specs.Ascii.{capital_d, capital_h, capital_m, capital_s, capital_t, capital_w, capital_y}
 use Rattle.speedate_base.specs.Digits.{run_length, digits_value, is_decimal_mark}
 use Rattle.speedate_base.specs.Nearest.{nearest}
-use Rattle.speedate_base.specs.Offset.{seconds_per_day}
+use Rattle.speedate_base.specs.Timestamp.{seconds_per_day}
 use Rattle.speedate_base.specs.Requirement.{Requirement, ◌else_fault◌, meets, AllHold}
 use Rattle.speedate.specs.DurationNumbers.{UnsignedDuration}
 

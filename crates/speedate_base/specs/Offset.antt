@@ -1,20 +1,16 @@
 -- Offsets from UTC, in seconds.
-use Rattle.std.specs.Prelude.{◌≡◌, ◌%◌, ◌<◌, ℕ, Bool, true, List, [], ◌∷◌, nat_lt, Option, ℤ, unsigned_abs}
+use Rattle.std.specs.Prelude.{◌≡◌, ◌%◌, ◌<◌, Bool, true, List, [], ◌∷◌, nat_lt, Option, ℤ, unsigned_abs}
 use Rattle.std.specs.Option.{ForSome, option_map_or}
 use Rattle.speedate_base.specs.declared.faults.ParseError.TheVariants as fault
 use Rattle.speedate_base.specs.Requirement.{Requirement, ◌else_fault◌}
 
--- the seconds of a day
-abbrev pub seconds_per_day : ℕ
-seconds_per_day = 86400
-
 -- an offset is less than 24 hours (RFC 3339 5.6, time-hour and time-minute of time-numoffset)
 abbrev pub IsOffset : ℤ → Type 0
-IsOffset offset = unsigned_abs offset < seconds_per_day
+IsOffset offset = unsigned_abs offset < 86400
 
 -- and the test of it
 abbrev pub is_offset : ℤ → Bool
-is_offset offset = nat_lt (unsigned_abs offset) seconds_per_day
+is_offset offset = nat_lt (unsigned_abs offset) 86400
 
 -- what an offset that is asked for has to meet; if none is asked for there is nothing to meet
 abbrev pub offset_table : Option ℤ → List Requirement

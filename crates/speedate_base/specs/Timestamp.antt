@@ -1,5 +1,5 @@
 -- Timestamps in seconds, milliseconds or microseconds since 1970-01-01T00:00:00 (Unix time), and the instants that they mean.
-use Rattle.std.specs.Prelude.{ℕ, ◌^◌, Bool, true, IsTrue, nat_le, nat_lt, if◌then◌else◌, List, [], ◌∷◌, ℤ, pos, neg_ℤ, ◌*ℤ◌, int_le, unsigned_abs, Result, Ok, ◌*◌, ◌++◌, length}
+use Rattle.std.specs.Prelude.{ℕ, ◌^◌, Bool, true, IsTrue, nat_le, nat_lt, if◌then◌else◌, List, [], ◌∷◌, ℤ, pos, neg_ℤ, ◌*ℤ◌, int_le, unsigned_abs, Result, Ok, ◌*◌, ◌++◌, length, ◌+◌, ◌/◌, ◌%◌, ◌+ℤ◌, int_lt}
 use Rattle.std.specs.Int.{int_div_euclid, int_rem_euclid}
 use Rattle.speedate_base.specs.declared.config.MicrosecondsPrecisionOverflowBehavior.{MicrosecondsPrecisionOverflowBehavior}
 use Rattle.speedate_base.specs.declared.config.TimestampUnit.TheVariants as unit
@@ -13,6 +13,10 @@ use Rattle.speedate_base.specs.Digits.{digits_value}
 use Rattle.speedate_base.specs.Nearest.{nearest}
 use Rattle.speedate_base.specs.Numbers.{DecimalParts, with_sign}
 use Rattle.speedate_base.specs.Requirement.{Requirement, ◌else_fault◌, meets, ◌implies◌}
+
+-- the seconds of a day
+abbrev pub seconds_per_day : ℕ
+seconds_per_day = 86400
 
 -- an instant: seconds since 1970-01-01T00:00:00, rounded down, and the microseconds that are left, below a million
 pub record Instant : Type 0 where
@@ -69,6 +73,24 @@ unit_table unit timestamp = (has_unit unit timestamp else_fault fault.DateTooSma
 -- the instant of a timestamp, or its fault
 abbrev pub instant_answer : TimestampUnit → ℤ → Result Instant ParseError
 instant_answer unit timestamp = meets (unit_table unit timestamp) (Ok (instant_at (timestamp_microsecond unit timestamp)))
+
+-- the instant so many microseconds later
+abbrev pub later_instant : ℕ → Instant → Instant
+later_instant microseconds instant =
+    let sum = instant.microsecond + microseconds in
+    record { second = instant.second +ℤ pos (sum / 1000000); microsecond = sum % 1000000 }
+
+-- what an instant and additional microseconds have to meet to be added: their microseconds fit 32 bits, and the seconds
+-- 64 bits with a sign
+abbrev pub sum_table : ℕ → Instant → List Requirement
+sum_table microseconds instant =
+    (nat_lt (instant.microsecond + microseconds) (2 ^ 32) else_fault fault.TimeTooLarge)
+    ∷ (int_lt (later_instant microseconds instant).second (pos (2 ^ 63)) else_fault fault.TimeTooLarge)
+    ∷ []
+
+-- the instant so many microseconds later, or the fault
+abbrev pub later_answer : ℕ → Instant → Result Instant ParseError
+later_answer microseconds instant = meets (sum_table microseconds instant) (Ok (later_instant microseconds instant))
 
 -- the first second of the year 0000, and the last of the year 9999
 abbrev pub first_second : ℤ

@@ -3,7 +3,7 @@ use Rattle.std.specs.Prelude.{ℕ, ◌==◌, nat_le, nat_lt, Bool, true, false, 
 use Rattle.speedate.specs.declared.ParseError.{ParseError}
 use Rattle.speedate.specs.declared.ParseError.TheVariants as fault
 use Rattle.speedate.specs.DurationNumbers.{DurationNumbers}
-use Rattle.speedate.specs.Offset.{seconds_per_day}
+use Rattle.speedate.specs.Timestamp.{seconds_per_day}
 use Rattle.speedate.specs.Requirement.{Requirement, ◌else_fault◌, meets}
 use Rattle.speedate_c.specs.declared.duration.SpeedateDuration.{SpeedateDuration}
 

@@ -3,8 +3,8 @@ use Rattle.std.proofs.Common.{◌≡◌, ℕ, ◌<◌, ◌≤◌, ℤ, pos, ◌+
 use Rattle.std.specs.Int.{int_div_euclid, int_rem_euclid}
 use Rattle.std.proofs.lemmas.Bool.Decides.{nat_tests}
 use Rattle.std.proofs.lemmas.Int.{ints}
-use Rattle.speedate_base.specs.Offset.{seconds_per_day}
-use Rattle.speedate_civil.specs.DateTime.{DateAndTime, IsDateAndTime, local_second, later_answer, date_time_at, instant_date_time, date_time_timestamp_answer}
+use Rattle.speedate_base.specs.Timestamp.{seconds_per_day, later_answer}
+use Rattle.speedate_civil.specs.DateTime.{DateAndTime, IsDateAndTime, local_second, date_time_at, instant_date_time, date_time_timestamp_answer}
 use Rattle.speedate_civil.specs.Calendar.{epoch_day}
 use Rattle.speedate_base.proofs.RequirementLemmas.{meets-all}
 use Rattle.speedate_base.proofs.TimestampLemmas.{instant_of_seconds}

@@ -2,8 +2,8 @@
 use Rattle.std.proofs.Common.{rules, ◌<◌, arith, Option, ℤ, pos, ◌-ℤ◌, ◌≤ℤ◌, unsigned_abs, unwrap_or}
 use Rattle.std.specs.Option.{ForSome}
 use Rattle.std.proofs.lemmas.Int.{ints}
-use Rattle.speedate_base.specs.Offset.{IsOffset, seconds_per_day}
-use Rattle.speedate_base.specs.Timestamp.{first_second, last_second}
+use Rattle.speedate_base.specs.Offset.{IsOffset}
+use Rattle.speedate_base.specs.Timestamp.{seconds_per_day, first_second, last_second}
 use Rattle.speedate_civil.specs.declared.datetime.DateTime.{DateTime}
 use Rattle.speedate_civil.specs.DateTime.{DateAndTime, IsDateAndTime, local_second, utc_second, date_and_time}
 use Rattle.speedate_civil.proofs.DayNumberLemmas.{day_number-small}

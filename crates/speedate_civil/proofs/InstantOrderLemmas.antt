@@ -8,8 +8,7 @@ use Rattle.std.proofs.Math.Bool.{and_comm}
 use Rattle.std.proofs.lemmas.Bool.Decides.{nat_tests}
 use Rattle.std.proofs.lemmas.Int.{ints}
 use Rattle.speedate_base.specs.Ascii.{capital_t}
-use Rattle.speedate_base.specs.Offset.{seconds_per_day}
-use Rattle.speedate_base.specs.Timestamp.{Instant}
+use Rattle.speedate_base.specs.Timestamp.{seconds_per_day, Instant}
 use Rattle.speedate_civil.specs.Time.{fraction_text, TimeOfDay, IsTime, second_of_day, time_text}
 use Rattle.speedate_civil.specs.DateTime.{DateAndTime, IsDateAndTime, date_time_text, instant_order, by_instant, time_instant, time_instant_order, date_time_instant, date_time_instant_order, BothOrNeither, IsNotAfter}
 use Rattle.speedate_civil.specs.Calendar.{date_order}

@@ -4,7 +4,7 @@ use Rattle.std.specs.Cmp.{IsTotalOrder, nat_cmp_total, on_total, then_total}
 use Rattle.std.specs.Int.{IsInRange}
 use Rattle.std.specs.Ordering.{nat_cmp, on, then_cmp}
 use Rattle.std.specs.declared.cmp.Ordering.{Ordering}
-use Rattle.speedate_base.specs.Offset.{seconds_per_day}
+use Rattle.speedate_base.specs.Timestamp.{seconds_per_day}
 
 -- a year divisible by 100 is leap if it is divisible by 400, any other if it is divisible by 4 (RFC 3339, appendix C)
 abbrev pub is_leap_year : ℕ → Bool

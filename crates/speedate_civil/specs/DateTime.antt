@@ -1,5 +1,5 @@
 -- Date-times: from texts, from timestamps, at other offsets, and the order by instant.
-use Rattle.std.specs.Prelude.{◌/◌, ℤ, pos, ◌+ℤ◌, ◌-ℤ◌, ◌*ℤ◌, ℕ, ◌+◌, Bool, ◌||◌, ◌==◌, List, [], ◌∷◌, ◌++◌, drop, slice_index, Result, Ok, ◌≡◌, ◌%◌, ◌^◌, nat_lt, Option, Some, None, int_lt, int_le, Err, ◌&&◌, unsigned_abs, is_some, IsTrue, if◌then◌else◌}
+use Rattle.std.specs.Prelude.{◌/◌, ℤ, pos, ◌+ℤ◌, ◌-ℤ◌, ◌*ℤ◌, ℕ, ◌+◌, Bool, ◌||◌, ◌==◌, List, [], ◌∷◌, ◌++◌, drop, slice_index, Result, Ok, ◌≡◌, Option, Some, None, int_lt, int_le, Err, ◌&&◌, unsigned_abs, is_some, IsTrue, if◌then◌else◌}
 use Rattle.std.specs.Option.{unwrap_or}
 use Rattle.std.specs.Ordering.{is_le, int_cmp, nat_cmp, on, then_cmp}
 use Rattle.std.specs.declared.cmp.Ordering.{Ordering}
@@ -9,9 +9,9 @@ use Rattle.speedate_base.specs.declared.faults.ParseError.TheVariants as fault
 use Rattle.speedate_base.specs.declared.faults.ParseError.{ParseError}
 use Rattle.speedate_base.specs.Ascii.{space, capital_t, low_line, small_t}
 use Rattle.speedate_base.specs.Numbers.{DecimalParts, Number, Whole, Fractional, NoNumber, number_answer}
-use Rattle.speedate_base.specs.Offset.{offset_table, seconds_per_day}
+use Rattle.speedate_base.specs.Offset.{offset_table}
+use Rattle.speedate_base.specs.Timestamp.{seconds_per_day, decimal_row, decimal_instant, digits_table, Instant, timestamp_microsecond, instant_answer, range_answer, last_second, later_answer}
 use Rattle.speedate_base.specs.Requirement.{Requirement, ◌else_fault◌, meets, alone, ◌>>=◌, result_map, or_number, with_size}
-use Rattle.speedate_base.specs.Timestamp.{decimal_row, decimal_instant, digits_table, Instant, timestamp_microsecond, instant_answer, range_answer, last_second}
 use Rattle.speedate_civil.specs.declared.datetime.DateTime.{DateTime}
 use Rattle.speedate_civil.specs.declared.datetime.now.Moment.{Moment}
 use Rattle.speedate_civil.specs.Calendar.{Ymd, IsDate, midnight_second, date_after}
@@ -99,24 +99,6 @@ abbrev pub date_time_text : DateAndTime → List ℕ
 date_time_text value = date_text value.date ++ capital_t ∷ time_text value.time
 
 -- Date-times from timestamps (Unix time), and from texts that are a timestamp instead.
-
--- the instant so many microseconds later
-abbrev pub later_instant : ℕ → Instant → Instant
-later_instant microseconds instant =
-    let sum = instant.microsecond + microseconds in
-    record { second = instant.second +ℤ pos (sum / 1000000); microsecond = sum % 1000000 }
-
--- what an instant and additional microseconds have to meet to be added: their microseconds fit 32 bits, and the seconds
--- 64 bits with a sign
-abbrev pub sum_table : ℕ → Instant → List Requirement
-sum_table microseconds instant =
-    (nat_lt (instant.microsecond + microseconds) (2 ^ 32) else_fault fault.TimeTooLarge)
-    ∷ (int_lt (later_instant microseconds instant).second (pos (2 ^ 63)) else_fault fault.TimeTooLarge)
-    ∷ []
-
--- the instant so many microseconds later, or the fault
-abbrev pub later_answer : ℕ → Instant → Result Instant ParseError
-later_answer microseconds instant = meets (sum_table microseconds instant) (Ok (later_instant microseconds instant))
 
 -- the date-time at an instant, with the offset attached: nothing is shifted
 abbrev pub date_time_at : Option ℤ → Instant → DateAndTime

@@ -10,7 +10,8 @@ use Rattle.speedate_base.specs.Ascii.{colon, full_stop, plus_sign, hyphen, capit
 use Rattle.speedate_base.specs.Config.{refuses_digits}
 use Rattle.speedate_base.specs.Digits.{run_length, run_digits, fraction_value, two_digits_at, two_digit_value, two_digit_text, six_digit_text, is_decimal_mark}
 use Rattle.speedate_base.specs.Numbers.{with_sign}
-use Rattle.speedate_base.specs.Offset.{IsOffset, seconds_per_day, offset_table}
+use Rattle.speedate_base.specs.Offset.{IsOffset, offset_table}
+use Rattle.speedate_base.specs.Timestamp.{seconds_per_day}
 use Rattle.speedate_base.specs.Requirement.{◌else_fault◌, meets, Requirement, ◌implies◌, result_map, alone, ◌>>=◌, with_size}
 use Rattle.speedate_civil.specs.declared.time.Time.{Time}
 use Rattle.speedate_civil.specs.declared.time.pure.PureTime.{PureTime}

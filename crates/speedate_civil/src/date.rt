@@ -5,8 +5,6 @@ ghost use Rattle.std.specs.Int.{is_in_range, IsInRange};
 ghost use Rattle.speedate_civil.specs.Calendar.{month_length, is_leap_year};
 
 mod day_number;
-mod days;
-mod new;
 mod order;
 pub(crate) mod timestamp;
 
@@ -88,7 +86,30 @@ impl Date {
     ghost use Rattle.speedate_base.specs.Requirement.{result_map, with_size};
     ghost use Rattle.speedate_civil.specs.declared.date.Date.{Date};
     ghost use Rattle.speedate_civil.specs.Calendar.{Ymd};
-    ghost use Rattle.speedate_civil.specs.Date.{ymd, date_front, date_answer, date_text, date_or_timestamp, ◌gives◌, ◌gives_front◌};
+    ghost use Rattle.speedate_civil.specs.Date.{ymd, date_front, date_answer, date_text, date_or_timestamp, ◌gives◌, ◌gives_front◌, new_date_answer};
+
+    /// The date of a year, a month and a day: 2020-02-29 for 2020, 2 and 29.
+    ///
+    /// The faults, in the order in which they are looked for:
+    ///
+    /// - `DateTooLarge` if the year is over 9999;
+    /// - `OutOfRangeMonth` if the month is not 1 to 12;
+    /// - `OutOfRangeDay` if the month has no such day.
+    #[inline]
+    pub fn new(year: u16, month: u8, day: u8) -> Result<Self, ParseError>
+        ensures answer { result gives new_date_answer year month day }
+    {
+        if year > 9999 {
+            return Err(ParseError::DateTooLarge);
+        }
+        if month < 1 || month > 12 {
+            return Err(ParseError::OutOfRangeMonth);
+        }
+        if !is_day(year, month, day) {
+            return Err(ParseError::OutOfRangeDay);
+        }
+        Ok(Date { year, month, day })
+    }
 
     /// Reads a date from a text, and no timestamp: 29 February 2020 from `"2020-02-29"`.
     ///

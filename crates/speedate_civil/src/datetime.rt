@@ -17,7 +17,7 @@ mod timezone;
 use crate::date::Date;
 use crate::time::{Time, end_fault};
 pub use now::Moment;
-use speedate_base::config::TimeConfig;
+use speedate_base::config::{MicrosecondsPrecisionOverflowBehavior, TimeConfig};
 use speedate_base::faults::ParseError;
 use speedate_base::numbers::byte_at;
 pub use timestamp::instant_date_time;
@@ -89,11 +89,7 @@ impl DateTime {
         ensures minutes { IfOk result (λ value. IsWholeMinutes value.time.tz_offset) }
         ensures no_number { OnOk result (number_answer bytes.now ≡ NoNumber) }
     {
-        let (value, size) = Self::parse_front(bytes, config)?;
-        if size != bytes.len() {
-            return Err(end_fault(value.time.tz_offset));
-        }
-        Ok(value)
+        Self::parse_whole(bytes, config.microseconds_precision_overflow_behavior)
     }
 
     /// Reads the date-time at the front of a text, whatever follows it, and returns how many bytes it
@@ -115,11 +111,41 @@ impl DateTime {
         ensures minutes { IfOk result (λ front. IsWholeMinutes front.0.time.tz_offset) }
         ensures no_number { OnOk result (number_answer bytes.now ≡ NoNumber) }
     {
+        Self::front(bytes, config.microseconds_precision_overflow_behavior)
+    }
+
+    /// Reads the date-time that takes all the bytes.
+    #[inline(always)]
+    fn parse_whole(
+        bytes: &[u8],
+        behavior: MicrosecondsPrecisionOverflowBehavior,
+    ) -> Result<Self, ParseError>
+        ensures answer { result gives date_time_answer behavior bytes.now }
+        ensures minutes { IfOk result (λ value. IsWholeMinutes value.time.tz_offset) }
+        ensures no_number { OnOk result (number_answer bytes.now ≡ NoNumber) }
+    {
+        let (value, size) = Self::front(bytes, behavior)?;
+        if size != bytes.len() {
+            return Err(end_fault(value.time.tz_offset));
+        }
+        Ok(value)
+    }
+
+    /// Reads the date-time at the front of a text, and how many bytes it takes, whatever follows it.
+    #[inline(always)]
+    fn front(
+        bytes: &[u8],
+        behavior: MicrosecondsPrecisionOverflowBehavior,
+    ) -> Result<(Self, usize), ParseError>
+        ensures answer { result gives_front date_time_front behavior bytes.now }
+        ensures within { IfOk result (λ front. front.1 ≤ length bytes.now) }
+        ensures minutes { IfOk result (λ front. IsWholeMinutes front.0.time.tz_offset) }
+        ensures no_number { OnOk result (number_answer bytes.now ≡ NoNumber) }
+    {
         let (date, _) = Date::parse_front(bytes)?;
         if !has_separator(bytes) {
             return Err(ParseError::InvalidCharDateTimeSep);
         }
-        let behavior = config.microseconds_precision_overflow_behavior;
         let (time, size) = Time::front_at(bytes, TIME_PLACE, behavior)?;
         Ok((DateTime { date, time }, TIME_PLACE + size))
     }

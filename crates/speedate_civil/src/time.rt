@@ -4,7 +4,6 @@ ghost use Rattle.std.specs.Prelude.{◌≡◌, ◌≤◌};
 ghost use Rattle.std.specs.Option.{ForSome};
 ghost use Rattle.speedate_base.specs.Offset.{IsOffset};
 
-mod new;
 mod offset;
 mod order;
 mod pure;
@@ -13,13 +12,14 @@ mod text;
 mod timezone;
 
 use offset::read_offset;
-pub(crate) use offset::{clock_shift, end_fault};
+pub(crate) use offset::end_fault;
 pub use pure::PureTime;
 use speedate_base::config::{MicrosecondsPrecisionOverflowBehavior, TimeConfig};
 use speedate_base::faults::ParseError;
 use speedate_base::util::SECONDS_PER_DAY;
 use std::str::FromStr;
 pub(crate) use strict::require_standard;
+pub(crate) use timezone::clock_shift;
 
 /// A time of day, to the microsecond, with an offset from UTC or without one.
 ///
@@ -55,9 +55,52 @@ pub struct Time {
 impl Time {
     ghost use Rattle.std.specs.Prelude.{◌+◌, ◌*◌, ◌<◌, ◌↔◌, IfOk, Ok, drop, take, length, None};
     ghost use Rattle.speedate_base.specs.declared.config.MicrosecondsPrecisionOverflowBehavior.TheVariants as behavior;
-    ghost use Rattle.speedate_base.specs.Offset.{IsWholeMinutes, seconds_per_day};
+    ghost use Rattle.speedate_base.specs.Offset.{IsWholeMinutes};
+    ghost use Rattle.speedate_base.specs.Timestamp.{seconds_per_day};
     ghost use Rattle.speedate_base.specs.Requirement.{result_map, with_size};
-    ghost use Rattle.speedate_civil.specs.Time.{time_of_day, TimeOfDay, second_of_day, millisecond_of_day, microsecond_of_day, time_at, timestamp_answer, time_front, time_answer, ◌gives◌, ◌gives_front◌};
+    ghost use Rattle.speedate_civil.specs.Time.{time_of_day, TimeOfDay, second_of_day, millisecond_of_day, microsecond_of_day, time_at, timestamp_answer, time_front, time_answer, ◌gives◌, ◌gives_front◌, new_time_answer};
+
+    /// The time of an hour, a minute, a second, a microsecond, and an offset from UTC in seconds or
+    /// none: 12:13:14.500000+01:00 for 12, 13, 14, 500,000 and `Some(3600)`.
+    ///
+    /// The faults, in the order in which they are looked for:
+    ///
+    /// - `OutOfRangeHour` if the hour is over 23;
+    /// - `OutOfRangeMinute` if the minute is over 59;
+    /// - `OutOfRangeSecond` if the second is over 59;
+    /// - `TimeTooLarge` if the microsecond is over 999,999;
+    /// - `OutOfRangeTz` if the offset is 24 hours or more.
+    #[inline]
+    pub fn new(
+        hour: u8,
+        minute: u8,
+        second: u8,
+        microsecond: u32,
+        tz_offset: Option<i32>,
+    ) -> Result<Self, ParseError>
+        ensures answer { result gives new_time_answer hour minute second microsecond tz_offset }
+    {
+        if hour > 23 {
+            return Err(ParseError::OutOfRangeHour);
+        }
+        if minute > 59 {
+            return Err(ParseError::OutOfRangeMinute);
+        }
+        if second > 59 {
+            return Err(ParseError::OutOfRangeSecond);
+        }
+        if microsecond > 999_999 {
+            return Err(ParseError::TimeTooLarge);
+        }
+        let time = Time {
+            hour,
+            minute,
+            second,
+            microsecond,
+            tz_offset: None,
+        };
+        time.with_timezone_offset(tz_offset)
+    }
 
     /// Reads a time from a text: 12:13:14 and a half, an hour east of UTC, from `"12:13:14.5+01:00"`.
     ///
@@ -144,12 +187,11 @@ impl Time {
         ensures answer { result gives time_answer behavior bytes.now }
         ensures minutes { IfOk result (λ time. IsWholeMinutes time.tz_offset) }
     {
-        let clock = PureTime::parse(bytes, 0, behavior)?;
-        let (tz_offset, size) = read_offset(bytes, clock.size)?;
-        if clock.size + size != bytes.len() {
-            return Err(end_fault(tz_offset));
+        let (time, size) = Self::front_at(bytes, 0, behavior)?;
+        if size != bytes.len() {
+            return Err(end_fault(time.tz_offset));
         }
-        Ok(clock.at_offset(tz_offset))
+        Ok(time)
     }
 
     /// Reads the time that begins at `place`, and how many bytes it takes, whatever follows it.

@@ -112,7 +112,7 @@ impl Duration {
         ensures instant { instant_of result
             ≡ instant_at (local_microsecond (date_and_time start.now) +ℤ signed_length (duration_numbers self.now)) }
     {
-        carried(
+        UnixTime::carried(
             start.timestamp() + self.signed_total_seconds(),
             start.time.microsecond as i32 + self.signed_microseconds(),
         )
@@ -173,18 +173,6 @@ impl Duration {
         ensures leads_back { IfOk result (λ end. date_after_days (duration_numbers self.now) (ymd end) ≡ Ok (ymd start.now)) }
     {
         self.negated().after_date(start)
-    }
-}
-
-/// The instant of seconds and microseconds of any size since 1970-01-01T00:00:00.
-#[inline]
-fn carried(second: i64, microsecond: i32) -> UnixTime
-    requires { unsigned_abs second < 100000000000000 }
-    ensures instant { instant_of result ≡ instant_at (pos 1000000 *ℤ second +ℤ microsecond) }
-{
-    UnixTime {
-        second: second + i64::from(microsecond.div_euclid(1_000_000)),
-        microsecond: microsecond.rem_euclid(1_000_000) as u32,
     }
 }
 

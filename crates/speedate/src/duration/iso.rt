@@ -13,7 +13,9 @@ ghost use Rattle.speedate.specs.IsoForm.{Component, TimeDesignator, units, unit_
 use super::unsigned::UnsignedDuration;
 use speedate_base::config::IsoOrder;
 use speedate_base::faults::ParseError;
-use speedate_base::numbers::{DigitRun, Fraction, byte_at, digit_run, few_digits};
+use speedate_base::numbers::{
+    DigitRun, Fraction, byte_at, digit_run, few_digits, is_decimal_mark,
+};
 use speedate_base::util::{SECONDS_PER_DAY, twice_microseconds};
 
 /// How many digits of a fraction of a second are whole microseconds.
@@ -190,15 +192,15 @@ impl Sums {
         ensures some { IfSome result (λ next. 0 < next.1) }
         ensures within { IfSome result (λ next. next.1 ≤ length text.now) }
     {
-        let (number, end) = few_digits(text, 0)?;
-        if end == 0 {
+        let (number, size) = few_digits(text)?;
+        if size == 0 {
             return None;
         }
-        let unit = DurationUnit::of_designator(byte_at(text, end), self.is_time)?;
+        let unit = DurationUnit::of_designator(byte_at(text, size), self.is_time)?;
         if self.fraction || !self.takes(&unit) {
             return None;
         }
-        Some((self.with_whole(number, &unit)?, end + 1))
+        Some((self.with_whole(number, &unit)?, size + 1))
     }
 
     /// The sums after the `T`.
@@ -325,7 +327,7 @@ impl Sums {
             return Err(ParseError::DurationInvalidFraction);
         }
         let rest = &text[number.length..];
-        let (size, microseconds) = fraction_at_front(rest);
+        let (microseconds, size) = fraction_at_front(rest);
         let unit_fault = if self.is_time {
             ParseError::DurationInvalidTimeUnit
         } else {
@@ -387,19 +389,18 @@ impl Sums {
     }
 }
 
-/// How many bytes the fraction has that stands at the front of a text, its decimal mark and digits,
-/// and the microseconds of a second that its first six digits are: 4 and 120,000 for `b".120S"`, and
-/// 0 and 0 if there is none.
+/// The microseconds of a second that the first six digits of the fraction at the front of a text are, and
+/// how many bytes it has with its decimal mark: 120,000 and 4 for `b".120S"`, and 0 and 0 if there is none.
 #[inline(always)]
-fn fraction_at_front(text: &[u8]) -> (usize, u32)
-    ensures length { result.0 ≡ fraction_length text.now }
-    ensures microseconds { result.1 ≡ fraction_value 6 (drop 1 (take (fraction_length text.now) text.now)) }
-    ensures within { result.0 ≤ length text.now }
-    ensures small { result.1 < 1000000 }
+fn fraction_at_front(text: &[u8]) -> (u32, usize)
+    ensures microseconds { result.0 ≡ fraction_value 6 (drop 1 (take (fraction_length text.now) text.now)) }
+    ensures small { result.0 < 1000000 }
+    ensures length { result.1 ≡ fraction_length text.now }
+    ensures within { result.1 ≤ length text.now }
 {
-    if !matches!(text, [b'.' | b',', ..]) {
+    if !is_decimal_mark(byte_at(text, 0)) {
         return (0, 0);
     }
     let fraction = Fraction::read(text, 1);
-    (1 + fraction.length, fraction.microsecond)
+    (fraction.microsecond, 1 + fraction.length)
 }

@@ -6,7 +6,7 @@ ghost use Rattle.std.specs.Cmp.{po, on_total};
 ghost use Rattle.std.specs.Cmp.Rules.{comparing};
 ghost use Rattle.std.specs.Ordering.{on, as_partial_cmp, bool_cmp, int_cmp, ordering_then};
 ghost use Rattle.speedate.specs.Duration.{duration_numbers, signed_length};
-ghost use Rattle.speedate.specs.DurationNumbers.{duration_order-total, duration_order, signed_day, signed_second, signed_microsecond};
+ghost use Rattle.speedate.specs.DurationNumbers.{duration_order, duration_order-same, duration_order-total, signed_day, signed_second, signed_microsecond};
 
 use super::Duration;
 use std::cmp::Ordering;
@@ -44,7 +44,7 @@ impl Ord for Duration {
 
     ghost matches_partial_cmp = { Prim.search (comparing, rules) };
 
-    ghost matches_eq = { Prim.search (comparing, rules) };
+    ghost matches_eq = { λ first second. duration_order-same (duration_numbers first) (duration_numbers second) };
 
     /// Which of two durations is the smaller one: a negative one before a positive one, the shorter
     /// of two positive ones, and the longer of two negative ones. Negative zero is before positive
@@ -62,7 +62,8 @@ impl Ord for Duration {
 impl PartialOrd for Duration {
     ghost partial_cmp = { as_partial_cmp (on duration_numbers duration_order) };
 
-    ghost laws = { po (on_total duration_numbers duration_order-total) (Prim.search (comparing, rules)) };
+    ghost laws = { po (on_total duration_numbers duration_order-total)
+        (λ first second. duration_order-same (duration_numbers first) (duration_numbers second)) };
 
     /// What [`Duration::cmp`] returns, since any two durations have an order:
     /// `Some(Ordering::Less)` for -PT0S and PT0S.

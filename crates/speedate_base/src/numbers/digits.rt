@@ -27,7 +27,7 @@ pub fn digit_run(bytes: &[u8]) -> DigitRun
     ensures length { result.length ≡ run_length bytes.now 0 }
     ensures value { result.value ≡ min (run_value bytes.now 0) (2 ^ 64 - 1) }
 {
-    match few_digits(bytes, 0) {
+    match few_digits(bytes) {
         Some((value, length)) => DigitRun {
             length,
             value: u64::from(value),
@@ -36,26 +36,25 @@ pub fn digit_run(bytes: &[u8]) -> DigitRun
     }
 }
 
-/// What the digits from `place` on spell, and where they end: 120 and place 4 for `b"x120."` at place
-/// 1, 0 and place 4 at place 4. `None` if there are more than six. The place is at most the length.
+/// The number that the digits at the front of bytes spell, and how many they are: 120 and 3 for `b"120."`,
+/// 0 and 0 for `b"."`. `None` if there are more than six.
 #[inline(always)]
-pub fn few_digits(bytes: &[u8], place: usize) -> Option<(u32, usize)>
-    requires { place ≤ length bytes.now }
-    ensures answer { result ≡ (if nat_le (run_length bytes.now place) FEW
-        then Some (run_value bytes.now place, place + run_length bytes.now place) else None) }
+pub fn few_digits(bytes: &[u8]) -> Option<(u32, usize)>
+    ensures answer { result ≡ (if nat_le (run_length bytes.now 0) FEW
+        then Some (run_value bytes.now 0, run_length bytes.now 0) else None) }
     ensures small { IfSome result (λ few. few.0 < 1000000) }
     ensures within { IfSome result (λ few. few.1 ≤ length bytes.now) }
 {
     let mut value = 0;
-    let mut end = place;
-    while byte_at(bytes, end).is_ascii_digit() {
-        if end - place == FEW {
+    let mut size = 0;
+    while byte_at(bytes, size).is_ascii_digit() {
+        if size == FEW {
             return None;
         }
-        value = 10 * value + u32::from(byte_at(bytes, end) - b'0');
-        end += 1;
+        value = 10 * value + u32::from(byte_at(bytes, size) - b'0');
+        size += 1;
     }
-    Some((value, end))
+    Some((value, size))
 }
 
 /// The run of digits at the front of bytes, of any length: eight digits at a time.

@@ -21,9 +21,9 @@ pub struct UnixTime {
 }
 
 impl UnixTime {
-    ghost use Rattle.std.specs.Prelude.{IfOk, pos, ◌*ℤ◌};
+    ghost use Rattle.std.specs.Prelude.{IfOk, pos, ◌*ℤ◌, ◌+ℤ◌, unsigned_abs};
     ghost use Rattle.speedate_base.specs.Requirement.{result_map};
-    ghost use Rattle.speedate_base.specs.Timestamp.{IsInYears, instant_at, range_answer, instant_of};
+    ghost use Rattle.speedate_base.specs.Timestamp.{IsInYears, instant_at, range_answer, instant_of, later_answer};
 
     /// The instant of a timestamp in seconds.
     #[inline(always)]
@@ -56,6 +56,38 @@ impl UnixTime {
             second: timestamp.div_euclid(1_000_000),
             microsecond: timestamp.rem_euclid(1_000_000) as u32,
         }
+    }
+
+    /// The instant of a second and microseconds that may be more than a second or negative: second 0 and
+    /// 999,999 microseconds for 1 and -1.
+    pub fn carried(second: i64, microsecond: i32) -> Self
+        requires { unsigned_abs second < 100000000000000 }
+        ensures instant { instant_of result ≡ instant_at (pos 1000000 *ℤ second +ℤ microsecond) }
+    {
+        UnixTime {
+            second: second + i64::from(microsecond.div_euclid(1_000_000)),
+            microsecond: microsecond.rem_euclid(1_000_000) as u32,
+        }
+    }
+
+    /// The instant so many microseconds later: second 2 and 500,000 microseconds for a second and a half
+    /// after second 1. Fails with `TimeTooLarge` if the microseconds exceed `u32::MAX` together, or if
+    /// the seconds and those carried exceed `i64::MAX`.
+    pub fn later(self, microseconds: u32) -> Result<Self, ParseError>
+        ensures later { result_map instant_of result ≡ later_answer microseconds (instant_of self) }
+    {
+        let sum = self
+            .microsecond
+            .checked_add(microseconds)
+            .ok_or(ParseError::TimeTooLarge)?;
+        let second = self
+            .second
+            .checked_add(i64::from(sum / 1_000_000))
+            .ok_or(ParseError::TimeTooLarge)?;
+        Ok(UnixTime {
+            second,
+            microsecond: sum % 1_000_000,
+        })
     }
 
     /// The same instant, if it lies in the years 0000 to 9999: second 0 for second 0. Fails with

@@ -1,12 +1,13 @@
-//! Days counted from 0000-01-01, and what follows from the count: the day of the year, the next
-//! day, and Unix timestamps.
+//! Days counted from 0000-01-01, and what follows from the count: the next day, days added and
+//! between, the day of the year, and Unix timestamps.
 
-ghost use Rattle.std.specs.Prelude.{◌≡◌, ◌+◌, ◌-◌, ◌*◌, ◌<◌, ◌≤◌, min, Bool, Ok, Some, IfSome};
+ghost use Rattle.std.specs.Prelude.{◌≡◌, ◌+◌, ◌-◌, ◌*◌, ◌<◌, ◌≤◌, min, Bool, Ok, Some, IfSome, pos, unsigned_abs};
 ghost use Rattle.std.specs.Int.{IsInRange};
 ghost use Rattle.std.specs.Option.{option_map};
+ghost use Rattle.std.specs.Ordering.{int_cmp};
 ghost use Rattle.speedate_base.specs.declared.config.TimestampUnit.TheVariants as unit;
 ghost use Rattle.speedate_civil.specs.Date.{ymd, date_timestamp_answer};
-ghost use Rattle.speedate_civil.specs.Calendar.{days_of_months, days_before_year, year_length, ordinal_day, day_number, date_after, date_numbered, next_date, midnight_second, midnight_millisecond};
+ghost use Rattle.speedate_civil.specs.Calendar.{days_of_months, days_before_year, year_length, ordinal_day, day_number, date_after, date_numbered, next_date, midnight_second, midnight_millisecond, date_order, date_added, days_between};
 
 use super::{Date, is_leap_year, month_length};
 use speedate_base::util::SECONDS_PER_DAY;
@@ -189,6 +190,32 @@ impl Date {
         } else {
             None
         }
+    }
+
+    /// The date so many days later, or earlier if the number is negative: 2020-03-01 for 2020-02-28 and
+    /// 2. `None` if that is before 0000-01-01 or after 9999-12-31. [`Date::days_since`] leads back to
+    /// the number.
+    #[inline(always)]
+    pub fn checked_add_days(&self, days: i32) -> Option<Self>
+        ensures date { option_map ymd result ≡ date_added days (ymd self.now) }
+        ensures counted { IfSome result (λ date. days_between (ymd self.now) (ymd date) ≡ days) }
+    {
+        let number = i64::from(self.day_number()) + i64::from(days);
+        let number = u32::try_from(number).ok()?;
+        Self::from_day_number(number)
+    }
+
+    /// The days from another date to this one: 2 for 2020-03-01 since 2020-02-28. The number is
+    /// negative if this date is before the other, and 0 if the two are equal.
+    /// [`Date::checked_add_days`] of the other date leads back to this one.
+    #[inline]
+    pub fn days_since(&self, earlier: &Date) -> i32
+        ensures days { result ≡ days_between (ymd earlier.now) (ymd self.now) }
+        ensures leads_back { date_added result (ymd earlier.now) ≡ Some (ymd self.now) }
+        ensures small { unsigned_abs result ≤ 3652424 }
+        ensures order { int_cmp result (pos 0) ≡ date_order (ymd self.now) (ymd earlier.now) }
+    {
+        self.day_number() as i32 - earlier.day_number() as i32
     }
 
     /// The day of the year, 1 to 366: 366 for 2020-12-31 (ISO 8601, ordinal date).

@@ -1,6 +1,6 @@
-//! Dates from timestamps, and from texts that are a timestamp instead of a date.
+//! Dates from timestamps, from texts that are a timestamp instead of a date, and from clocks.
 
-ghost use Rattle.std.specs.Prelude.{◌≡◌, ◌==◌, ◌&&◌, Err, IsTrue, int_le};
+ghost use Rattle.std.specs.Prelude.{◌≡◌, ◌==◌, ◌&&◌, Err, IsTrue, Option, int_le};
 ghost use Rattle.speedate_base.specs.Requirement.{result_map, ◌implies◌};
 ghost use Rattle.speedate_base.specs.Timestamp.{first_second, last_second};
 ghost use Rattle.speedate_base.specs.declared.config.TimestampUnit.TheVariants as unit;
@@ -9,6 +9,7 @@ ghost use Rattle.speedate_civil.specs.Calendar.{date_after};
 ghost use Rattle.speedate_civil.specs.Reader.{may_be_number};
 
 use super::Date;
+use crate::datetime::{DateTime, Moment};
 use speedate_base::config::DateConfig;
 use speedate_base::faults::ParseError;
 use speedate_base::numbers::int_parse_bytes;
@@ -122,6 +123,25 @@ impl Date {
             Self::numbered((seconds / per_day) as u32),
             (seconds % per_day) as u32,
         )
+    }
+}
+
+impl Date {
+    ghost use Rattle.speedate_civil.specs.declared.datetime.now.Moment.{Moment};
+    ghost use Rattle.speedate_civil.specs.DateTime.{today_answer};
+
+    /// The date that a clock tells, at an offset in seconds: 2022-06-08 for a clock that tells second
+    /// 1,654,646,399, and 3,600. The clock and the faults are those of [`DateTime::now`].
+    #[inline]
+    pub fn today<F: FnOnce() -> Option<Moment>>(
+        clock: F,
+        tz_offset: i32,
+    ) -> Result<Self, ParseError>
+        requires { F.pre clock }
+        ensures answer { (told : Option Moment) × F.post clock told × (result gives today_answer tz_offset told) }
+    {
+        let now = DateTime::now(clock, tz_offset)?;
+        Ok(now.date)
     }
 }
 

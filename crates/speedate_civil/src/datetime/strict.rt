@@ -9,7 +9,7 @@ ghost use Rattle.speedate_civil.specs.DateTime.{date_and_time, ◌gives◌};
 
 use crate::datetime::{DateTime, TIME_PLACE};
 use crate::time::require_standard;
-use speedate_base::config::{MicrosecondsPrecisionOverflowBehavior, TimeConfig};
+use speedate_base::config::MicrosecondsPrecisionOverflowBehavior;
 use speedate_base::faults::ParseError;
 use speedate_base::numbers::byte_at;
 
@@ -31,10 +31,7 @@ impl DateTime {
         ensures standard { IsOk result ↔ IsDateTime behavior bytes.now }
         ensures minutes { IfOk result (λ value. IsWholeMinutes value.time.tz_offset) }
     {
-        let config = TimeConfig::builder()
-            .microseconds_precision_overflow_behavior(behavior)
-            .build();
-        let value = Self::parse_bytes_rfc3339_with_config(bytes, &config)?;
+        let value = Self::parse_whole(bytes, behavior)?;
         require_standard_date_time(bytes)?;
         Ok(value)
     }

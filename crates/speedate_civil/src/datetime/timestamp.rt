@@ -7,7 +7,7 @@ ghost use Rattle.speedate_base.specs.declared.config.TimestampUnit.TheVariants a
 ghost use Rattle.speedate_base.specs.Offset.{IsOffset, IsWholeMinutes};
 ghost use Rattle.speedate_base.specs.Requirement.{result_map};
 ghost use Rattle.speedate_base.specs.Timestamp.{IsInYears, instant_of};
-ghost use Rattle.speedate_civil.specs.DateTime.{local_second, utc_second, local_millisecond, utc_millisecond, local_microsecond, date_and_time, date_time_answer, IsShownAt, later_answer, date_time_at, instant_date_time, date_time_timestamp_answer, meant_microsecond, date_time_or_timestamp, ◌gives◌};
+ghost use Rattle.speedate_civil.specs.DateTime.{local_second, utc_second, local_millisecond, utc_millisecond, local_microsecond, date_and_time, date_time_answer, IsShownAt, date_time_at, instant_date_time, date_time_timestamp_answer, meant_microsecond, date_time_or_timestamp, ◌gives◌};
 
 use crate::date::Date;
 use crate::date::timestamp::may_be_number;
@@ -159,7 +159,7 @@ impl DateTime {
             → IfOk result (λ value. IsWholeMinutes value.time.tz_offset) }
     {
         let time = timestamp_to_seconds_micros(timestamp, config.timestamp_unit)?;
-        let later = later_instant(time, timestamp_microsecond)?;
+        let later = time.later(timestamp_microsecond)?;
         instant_date_time(later, config.time_config.unix_timestamp_offset)
     }
 
@@ -243,25 +243,4 @@ pub fn instant_date_time(time: UnixTime, offset: Option<i32>) -> Result<DateTime
 {
     let within = time.in_years()?;
     Ok(DateTime::at_instant(within, offset))
-}
-
-/// The instant so many microseconds later. Fails with `TimeTooLarge` if the microseconds exceed
-/// `u32::MAX` together, or if the seconds and those carried exceed `i64::MAX`.
-#[inline]
-fn later_instant(time: UnixTime, microseconds: u32) -> Result<UnixTime, ParseError>
-    ensures later { result_map instant_of result
-        ≡ later_answer microseconds (instant_of time) }
-{
-    let sum = time
-        .microsecond
-        .checked_add(microseconds)
-        .ok_or(ParseError::TimeTooLarge)?;
-    let second = time
-        .second
-        .checked_add(i64::from(sum / 1_000_000))
-        .ok_or(ParseError::TimeTooLarge)?;
-    Ok(UnixTime {
-        second,
-        microsecond: sum % 1_000_000,
-    })
 }

@@ -7,14 +7,14 @@ ghost use Rattle.arrayvec.specs.ArrayString.{array_string_len};
 ghost use Rattle.speedate_base.specs.Ascii.{plus_sign, hyphen};
 ghost use Rattle.speedate_base.specs.Digits.{two_digit_value, fit_length};
 ghost use Rattle.speedate_base.specs.Numbers.{with_sign};
-ghost use Rattle.speedate_base.specs.Offset.{IsOffset, IsWholeMinutes, seconds_per_day};
+ghost use Rattle.speedate_base.specs.Offset.{IsOffset, IsWholeMinutes};
+ghost use Rattle.speedate_base.specs.Timestamp.{seconds_per_day};
 ghost use Rattle.speedate_base.specs.Requirement.{meets};
 ghost use Rattle.speedate_civil.specs.DateTime.{move_table};
 ghost use Rattle.speedate_civil.specs.Time.{end_fault, has_minus_sign, is_plus_or_minus, is_utc, offset_digits, offset_front, signed_front, offset_minute, offset_digits_length, offset_size_text, offset_text};
 
 use crate::text::two_digit_text;
 use arrayvec::ArrayString;
-use speedate_base::config::is_offset;
 use speedate_base::faults::ParseError;
 use speedate_base::numbers::{byte_at, eight_bytes, fitting, pairs};
 use speedate_base::util::SECONDS_PER_DAY;
@@ -56,12 +56,12 @@ pub(crate) fn end_fault(offset: Option<i32>) -> ParseError
     }
 }
 
-/// Whether a byte is `+` or `-`, the neighbours of `,`: one test tells both.
+/// Whether a byte is `+` or `-`.
 #[inline(always)]
 fn is_plus_or_minus(byte: u8) -> bool
     ensures value { result ≡ is_plus_or_minus byte }
 {
-    byte.abs_diff(b',') == 1
+    byte == b'+' || byte == b'-'
 }
 
 /// Whether the three bytes of U+2212, the minus sign, begin at `place`.
@@ -157,35 +157,6 @@ fn with_sign(west: bool, size: u32) -> i32
     ensures range { IsOffset result }
 {
     if west { -(size as i32) } else { size as i32 }
-}
-
-/// The seconds by which a clock moves from the offset at which it shows a time to another one: 3,600
-/// from `Some(0)` to 3,600. Fails with `OutOfRangeTz` if the other one is 24 hours or more, then with
-/// `TzRequired` if there is no first one.
-#[inline]
-pub(crate) fn clock_shift(old: Option<i32>, offset: i32) -> Result<i32, ParseError>
-    requires { ForSome old IsOffset }
-    ensures answer { result ≡ meets (move_table offset old) (Ok (offset -ℤ unwrap_or old (pos 0))) }
-    ensures range { IfOk result (λ shift. IsOffset offset × (unsigned_abs shift < 2 * seconds_per_day)) }
-{
-    if !is_offset(offset) {
-        return Err(ParseError::OutOfRangeTz);
-    }
-    match old {
-        Some(old) => Ok(difference(offset, old)),
-        None => Err(ParseError::TzRequired),
-    }
-}
-
-/// How much larger one offset is than another.
-#[inline]
-fn difference(offset: i32, old: i32) -> i32
-    requires offset { IsOffset offset }
-    requires old { IsOffset old }
-    ensures value { result ≡ offset -ℤ old }
-    ensures range { unsigned_abs result < 2 * seconds_per_day }
-{
-    offset - old
 }
 
 /// Appends the text of an offset, if there is one.

@@ -1,13 +1,14 @@
 //! Times of day at other offsets.
 
-ghost use Rattle.std.specs.Prelude.{◌≡◌, ◌&&◌, IfOk, Some, pos, int_le, int_lt};
-ghost use Rattle.speedate_base.specs.Offset.{seconds_per_day};
-ghost use Rattle.speedate_base.specs.Requirement.{result_map};
-ghost use Rattle.speedate_civil.specs.DateTime.{time_with_offset, time_in_timezone};
+ghost use Rattle.std.specs.Prelude.{◌≡◌, ◌*◌, ◌<◌, ◌&&◌, ◌-ℤ◌, IfOk, Ok, Some, pos, int_le, int_lt, unsigned_abs};
+ghost use Rattle.speedate_base.specs.Timestamp.{seconds_per_day};
+ghost use Rattle.std.specs.Option.{ForSome, unwrap_or};
+ghost use Rattle.speedate_base.specs.Offset.{IsOffset};
+ghost use Rattle.speedate_base.specs.Requirement.{meets, result_map};
+ghost use Rattle.speedate_civil.specs.DateTime.{time_with_offset, time_in_timezone, move_table};
 ghost use Rattle.speedate_civil.specs.Time.{time_of_day, utc_second_of_day, ◌gives◌};
 
 use super::Time;
-use super::offset::clock_shift;
 use speedate_base::config::is_offset;
 use speedate_base::faults::ParseError;
 use speedate_base::util::SECONDS_PER_DAY;
@@ -53,6 +54,35 @@ impl Time {
         }
         Ok(Self::at_second(second as u32, self.microsecond, Some(tz_offset)))
     }
+}
+
+/// The seconds by which a clock moves from the offset at which it shows a time to another one: 3,600
+/// from `Some(0)` to 3,600. Fails with `OutOfRangeTz` if the other one is 24 hours or more, then with
+/// `TzRequired` if there is no first one.
+#[inline]
+pub(crate) fn clock_shift(old: Option<i32>, offset: i32) -> Result<i32, ParseError>
+    requires { ForSome old IsOffset }
+    ensures answer { result ≡ meets (move_table offset old) (Ok (offset -ℤ unwrap_or old (pos 0))) }
+    ensures range { IfOk result (λ shift. IsOffset offset × (unsigned_abs shift < 2 * seconds_per_day)) }
+{
+    if !is_offset(offset) {
+        return Err(ParseError::OutOfRangeTz);
+    }
+    match old {
+        Some(old) => Ok(difference(offset, old)),
+        None => Err(ParseError::TzRequired),
+    }
+}
+
+/// How much larger one offset is than another.
+#[inline]
+fn difference(offset: i32, old: i32) -> i32
+    requires offset { IsOffset offset }
+    requires old { IsOffset old }
+    ensures value { result ≡ offset -ℤ old }
+    ensures range { unsigned_abs result < 2 * seconds_per_day }
+{
+    offset - old
 }
 
 /// Whether a second counted from midnight lies on that day.

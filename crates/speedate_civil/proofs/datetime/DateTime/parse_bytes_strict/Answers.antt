@@ -1,10 +1,7 @@
-use Rattle.std.proofs.Common.{◌∙◌, ap, Ok, Err}
+use Rattle.std.proofs.Common.{ap, Ok, Err}
 use Rattle.std.proofs.lemmas.Result.{err_from_is_err_and}
-use Rattle.speedate_base.specs.declared.config.MicrosecondsPrecisionOverflowBehavior.{MicrosecondsPrecisionOverflowBehavior}
-use Rattle.speedate_base.specs.declared.config.TimeConfig.{TimeConfig}
-use Rattle.speedate_base.specs.Config.{Choices}
 use Rattle.speedate_base.specs.Requirement.{meets, result_and_then}
-use Rattle.speedate_civil.specs.DateTime.{DateAndTime, date_time_answer, date_and_time}
+use Rattle.speedate_civil.specs.DateTime.{DateAndTime, date_and_time}
 use Rattle.speedate_civil.specs.Standard.{standard_date_time}
 use Rattle.speedate_base.proofs.RequirementLemmas.{meets-read}
 use Rattle.speedate_civil.proofs.Rfc3339Lemmas.{date-time-standard}
@@ -13,16 +10,17 @@ use Rattle.speedate_civil.proofs.datetime.DateTime.parse_bytes_strict.Goals as g
 pub returns-in_err-require_standard_date_time-clause-answer : goal.returns-in_err-require_standard_date_time-clause-answer
 returns-in_err-require_standard_date_time-clause-answer c =
     let p = err_from_is_err_and c.from_residual-in_err-require_standard_date_time.result c.from_residual-in_err-require_standard_date_time.ensures.1 in
-    rw (p.1, p.2) (meets-read (standard_date_time c.args.bytes.now) (date_and_time c.in_ok-value.value) _ _ (c.in_ok-value.ensures.answer ∙ ap (λ (behavior : MicrosecondsPrecisionOverflowBehavior). date_time_answer behavior c.args.bytes.now) (ap (λ (config : TimeConfig). config.microseconds_precision_overflow_behavior) c.build-config.ensures.built ∙ ap (λ (chosen : Choices). chosen.behavior) c.microseconds_precision_overflow_behavior.ensures.choices)) c.in_err-require_standard_date_time.ensures.answer)
+    rw (p.1, p.2) (meets-read (standard_date_time c.args.bytes.now) (date_and_time c.in_ok-value.value) _ _ c.in_ok-value.ensures.answer c.in_err-require_standard_date_time.ensures.answer)
 
 pub returns-clause-answer : goal.returns-clause-answer
-returns-clause-answer c = meets-read (standard_date_time c.args.bytes.now) (date_and_time c.in_ok-value.value) _ _ (c.in_ok-value.ensures.answer ∙ ap (λ (behavior : MicrosecondsPrecisionOverflowBehavior). date_time_answer behavior c.args.bytes.now) (ap (λ (config : TimeConfig). config.microseconds_precision_overflow_behavior) c.build-config.ensures.built ∙ ap (λ (chosen : Choices). chosen.behavior) c.microseconds_precision_overflow_behavior.ensures.choices)) c.in_ok-require_standard_date_time.ensures.answer
+returns-clause-answer c =
+    meets-read (standard_date_time c.args.bytes.now) (date_and_time c.in_ok-value.value) _ _ c.in_ok-value.ensures.answer c.in_ok-require_standard_date_time.ensures.answer
 
 pub returns-in_err-value-clause-standard : goal.returns-in_err-value-clause-standard
 returns-in_err-value-clause-standard c =
     let p = err_from_is_err_and c.from_residual.result c.from_residual.ensures.1 in
     rw (p.1) (date-time-standard c.args.behavior c.args.bytes.now (Err c.in_err-value.field-0.0)
-    (ap (result_and_then (λ (found : DateAndTime). meets (standard_date_time c.args.bytes.now) (Ok found))) (c.in_err-value.ensures.answer ∙ ap (λ (behavior : MicrosecondsPrecisionOverflowBehavior). date_time_answer behavior c.args.bytes.now) (ap (λ (config : TimeConfig). config.microseconds_precision_overflow_behavior) c.build-config.ensures.built ∙ ap (λ (chosen : Choices). chosen.behavior) c.microseconds_precision_overflow_behavior.ensures.choices))))
+    (ap (result_and_then (λ (found : DateAndTime). meets (standard_date_time c.args.bytes.now) (Ok found))) c.in_err-value.ensures.answer))
 
 pub returns-in_err-require_standard_date_time-clause-standard : goal.returns-in_err-require_standard_date_time-clause-standard
 returns-in_err-require_standard_date_time-clause-standard c =

@@ -1,21 +1,24 @@
-use Rattle.std.proofs.Common.{rules, sym}
-use Rattle.speedate_base.proofs.RequirementLemmas.{alone-iff}
-use Rattle.speedate_civil.specs.DateTime.{DateAndTime}
+use Rattle.std.proofs.Common.{◌≡◌, sym, ℕ, ◌≤◌, IfOk, List, length, take, Result, Ok, Err}
+use Rattle.speedate_base.specs.declared.config.MicrosecondsPrecisionOverflowBehavior.{MicrosecondsPrecisionOverflowBehavior}
+use Rattle.speedate_base.specs.declared.faults.ParseError.{ParseError}
+use Rattle.speedate_base.specs.Requirement.{result_map, with_size}
+use Rattle.speedate_civil.specs.declared.datetime.DateTime.{DateTime}
+use Rattle.speedate_civil.specs.DateTime.{DateAndTime, date_time_front, date_time_answer, date_and_time}
 use Rattle.speedate_civil.specs.Time.{end_fault}
+use Rattle.speedate_base.proofs.RequirementLemmas.{alone-iff}
 use Rattle.speedate_civil.proofs.FrontLemmas.{date_time_front-alone}
-use Rattle.speedate_civil.proofs.NumberTextLemmas.{number_answer-date}
 use Rattle.speedate_civil.proofs.datetime.DateTime.parse_front.Goals as goal
-
-pub returns-clause-no_number : goal.returns-clause-no_number
-returns-clause-no_number c = number_answer-date c.args.bytes.now _ (sym c.in_ok-date.ensures.answer)
-
-pub returns-clause-answer : goal.returns-clause-answer
-returns-clause-answer c = search rules
 
 pub returns-clause-whole : goal.returns-clause-whole
 returns-clause-whole c = λ value.
-    rw (returns-clause-answer c) (alone-iff (λ (read : DateAndTime). end_fault read.time.offset) c.args.bytes.now _ value)
+    rw (c.front.ensures.answer) (alone-iff (λ (read : DateAndTime). end_fault read.time.offset) c.args.bytes.now _ value)
+
+read-alone : (behavior : MicrosecondsPrecisionOverflowBehavior) (text : List ℕ) (result : Result (DateTime × ℕ) ParseError)
+    → result_map (with_size date_and_time) result ≡ date_time_front behavior text → IfOk result (λ front. front.1 ≤ length text)
+    → IfOk result (λ front. date_time_answer behavior (take front.1 text) ≡ Ok (date_and_time front.0))
+read-alone behavior text (Ok front) is within = date_time_front-alone behavior text (date_and_time front.0, front.1) (sym is) within
+read-alone behavior text (Err fault) is within = tt
 
 pub returns-clause-alone : goal.returns-clause-alone
 returns-clause-alone c =
-    date_time_front-alone c.args.config.now.microseconds_precision_overflow_behavior c.args.bytes.now _ (sym (returns-clause-answer c)) (search rules)
+    read-alone c.args.config.now.microseconds_precision_overflow_behavior c.args.bytes.now _ c.front.ensures.answer c.front.ensures.within

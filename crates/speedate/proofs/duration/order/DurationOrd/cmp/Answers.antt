@@ -1,18 +1,32 @@
-use Rattle.std.proofs.Common.{◌≡◌, ◌∙◌, arith, ℕ, ◌<◌, Bool, true, false}
-use Rattle.std.specs.Prelude.{not}
-use Rattle.std.specs.Ordering.{bool_cmp, int_cmp, ordering_then}
+use Rattle.std.proofs.Common.{◌≡◌, ◌∙◌, arith, ap, ℕ, ◌+◌, ◌*◌, ◌<◌, Bool, true, false, not, pos, neg_ℤ, refl, nat_cmp, int_cmp}
+use Rattle.std.specs.Ordering.{bool_cmp, ordering_then}
 use Rattle.std.proofs.lemmas.Bool.Decides.{nat_tests}
 use Rattle.std.proofs.lemmas.Int.{ints}
 use Rattle.speedate_base.specs.Numbers.{with_sign}
 use Rattle.speedate.specs.Duration.{duration_numbers, signed_length}
-use Rattle.speedate.specs.DurationNumbers.{DurationNumbers, IsDuration, duration_order}
+use Rattle.speedate.specs.DurationNumbers.{DurationNumbers, IsDuration, duration_order, length_microseconds}
 use Rattle.speedate.proofs.DurationLemmas.{is_duration}
 use Rattle.speedate.proofs.duration.order.DurationOrd.cmp.Goals as goal
 
--- the key is ordered as the length with the sign, and then as the sign
-order-length : (first second : DurationNumbers) → IsDuration first → IsDuration second
+-- days, seconds and microseconds are ordered as the length
+size-order : (first second : DurationNumbers) → IsDuration first → IsDuration second
+    → ordering_then (nat_cmp first.day second.day) (ordering_then (nat_cmp first.second second.second) (nat_cmp first.microsecond second.microsecond))
+    ≡ nat_cmp (length_microseconds first) (length_microseconds second)
+size-order first second one two = grind (arith, nat_tests, one.second, one.microsecond, two.second, two.microsecond)
+
+-- negative numbers are ordered the other way round
+turned : (a b : ℕ) → int_cmp (neg_ℤ (pos a)) (neg_ℤ (pos b)) ≡ nat_cmp b a
+turned a b = grind (arith, ints, nat_tests)
+
+-- by the sign, and then by the numbers with it, is by the length with the sign, and then by the sign
+order-length : (p q : Bool) (first second : DurationNumbers) → first.positive ≡ p → second.positive ≡ q → IsDuration first → IsDuration second
     → duration_order first second ≡ ordering_then (int_cmp (signed_length first) (signed_length second)) (bool_cmp first.positive second.positive)
-order-length first second one two = grind (arith, ints, nat_tests, one.second, one.microsecond, two.second, two.microsecond)
+order-length true true first second is_first is_second one two = rw (is_first, is_second) (grind (arith, nat_tests, size-order first second one two))
+order-length false false first second is_first is_second one two =
+    rw (is_first, is_second, turned first.day second.day, turned first.second second.second, turned first.microsecond second.microsecond,
+    turned (length_microseconds first) (length_microseconds second)) (grind (arith, nat_tests, size-order second first two one))
+order-length true false first second is_first is_second one two = rw (is_first, is_second) (grind (arith, ints, nat_tests))
+order-length false true first second is_first is_second one two = rw (is_first, is_second) (grind (arith, ints, nat_tests))
 
 pub returns-clause-length : goal.returns-clause-length
 returns-clause-length c =
