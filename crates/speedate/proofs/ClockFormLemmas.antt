@@ -1,6 +1,5 @@
 -- Where the hours of a clock end, and where no letter of a day stands: among digits, and in a clock.
-use Rattle.std.proofs.Common.{rules, arith, ◌∙◌, ap, sym, get_or, inl, inr, ap₂}
-use Rattle.std.specs.Prelude.{◌≡◌, ℕ, ◌-◌, ◌^◌, ◌<◌, min, Bool, true, false, List, length, take, ◌==◌, ◌&&◌, nat_lt, nat_le, refl, ◌+◌, ◌||◌, [], ◌∷◌, drop, if◌then◌else◌, Ok}
+use Rattle.std.proofs.Common.{rules, arith, ◌∙◌, ap, sym, get_or, inl, inr, ap₂, ◌≡◌, ℕ, ◌-◌, ◌^◌, ◌<◌, min, Bool, true, false, List, length, take, ◌==◌, ◌&&◌, nat_lt, nat_le, refl, ◌+◌, ◌||◌, [], ◌∷◌, drop, if◌then◌else◌, Ok}
 use Rattle.std.specs.Char.{is_ascii_digit}
 use Rattle.std.specs.List.{list_all, list_any, prefix_len}
 use Rattle.std.proofs.lemmas.Bool.{cases_lt, eqb-true}

@@ -1,7 +1,5 @@
 -- A number in digits, from the last two to the first.
-use Rattle.std.proofs.Common.{rules, arith, ap, ◌∙◌, append_assoc, length-append}
-use Rattle.std.specs.Prelude.{◌≡◌, ℕ, ◌/◌, ◌%◌, ◌^◌, ◌<◌, ◌≤◌, List, [], ◌∷◌, ◌++◌}
-use Rattle.std.specs.Fmt.{decimal}
+use Rattle.std.proofs.Common.{rules, arith, ap, ◌∙◌, append_assoc, length-append, ◌≡◌, ℕ, ◌/◌, ◌%◌, ◌^◌, ◌<◌, ◌≤◌, List, [], ◌∷◌, ◌++◌, decimal}
 use Rattle.std.proofs.lemmas.Fmt.{decimal_digit, decimal_step}
 use Rattle.std.proofs.lemmas.Str.{encode_ascii}
 use Rattle.speedate_base.specs.Digits.{two_digit_text}

@@ -1,6 +1,5 @@
 -- How the answer to an ISO 8601 duration goes on from item to item.
-use Rattle.std.proofs.Common.{rules, arith, ap, sym, ◌∙◌, lt_irrefl}
-use Rattle.std.specs.Prelude.{◌≡◌, ℕ, zero, suc, ◌-◌, ◌<◌, Bool, false, not, List, [], ◌∷◌, ◌++◌, length, drop, slice_index, if◌then◌else◌, Result, Ok, Err, refl}
+use Rattle.std.proofs.Common.{rules, arith, ap, sym, ◌∙◌, lt_irrefl, ◌≡◌, ℕ, zero, suc, ◌-◌, ◌<◌, Bool, false, not, List, [], ◌∷◌, ◌++◌, length, drop, slice_index, if◌then◌else◌, Result, Ok, Err, refl}
 use Rattle.std.proofs.Math.Seq.{drop-append_seam}
 use Rattle.std.proofs.lemmas.List.{length-append}
 use Rattle.speedate_base.specs.declared.config.IsoOrder.{IsoOrder}

@@ -1,6 +1,5 @@
 -- Durations are in their ranges, and have one normal form.
-use Rattle.std.proofs.Common.{rules}
-use Rattle.std.specs.Prelude.{◌≡◌, Ok}
+use Rattle.std.proofs.Common.{rules, ◌≡◌, Ok}
 use Rattle.speedate.specs.DurationNumbers.{DurationNumbers, IsDuration, length_microseconds, of_length, normal_form}
 use Rattle.speedate.specs.declared.duration.Duration.{Duration}
 use Rattle.speedate.specs.Duration.{duration_numbers}

@@ -1,8 +1,5 @@
 -- Where the order of the standard is asked for, a duration is what the lax order makes of it, or is refused for its order.
-use Rattle.std.proofs.Common.{rules, arith, ap, sym, ◌∙◌, subst, inl}
-use Rattle.std.specs.Prelude.{◌≡◌, ℕ, zero, suc, ◌-◌, Bool, true, false, not, ◌&&◌, List, [], ◌∷◌, ◌++◌, length, take, drop, slice_index, ◌==◌, if◌then◌else◌, Option, Some, Result, Ok, Err, refl}
-use Rattle.std.specs.List.{flat_map}
-use Rattle.std.specs.Option.{is_some}
+use Rattle.std.proofs.Common.{rules, arith, ap, sym, ◌∙◌, subst, inl, ◌≡◌, ℕ, zero, suc, ◌-◌, Bool, true, false, not, ◌&&◌, List, [], ◌∷◌, ◌++◌, length, take, drop, slice_index, ◌==◌, if◌then◌else◌, Option, Some, Result, Ok, Err, refl, flat_map, is_some}
 use Rattle.std.proofs.lemmas.Bool.{eqb-true, false≢true}
 use Rattle.std.proofs.lemmas.Bool.Decides.{nat_tests}
 use Rattle.std.proofs.lemmas.List.{append-nil, take-append-drop}

@@ -1,7 +1,5 @@
 -- The good fronts of an ISO 8601 duration: only one of them is followed by an end, and that end is the answer.
-use Rattle.std.proofs.Common.{rules, ap, ap₂, sym, ◌∙◌, append_assoc, subst}
-use Rattle.std.specs.Prelude.{◌≡◌, MatchBool, ℕ, zero, suc, ◌-◌, Bool, true, false, not, List, [], ◌∷◌, ◌++◌, length, drop, slice_index, ◌==◌, if◌then◌else◌, Result, Ok, Err, refl}
-use Rattle.std.specs.List.{flat_map}
+use Rattle.std.proofs.Common.{rules, ap, ap₂, sym, ◌∙◌, append_assoc, subst, ◌≡◌, MatchBool, ℕ, zero, suc, ◌-◌, Bool, true, false, not, List, [], ◌∷◌, ◌++◌, length, drop, slice_index, ◌==◌, if◌then◌else◌, Result, Ok, Err, refl, flat_map}
 use Rattle.std.proofs.lemmas.Bool.{false≢true}
 use Rattle.std.proofs.lemmas.List.{append_cancel_left}
 use Rattle.std.proofs.Math.Seq.{drop-nil}

@@ -1,10 +1,8 @@
 -- Items of ISO 8601 durations and the texts that begin with them, and the places of their units.
+use Rattle.std.proofs.Common.{rules, arith, ap, ap₂, sym, ◌∙◌, append_assoc, ◌≡◌, ℕ, suc, ◌+◌, ◌-◌, ◌<◌, ◌≤◌, Bool, true, false, not, List, [], ◌∷◌, ◌++◌, length, take, drop, slice_index, nat_lt, ◌==◌, if◌then◌else◌, Option, Some, None, Result, Ok, refl, zero, nat_le, is_some}
 use Rattle.std.proofs.lemmas.Int.{ints}
-use Rattle.std.proofs.Common.{rules, arith, ap, ap₂, sym, ◌∙◌, append_assoc}
-use Rattle.std.specs.Prelude.{◌≡◌, ℕ, suc, ◌+◌, ◌-◌, ◌<◌, ◌≤◌, Bool, true, false, not, List, [], ◌∷◌, ◌++◌, length, take, drop, slice_index, nat_lt, ◌==◌, if◌then◌else◌, Option, Some, None, Result, Ok, refl, zero, nat_le}
 use Rattle.std.specs.Char.{is_ascii_digit}
 use Rattle.std.specs.List.{list_all, prefix_len}
-use Rattle.std.specs.Option.{is_some}
 use Rattle.std.proofs.Math.Seq.{take-append_seam, drop-append_seam, get_or-append_seam, drop-nil}
 use Rattle.std.proofs.lemmas.Bool.{and_parts, eqb-true, false≢true, le-leb}
 use Rattle.std.proofs.lemmas.Bool.Decides.{nat_tests}
@@ -125,14 +123,14 @@ few-parts : (number value end count : ℕ) (few : Bool)
     → ◌≡◌ {A = Option (ℕ × ℕ)} (Some (number, end)) (if few then Some (value, count) else None) → (number ≡ value) × (end ≡ count)
 few-parts number value end count few same = search (rules)
 
--- with the designator of a unit after it, it is a component, which adds so many of the unit
+-- with the designator of a unit after it, it is a component, which adds that number of the unit
 pub short-front : (sums next : Sums) (text : List ℕ) (number end designator : ℕ) (few : Bool) (unit : DurationUnit)
-    → ◌≡◌ {A = Option (ℕ × ℕ)} (Some (number, end)) (if few then Some (run_value text 0, 0 + run_length text 0) else None) → 0 < end → number ≤ 4294967295 → designator ≡ slice_index text end
+    → ◌≡◌ {A = Option (ℕ × ℕ)} (Some (number, end)) (if few then Some (run_value text 0, run_length text 0) else None) → 0 < end → number ≤ 4294967295 → designator ≡ slice_index text end
     → sums.fraction ≡ false → Some unit ≡ unit_in (units sums.is_time) designator → is_some (unit_in sums.next_units designator) ≡ true
     → next ≡ with_amount unit number [] sums → are_counted (with_amount unit number [] sums) ≡ true
     → ◌≡◌ {A = Result (Sums × ℕ) ParseError} (Ok (next, end + 1)) (item_front sums (item_at text))
 short-front sums next text number end designator few unit read some small there none is comes added counted =
-    let parts = few-parts number (run_value text 0) end (0 + run_length text 0) few read in
+    let parts = few-parts number (run_value text 0) end (run_length text 0) few read in
     let count = run_length text 0 in
     let component : ComponentText = record { number = take count text; fraction = []; designator = designator } in
     let first : designator ≡ slice_index (drop count text) 0 = there ∙ ap (slice_index text) (omega (arith, parts.1)) ∙ sym (get_or-drop count text 0 0) in

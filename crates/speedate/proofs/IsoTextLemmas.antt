@@ -1,11 +1,8 @@
 -- The text by which a duration is printed is read as the duration.
-use Rattle.std.proofs.Common.{rules, arith, ap, sym, ◌∙◌, append_assoc, lit<}
+use Rattle.std.proofs.Common.{rules, arith, ap, sym, ◌∙◌, append_assoc, lit<, ◌≡◌, ℕ, ◌+◌, ◌*◌, ◌/◌, ◌%◌, ◌^◌, ◌<◌, ◌≤◌, Bool, true, false, not, ◌&&◌, ◌==◌, if◌then◌else◌, List, [], ◌∷◌, ◌++◌, length, drop, Some, Result, Ok, codes, refl, decimal, is_some}
 use Rattle.std.proofs.lemmas.Int.{ints}
-use Rattle.std.specs.Prelude.{◌≡◌, ℕ, ◌+◌, ◌*◌, ◌/◌, ◌%◌, ◌^◌, ◌<◌, ◌≤◌, Bool, true, false, not, ◌&&◌, ◌==◌, if◌then◌else◌, List, [], ◌∷◌, ◌++◌, length, drop, Some, Result, Ok, codes, refl}
 use Rattle.std.specs.Char.{is_ascii_digit}
-use Rattle.std.specs.Fmt.{decimal}
 use Rattle.std.specs.List.{list_all}
-use Rattle.std.specs.Option.{is_some}
 use Rattle.std.proofs.lemmas.Bool.{and_from, and_parts, eqb-true, lt-ltb, le-leb}
 use Rattle.std.proofs.lemmas.Bool.Decides.{nat_tests}
 use Rattle.std.proofs.lemmas.Fmt.{digits_decimal, digits_value-decimal, decimal_nonempty, decimal_digit}
@@ -72,7 +69,7 @@ no-seconds unit = omega arith
 no-microseconds : (unit : DurationUnit) → fraction_microseconds unit [] ≡ 0
 no-microseconds unit = search rules
 
--- digits that are so many millionths, as a fraction of a second
+-- digits that are a number of millionths, as a fraction of a second
 second-seconds : (digits : List ℕ) → AreDigits digits → fraction_seconds (unit capital_s 0 1) digits ≡ 0
 second-seconds digits all = search (rules, div-eq_of_lt, digits_value-lt)
 
@@ -85,7 +82,7 @@ abbrev at : List DurationUnit → Bool → Bool → ℕ → ℕ → Sums
 at next is_time some day second =
     record { order = order.Strict; next_units = next; is_time = is_time; fraction = false; some = some; day = day; second = second; microsecond = 0 }
 
--- a number, its fraction and its unit lead to the sums with so many of the unit
+-- a number, its fraction and its unit lead to the sums with that number of the unit
 amount-leads : (sums : Sums) (unit : DurationUnit) (number : ℕ) (fraction rest : List ℕ) → unit_in (units sums.is_time) unit.designator ≡ Some unit
     → is_some (unit_in sums.next_units unit.designator) ≡ true → sums.fraction ≡ false → IsFraction fraction → number ≤ 4294967295
     → (with_amount unit number fraction sums).day ≤ 4294967295 → (with_amount unit number fraction sums).second ≤ 4294967295
@@ -105,7 +102,7 @@ amount-leads sums unit number fraction rest found comes whole is few few_days fe
     iso_from-item sums (Component component) rest (item_at-amount sums.is_time component rest is_item digits (ap is_some found))
     ∙ meets-all (item_table sums (Component component)) _ all ∙ ap (λ (sums : Sums). iso_from sums rest) sum
 
--- a number and its unit, or nothing for none, lead to the sums with so many of the unit
+-- a number and its unit, or nothing for none, lead to the sums with that number of the unit
 counted-leads : (next : List DurationUnit) (is_time some none : Bool) (unit : DurationUnit) (number day second : ℕ) (rest : List ℕ) → (number == 0) ≡ none
     → unit_in (units is_time) unit.designator ≡ Some unit → is_some (unit_in next unit.designator) ≡ true → number ≤ 4294967295
     → day + number * unit.day ≤ 4294967295 → second + number * unit.second ≤ 4294967295

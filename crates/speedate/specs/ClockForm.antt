@@ -46,7 +46,7 @@ hours_range behavior hours rest =
     ∷ (nat_le 2 (length rest) else_fault fault.TooShort)
     ∷ []
 
--- so many hours, and the minute, second and microsecond of a clock
+-- a number of hours, and the minute, second and microsecond of a clock
 abbrev pub clock_numbers : ℕ → Clock → UnsignedDuration
 clock_numbers hours clock = record {
   day = hours / 24;
@@ -54,7 +54,7 @@ clock_numbers hours clock = record {
   microsecond = clock.microsecond;
 }
 
--- the duration of so many hours and of a clock, from its minute on, that takes all that follows them
+-- the duration of a number of hours and of a clock, from its minute on, that takes all that follows them
 abbrev pub after_hours : MicrosecondsPrecisionOverflowBehavior → ℕ → List ℕ → Result UnsignedDuration ParseError
 after_hours behavior hours rest =
     meets (hours_range behavior hours rest)

@@ -52,7 +52,7 @@ days_table text =
     ∷ (has_whole_ending (after_letter text) else_fault fault.DurationInvalidDays)
     ∷ []
 
--- the numbers of so many days and of what follows them: of nothing, or of a clock of fewer than 24 hours
+-- the numbers of days and of what follows them: of nothing, or of a clock of fewer than 24 hours
 unfoldable pub after_days : MicrosecondsPrecisionOverflowBehavior → ℕ → List ℕ → Result UnsignedDuration ParseError
 after_days behavior days rest =
     if length rest == 0 then Ok (record { day = days; second = 0; microsecond = 0 })

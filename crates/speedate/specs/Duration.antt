@@ -42,7 +42,7 @@ unsigned_numbers length = record { day = length.day; second = length.second; mic
 -- The answer to a text of a duration, as a function, which reads the items of an ISO 8601 duration from the left, and as a
 -- relation. Which form a text has is the library's own rule.
 
--- the answer to what is left of a text after some items, where so many bytes are those of the last of them
+-- the answer to what is left of a text after some items; the skipped bytes are those of the last of them
 unfoldable pub iso_after : ℕ → Sums → List ℕ → Result UnsignedDuration ParseError
 iso_after skipped sums [] = if sums.some then Ok (sums_length sums) else Err fault.TooShort
 iso_after zero sums (byte ∷ rest) =
@@ -150,7 +150,7 @@ duration_text numbers = start_text numbers.positive ++ days_text numbers ++ rest
 abbrev pub signed_length : DurationNumbers → ℤ
 signed_length numbers = with_sign (not numbers.positive) (length_microseconds numbers)
 
--- the duration of so many microseconds; zero is positive
+-- the duration of a number of microseconds; zero is positive
 abbrev pub duration_of_length : ℤ → DurationNumbers
 duration_of_length (pos length) = of_length true length
 duration_of_length (negsuc below) = of_length false (suc below)
@@ -167,7 +167,7 @@ with_positive_zero numbers = record numbers { positive = numbers.positive || (le
 abbrev pub duration_between : DateAndTime → DateAndTime → DurationNumbers
 duration_between earlier later = duration_of_length (utc_microsecond later -ℤ utc_microsecond earlier)
 
--- the date-time so many microseconds after another, at its offset, or the fault of a date that is outside the years 0000 to
+-- the date-time a number of microseconds after another, at its offset, or the fault of a date that is outside the years 0000 to
 -- 9999 there
 abbrev pub date_time_after : ℤ → DateAndTime → Result DateAndTime ParseError
 date_time_after length start = instant_date_time start.time.offset (instant_at (local_microsecond start +ℤ length))

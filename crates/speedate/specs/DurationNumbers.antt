@@ -4,7 +4,8 @@ use Rattle.std.proofs.Common.{arith}
 use Rattle.std.proofs.lemmas.Bool.Decides.{nat_tests}
 use Rattle.std.proofs.lemmas.Int.{ints}
 use Rattle.std.specs.Cmp.{IsTotalOrder, bool_cmp_total, both_tied, int_cmp_total, on_total, then_total}
-use Rattle.std.specs.Ordering.{bool_cmp, bool_eq, int_cmp, is_eq, on, then_cmp}
+use Rattle.std.specs.Ordering.{bool_cmp, int_cmp, is_eq, on, then_cmp}
+use Rattle.std.proofs.Math.Bool.{beq}
 use Rattle.std.specs.declared.cmp.Ordering.{Ordering}
 use Rattle.speedate_base.specs.declared.faults.ParseError.TheVariants as fault
 use Rattle.speedate_base.specs.declared.faults.ParseError.{ParseError}
@@ -107,7 +108,7 @@ duration_order-total =
 tied : (negative : Bool) (a b : ℕ) → nat_eq a b ≡ is_eq (int_cmp (with_sign negative a) (with_sign negative b))
 tied negative a b = grind (arith, ints, nat_tests)
 
-same : (p q : Bool) (d e s t u v : ℕ) → (bool_eq p q && (nat_eq d e && (nat_eq s t && nat_eq u v)))
+same : (p q : Bool) (d e s t u v : ℕ) → (beq p q && (nat_eq d e && (nat_eq s t && nat_eq u v)))
     ≡ is_eq (duration_order (record { positive = p; day = d; second = s; microsecond = u }) (record { positive = q; day = e; second = t; microsecond = v }))
 same true false d e s t u v = refl
 same false true d e s t u v = refl
@@ -116,7 +117,7 @@ same false false d e s t u v = both_tied _ _ _ _ (tied true d e) (both_tied _ _ 
 
 -- and those are equal in it whose numbers are
 pub duration_order-same : (first second : DurationNumbers)
-    → (bool_eq first.positive second.positive && (nat_eq first.day second.day && (nat_eq first.second second.second && nat_eq first.microsecond second.microsecond)))
+    → (beq first.positive second.positive && (nat_eq first.day second.day && (nat_eq first.second second.second && nat_eq first.microsecond second.microsecond)))
     ≡ is_eq (duration_order first second)
 duration_order-same first second =
     same first.positive second.positive first.day second.day first.second second.second first.microsecond second.microsecond

@@ -121,7 +121,7 @@ abbrev pub next_units_after : IsoOrder → Bool → ℕ → List DurationUnit �
 next_units_after order.Lax is_time designator next = units is_time
 next_units_after order.Strict is_time designator next = units_after designator next
 
--- the sums with so many of a unit, and with a fraction of it
+-- the sums with a number of a unit, and with a fraction of it
 abbrev pub with_amount : DurationUnit → ℕ → List ℕ → Sums → Sums
 with_amount unit number fraction sums =
     let digits = drop 1 fraction in

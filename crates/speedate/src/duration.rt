@@ -64,7 +64,6 @@ impl Duration {
     ///
     /// - `DurationValueTooLarge` if the seconds, or then the days, exceed 4,294,967,295;
     /// - `DurationDaysTooLarge` if the days exceed 999,999,999.
-    #[inline]
     pub fn new(positive: bool, day: u32, second: u32, microsecond: u32) -> Result<Self, ParseError>
         ensures answer { result gives normal_form (record { positive = positive; day = day; second = second; microsecond = microsecond }) }
         ensures length { IfOk result (λ duration. length_microseconds (duration_numbers duration)
@@ -214,7 +213,6 @@ impl Duration {
     }
 
     /// The length in whole seconds, with the sign, cut toward zero: -86,401 for `-P1DT1.5S`.
-    #[inline]
     pub fn signed_total_seconds(&self) -> i64
         ensures second { result ≡ signed_seconds (duration_numbers self.now) }
         ensures small { unsigned_abs result < 86400000000000 }
@@ -223,7 +221,6 @@ impl Duration {
     }
 
     /// The length in whole milliseconds, with the sign, cut toward zero: -1,001 for `-PT1.0019S`.
-    #[inline]
     pub fn signed_total_ms(&self) -> i64
         ensures millisecond { result ≡ signed_milliseconds (duration_numbers self.now) }
     {
@@ -233,7 +230,6 @@ impl Duration {
 
     /// The microseconds of the second, with the sign: -1,000 for `-PT1.001S`. They are what
     /// [`Duration::signed_total_seconds`] leaves.
-    #[inline]
     pub fn signed_microseconds(&self) -> i32
         ensures microsecond { result ≡ signed_microsecond (duration_numbers self.now) }
         ensures small { unsigned_abs result < 1000000 }
@@ -247,7 +243,6 @@ impl Duration {
     }
 
     /// The length in whole seconds, without the sign.
-    #[inline]
     fn seconds(&self) -> u64
         ensures seconds { result ≡ length_seconds (duration_numbers self.now) }
     {
@@ -265,7 +260,6 @@ impl FromStr for Duration {
     ghost from_str_gives = { λ text result. result gives duration_answer order.Lax behavior.Error text };
 
     /// The answer of [`Duration::parse_str`]: `"PT90M".parse()` gives an hour and a half.
-    #[inline]
     fn from_str(text: &str) -> Result<Self, ParseError>
         ensures answer { result gives duration_answer order.Lax behavior.Error text.now }
     {

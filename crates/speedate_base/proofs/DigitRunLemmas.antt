@@ -1,16 +1,14 @@
 -- How a run of digits grows, and what it spells.
-use Rattle.std.specs.Prelude.{◌≡◌, ℕ, zero, suc, ◌+◌, ◌-◌, ◌*◌, ◌^◌, ◌<◌, ◌≤◌, ◌==◌, true, false, List, [], ◌∷◌, ◌++◌, length, take, drop, refl}
+use Rattle.std.proofs.Common.{◌≡◌, ℕ, zero, suc, ◌+◌, ◌-◌, ◌*◌, ◌^◌, ◌<◌, ◌≤◌, ◌==◌, true, false, List, [], ◌∷◌, ◌++◌, length, take, drop, refl, arith, rules, get_or, take-add, mul-le-mul_right}
 use Rattle.std.specs.Char.{is_ascii_digit}
 use Rattle.std.specs.List.{prefix_len, list_all}
-use Rattle.std.proofs.Common.{arith, rules, get_or}
 use Rattle.std.proofs.lemmas.List.{take-append-drop, length-drop, get_or-drop, length-append, length-take-le, take_more, get_or_past}
 use Rattle.std.proofs.lemmas.List.Sums.{prefix_len_is, prefix_len-drop_yes, prefix_len-drop_no, prefix_len-drop_all, AllPass-from_list_all}
 use Rattle.std.proofs.lemmas.List.Folds.{list_all-append, prefix_len-append}
 use Rattle.std.proofs.lemmas.Bool.{and_from, cases_lt}
 use Rattle.std.proofs.lemmas.Bool.Decides.{nat_tests}
 use Rattle.std.proofs.lemmas.Nat.{pow-add}
-use Rattle.std.proofs.Math.Seq.{take-add}
-use Rattle.std.proofs.Math.Nat.{mul-le-mul_right, pow-succ', pow-le-pow_right}
+use Rattle.std.proofs.Math.Nat.{pow-succ', pow-le-pow_right}
 use Rattle.speedate_base.specs.Digits.{one_digit_value, run_length, digits_value, fraction_value}
 
 -- a digit stands within its text
@@ -21,7 +19,7 @@ digit-within bytes place is = grind (arith, nat_tests, cases_lt, get_or_past)
 pub one_digit_value-le : (byte : ℕ) → is_ascii_digit byte ≡ true → one_digit_value byte ≤ 9
 one_digit_value-le byte is = grind (arith, nat_tests)
 
--- so many digits spell less than the power of ten
+-- digits spell less than the power of ten of their number
 pub digits_value-lt : (digits : List ℕ) → list_all is_ascii_digit digits ≡ true → digits_value digits < 10 ^ length digits
 digits_value-lt [] all = omega arith
 digits_value-lt (digit ∷ digits) all =

@@ -1,7 +1,6 @@
 -- What is known of bytes that are as a pattern has them.
-use Rattle.std.specs.Prelude.{◌≡◌, ℕ, zero, suc, ◌+◌, ◌-◌, ◌%◌, ◌≤◌, Bool, true, if◌then◌else◌, List, [], ◌∷◌, length, drop}
-use Rattle.std.specs.Int.{w64, from_le_bytes}
-use Rattle.std.proofs.Common.{arith, rules}
+use Rattle.std.proofs.Common.{◌≡◌, ℕ, zero, suc, ◌+◌, ◌-◌, ◌%◌, ◌≤◌, Bool, true, if◌then◌else◌, List, [], ◌∷◌, length, drop, w64, arith, rules}
+use Rattle.std.specs.Int.{from_le_bytes}
 use Rattle.std.proofs.lemmas.List.{get_or-drop}
 use Rattle.std.proofs.lemmas.Bool.Decides.{nat_tests}
 use lib.Lanes.{number_l}
@@ -34,7 +33,7 @@ fit_length_le [] lanes = omega arith
 fit_length_le (form ∷ forms) [] = omega arith
 fit_length_le (form ∷ forms) (byte ∷ bytes) = grind (arith, nat_tests, fit_length_le forms bytes)
 
--- so many bytes, from the first on, are as the pattern has them
+-- the first `count` bytes are as the pattern has them
 abbrev pub AllFit : ℕ → List ℕ → List ℕ → Type 0
 AllFit zero forms bytes = Unit {0}
 AllFit (suc count) [] bytes = ⊥
@@ -45,7 +44,7 @@ AllFit (suc count) (form ∷ forms) (byte ∷ bytes) = (fits_byte form byte ≡ 
 pub first-fits : (count rest : ℕ) (test : Bool) → suc count ≤ (if test then 1 + rest else 0) → (test ≡ true) × (count ≤ rest)
 first-fits count rest test enough = search rules
 
--- where so many bytes fit, each of them does
+-- where the first bytes fit, each of them does
 pub fit_length-all : (count : ℕ) (forms bytes : List ℕ) → count ≤ fit_length forms bytes → AllFit count forms bytes
 fit_length-all zero forms bytes enough = tt
 fit_length-all (suc count) [] bytes enough = absurd (omega arith)

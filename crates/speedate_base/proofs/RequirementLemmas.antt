@@ -1,7 +1,6 @@
 -- How tables chain.
-use Rattle.std.specs.Prelude.{◌≡◌, ◌↔◌, ℕ, List, [], ◌∷◌, length, Result, Ok, Err, refl}
+use Rattle.std.proofs.Common.{◌≡◌, ◌↔◌, ℕ, List, [], ◌∷◌, length, Result, Ok, Err, refl, rules}
 use Rattle.std.specs.Result.{result_and}
-use Rattle.std.proofs.Common.{rules}
 use Rattle.speedate_base.specs.declared.faults.ParseError.{ParseError}
 use Rattle.speedate_base.specs.Requirement.{Requirement, meets, AllHold, alone, result_and_then}
 

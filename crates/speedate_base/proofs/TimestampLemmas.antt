@@ -1,13 +1,12 @@
 -- The instants of timestamps.
-use Rattle.std.specs.Prelude.{◌≡◌, ◌≤◌, ℤ, pos, ◌+ℤ◌, ◌*ℤ◌}
-use Rattle.std.proofs.Common.{rules}
+use Rattle.std.proofs.Common.{◌≡◌, ◌≤◌, ℤ, pos, ◌+ℤ◌, ◌*ℤ◌, rules}
 use Rattle.speedate_base.specs.Timestamp.{Instant, instant_at}
 
 -- an instant in microseconds
 abbrev pub instant_microsecond : Instant → ℤ
 instant_microsecond instant = pos 1000000 *ℤ instant.second +ℤ pos instant.microsecond
 
--- the instant at a microsecond has so many
+-- the instant at a microsecond has that many
 pub instant_at-microsecond : (microsecond : ℤ) → instant_microsecond (instant_at microsecond) ≡ microsecond
 instant_at-microsecond microsecond = search rules
 

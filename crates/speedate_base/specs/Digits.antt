@@ -61,7 +61,7 @@ digits_value (digit ∷ digits) = one_digit_value digit * 10 ^ length digits + d
 abbrev pub run_value : List ℕ → ℕ → ℕ
 run_value text place = digits_value (run_digits text place)
 
--- what digits are worth as the first of so many places: those past the places are dropped, and missing ones are 0
+-- what digits are worth as the first of a number of places: those past the places are dropped, and missing ones are 0
 abbrev pub fraction_value : ℕ → List ℕ → ℕ
 fraction_value zero digits = 0
 fraction_value (suc places) [] = 0
@@ -89,7 +89,7 @@ fit_length [] bytes = 0
 fit_length (form ∷ forms) [] = 0
 fit_length (form ∷ forms) (byte ∷ bytes) = if fits_byte form byte then 1 + fit_length forms bytes else 0
 
--- what so many first bytes stand for, which fit the pattern: a digit for its value, any other byte for 0;
+-- what the first `count` bytes stand for, which fit the pattern: a digit for its value, any other byte for 0;
 -- each byte after them stands for 0
 abbrev pub fit_digits : ℕ → List ℕ → List ℕ → List ℕ
 fit_digits count [] bytes = []

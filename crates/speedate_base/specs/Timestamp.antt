@@ -54,7 +54,7 @@ abbrev pub timestamp_microsecond : TimestampUnit → ℤ → ℤ
 timestamp_microsecond unit timestamp =
     pos (unit_row unit (nat_le (unsigned_abs timestamp) inferred_seconds_max)).microseconds *ℤ timestamp
 
--- the instant so many microseconds after 1970-01-01T00:00:00
+-- the instant a number of microseconds after 1970-01-01T00:00:00
 abbrev pub instant_at : ℤ → Instant
 instant_at microsecond = record {
   second = int_div_euclid microsecond (pos 1000000);
@@ -74,7 +74,7 @@ unit_table unit timestamp = (has_unit unit timestamp else_fault fault.DateTooSma
 abbrev pub instant_answer : TimestampUnit → ℤ → Result Instant ParseError
 instant_answer unit timestamp = meets (unit_table unit timestamp) (Ok (instant_at (timestamp_microsecond unit timestamp)))
 
--- the instant so many microseconds later
+-- the instant a number of microseconds later
 abbrev pub later_instant : ℕ → Instant → Instant
 later_instant microseconds instant =
     let sum = instant.microsecond + microseconds in
@@ -88,7 +88,7 @@ sum_table microseconds instant =
     ∷ (int_lt (later_instant microseconds instant).second (pos (2 ^ 63)) else_fault fault.TimeTooLarge)
     ∷ []
 
--- the instant so many microseconds later, or the fault
+-- the same, or the fault
 abbrev pub later_answer : ℕ → Instant → Result Instant ParseError
 later_answer microseconds instant = meets (sum_table microseconds instant) (Ok (later_instant microseconds instant))
 

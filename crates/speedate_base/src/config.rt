@@ -62,7 +62,6 @@ pub enum IsoOrder {
 
 /// Whether an offset in seconds is less than 24 hours, east or west of UTC: true for -86,399, false for
 /// 86,400 and for `i32::MIN`.
-#[inline]
 pub fn is_offset(offset: i32) -> bool
     ensures value { result ≡ is_offset offset }
     ensures range { IsTrue result → IsOffset offset }

@@ -122,7 +122,6 @@ impl ParseError {
 
     /// The snake-case name, of at most 29 bytes: `too_short` for `ParseError::TooShort`. No other fault
     /// has it.
-    #[inline]
     pub fn name(&self) -> &'static str
         ensures name { result.now ≡ fault_name self.now }
         ensures short { length result.now ≤ 29 }
@@ -134,7 +133,6 @@ impl ParseError {
 
     /// The documentation text, of at most 63 bytes, which every fault has: `input is too short` for
     /// `ParseError::TooShort`. It needs no trait in scope.
-    #[inline]
     pub fn get_documentation(&self) -> Option<&'static str>
         ensures text { option_map (λ text. text.now) result ≡ Some (fault_documentation self.now) }
         ensures short { IfSome result (λ text. length text.now ≤ 63) }

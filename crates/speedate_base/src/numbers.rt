@@ -20,7 +20,6 @@ pub use places::{byte_at, is_decimal_mark, two_digits};
 ///
 /// A whole number is one optional `+` or `-` and one or more digits, leading zeros included, whose
 /// value fits an `i64`. `None` for any other text.
-#[inline]
 pub fn int_parse_str(text: &str) -> Option<i64>
     ensures answer { result ≡ whole_number text.now }
 {
@@ -29,7 +28,6 @@ pub fn int_parse_str(text: &str) -> Option<i64>
 
 /// The whole number that the bytes are: -12 for `b"-012"`. The bytes need not be text; the rest is as
 /// for [`int_parse_str`].
-#[inline]
 pub fn int_parse_bytes(bytes: &[u8]) -> Option<i64>
     ensures answer { result ≡ whole_number bytes.now }
 {
@@ -119,7 +117,6 @@ pub fn sign(bytes: &[u8]) -> (bool, usize)
 }
 
 /// A size with its sign: -12 for true and 12. The size is at most `i64::MAX`.
-#[inline]
 pub fn with_sign(negative: bool, size: u64) -> i64
     requires { size < 2 ^ 63 }
     ensures number { result ≡ with_sign negative size }
@@ -129,7 +126,6 @@ pub fn with_sign(negative: bool, size: u64) -> i64
 }
 
 /// A size with its sign, if it fits an `i64`.
-#[inline]
 fn signed(negative: bool, size: u64) -> Option<i64>
     ensures value { result ≡ (if fits_i64 negative size then Some (with_sign negative size) else None) }
 {

@@ -28,7 +28,6 @@ const INFERRED_SECONDS_MAX: u64 = 20_000_000_000;
 /// An inferred unit is seconds if the timestamp without its sign is at most 20,000,000,000, otherwise
 /// milliseconds. Fails with `DateTooSmall` if the unit of `i64::MIN` is to be inferred. The instant may
 /// lie outside the years 0000 to 9999.
-#[inline]
 pub fn timestamp_to_seconds_micros(
     timestamp: i64,
     unit: TimestampUnit,

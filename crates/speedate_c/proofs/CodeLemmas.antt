@@ -1,6 +1,5 @@
 -- The code of a fault leads back to it.
-use Rattle.std.specs.Prelude.{◌≡◌, ℕ, ◌+◌, ◌-◌, Bool, true, pos, int_le, slice_get, Some, None, if◌then◌else◌}
-use Rattle.std.proofs.Common.{arith, ap, ◌∙◌, rules}
+use Rattle.std.proofs.Common.{◌≡◌, ℕ, ◌+◌, ◌-◌, Bool, true, pos, int_le, slice_get, Some, None, if◌then◌else◌, arith, ap, ◌∙◌, rules}
 use Rattle.std.proofs.lemmas.Bool.Decides.{nat_tests}
 use Rattle.std.proofs.lemmas.Int.{ints}
 use Rattle.speedate.specs.declared.ParseError.{ParseError}

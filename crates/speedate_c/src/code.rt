@@ -45,7 +45,6 @@ const FAULTS: [ParseError; 42] = faults! {
 };
 
 /// The code of a fault, its place in the enum, counted from 1: 1 for `TooShort`.
-#[inline]
 pub(crate) fn fault_code(fault: ParseError) -> i32
     ensures code { result ≡ fault_code fault }
     ensures reads_back { fault_of result ≡ Some fault }
@@ -54,7 +53,6 @@ pub(crate) fn fault_code(fault: ParseError) -> i32
 }
 
 /// The fault of a code.
-#[inline]
 fn fault_of(code: i32) -> Option<ParseError>
     ensures fault { result ≡ fault_of code }
 {
@@ -65,7 +63,6 @@ fn fault_of(code: i32) -> Option<ParseError>
 }
 
 /// The fault at a place of a list.
-#[inline]
 fn fault_at(faults: &[ParseError], place: usize) -> Option<ParseError>
     ensures fault { result ≡ slice_get faults.now place }
 {
@@ -101,7 +98,6 @@ fn refusal_row(code: i32) -> Option<(&'static str, &'static str)>
 }
 
 /// The number of an order: -1, 0 or 1.
-#[inline]
 pub(crate) fn order_number(order: Ordering) -> i32
     ensures number { result ≡ order_number order }
 {

@@ -30,7 +30,6 @@ pub struct SpeedateConfig {
 
 impl SpeedateConfig {
     /// Whether all numbers are 0, as nearly every caller has them.
-    #[inline]
     pub(crate) fn is_default(self) -> bool
         ensures choices { IsTrue result → choices_of self ≡ Some default_choices }
     {
@@ -42,7 +41,6 @@ impl SpeedateConfig {
     }
 
     /// The configuration, where each number has a value.
-    #[inline]
     pub(crate) fn to_config(self) -> Option<DateTimeConfig>
         ensures choices { option_map choices result ≡ choices_of self }
     {
@@ -61,7 +59,6 @@ impl SpeedateConfig {
 }
 
 /// The unit of a number.
-#[inline]
 fn unit(number: u8) -> Option<TimestampUnit>
     ensures { result ≡ slice_get units number }
 {
@@ -75,7 +72,6 @@ fn unit(number: u8) -> Option<TimestampUnit>
 }
 
 /// The behavior of a number.
-#[inline]
 fn behavior(number: u8) -> Option<MicrosecondsPrecisionOverflowBehavior>
     ensures { result ≡ slice_get behaviors number }
 {
@@ -87,7 +83,6 @@ fn behavior(number: u8) -> Option<MicrosecondsPrecisionOverflowBehavior>
 }
 
 /// The order of a number.
-#[inline]
 fn order(number: u8) -> Option<IsoOrder>
     ensures { result ≡ slice_get orders number }
 {
@@ -99,7 +94,6 @@ fn order(number: u8) -> Option<IsoOrder>
 }
 
 /// What a flag says.
-#[inline]
 pub(crate) fn flag(number: u8) -> Option<bool>
     ensures { result ≡ slice_get flags number }
 {
@@ -112,7 +106,6 @@ pub(crate) fn flag(number: u8) -> Option<bool>
 
 /// An offset by its flag and its seconds: none where the flag is 0, whatever the seconds.
 /// `OutOfRangeTz` where the flag is neither 0 nor 1, or the offset is of 24 hours or more.
-#[inline]
 pub(crate) fn offset(flag: u8, seconds: i32) -> Result<Option<i32>, ParseError>
     ensures answer { result ≡ offset_answer flag seconds }
     ensures range { IfOk result (λ offset. ForSome offset IsOffset) }

@@ -29,7 +29,6 @@ pub struct SpeedateDate {
 
 impl SpeedateDate {
     /// The date of the numbers, or the fault of the first that is out of range.
-    #[inline]
     pub(crate) fn to_value(&self) -> Result<Date, ParseError>
         ensures answer { result gives date_of self.now }
     {
@@ -37,7 +36,6 @@ impl SpeedateDate {
     }
 
     /// The numbers of a date.
-    #[inline]
     pub(crate) fn from_value(date: &Date) -> Self
         ensures numbers { result ≡ shown_date (ymd date.now) }
         ensures leads_back { date_of result ≡ Ok (ymd date.now) }
@@ -51,7 +49,6 @@ impl SpeedateDate {
 }
 
 /// Writes the date of an answer, and gives the code.
-#[inline]
 pub(crate) fn write_date(answer: Result<Date, ParseError>, out: &mut SpeedateDate) -> i32
     ensures after { (result, out.new) ≡ after_answer shown_date out.old (result_map ymd answer) }
 {
@@ -61,7 +58,6 @@ pub(crate) fn write_date(answer: Result<Date, ParseError>, out: &mut SpeedateDat
 }
 
 /// Writes a date, if there is one, and gives the code.
-#[inline]
 fn write_some(date: Option<Date>, out: &mut SpeedateDate) -> i32
     ensures after { (result, out.new) ≡ after_optional_date shown_date out.old (option_map ymd date) }
 {
@@ -75,7 +71,6 @@ fn write_some(date: Option<Date>, out: &mut SpeedateDate) -> i32
 }
 
 /// Prints a date into a buffer, and gives the code.
-#[inline]
 fn print_date(date: &Date, buffer: &mut [u8], text_length: &mut usize) -> i32
     ensures after { (result, buffer.new, text_length.new) ≡ after_text (date_text (ymd date.now)) buffer.old text_length.old }
     ensures room { 11 ≤ length buffer.old → result ≡ success }
@@ -253,7 +248,7 @@ pub extern "C" fn speedate_date_ordinal_day(date: SpeedateDate, out: &mut u16) -
     SUCCESS
 }
 
-/// The date so many days later, or earlier for a negative number, as [`Date::checked_add_days`]
+/// The date that many days later, or earlier for a negative number, as [`Date::checked_add_days`]
 /// gives it: 2020-03-01 for 2020-02-28 and 2. `NO_SUCH_DATE` where that is before 0000-01-01 or
 /// after 9999-12-31.
 #[unsafe(no_mangle)]

@@ -29,7 +29,6 @@ pub struct SpeedateDateTime {
 impl SpeedateDateTime {
     /// The date-time of the numbers, or the fault of one that is out of range: the date is looked
     /// at first.
-    #[inline]
     pub(crate) fn to_value(&self) -> Result<DateTime, ParseError>
         ensures answer { result gives date_time_of self.now }
     {
@@ -39,7 +38,6 @@ impl SpeedateDateTime {
     }
 
     /// The numbers of a date-time.
-    #[inline]
     fn from_value(value: &DateTime) -> Self
         ensures numbers { result ≡ shown_date_time (date_and_time value.now) }
         ensures leads_back { date_time_of result ≡ Ok (date_and_time value.now) }
@@ -52,7 +50,6 @@ impl SpeedateDateTime {
 }
 
 /// Writes the date-time of an answer, and gives the code.
-#[inline]
 pub(crate) fn write_date_time(
     answer: Result<DateTime, ParseError>,
     out: &mut SpeedateDateTime,
@@ -181,7 +178,7 @@ pub extern "C" fn speedate_datetime_compare(
     SUCCESS
 }
 
-/// The date-time of a timestamp, in the unit of the configuration, and so many microseconds later,
+/// The date-time of a timestamp, in the unit of the configuration, and further microseconds later,
 /// with the offset of the configuration, as [`DateTime::from_timestamp_with_config`] gives it:
 /// 1970-01-01T00:00:01.000002 for 1 second and 2 microseconds. The offset is attached and shifts
 /// nothing.

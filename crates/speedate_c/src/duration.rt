@@ -30,7 +30,6 @@ pub struct SpeedateDuration {
 
 impl SpeedateDuration {
     /// The duration of the numbers, or the fault of the first that is out of range.
-    #[inline]
     pub(crate) fn to_value(&self) -> Result<Duration, ParseError>
         ensures answer { result gives duration_of self.now }
         ensures ranges { IsOk result ↔ ((self.now.negative ≤ 1) × IsDuration (numbers_of self.now)) }
@@ -56,7 +55,6 @@ impl SpeedateDuration {
     }
 
     /// The numbers of a duration.
-    #[inline]
     pub(crate) fn from_value(duration: &Duration) -> Self
         ensures numbers { result ≡ shown_duration (duration_numbers duration.now) }
         ensures leads_back { duration_of result ≡ Ok (duration_numbers duration.now) }
@@ -71,7 +69,6 @@ impl SpeedateDuration {
 }
 
 /// Writes the duration of an answer, and gives the code.
-#[inline]
 fn write_duration(answer: Result<Duration, ParseError>, out: &mut SpeedateDuration) -> i32
     ensures after { (result, out.new) ≡ after_answer shown_duration out.old (result_map duration_numbers answer) }
 {
@@ -98,7 +95,7 @@ pub extern "C" fn speedate_duration_parse(
     write_duration(answer, out)
 }
 
-/// The duration of so many days, seconds and microseconds, of any size, brought into their ranges,
+/// The duration of days, seconds and microseconds of any size, brought into their ranges,
 /// as [`Duration::new`] gives it: 2 days, 101 seconds and 123 microseconds for 1 day, 86,500
 /// seconds and 1,000,123 microseconds.
 ///

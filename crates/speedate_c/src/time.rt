@@ -35,7 +35,6 @@ pub struct SpeedateTime {
 
 impl SpeedateTime {
     /// The time of the numbers, or the fault of one that is out of range.
-    #[inline]
     pub(crate) fn to_value(&self) -> Result<Time, ParseError>
         ensures answer { result gives time_of self.now }
     {
@@ -51,7 +50,6 @@ impl SpeedateTime {
     }
 
     /// The numbers of a time.
-    #[inline]
     pub(crate) fn from_value(time: &Time) -> Self
         ensures numbers { result ≡ shown_time (time_of_day time.now) }
         ensures leads_back { time_of result ≡ Ok (time_of_day time.now) }
@@ -72,7 +70,6 @@ impl SpeedateTime {
 }
 
 /// Writes the time of an answer, and gives the code.
-#[inline]
 fn write_time(answer: Result<Time, ParseError>, out: &mut SpeedateTime) -> i32
     ensures after { (result, out.new) ≡ after_answer shown_time out.old (result_map time_of_day answer) }
 {
@@ -196,7 +193,7 @@ pub extern "C" fn speedate_time_compare(
     SUCCESS
 }
 
-/// The time so many seconds and microseconds after midnight, with the offset of the configuration,
+/// The time of the seconds and microseconds after midnight, with the offset of the configuration,
 /// as [`Time::from_timestamp_with_config`] gives it: 10:00:06.5 for 36,005 and 1,500,000.
 ///
 /// The faults are those of that call; `CONFIG_OUT_OF_RANGE` comes first.

@@ -1,4 +1,5 @@
 -- A printed time at the front of a text is read as itself if and only if what follows is no part of it. So is a printed date-time.
+use Rattle.std.proofs.Common.{◌≡◌, ◌↔◌, ℕ, ◌≤◌, ◌<◌, Bool, true, false, ◌==◌, List, ◌∷◌, ◌++◌, length, drop, slice_index, None, IfOk, Ok, refl, rules, arith, ◌∙◌, ap, sym}
 use Rattle.std.proofs.lemmas.Grind.{common_steps}
 use Rattle.std.proofs.lemmas.Bool.Decides.{nat_tests}
 use Rattle.std.specs.Char.{is_ascii_digit}
@@ -10,7 +11,6 @@ use Rattle.speedate_base.specs.Requirement.{meets}
 use Rattle.speedate_civil.specs.Time.{Clock, clock_front, minute_text, begins_offset, offset_front, TimeOfDay, IsTime, clock_text, continues_fraction, is_after_time, time_front, time_text}
 use Rattle.speedate_civil.specs.DateTime.{DateAndTime, IsDateAndTime, date_time_front, date_time_text, separator_table}
 use Rattle.speedate_civil.specs.Date.{date_front}
-use Rattle.std.proofs.Common.{◌≡◌, ◌↔◌, ℕ, ◌≤◌, ◌<◌, Bool, true, false, ◌==◌, List, ◌∷◌, ◌++◌, length, drop, slice_index, None, IfOk, Ok, refl, rules, arith, ◌∙◌, ap, sym}
 use Rattle.speedate_civil.proofs.DateTimeLemmas.{date_time_text-front}
 use Rattle.speedate_civil.proofs.ReadLemmas.{read-then, read-value}
 use Rattle.speedate_civil.proofs.TimeLemmas.{time_text-front}

@@ -1,4 +1,5 @@
 -- A printed clock is read as itself, from its minute on.
+use Rattle.std.proofs.Common.{◌≡◌, ℕ, ◌+◌, ◌<◌, ◌≤◌, Bool, true, false, List, ◌∷◌, ◌++◌, length, nat_le, slice_index, Ok, rules, arith}
 use Rattle.std.proofs.lemmas.Grind.{common_steps}
 use Rattle.std.specs.Char.{is_ascii_digit}
 use Rattle.std.specs.List.{list_all}
@@ -11,7 +12,6 @@ use Rattle.speedate_base.specs.Requirement.{◌implies◌}
 use Rattle.speedate_civil.specs.Time.{clock_answer, minute_text}
 use Rattle.speedate_base.proofs.DigitRunLemmas.{run_length-append}
 use Rattle.speedate_base.proofs.DigitLemmas.{two_digits-printed, two_digit_value-printed, six_digits-printed, fraction_value-printed}
-use Rattle.std.proofs.Common.{◌≡◌, ℕ, ◌+◌, ◌<◌, ◌≤◌, Bool, true, false, List, ◌∷◌, ◌++◌, length, nat_le, slice_index, Ok, rules, arith}
 
 -- without a fraction, whatever follows that is no decimal mark
 pub clock-whole : (behavior : MicrosecondsPrecisionOverflowBehavior) (minute second : ℕ) (tail : List ℕ)

@@ -5,7 +5,7 @@ unfoldable use Rattle.speedate_civil.specs.Calendar.{date_after}
 use Rattle.speedate_civil.proofs.DateOrderLemmas.{day_number-distinct}
 use Rattle.speedate_civil.proofs.DayNumberLemmas.{day_number-small, date_after-IsDay, day_number-date_after}
 
--- so many steps as its day number counts lead to a date
+-- as many steps as its day number counts lead to a date
 pub date_after-day_number : (date : Ymd) → IsDay date → date_after (day_number date) ≡ date
 date_after-day_number date valid = grind (arith, day_number-distinct, date_after-IsDay, day_number-date_after)
 

@@ -41,7 +41,7 @@ instant_date_time-shown offset instant value same =
     (read-map Is (date_time_at offset) (range_answer instant) (read-rows (λ (at : Instant). Is (date_time_at offset at)) (range_table instant) _
     (λ rows. date_time_at-shown offset instant rows.0)))
 
--- the date-time of a timestamp lies so many microseconds after 1970-01-01T00:00:00 as the timestamp says
+-- the date-time of a timestamp lies as many microseconds after 1970-01-01T00:00:00 as the timestamp says
 pub date_time_timestamp-instant : (unit : TimestampUnit) (offset : Option ℤ) (microseconds : ℕ) (timestamp : ℤ)
     → IfOk (date_time_timestamp_answer unit offset microseconds timestamp) (λ value. local_microsecond value ≡ meant_microsecond unit microseconds timestamp)
 date_time_timestamp-instant unit offset microseconds timestamp =

@@ -1,4 +1,5 @@
 -- What is read at the front of a text is the same without the bytes after it.
+use Rattle.std.proofs.Common.{◌≡◌, ℕ, zero, suc, ◌+◌, ◌-◌, ◌≤◌, Bool, true, false, ◌&&◌, ◌==◌, List, [], ◌∷◌, length, take, drop, slice_index, if◌then◌else◌, Option, ℤ, IfOk, Result, Ok, refl, rules, arith, ap, ap₂, sym, ◌∙◌, le-leb, length-drop, length-take-le, get_or-take, take-take}
 use Rattle.std.proofs.lemmas.Bool.Decides.{nat_tests}
 use Rattle.std.proofs.lemmas.Grind.{common_steps}
 use Rattle.std.specs.Char.{is_ascii_digit}
@@ -14,12 +15,11 @@ use Rattle.speedate_civil.specs.Time.{Clock, at_hour, clock_answer, clock_front,
 use Rattle.speedate_civil.specs.DateTime.{DateAndTime, date_time_answer, date_time_front, separator_table}
 use Rattle.speedate_civil.specs.Date.{date_front, date_answer, date_numbers, date_table}
 use Rattle.speedate_base.proofs.RequirementLemmas.{meets-all, meets-ok, meets-value}
-use Rattle.std.proofs.Common.{◌≡◌, ℕ, zero, suc, ◌+◌, ◌-◌, ◌≤◌, Bool, true, false, ◌&&◌, ◌==◌, List, [], ◌∷◌, length, take, drop, slice_index, if◌then◌else◌, Option, ℤ, IfOk, Result, Ok, refl, rules, arith, ap, ap₂, sym, ◌∙◌, le-leb, length-drop, length-take-le, get_or-take, take-take}
 use Rattle.speedate_base.specs.declared.faults.ParseError.TheVariants as fault
 use Rattle.speedate_civil.proofs.OffsetLemmas.{offset-cases}
 use Rattle.speedate_civil.proofs.ReadLemmas.{read-map, read-rows, read-then, read-value}
 
--- so many bytes of a text, from a place on, and 0 for those after its end
+-- bytes of a text, from a place on, and 0 for those after its end
 abbrev pub bytes_from : ℕ → ℕ → List ℕ → List ℕ
 bytes_from place zero text = []
 bytes_from place (suc count) text = slice_index text place ∷ bytes_from (place + 1) count text
@@ -137,7 +137,7 @@ time_front-taken behavior text =
     time_front-is behavior (take count text) clock offset (clock-taken behavior text count within inside ∙ read)
     (ap offset_front (drop-take clock.size offset.1 text) ∙ read-value _ _ offset after (offset-taken (drop clock.size text)))))
 
--- what is read of so many bytes takes them all
+-- what is read of the bytes that it takes takes them all
 taken-alone : {A : Type 0} (fault : A → ParseError) (text : List ℕ) (answer : Result (A × ℕ) ParseError) (front : A × ℕ)
     → front.1 ≤ length text → answer ≡ Ok front
     → result_and_then (alone fault (take front.1 text)) answer ≡ Ok front.0

@@ -1,4 +1,5 @@
 -- No text that begins as a date is a number.
+use Rattle.std.proofs.Common.{◌≡◌, ◌≢◌, ℕ, ◌<◌, Bool, true, false, ◌==◌, List, length, slice_index, nat_le, if◌then◌else◌, Option, None, ℤ, Result, Ok, Err, refl, rules, arith, ap, eqb-true, leb-true}
 use Rattle.std.proofs.lemmas.Bool.Decides.{nat_tests}
 use Rattle.std.specs.Char.{is_ascii_digit}
 use Rattle.speedate_base.specs.declared.faults.ParseError.{ParseError}
@@ -9,7 +10,6 @@ use Rattle.speedate_civil.specs.Calendar.{Ymd}
 use Rattle.speedate_civil.specs.Date.{date_front, date_answer}
 use Rattle.speedate_civil.specs.Reader.{may_be_number}
 use Rattle.speedate_base.proofs.NumberLemmas.{number_answer-other}
-use Rattle.std.proofs.Common.{◌≡◌, ◌≢◌, ℕ, ◌<◌, Bool, true, false, ◌==◌, List, length, slice_index, nat_le, if◌then◌else◌, Option, None, ℤ, Result, Ok, Err, refl, rules, arith, ap, eqb-true, leb-true}
 use Rattle.speedate_base.specs.declared.faults.ParseError.TheVariants as fault
 
 -- a text that meets the first three rows of a table meets the first and the third

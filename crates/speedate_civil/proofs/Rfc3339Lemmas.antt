@@ -1,8 +1,7 @@
 -- The texts of RFC 3339 by its rules are those that the strict readers take.
-use Rattle.std.proofs.Common.{◌≡◌, ◌⊎◌, ℕ, ◌+◌, ◌*◌, ◌≤◌, zero, suc, Bool, true, false, ◌==◌, List, [], ◌∷◌, ◌++◌, length, take, drop, nat_le, nat_lt, slice_index, Option, Some, ℤ, pos, IfOk, Result, Ok, refl, ◌↔◌, rules, arith, ap, subst, sym, ◌∙◌, inl, inr, leb-true, ltb-true, eqb-true, get_or-drop, length-append, length-drop, length-take-le, take_all, take-append-drop}
+use Rattle.std.proofs.Common.{◌≡◌, ◌⊎◌, ℕ, ◌+◌, ◌*◌, ◌≤◌, zero, suc, Bool, true, false, ◌==◌, List, [], ◌∷◌, ◌++◌, length, take, drop, nat_le, nat_lt, slice_index, Option, Some, ℤ, pos, IfOk, Result, Ok, refl, ◌↔◌, rules, arith, ap, subst, sym, ◌∙◌, inl, inr, leb-true, ltb-true, eqb-true, get_or-drop, length-append, length-drop, length-take-le, take_all, take-append-drop, IsOk}
 use Rattle.std.specs.Char.{is_ascii_digit}
 use Rattle.std.specs.List.{prefix_len}
-use Rattle.std.specs.Result.{IsOk}
 use Rattle.std.proofs.Math.Seq.{drop-append_seam}
 use Rattle.std.proofs.lemmas.Bool.{not-true}
 use Rattle.std.proofs.lemmas.Bool.Decides.{nat_tests}
@@ -32,7 +31,7 @@ use Rattle.speedate_civil.proofs.OffsetLemmas.{offset-cases}
 use Rattle.speedate_civil.proofs.ReadLemmas.{read-rows, read-then, read-value}
 use Rattle.speedate_civil.proofs.TimeLemmas.{front-printed}
 
--- so many bytes of a text, from a place on, one by one
+-- bytes of a text, from a place on, one by one
 bytes-are : (count place : ℕ) (text : List ℕ) → place + count ≤ length text → take count (drop place text) ≡ bytes_from place count text
 bytes-are zero place text within = refl
 bytes-are (suc count) place text within =

@@ -38,7 +38,7 @@ pub record IsDate (date : Ymd) : Type 0 where
 
 -- Days counted from 0000-01-01, and the day after a day.
 
--- the days of the first so many months of a year
+-- the days of the first months of a year
 unfoldable pub days_of_months : ℕ → ℕ → ℕ
 days_of_months year zero = 0
 days_of_months year (suc months) = days_of_months year months + month_length year (suc months)
@@ -71,7 +71,7 @@ day_after date =
 abbrev pub next_date : Ymd → Option Ymd
 next_date date = if nat_le (day_after date).year 9999 then Some (day_after date) else None
 
--- the date so many days after 0000-01-01, counted one by one
+-- the date a number of days after 0000-01-01, counted one by one
 unfoldable pub date_after : ℕ → Ymd
 date_after zero = record { year = 0; month = 1; day = 1 }
 date_after (suc days) = day_after (date_after days)
@@ -80,12 +80,12 @@ date_after (suc days) = day_after (date_after days)
 abbrev pub date_numbered : ℕ → Option Ymd
 date_numbered number = if nat_le number 3652424 then Some (date_after number) else None
 
--- the date so many days after 0000-01-01, if it is in the years 0000 to 9999
+-- the date a number of days after 0000-01-01, if it is in the years 0000 to 9999
 abbrev pub date_counted : ℤ → Option Ymd
 date_counted (pos number) = date_numbered number
 date_counted (negsuc before) = None
 
--- the date so many days after a date, or before it for a negative number
+-- the date a number of days after a date, or before it for a negative number
 abbrev pub date_added : ℤ → Ymd → Option Ymd
 date_added days date = date_counted (pos (day_number date) +ℤ days)
 

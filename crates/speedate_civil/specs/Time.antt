@@ -49,7 +49,7 @@ millisecond_of_day time = 1000 * second_of_day time + time.microsecond / 1000
 abbrev pub microsecond_of_day : TimeOfDay → ℕ
 microsecond_of_day time = 1000000 * second_of_day time + time.microsecond
 
--- the time so many seconds and less than a million microseconds after midnight
+-- the time of seconds and less than a million microseconds after midnight
 abbrev pub time_at : ℕ → ℕ → Option ℤ → TimeOfDay
 time_at seconds microsecond offset = record {
   hour = seconds / 3600;
@@ -59,7 +59,7 @@ time_at seconds microsecond offset = record {
   offset = offset;
 }
 
--- the time so many seconds and microseconds after midnight, with the offset attached, if it is still that day
+-- the time of seconds and microseconds after midnight, with the offset attached, if it is still that day
 abbrev pub timestamp_answer : ℕ → ℕ → Option ℤ → Result TimeOfDay ParseError
 timestamp_answer seconds microseconds offset =
     let whole = seconds + microseconds / 1000000 in
@@ -245,7 +245,7 @@ offset_ranges numbers =
     ∷ (nat_lt (offset_size numbers) seconds_per_day else_fault fault.OutOfRangeTz)
     ∷ []
 
--- the offset after a sign of so many bytes, and how many both take, or the fault
+-- the offset after a sign, given by its bytes, and how many both take, or the fault
 abbrev pub signed_front : Bool → ℕ → List ℕ → Result (Option ℤ × ℕ) ParseError
 signed_front west sign numbers =
     meets (offset_digits numbers) (meets (offset_ranges numbers)

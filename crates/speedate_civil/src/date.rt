@@ -45,7 +45,6 @@ pub struct Date {
 
 /// Whether a year has a 29 February: true for 2020 and 2000, false for 2021 and 1900. The rule is that
 /// of RFC 3339, appendix C, for any year.
-#[inline]
 pub fn is_leap_year(year: u16) -> bool
     ensures leap { result ≡ is_leap_year year }
 {
@@ -58,7 +57,6 @@ pub fn is_leap_year(year: u16) -> bool
 
 /// The number of days of a month, 1 to 12, of a year: 29 for 2020 and 2, 30 for 2020 and 4 (RFC 3339
 /// 5.7). It is 31 for a number that is no month.
-#[inline]
 pub fn month_length(year: u16, month: u8) -> u8
     ensures length { result ≡ month_length year month }
 {
@@ -70,7 +68,6 @@ pub fn month_length(year: u16, month: u8) -> u8
 }
 
 /// Whether a month of a year has such a day.
-#[inline]
 fn is_day(year: u16, month: u8, day: u8) -> bool
     ensures { result ≡ is_in_range 1 (month_length year month) day }
 {
@@ -95,7 +92,6 @@ impl Date {
     /// - `DateTooLarge` if the year is over 9999;
     /// - `OutOfRangeMonth` if the month is not 1 to 12;
     /// - `OutOfRangeDay` if the month has no such day.
-    #[inline]
     pub fn new(year: u16, month: u8, day: u8) -> Result<Self, ParseError>
         ensures answer { result gives new_date_answer year month day }
     {
@@ -122,7 +118,6 @@ impl Date {
     /// - `OutOfRangeMonth` if the month is not 1 to 12;
     /// - `OutOfRangeDay` if the month has no such day;
     /// - `ExtraCharacters` if the text has more than ten bytes.
-    #[inline]
     pub fn parse_str_rfc3339(text: &str) -> Result<Self, ParseError>
         ensures answer { result gives date_answer text.now }
     {
@@ -131,7 +126,6 @@ impl Date {
 
     /// Reads a date from bytes, and no timestamp: 29 February 2020 from `b"2020-02-29"`. The bytes need
     /// not be text. The form and the faults are those of [`Date::parse_str_rfc3339`].
-    #[inline]
     pub fn parse_bytes_rfc3339(bytes: &[u8]) -> Result<Self, ParseError>
         ensures answer { result gives date_answer bytes.now }
         ensures no_number { OnOk result (number_answer bytes.now ≡ NoNumber) }
@@ -146,7 +140,6 @@ impl Date {
     /// Reads the date at the front of a text, whatever follows it, and returns how many bytes it takes,
     /// which is always ten: 22 November 2026 and 10 from `b"2026-11-22 opening balance"`. It reads no
     /// timestamps. The faults are those of [`Date::parse_str_rfc3339`] except `ExtraCharacters`.
-    #[inline]
     pub fn parse_front(bytes: &[u8]) -> Result<(Self, usize), ParseError>
         ensures answer { result gives_front date_front bytes.now }
         ensures within { IfOk result (λ front. front.1 ≤ length bytes.now) }
@@ -184,7 +177,6 @@ impl Date {
     /// The canonical text, `YYYY-MM-DD`: `2020-02-29` for 29 February 2020. It is not allocated;
     /// `.as_str()` is the text. It reads back as the date under every configuration, and at the front
     /// of a text too, whatever follows it. No other date has the same text.
-    #[inline]
     pub fn to_text(&self) -> ArrayString<TEXT_LENGTH>
         ensures text { result.bytes ≡ date_text (ymd self.now) }
         ensures reads_back { date_answer result.bytes ≡ Ok (ymd self.now) }

@@ -11,8 +11,8 @@ mod strict;
 mod text;
 mod timezone;
 
-use offset::read_offset;
 pub(crate) use offset::end_fault;
+use offset::read_offset;
 pub use pure::PureTime;
 use speedate_base::config::{MicrosecondsPrecisionOverflowBehavior, TimeConfig};
 use speedate_base::faults::ParseError;
@@ -70,7 +70,6 @@ impl Time {
     /// - `OutOfRangeSecond` if the second is over 59;
     /// - `TimeTooLarge` if the microsecond is over 999,999;
     /// - `OutOfRangeTz` if the offset is 24 hours or more.
-    #[inline]
     pub fn new(
         hour: u8,
         minute: u8,
@@ -211,10 +210,9 @@ impl Time {
         Ok((clock.at_offset(tz_offset), clock.size + size))
     }
 
-    /// The time so many seconds and microseconds after midnight, without an offset: 10:00:06.5 for
+    /// The time of the seconds and microseconds after midnight, without an offset: 10:00:06.5 for
     /// 36,005 seconds and 1,500,000 microseconds. Fails with `TimeTooLarge` if they are 86,400 seconds
     /// or more together.
-    #[inline]
     pub fn from_timestamp(
         timestamp_second: u32,
         timestamp_microsecond: u32,
@@ -230,10 +228,9 @@ impl Time {
         )
     }
 
-    /// The time so many seconds and microseconds after midnight, with the configured offset, which is
+    /// The time of the seconds and microseconds after midnight, with the configured offset, which is
     /// attached and shifts nothing: 00:00:01Z for one second and the offset 0. Fails with
     /// `TimeTooLarge` if the seconds and microseconds are 86,400 seconds or more together.
-    #[inline]
     pub fn from_timestamp_with_config(
         timestamp_second: u32,
         timestamp_microsecond: u32,
@@ -255,7 +252,6 @@ impl Time {
     }
 
     /// The time at a second of the day and its microsecond, with the offset attached.
-    #[inline]
     pub(crate) fn at_second(second: u32, microsecond: u32, tz_offset: Option<i32>) -> Self
         requires second { second < seconds_per_day }
         requires microsecond { microsecond ≤ 999999 }
@@ -272,7 +268,6 @@ impl Time {
     }
 
     /// The seconds since midnight, whatever the offset: 43,994 for 12:13:14.5.
-    #[inline]
     pub fn total_seconds(&self) -> u32
         ensures seconds { result ≡ second_of_day (time_of_day self.now) }
     {
@@ -281,7 +276,6 @@ impl Time {
 
     /// The milliseconds since midnight, rounded down, whatever the offset: 43,994,500 for
     /// 12:13:14.5.
-    #[inline]
     pub fn total_ms(&self) -> u32
         ensures milliseconds { result ≡ millisecond_of_day (time_of_day self.now) }
     {
@@ -299,7 +293,6 @@ impl FromStr for Time {
     ghost from_str_gives = { λ text result. result gives time_answer behavior.Error text };
 
     /// The answer of [`Time::parse_str`]: `"12:13Z".parse()` gives 12:13:00 in UTC.
-    #[inline]
     fn from_str(text: &str) -> Result<Self, ParseError> {
         Self::parse_str(text)
     }

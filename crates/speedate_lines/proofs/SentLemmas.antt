@@ -1,6 +1,5 @@
 -- What has gone out of some bytes, step by step.
-use Rattle.std.proofs.Common.{rules, ◌≡◌, ◌∙◌, ap, sym, subst, List, [], ◌++◌, ℕ, refl, append_assoc, take, drop, take-append-drop, Result}
-use Rattle.std.specs.Prelude.{Option, OnErr}
+use Rattle.std.proofs.Common.{rules, ◌≡◌, ◌∙◌, ap, sym, subst, List, [], ◌++◌, ℕ, refl, append_assoc, take, drop, take-append-drop, Result, Option, OnErr}
 use Rattle.std.specs.Io.KnownBytes.{Appends, Keeps}
 use Rattle.std.proofs.lemmas.List.{take_rest}
 use Rattle.std.proofs.Math.Bool.{or-false}

@@ -114,7 +114,6 @@ fn answer_text(kind: Kind, text: &[u8], pending: &mut Pending)
 }
 
 /// Appends the answer to a text that was read: the canonical text of its value.
-#[inline]
 fn accept(text: &str, pending: &mut Pending)
     requires short { length text.now ≤ TEXT_MAX }
     requires room { array_string_len pending.old + ANSWER_MAX ≤ PENDING_MAX }
@@ -126,7 +125,6 @@ fn accept(text: &str, pending: &mut Pending)
 }
 
 /// Appends the answer to a line that was refused: the name of the reason.
-#[inline]
 fn refuse(name: &str, pending: &mut Pending)
     requires short { length name.now ≤ TEXT_MAX }
     requires room { array_string_len pending.old + ANSWER_MAX ≤ PENDING_MAX }

@@ -11,7 +11,6 @@ const LANES: usize = 16;
 
 /// The place of the first line feed at `from` or after it: 3 for `b"abc\ndef"` and 0. `None` if there
 /// is none.
-#[inline]
 pub fn line_end(text: &[u8], from: usize) -> Option<usize>
     requires { from ≤ length text.now }
     ensures found { MatchOption result (IsOneLine text.now from (length text.now))

@@ -1,14 +1,13 @@
 -- The first run later than now is counted by division, and comes whole numbers of times after the last one.
-use Rattle.std.specs.Prelude.{◌≡◌, ℕ, zero, suc, ◌+◌, ◌-◌, ◌*◌, ◌/◌, ◌%◌, ◌<◌, Bool, true, false, not, ℤ, pos, negsuc, ◌+ℤ◌, ◌-ℤ◌, ◌<ℤ◌, int_lt, refl}
-use Rattle.std.specs.Ordering.{bool_cmp, int_cmp, is_gt, ordering_then}
-use Rattle.std.proofs.Common.{arith}
-use Rattle.std.proofs.Math.Nat.{div-eq_of_lt, div-lt_iff_lt-mul, lt-div-mul-add, mul-le-mul_right}
+use Rattle.std.proofs.Common.{◌≡◌, ℕ, zero, suc, ◌+◌, ◌-◌, ◌*◌, ◌/◌, ◌%◌, ◌<◌, Bool, true, false, not, ℤ, pos, negsuc, ◌+ℤ◌, ◌-ℤ◌, ◌<ℤ◌, int_lt, refl, int_cmp, is_gt, arith, div-lt_iff_lt-mul, mul-le-mul_right}
+use Rattle.std.specs.Ordering.{bool_cmp, ordering_then}
+use Rattle.std.proofs.Math.Nat.{div-eq_of_lt, lt-div-mul-add}
 use Rattle.std.proofs.lemmas.Bool.Decides.{nat_tests}
 use Rattle.std.proofs.lemmas.Int.{ints}
 use Rattle.speedate.specs.Numbers.{with_sign}
 use Rattle.speedate_uses.specs.Schedule.{next_count, IsNextRun}
 
--- the first run later than now comes so many times `every` after the last one
+-- the first run later than now comes that many times `every` after the last one
 counted : (last now gone : ℤ) (every : ℕ) → 0 < every → gone ≡ now -ℤ last → IsNextRun last (pos every) now (last +ℤ pos (next_count every gone * every))
 counted last now (pos gone) every some same = record {
   due = (gone / every + 1, omega arith, refl);

@@ -6,8 +6,8 @@ use Rattle.speedate.specs.Duration.{signed_length, date_time_after}
 use Rattle.speedate.specs.DurationNumbers.{DurationNumbers, length_microseconds}
 use Rattle.speedate.specs.Requirement.{result_map}
 
--- which run after the last one is the first that is later than now, where a job runs every so many microseconds and so many have
--- gone by since the last run; where a clock was set back it is the one after the last
+-- which run after the last one is the first that is later than now, where the interval, and what
+-- has gone by since the last run, are in microseconds; where a clock was set back it is the one after the last
 abbrev pub next_count : ℕ → ℤ → ℕ
 next_count every (pos gone) = gone / every + 1
 next_count every (negsuc below) = 1

@@ -94,7 +94,7 @@ const DAYS: &str = "\
 738155   2020-12-31  366  1609372800    2021-01-01
 3652424  9999-12-31  365  253402214400  none";
 
-/// A date, days, and the date so many days later.
+/// A date, a number of days, and the date that many days later.
 const ADDED: &str = "\
 2020-02-28  2            2020-03-01
 2020-03-01  -2           2020-02-28

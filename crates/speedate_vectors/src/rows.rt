@@ -19,7 +19,7 @@ pub fn quoted<'a, R: AllocGlobal + Abort>(rt: &R, row: &'a str) -> (&'a str, Str
     (before.trim_end(), text, after.trim_start())
 }
 
-/// `front`, so many times the repeated text, and `back`.
+/// `front`, the repeated text `count` times, and `back`.
 pub fn joined(
     alloc: Global,
     front: &str,

@@ -21,7 +21,6 @@ impl Duration {
     /// 2020-01-01T12:00:00Z to 2020-01-01T12:00:00-01:00. It is negative where `later` is the earlier
     /// one, and has at most 3,652,426 days. A date-time without an offset is taken to be in UTC. If the
     /// offsets are equal, [`Duration::after`] leads from the one exactly to the other.
-    #[inline]
     pub fn between(earlier: &DateTime, later: &DateTime) -> Duration
         ensures answer { duration_numbers result ≡ duration_between (date_and_time earlier.now) (date_and_time later.now) }
         ensures length { signed_length (duration_numbers result)
@@ -56,10 +55,9 @@ impl Duration {
         instant_date_time(self.end(start), start.time.tz_offset)
     }
 
-    /// The date-time so long before another, or after it where the duration is negative, at the same
+    /// The date-time this long before another, or after it where the duration is negative, at the same
     /// offset: 2020-02-29T23:30:00+01:00 for an hour and 2020-03-01T00:30:00+01:00. The faults are those
     /// of [`Duration::after`], which leads back.
-    #[inline]
     pub fn before(&self, start: &DateTime) -> Result<DateTime, ParseError>
         ensures answer { result gives date_time_after (neg_ℤ (signed_length (duration_numbers self.now))) (date_and_time start.now) }
         ensures ends { IfOk result (λ end. utc_microsecond (date_and_time end)
@@ -78,7 +76,6 @@ impl Duration {
     }
 
     /// The duration with the other sign: -PT1S for PT1S, and PT0S for -PT0S.
-    #[inline]
     pub fn negated(&self) -> Duration
         ensures numbers { duration_numbers result ≡ negated (duration_numbers self.now) }
         ensures length { signed_length (duration_numbers result) ≡ neg_ℤ (signed_length (duration_numbers self.now)) }
@@ -91,8 +88,7 @@ impl Duration {
         }
     }
 
-    /// The duration of so many microseconds.
-    #[inline]
+    /// The duration of a number of microseconds.
     fn of_microseconds(length: i64) -> Duration
         ensures numbers { duration_numbers result ≡ duration_of_length length }
     {
@@ -107,7 +103,6 @@ impl Duration {
     }
 
     /// The instant this long after a date-time, as a clock at its offset shows it.
-    #[inline]
     fn end(&self, start: &DateTime) -> UnixTime
         ensures instant { instant_of result
             ≡ instant_at (local_microsecond (date_and_time start.now) +ℤ signed_length (duration_numbers self.now)) }
@@ -124,7 +119,6 @@ impl Duration {
 
     /// The duration from one date to another, whole days: two days from 2020-02-28 to 2020-03-01. It is
     /// negative where `later` is the earlier one.
-    #[inline]
     pub fn between_dates(earlier: &Date, later: &Date) -> Duration
         ensures answer { duration_numbers result ≡ duration_between_dates (ymd earlier.now) (ymd later.now) }
         ensures leads_back { date_after_days (duration_numbers result) (ymd earlier.now) ≡ Ok (ymd later.now) }
@@ -138,7 +132,7 @@ impl Duration {
         }
     }
 
-    /// The date so many days after another, or before it where the duration is negative: 2020-03-01 for
+    /// The date this many days after another, or before it where the duration is negative: 2020-03-01 for
     /// two days and 2020-02-28. [`Duration::before_date`] leads back.
     ///
     /// The faults, in the order in which they are looked for:
@@ -146,7 +140,6 @@ impl Duration {
     /// - `DateNotExact` where the duration is not whole days;
     /// - `DateTooSmall` where the date is before the year 0000, `DateTooLarge` where it is after the year
     ///   9999.
-    #[inline]
     pub fn after_date(&self, start: &Date) -> Result<Date, ParseError>
         ensures answer { result gives date_after_days (duration_numbers self.now) (ymd start.now) }
         ensures days { IfOk result (λ end. days_between (ymd start.now) (ymd end) ≡ signed_days (duration_numbers self.now)) }
@@ -164,9 +157,8 @@ impl Duration {
         start.checked_add_days(days).ok_or(fault)
     }
 
-    /// The date so many days before another, or after it where the duration is negative: 2020-02-28 for
+    /// The date this many days before another, or after it where the duration is negative: 2020-02-28 for
     /// two days and 2020-03-01. The faults are those of [`Duration::after_date`], which leads back.
-    #[inline]
     pub fn before_date(&self, start: &Date) -> Result<Date, ParseError>
         ensures answer { result gives date_after_days (negated (duration_numbers self.now)) (ymd start.now) }
         ensures days { IfOk result (λ end. days_between (ymd end) (ymd start.now) ≡ signed_days (duration_numbers self.now)) }
@@ -177,7 +169,6 @@ impl Duration {
 }
 
 /// The microsecond since 1970-01-01T00:00:00 in UTC at which a date-time lies.
-#[inline]
 fn utc_microsecond(value: &DateTime) -> i64
     ensures microsecond { result ≡ utc_microsecond (date_and_time value.now) }
     ensures small { unsigned_abs result < 500000000000000000 }

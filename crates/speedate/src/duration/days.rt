@@ -31,7 +31,7 @@ impl UnsignedDuration {
         Self::after_days(rest, count, behavior)
     }
 
-    /// Reads what follows so many days, nothing or a clock of fewer than 24 hours, and joins the two.
+    /// Reads what follows the days, nothing or a clock of fewer than 24 hours, and joins the two.
     #[tactic(auto, unfolding(crate::specs::DayForm::after_days))]
     #[inline(always)]
     fn after_days(

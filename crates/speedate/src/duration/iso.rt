@@ -13,9 +13,7 @@ ghost use Rattle.speedate.specs.IsoForm.{Component, TimeDesignator, units, unit_
 use super::unsigned::UnsignedDuration;
 use speedate_base::config::IsoOrder;
 use speedate_base::faults::ParseError;
-use speedate_base::numbers::{
-    DigitRun, Fraction, byte_at, digit_run, few_digits, is_decimal_mark,
-};
+use speedate_base::numbers::{DigitRun, Fraction, byte_at, digit_run, few_digits, is_decimal_mark};
 use speedate_base::util::{SECONDS_PER_DAY, twice_microseconds};
 
 /// How many digits of a fraction of a second are whole microseconds.
@@ -239,7 +237,7 @@ impl Sums {
         }
     }
 
-    /// The sums with so many of a unit, or `None` if they do not fit 32 bits.
+    /// The sums with a number of a unit, or `None` if they do not fit 32 bits.
     #[inline(always)]
     fn with_whole(self, number: u32, unit: &DurationUnit) -> Option<Self>
         requires none { self.fraction ≡ false }
@@ -343,8 +341,8 @@ impl Sums {
         Ok((sums, number.length + size + 1))
     }
 
-    /// The sums with so many of a unit, and a fraction of it, which is nothing or a decimal mark and
-    /// digits, and by these so many microseconds of a second.
+    /// The sums with a number of a unit, and a fraction of it, which is nothing or a decimal mark and
+    /// digits; `microseconds` is what these are of a second.
     #[inline(always)]
     fn with_amount(
         self,

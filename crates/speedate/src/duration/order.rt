@@ -49,7 +49,6 @@ impl Ord for Duration {
     /// Which of two durations is the smaller one: a negative one before a positive one, the shorter
     /// of two positive ones, and the longer of two negative ones. Negative zero is before positive
     /// zero: -PT2S, -PT1S, -PT0S, PT0S and PT1S are in order.
-    #[inline]
     fn cmp(&self, other: &Duration) -> Ordering
         ensures order { result ≡ duration_order (duration_numbers self.now) (duration_numbers other.now) }
         ensures length { result ≡ ordering_then (int_cmp (signed_length (duration_numbers self.now)) (signed_length (duration_numbers other.now)))
@@ -67,7 +66,6 @@ impl PartialOrd for Duration {
 
     /// What [`Duration::cmp`] returns, since any two durations have an order:
     /// `Some(Ordering::Less)` for -PT0S and PT0S.
-    #[inline]
     fn partial_cmp(&self, other: &Duration) -> Option<Ordering>
         ensures order { result ≡ Some (duration_order (duration_numbers self.now) (duration_numbers other.now)) }
         ensures length { result ≡ Some (ordering_then (int_cmp (signed_length (duration_numbers self.now)) (signed_length (duration_numbers other.now)))

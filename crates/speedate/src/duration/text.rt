@@ -162,7 +162,6 @@ impl Duration {
     /// allocated; `.as_str()` is the text.
     ///
     /// Every configuration reads it back as the duration. No other duration has the same text.
-    #[inline]
     pub fn to_text(&self) -> ArrayString<TEXT_MAX>
         ensures text { result.bytes ≡ duration_text (duration_numbers self.now) }
         ensures reads_back { (config : TimeConfig)

@@ -83,7 +83,6 @@ impl UnsignedDuration {
 /// Whether a text has days, whose first digits end at `end`: the letter of a day stands anywhere in it,
 /// or it is too short for a clock.
 #[tactic(auto, using(crate::proofs::ClockFormLemmas::letter_rules))]
-#[inline]
 fn has_days(bytes: &[u8], end: usize) -> bool
     requires end { end ≡ run_length bytes.now 0 }
     requires within { end ≤ length bytes.now }
@@ -93,7 +92,6 @@ fn has_days(bytes: &[u8], end: usize) -> bool
 }
 
 /// Whether the letter of a day stands anywhere.
-#[inline]
 fn has_day_letter(bytes: &[u8]) -> bool
     ensures { result ≡ list_any is_day_letter bytes.now }
 {

@@ -11,7 +11,6 @@ use std::str::FromStr;
 
 impl TimestampUnit {
     /// The name, in small letters: `ms` for `TimestampUnit::Millisecond`. It reads back as the unit.
-    #[inline]
     pub fn name(&self) -> &'static str
         ensures name { Contains unit_choices (result.now chooses self.now) }
         ensures reads_back { unit_answer result.now ≡ Ok self.now }
@@ -33,7 +32,6 @@ impl FromStr for TimestampUnit {
     /// The unit that a text names, in ASCII letters of any case: `TimestampUnit::Millisecond` for
     /// `"ms"`, and the others for `"s"`, `"us"` and `"infer"`. Fails with `UnknownTimestampUnitString`
     /// for any other text.
-    #[inline]
     fn from_str(text: &str) -> Result<Self, ConfigError> {
         if names(text, "s") {
             Ok(TimestampUnit::Second)
@@ -52,7 +50,6 @@ impl FromStr for TimestampUnit {
 impl MicrosecondsPrecisionOverflowBehavior {
     /// The name, in small letters: `truncate` for `MicrosecondsPrecisionOverflowBehavior::Truncate`.
     /// It reads back as the behavior.
-    #[inline]
     pub fn name(&self) -> &'static str
         ensures name { Contains behavior_choices (result.now chooses self.now) }
         ensures reads_back { behavior_answer result.now ≡ Ok self.now }
@@ -72,7 +69,6 @@ impl FromStr for MicrosecondsPrecisionOverflowBehavior {
     /// The behavior that a text names, in ASCII letters of any case: `Truncate` for `"truncate"`, and
     /// `Error` for `"error"`. Fails with `UnknownMicrosecondsPrecisionOverflowBehaviorString` for any
     /// other text.
-    #[inline]
     fn from_str(text: &str) -> Result<Self, ConfigError> {
         if names(text, "truncate") {
             Ok(MicrosecondsPrecisionOverflowBehavior::Truncate)
@@ -86,7 +82,6 @@ impl FromStr for MicrosecondsPrecisionOverflowBehavior {
 
 impl IsoOrder {
     /// The name, in small letters: `strict` for `IsoOrder::Strict`. It reads back as the order.
-    #[inline]
     pub fn name(&self) -> &'static str
         ensures name { Contains order_choices (result.now chooses self.now) }
         ensures reads_back { order_answer result.now ≡ Some self.now }
@@ -99,7 +94,6 @@ impl IsoOrder {
 
     /// The order that a text names, in ASCII letters of any case: `Lax` for `"lax"`, and `Strict` for
     /// `"strict"`. `None` for any other text.
-    #[inline]
     pub fn from_name(text: &str) -> Option<Self>
         ensures answer { result ≡ order_answer text.now }
     {
@@ -114,7 +108,6 @@ impl IsoOrder {
 }
 
 /// Whether a text is a name, in ASCII letters of any case.
-#[inline]
 fn names(text: &str, name: &str) -> bool
     ensures { result ≡ str_eq_ignore_ascii_case name.now text.now }
 {

@@ -21,7 +21,6 @@ pub enum ConfigError {
 impl ConfigError {
     /// The snake-case name: `unknown_timestamp_unit_string` for
     /// `ConfigError::UnknownTimestampUnitString`. No other fault has it.
-    #[inline]
     pub fn name(&self) -> &'static str
         ensures name { result.now ≡ config_error_name self.now }
         ensures distinct { (other : ConfigError) → result.now ≡ config_error_name other → self.now ≡ other }
@@ -35,7 +34,6 @@ impl ConfigError {
     }
 
     /// The documentation text: always `None`, since these faults have none.
-    #[inline]
     pub fn get_documentation(&self) -> Option<&'static str>
         ensures none { result ≡ None }
     {

@@ -98,7 +98,6 @@ pub fn run_end(bytes: &[u8], place: usize) -> usize
 }
 
 /// The number that digits spell, or `u64::MAX` if it is larger: 120 for `b"120"`.
-#[inline]
 #[tactic(auto, using(crate::proofs::BlockLemmas::is_number))]
 pub(crate) fn digits_number(digits: &[u8]) -> u64
     requires { IsTrue (list_all is_ascii_digit digits.now) }
@@ -110,7 +109,6 @@ pub(crate) fn digits_number(digits: &[u8]) -> u64
 /// The number that bytes spell if they are digits, or `u64::MAX` if it is larger; otherwise, as an
 /// error, the place of the first byte that is no digit. It is 120 for `b"120"`, 0 for no bytes, and
 /// place 2 for `b"12.0"`.
-#[inline]
 pub(crate) fn spelled_number(digits: &[u8]) -> Result<u64, usize>
     ensures answer { result ≡ (if run_length digits.now 0 == length digits.now
         then Ok (min (digits_value digits.now) (2 ^ 64 - 1)) else Err (run_length digits.now 0)) }
@@ -134,7 +132,6 @@ pub(crate) fn spelled_number(digits: &[u8]) -> Result<u64, usize>
 
 /// The number that fewer than eight bytes spell if they are digits; otherwise, as an error, the place
 /// of the first byte that is no digit.
-#[inline]
 #[tactic(auto, using(crate::proofs::DigitRunLemmas::one_more_digit))]
 pub(crate) fn one_by_one(digits: &[u8]) -> Result<u64, usize>
     requires { length digits.now < LANES }

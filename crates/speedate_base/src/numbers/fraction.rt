@@ -68,7 +68,6 @@ fn six_places(front: u8x8, count: usize) -> u32
 
 /// Whether a text may have `count` digits after its decimal mark, if the first `most` of them reach
 /// the microsecond: 7 with a `most` of 6 is true for `Truncate` and false for `Error`.
-#[inline]
 pub fn takes_digits(
     behavior: MicrosecondsPrecisionOverflowBehavior,
     count: usize,

@@ -29,7 +29,6 @@ impl<'a> Decimal<'a> {
 
     /// The decimal of a sign and the digits before and after its point: that of `"-1.50"` for true,
     /// `b"1"` and `b"50"`. `None` if a byte is no digit, or if there is no digit at all.
-    #[inline]
     pub fn new(negative: bool, whole: &'a [u8], fraction: &'a [u8]) -> Option<Self>
         ensures answer { option_map decimal_of result
             ≡ decimal_of_digits (record { negative = negative; whole = whole.now; fraction = fraction.now }) }
@@ -49,7 +48,6 @@ impl<'a> Decimal<'a> {
 }
 
 /// Whether all bytes are digits.
-#[inline]
 fn are_digits(bytes: &[u8]) -> bool
     ensures { result ≡ list_all is_ascii_digit bytes.now }
 {
@@ -71,7 +69,6 @@ impl IntFloat<'_> {
     ghost use Rattle.speedate_base.specs.Numbers.{is_no_number};
 
     /// Whether it is `Err`: true for the answer to `"1.5e3"`.
-    #[inline]
     pub fn is_err(&self) -> bool
         ensures tells { result ≡ is_no_number self.now }
     {

@@ -6,7 +6,6 @@ ghost use Rattle.speedate_base.specs.Digits.{is_decimal_mark, one_digit_value, t
 
 /// The number that the two digits from `place` on spell: 7 for `b"07"` at place 0. `None` if one of the
 /// two bytes is no digit. The text has both, which is a condition on the caller.
-#[inline]
 pub fn two_digits(bytes: &[u8], place: usize) -> Option<u8>
     requires { place + 2 ≤ length bytes.now }
     ensures value { result ≡ (if two_digits_at bytes.now place
@@ -18,7 +17,6 @@ pub fn two_digits(bytes: &[u8], place: usize) -> Option<u8>
 }
 
 /// What a digit stands for, or `None` if the byte is no digit.
-#[inline]
 fn digit(byte: u8) -> Option<u8>
     ensures value { result ≡ (if is_ascii_digit byte then Some (one_digit_value byte) else None) }
 {
@@ -30,7 +28,6 @@ fn digit(byte: u8) -> Option<u8>
 }
 
 /// The byte at a place, or 0 after the end: `b':'` for `b"12:13"` at place 2, 0 at place 5.
-#[inline]
 pub fn byte_at(bytes: &[u8], place: usize) -> u8
     ensures byte { result ≡ slice_index bytes.now place }
 {
@@ -38,7 +35,6 @@ pub fn byte_at(bytes: &[u8], place: usize) -> u8
 }
 
 /// Whether a byte is a decimal mark, `.` or `,`: both are in ISO 8601.
-#[inline]
 pub fn is_decimal_mark(byte: u8) -> bool
     ensures value { result ≡ is_decimal_mark byte }
 {

@@ -17,7 +17,7 @@ use crate::faults::ParseError;
 use crate::numbers::digits::digits_number;
 use crate::numbers::{Decimal, with_sign};
 
-/// So many microseconds before 1970 lie before the year 0000, and so many after it after the year 9999.
+/// This many microseconds before 1970 lie before the year 0000, and this many after it after the year 9999.
 const FAR_MICROSECONDS: u64 = 1 << 60;
 
 /// The unit of a decimal timestamp: if it is to be inferred, seconds for `"20000000000.0"` and
@@ -25,7 +25,6 @@ const FAR_MICROSECONDS: u64 = 1 << 60;
 ///
 /// An inferred unit is seconds if the decimal without its sign, with all its digits, is at most
 /// 20,000,000,000, otherwise milliseconds.
-#[inline]
 pub fn decimal_unit(decimal: Decimal<'_>, unit: TimestampUnit) -> UnixUnit
     ensures row { row result ≡ decimal_row unit (decimal_of decimal.entry) }
 {
@@ -44,7 +43,6 @@ pub fn decimal_unit(decimal: Decimal<'_>, unit: TimestampUnit) -> UnixUnit
 }
 
 /// Whether a decimal timestamp is in seconds if its unit is inferred.
-#[inline]
 #[tactic(auto, using(crate::proofs::DecimalLemmas::inferred_rules))]
 fn is_inferred_seconds(decimal: Decimal<'_>) -> bool
     ensures { result ≡ nat_le (decimal_digits (decimal_of decimal.entry))
@@ -69,7 +67,6 @@ fn is_inferred_seconds(decimal: Decimal<'_>) -> bool
 ///
 /// Fails with `DateTooSmall` if that microsecond lies before the year 0000, with `DateTooLarge` if it
 /// lies after the year 9999.
-#[inline]
 pub fn decimal_to_seconds_micros(
     decimal: Decimal<'_>,
     unit: UnixUnit,
@@ -90,7 +87,6 @@ pub fn decimal_to_seconds_micros(
 }
 
 /// The microseconds of a fraction of the unit, to the nearest.
-#[inline]
 #[tactic(auto, using(crate::proofs::NearestLemmas::nearest_filled))]
 fn fraction_microseconds(digits: &[u8], unit: UnixUnit, negative: bool) -> u64
     requires { IsTrue (list_all is_ascii_digit digits.now) }

@@ -19,7 +19,6 @@ const _: () = prove!(LARGEST_UNIT == 365 * 86_400 * 1_000_000);
 /// The nearest microseconds of a fraction of a unit: 500,000 for the digit `5` of a second. The unit is
 /// given by its microseconds. A tie goes to the later microsecond: to the smaller number if the
 /// fraction is that of a negative number.
-#[inline]
 #[tactic(auto, using(crate::proofs::NearestLemmas::nearest_rules))]
 pub fn nearest_microseconds(digits: &[u8], unit: u64, negative: bool) -> u64
     requires digits { IsTrue (list_all is_ascii_digit digits.now) }
@@ -39,7 +38,6 @@ pub fn nearest_microseconds(digits: &[u8], unit: u64, negative: bool) -> u64
 ///
 /// A step takes eight digits, the last ones first, and rounds. What is rounded so early is less than
 /// one of what is counted next, so the whole is rounded once.
-#[inline]
 pub fn twice_microseconds(digits: &[u8], unit: u64, up: bool) -> u64
     requires digits { IsTrue (list_all is_ascii_digit digits.now) }
     requires unit { unit ≤ LARGEST_UNIT }
@@ -57,7 +55,6 @@ pub fn twice_microseconds(digits: &[u8], unit: u64, up: bool) -> u64
 }
 
 /// Twice the microseconds of fewer than eight digits, the last ones.
-#[inline]
 #[tactic(auto, using(crate::proofs::RoundingLemmas::last_rules))]
 fn last_digits_taken(digits: &[u8], unit: u64, up: bool) -> u64
     requires short { length digits.now < LANES }
@@ -70,9 +67,8 @@ fn last_digits_taken(digits: &[u8], unit: u64, up: bool) -> u64
     digits_taken(value, 0, unit, power_of_ten(digits.len()), up)
 }
 
-/// What fewer than eight digits spell, with zeros after them up to so many places: 120,000 for
+/// What fewer than eight digits spell, with zeros after them up to a number of places: 120,000 for
 /// `b"12"` and six places.
-#[inline]
 #[tactic(auto, using(crate::proofs::RoundingLemmas::filled_rules))]
 pub(super) fn filled(digits: &[u8], places: usize) -> u64
     requires short { length digits.now < LANES }
@@ -85,7 +81,6 @@ pub(super) fn filled(digits: &[u8], places: usize) -> u64
 }
 
 /// Ten to a power up to the eighth.
-#[inline]
 pub(super) fn power_of_ten(exponent: usize) -> u64
     requires { exponent ≤ 8 }
     ensures { result ≡ 10 ^ exponent }

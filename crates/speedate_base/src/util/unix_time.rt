@@ -70,7 +70,7 @@ impl UnixTime {
         }
     }
 
-    /// The instant so many microseconds later: second 2 and 500,000 microseconds for a second and a half
+    /// The instant a number of microseconds later: second 2 and 500,000 microseconds for a second and a half
     /// after second 1. Fails with `TimeTooLarge` if the microseconds exceed `u32::MAX` together, or if
     /// the seconds and those carried exceed `i64::MAX`.
     pub fn later(self, microseconds: u32) -> Result<Self, ParseError>
@@ -92,7 +92,6 @@ impl UnixTime {
 
     /// The same instant, if it lies in the years 0000 to 9999: second 0 for second 0. Fails with
     /// `DateTooSmall` before them and with `DateTooLarge` after them, as for second 253,402,300,800.
-    #[inline]
     pub fn in_years(self) -> Result<Self, ParseError>
         ensures answer { result_map instant_of result ≡ range_answer (instant_of self) }
         ensures within { IfOk result (λ time. IsInYears (instant_of time)) }

@@ -33,12 +33,12 @@ const CENTURY_STARTS: [u32; 4] = [0, 36_525, 73_049, 109_573];
 const YEAR_STARTS: [u32; 4] = [0, 366, 731, 1_096];
 
 /// The days of the months before a month of a year.
-#[inline]
 #[tactic(auto, using(crate::proofs::MonthLemmas::days_of_months_is))]
 fn days_before_month(year: u16, month: u8) -> u16
     requires { IsInRange 1 12 month }
     ensures { result ≡ days_of_months year (month - 1) }
 {
+    // On a line of 367 days to twelve months, which fits if February has 30 days.
     let days = (367 * u16::from(month) - 362) / 12;
     if month <= 2 {
         days
@@ -50,7 +50,6 @@ fn days_before_month(year: u16, month: u8) -> u16
 }
 
 /// The century of a day of a cycle, and the day of that century, both counted from 0.
-#[inline]
 #[tactic(auto, using(crate::proofs::YearLemmas::days_before_century))]
 fn century(day: u32) -> (u32, u32)
     requires { day < 146097 }
@@ -66,7 +65,6 @@ fn century(day: u32) -> (u32, u32)
 ///
 /// Only the first century of a cycle begins with a leap year. The first four years of another one lack
 /// a day; their days are counted from 1, as if the day that they lack went before them.
-#[inline]
 fn four_years(century: u32, day: u32) -> (u32, u32)
     requires { day + min century 1 < 36525 }
     ensures day { 1461 * result.0 + result.1 ≡ day + min century 1 }
@@ -77,7 +75,6 @@ fn four_years(century: u32, day: u32) -> (u32, u32)
 }
 
 /// The year of a day of a century, and the day of that year, both counted from 0.
-#[inline]
 fn year_of_century(century: u32, day: u32) -> (u32, u32)
     requires century { century ≤ 3 }
     requires day { day + min century 1 < 36525 }
@@ -99,7 +96,6 @@ fn year_of_century(century: u32, day: u32) -> (u32, u32)
 ///
 /// If February had 30 days, a line through the months would tell the month of a day; so the days
 /// from March on are moved by what February lacks of them.
-#[inline]
 fn day_of_year(year: u16, day: u16) -> Date
     requires year { year ≤ 9999 }
     requires day { day < year_length year }
@@ -126,7 +122,6 @@ impl Date {
     ///
     /// It is the sum of the lengths of the years before the date's year, of the lengths of the months
     /// before its month in that year, and of its day less one.
-    #[inline]
     pub fn day_number(&self) -> u32
         ensures number { result ≡ day_number (ymd self.now) }
         ensures numbered { date_numbered result ≡ Some (ymd self.now) }
@@ -137,9 +132,8 @@ impl Date {
         before_year + u32::from(self.ordinal_day()) - 1
     }
 
-    /// The date of a day number: 0000-02-29 for 59. It is the date so many days after 0000-01-01.
+    /// The date of a day number: 0000-02-29 for 59. It is the date that many days after 0000-01-01.
     /// `None` if the number is over 3,652,424, that of 9999-12-31.
-    #[inline]
     pub fn from_day_number(number: u32) -> Option<Self>
         ensures date { option_map ymd result ≡ date_numbered number }
         ensures number { IfSome result (λ date. day_number (ymd date) ≡ number) }
@@ -151,7 +145,6 @@ impl Date {
     }
 
     /// The date of a day number up to 3,652,424.
-    #[inline]
     pub(crate) fn numbered(number: u32) -> Self
         requires { number ≤ 3652424 }
         ensures date { ymd result ≡ date_after number }
@@ -164,7 +157,6 @@ impl Date {
     }
 
     /// The day after the date: 2000-01-01 for 1999-12-31. `None` for 9999-12-31.
-    #[inline]
     pub fn next_day(&self) -> Option<Self>
         ensures date { option_map ymd result ≡ next_date (ymd self.now) }
         ensures number { IfSome result (λ next. day_number (ymd next) ≡ day_number (ymd self.now) + 1) }
@@ -192,7 +184,7 @@ impl Date {
         }
     }
 
-    /// The date so many days later, or earlier if the number is negative: 2020-03-01 for 2020-02-28 and
+    /// The date a number of days later, or earlier if it is negative: 2020-03-01 for 2020-02-28 and
     /// 2. `None` if that is before 0000-01-01 or after 9999-12-31. [`Date::days_since`] leads back to
     /// the number.
     #[inline(always)]
@@ -208,7 +200,6 @@ impl Date {
     /// The days from another date to this one: 2 for 2020-03-01 since 2020-02-28. The number is
     /// negative if this date is before the other, and 0 if the two are equal.
     /// [`Date::checked_add_days`] of the other date leads back to this one.
-    #[inline]
     pub fn days_since(&self, earlier: &Date) -> i32
         ensures days { result ≡ days_between (ymd earlier.now) (ymd self.now) }
         ensures leads_back { date_added result (ymd earlier.now) ≡ Some (ymd self.now) }
@@ -219,7 +210,6 @@ impl Date {
     }
 
     /// The day of the year, 1 to 366: 366 for 2020-12-31 (ISO 8601, ordinal date).
-    #[inline]
     pub fn ordinal_day(&self) -> u16
         ensures day { result ≡ ordinal_day (ymd self.now) }
     {
@@ -229,7 +219,6 @@ impl Date {
     /// The Unix timestamp of the date's midnight in UTC, in seconds since 1970-01-01T00:00:00: 86,400
     /// for 1970-01-02. Each day has 86,400 seconds; the timestamp is negative before 1970.
     /// [`Date::from_timestamp`], in seconds, leads back.
-    #[inline]
     #[tactic(auto, using(speedate_base::proofs::TimestampLemmas::instant_of_seconds))]
     pub fn timestamp(&self) -> i64
         ensures second { result ≡ midnight_second (ymd self.now) }
@@ -240,7 +229,6 @@ impl Date {
 
     /// The Unix timestamp of the date's midnight in UTC, in milliseconds: 86,400,000 for 1970-01-02. It
     /// is a thousand times [`Date::timestamp`].
-    #[inline]
     pub fn timestamp_ms(&self) -> i64
         ensures millisecond { result ≡ midnight_millisecond (ymd self.now) }
     {

@@ -24,7 +24,6 @@ impl Ord for Date {
 
     /// Compares two dates, by year, then by month, then by day: 2020-02-29 is less than 2020-03-01.
     /// Their texts, as bytes, and their day numbers compare in the same way.
-    #[inline]
     fn cmp(&self, other: &Date) -> Ordering
         ensures order { result ≡ date_order (ymd self.now) (ymd other.now) }
         ensures text_order { result ≡ slice_cmp nat_cmp (date_text (ymd self.now)) (date_text (ymd other.now)) }
@@ -43,7 +42,6 @@ impl PartialOrd for Date {
     ghost laws = { po (on_total ymd date_order-total) (Prim.search (comparing, rules)) };
 
     /// The answer of [`Date::cmp`], in `Some`: `Some(Ordering::Less)` for 2020-02-29 and 2020-03-01.
-    #[inline]
     fn partial_cmp(&self, other: &Date) -> Option<Ordering>
         ensures order { result ≡ Some (date_order (ymd self.now) (ymd other.now)) }
         ensures text_order { result ≡ Some (slice_cmp nat_cmp (date_text (ymd self.now)) (date_text (ymd other.now))) }

@@ -24,7 +24,6 @@ impl Date {
     /// number without its sign is at most 20,000,000,000, otherwise in milliseconds. It then has the
     /// faults of [`Date::from_timestamp`] for an exact date. Any other text has those of
     /// [`Date::parse_str_rfc3339`].
-    #[inline]
     pub fn parse_str(text: &str) -> Result<Self, ParseError>
         ensures answer { result gives date_or_timestamp unit.Infer text.now }
     {
@@ -33,7 +32,6 @@ impl Date {
 
     /// Reads a date from bytes, which may be a timestamp: 1970-01-02 from `b"86400"`. The bytes need
     /// not be text. The forms and the faults are those of [`Date::parse_str`].
-    #[inline]
     pub fn parse_bytes(bytes: &[u8]) -> Result<Self, ParseError>
         ensures answer { result gives date_or_timestamp unit.Infer bytes.now }
     {
@@ -42,7 +40,6 @@ impl Date {
 
     /// Reads a date from a text, which may be a timestamp in the unit of the configuration: 2022-01-01
     /// from `"1640995200"` in seconds. The faults are those of [`Date::parse_str`].
-    #[inline]
     pub fn parse_str_with_config(text: &str, config: &DateConfig) -> Result<Self, ParseError>
         ensures answer { result gives date_or_timestamp config.now.timestamp_unit text.now }
     {
@@ -52,7 +49,6 @@ impl Date {
     /// Reads a date from bytes, which may be a timestamp in the unit of the configuration: 1970-01-02
     /// from `b"86400000"` in milliseconds. The bytes need not be text. The faults are those of
     /// [`Date::parse_str`].
-    #[inline]
     pub fn parse_bytes_with_config(bytes: &[u8], config: &DateConfig) -> Result<Self, ParseError>
         ensures answer { result gives date_or_timestamp config.now.timestamp_unit bytes.now }
     {
@@ -63,7 +59,6 @@ impl Date {
     }
 
     /// Reads the timestamp that the bytes are, which are no date, by this fault.
-    #[inline]
     fn parse_timestamp(
         bytes: &[u8],
         fault: ParseError,
@@ -110,7 +105,6 @@ impl Date {
 
     /// The date of the day in which a second of the years 0000 to 9999 lies, and the second of that
     /// day.
-    #[inline]
     pub(crate) fn at_second(second: i64) -> (Self, u32)
         requires after { IsTrue (int_le first_second second) }
         requires before { IsTrue (int_le second last_second) }
@@ -132,7 +126,6 @@ impl Date {
 
     /// The date that a clock tells, at an offset in seconds: 2022-06-08 for a clock that tells second
     /// 1,654,646,399, and 3,600. The clock and the faults are those of [`DateTime::now`].
-    #[inline]
     pub fn today<F: FnOnce() -> Option<Moment>>(
         clock: F,
         tz_offset: i32,
@@ -151,14 +144,12 @@ impl FromStr for Date {
     ghost from_str_gives = { λ text result. result gives date_or_timestamp unit.Infer text };
 
     /// The answer of [`Date::parse_str`]: `"2020-02-29".parse()` gives 29 February 2020.
-    #[inline]
     fn from_str(text: &str) -> Result<Self, ParseError> {
         Self::parse_str(text)
     }
 }
 
 /// Whether an instant is taken for a date, by the second of its day and its microsecond.
-#[inline]
 fn is_taken(require_exact: bool, second: u32, microsecond: u32) -> bool
     ensures { result ≡ (require_exact implies ((second == 0) && (microsecond == 0))) }
 {
@@ -166,7 +157,6 @@ fn is_taken(require_exact: bool, second: u32, microsecond: u32) -> bool
 }
 
 /// Whether a text that is refused as a date by this fault may be a whole number.
-#[inline]
 pub(crate) fn may_be_number(fault: ParseError) -> bool
     ensures { result ≡ may_be_number fault }
 {

@@ -27,7 +27,6 @@ impl DateTime {
     ///
     /// Fails with `DateTooSmall` if that microsecond lies before the year 0000, with `DateTooLarge` if
     /// it lies after the year 9999.
-    #[inline]
     pub fn from_decimal_with_config(
         decimal: Decimal<'_>,
         config: &DateTimeConfig,
@@ -44,7 +43,6 @@ impl DateTime {
 
     /// The date-time of a decimal timestamp in a text, whose digits are counted if the configuration
     /// refuses those past the microsecond.
-    #[inline]
     pub(super) fn parse_decimal(
         decimal: Decimal<'_>,
         config: &DateTimeConfig,
@@ -64,7 +62,6 @@ impl DateTime {
     }
 
     /// The date-time of a decimal timestamp in a unit that is known, with the offset attached.
-    #[inline]
     fn at_decimal(
         decimal: Decimal<'_>,
         unit: UnixUnit,

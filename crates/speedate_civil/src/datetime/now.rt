@@ -27,7 +27,6 @@ impl Moment {
     /// The moment of seconds since 1970-01-01T00:00:00 in UTC, and the microseconds that are left: half
     /// a second after that midnight for 0 and 500,000. Fails with `TimeTooLarge` if the microseconds
     /// are over 999,999.
-    #[inline]
     pub fn new(second: u64, microsecond: u32) -> Result<Self, ParseError>
         ensures answer { result_map moment_instant result ≡ new_moment_answer second microsecond }
     {
@@ -53,7 +52,6 @@ impl DateTime {
     /// - `DateTooLarge` if the moment lies after the year 9999 in UTC;
     /// - `OutOfRangeTz` if the offset is 24 hours or more;
     /// - `DateTooLarge` if that clock shows a date after the year 9999.
-    #[inline]
     pub fn now_at(moment: Moment, tz_offset: i32) -> Result<Self, ParseError>
         ensures answer { result gives moment_answer tz_offset moment }
     {
@@ -76,7 +74,6 @@ impl DateTime {
     ///
     /// Fails with `SystemTimeError` if the clock has no moment to tell, and otherwise with the faults
     /// of [`DateTime::now_at`].
-    #[inline]
     pub fn now<F: FnOnce() -> Option<Moment>>(clock: F, tz_offset: i32) -> Result<Self, ParseError>
         requires { F.pre clock }
         ensures answer { (told : Option Moment) × F.post clock told × (result gives now_answer tz_offset told) }

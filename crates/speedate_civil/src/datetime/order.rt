@@ -20,7 +20,6 @@ impl DateTime {
     /// offset, or that all have none, can be sorted by it: the order is then transitive. Date-times
     /// with different offsets can be equal here, while `==` tells them apart: so this is a call, and
     /// no order trait.
-    #[inline]
     pub fn cmp_instant(&self, other: &DateTime) -> Ordering
         ensures order { result ≡ date_time_instant_order (date_and_time self.now) (date_and_time other.now) }
         ensures text_order { self.now.time.tz_offset ≡ None → other.now.time.tz_offset ≡ None
@@ -36,7 +35,6 @@ impl DateTime {
     }
 
     /// The instant of the date-time, in UTC or as a clock shows it; an absent offset is 0.
-    #[inline]
     fn instant(&self, is_utc: bool) -> UnixTime
         ensures { instant_of result ≡ date_time_instant is_utc (date_and_time self.now) }
     {

@@ -22,7 +22,6 @@ impl DateTime {
     /// [`DateTime::parse_bytes_rfc3339_with_config`] with this behavior, and a text that has a fault
     /// there has it here too. Of the others one is refused with `InvalidCharDateTimeSep` if neither `T`
     /// nor `t` parts date and time, and then with the faults of `Time::parse_bytes_strict`.
-    #[inline]
     pub fn parse_bytes_strict(
         bytes: &[u8],
         behavior: MicrosecondsPrecisionOverflowBehavior,
@@ -38,7 +37,6 @@ impl DateTime {
 }
 
 /// Refuses a text that is read as a date-time, but is none of RFC 3339.
-#[inline]
 #[tactic(auto, using(std::proofs::lemmas::List::take_rest))]
 fn require_standard_date_time(text: &[u8]) -> Result<(), ParseError>
     ensures answer { result ≡ meets (standard_date_time text.now) (Ok tt) }
@@ -50,7 +48,6 @@ fn require_standard_date_time(text: &[u8]) -> Result<(), ParseError>
 }
 
 /// Whether `T` or `t` follows the ten bytes of a date.
-#[inline]
 fn has_letter_t(text: &[u8]) -> bool
     ensures value { result ≡ ((slice_index text.now 10 == capital_t) || (slice_index text.now 10 == small_t)) }
     ensures there { IsTrue result → 11 ≤ length text.now }

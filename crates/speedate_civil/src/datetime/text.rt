@@ -26,7 +26,6 @@ impl DateTime {
     /// text it reads back if and only if what follows is no part of it;
     /// [`Time::to_text`](crate::time::Time::to_text) says what may follow. Seconds of an offset are not
     /// printed.
-    #[inline]
     pub fn to_text(&self) -> ArrayString<TEXT_MAX>
         ensures text { result.bytes ≡ date_time_text (date_and_time self.now) }
         ensures reads_back { IsWholeMinutes self.now.time.tz_offset → (config : TimeConfig)

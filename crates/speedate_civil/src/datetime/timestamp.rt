@@ -93,7 +93,6 @@ impl DateTime {
     }
 
     /// Reads the timestamp that the bytes are, which are no date-time, by this fault.
-    #[inline]
     fn parse_timestamp(
         bytes: &[u8],
         fault: ParseError,
@@ -120,7 +119,6 @@ impl DateTime {
     /// The date-time of a Unix timestamp, whose unit is inferred, and additional microseconds, without
     /// an offset: 1970-01-01T00:00:00.667444 for -1 and 1,667,444 microseconds. The faults are those of
     /// [`DateTime::from_timestamp_with_config`].
-    #[inline]
     pub fn from_timestamp(timestamp: i64, timestamp_microsecond: u32) -> Result<Self, ParseError>
         ensures answer { result gives date_time_timestamp_answer unit.Infer None timestamp_microsecond timestamp }
         ensures instant { IfOk result (λ value. local_microsecond (date_and_time value)
@@ -164,7 +162,6 @@ impl DateTime {
     }
 
     /// The date-time at an instant of the years 0000 to 9999, with the offset attached.
-    #[inline]
     pub(super) fn at_instant(time: UnixTime, offset: Option<i32>) -> Self
         requires within { IsInYears (instant_of time) }
         requires offset { ForSome offset IsOffset }
@@ -180,7 +177,6 @@ impl DateTime {
     /// 1970-01-02T00:00:00+01:00. It is a Unix timestamp if the offset is absent or 0; for others
     /// [`DateTime::timestamp_tz`] is. [`DateTime::from_timestamp_with_config`], in seconds and with the
     /// microsecond, leads back to a date-time without an offset.
-    #[inline]
     pub fn timestamp(&self) -> i64
         ensures second { result ≡ local_second (date_and_time self.now) }
         ensures small { unsigned_abs result < 300000000000 }
@@ -192,7 +188,6 @@ impl DateTime {
 
     /// The millisecond since 1970-01-01T00:00:00 that a clock at the offset shows, rounded down:
     /// 86,400,123 for 1970-01-02T00:00:00.123+01:00.
-    #[inline]
     pub fn timestamp_ms(&self) -> i64
         ensures millisecond { result ≡ local_millisecond (date_and_time self.now) }
     {
@@ -201,7 +196,6 @@ impl DateTime {
 
     /// The Unix timestamp, in seconds since 1970-01-01T00:00:00 in UTC: 82,800 for
     /// 1970-01-02T00:00:00+01:00. A date-time without an offset is taken to be in UTC.
-    #[inline]
     pub fn timestamp_tz(&self) -> i64
         ensures second { result ≡ utc_second (date_and_time self.now) }
         ensures small { unsigned_abs result < 400000000000 }
@@ -211,7 +205,6 @@ impl DateTime {
 
     /// The Unix timestamp, in milliseconds, rounded down: 82,800,123 for 1970-01-02T00:00:00.123+01:00.
     /// A date-time without an offset is taken to be in UTC.
-    #[inline]
     pub fn timestamp_tz_ms(&self) -> i64
         ensures millisecond { result ≡ utc_millisecond (date_and_time self.now) }
     {
@@ -225,7 +218,6 @@ impl FromStr for DateTime {
     ghost from_str_gives = { λ text result. result gives date_time_or_timestamp unit.Infer behavior.Error None text };
 
     /// The answer of [`DateTime::parse_str`]: `"1654560000".parse()` gives midnight on 7 June 2022.
-    #[inline]
     fn from_str(text: &str) -> Result<Self, ParseError> {
         Self::parse_str(text)
     }
@@ -235,7 +227,6 @@ impl FromStr for DateTime {
 /// for second 1 and the offset 3,600. Fails with `DateTooSmall` before the year 0000, with
 /// `DateTooLarge` after the year 9999. The offset is less than 24 hours, which is a condition on the
 /// caller.
-#[inline]
 pub fn instant_date_time(time: UnixTime, offset: Option<i32>) -> Result<DateTime, ParseError>
     requires { ForSome offset IsOffset }
     ensures answer { result gives instant_date_time offset (instant_of time) }

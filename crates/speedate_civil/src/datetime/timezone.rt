@@ -13,7 +13,6 @@ impl DateTime {
     /// The same date and clock with another offset, in seconds, or with none: 2020-01-01T12:00:00-01:00
     /// for 2020-01-01T12:00:00Z and `Some(-3600)`. Fails with `OutOfRangeTz` if the offset is 24 hours
     /// or more.
-    #[inline]
     pub fn with_timezone_offset(&self, tz_offset: Option<i32>) -> Result<Self, ParseError>
         ensures answer { result gives date_time_with_offset tz_offset (date_and_time self.now) }
     {
@@ -30,7 +29,6 @@ impl DateTime {
     /// - `TzRequired` if the date-time has no offset;
     /// - `DateTooSmall` if that clock shows a date before the year 0000;
     /// - `DateTooLarge` if it shows one after the year 9999.
-    #[inline]
     pub fn in_timezone(&self, tz_offset: i32) -> Result<Self, ParseError>
         ensures answer { result gives date_time_in_timezone tz_offset (date_and_time self.now) }
         ensures offset { IfOk result (λ value. value.time.tz_offset ≡ Some tz_offset) }
@@ -46,8 +44,7 @@ impl DateTime {
     }
 }
 
-/// A second of the years 0000 to 9999, and so many seconds later: 90,000 for 86,400 and 3,600.
-#[inline]
+/// A second of the years 0000 to 9999, moved by seconds: 90,000 for 86,400 and 3,600.
 pub(super) fn shifted(second: i64, shift: i32) -> i64
     requires { unsigned_abs second < 300000000000 }
     ensures { result ≡ second +ℤ shift }

@@ -150,7 +150,6 @@ fn hour_then_minute(front: u8x8) -> Result<(u8, u8, usize), ParseError>
 }
 
 /// An offset of this size, with its sign.
-#[inline]
 fn with_sign(west: bool, size: u32) -> i32
     requires { size < seconds_per_day }
     ensures value { result ≡ with_sign west size }

@@ -20,7 +20,6 @@ impl Time {
     /// Times without offsets compare as their texts do, as bytes. Times that all have an offset, or
     /// that all have none, can be sorted by it: the order is then transitive. Times with different
     /// offsets can be equal here, while `==` tells them apart: so this is a call, and no order trait.
-    #[inline]
     pub fn cmp_instant(&self, other: &Time) -> Ordering
         ensures order { result ≡ time_instant_order (time_of_day self.now) (time_of_day other.now) }
         ensures text_order { self.now.tz_offset ≡ None → other.now.tz_offset ≡ None
@@ -35,7 +34,6 @@ impl Time {
     }
 
     /// The instant of the time on 1970-01-01, in UTC or as a clock shows it; an absent offset is 0.
-    #[inline]
     fn instant(&self, is_utc: bool) -> UnixTime
         ensures { instant_of result ≡ time_instant is_utc (time_of_day self.now) }
     {

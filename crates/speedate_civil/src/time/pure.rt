@@ -207,7 +207,6 @@ impl PureTime {
     }
 
     /// Whether a decimal mark, `.` or `,`, follows the second of a time that is given from its minute on.
-    #[inline]
     fn has_decimal_mark(rest: &[u8]) -> bool
         ensures value { result ≡ has_decimal_mark rest.now }
         ensures there { IsTrue result → 6 ≤ length rest.now }

@@ -26,7 +26,6 @@ impl Time {
     /// - with `TzRequired`, if there is no offset;
     /// - with `InvalidCharTzSign`, if the sign of the offset is U+2212;
     /// - with `InvalidCharTzMinute`, if no `:` follows the hour of the offset.
-    #[inline]
     pub fn parse_bytes_strict(
         bytes: &[u8],
         behavior: MicrosecondsPrecisionOverflowBehavior,
@@ -57,7 +56,6 @@ pub(crate) fn require_standard(text: &[u8]) -> Result<(), ParseError>
 }
 
 /// Refuses an offset that is read at `place`, but is none of RFC 3339.
-#[inline]
 fn require_standard_offset(text: &[u8], place: usize) -> Result<(), ParseError>
     ensures answer { result ≡ meets (standard_offset (drop place text.now)) (Ok tt) }
 {

@@ -26,7 +26,6 @@ impl Time {
     /// it reads back if and only if what follows is no part of it: after an offset anything may follow;
     /// without one neither `Z`, `z` nor a sign, nor a decimal mark after the second, nor a digit after
     /// the fraction. Seconds of an offset are not printed.
-    #[inline]
     pub fn to_text(&self) -> ArrayString<TEXT_MAX>
         ensures text { result.bytes ≡ time_text (time_of_day self.now) }
         ensures reads_back { IsWholeMinutes self.now.tz_offset → (config : TimeConfig)

@@ -16,7 +16,6 @@ use speedate_base::util::SECONDS_PER_DAY;
 impl Time {
     /// The same clock with another offset, in seconds, or with none: 12:00:00-01:00 for 12:00:00Z and
     /// `Some(-3600)`. Fails with `OutOfRangeTz` if the offset is 24 hours or more.
-    #[inline]
     pub fn with_timezone_offset(&self, tz_offset: Option<i32>) -> Result<Self, ParseError>
         ensures answer { result gives time_with_offset tz_offset (time_of_day self.now) }
     {
@@ -40,7 +39,6 @@ impl Time {
     /// - `OutOfRangeTz` if the offset is 24 hours or more;
     /// - `TzRequired` if the time has no offset;
     /// - `TimeTooLarge` if that clock shows the day before or the day after.
-    #[inline]
     pub fn in_timezone(&self, tz_offset: i32) -> Result<Self, ParseError>
         ensures answer { result gives time_in_timezone tz_offset (time_of_day self.now) }
         ensures offset { IfOk result (λ time. time.tz_offset ≡ Some tz_offset) }
@@ -59,7 +57,6 @@ impl Time {
 /// The seconds by which a clock moves from the offset at which it shows a time to another one: 3,600
 /// from `Some(0)` to 3,600. Fails with `OutOfRangeTz` if the other one is 24 hours or more, then with
 /// `TzRequired` if there is no first one.
-#[inline]
 pub(crate) fn clock_shift(old: Option<i32>, offset: i32) -> Result<i32, ParseError>
     requires { ForSome old IsOffset }
     ensures answer { result ≡ meets (move_table offset old) (Ok (offset -ℤ unwrap_or old (pos 0))) }
@@ -75,7 +72,6 @@ pub(crate) fn clock_shift(old: Option<i32>, offset: i32) -> Result<i32, ParseErr
 }
 
 /// How much larger one offset is than another.
-#[inline]
 fn difference(offset: i32, old: i32) -> i32
     requires offset { IsOffset offset }
     requires old { IsOffset old }
@@ -86,7 +82,6 @@ fn difference(offset: i32, old: i32) -> i32
 }
 
 /// Whether a second counted from midnight lies on that day.
-#[inline]
 fn is_second_of_day(second: i32) -> bool
     ensures { result ≡ (int_le (pos 0) second && int_lt second (pos seconds_per_day)) }
 {

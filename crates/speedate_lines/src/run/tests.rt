@@ -117,7 +117,7 @@ fn parts<R: AllocGlobal + Abort>(rt: &R, row: &str) -> Result<(Vec<u8>, Vec<u8>)
     Ok((bytes(rt, input)?, bytes(rt, answers.trim_start())?))
 }
 
-/// An input is to have these answers, over ends that give and take so many bytes a call and do not fail.
+/// An input is to have these answers, over ends that give and take a number of bytes a call and do not fail.
 fn expect<R: AllocGlobal + Abort>(
     rt: &R,
     input: &[u8],
@@ -131,7 +131,7 @@ fn expect<R: AllocGlobal + Abort>(
     same(rt, ended.sink.taken.as_slice(), want, &(row, steps));
 }
 
-/// The rows of a table are to have their answers, over readers that give so many bytes a call.
+/// The rows of a table are to have their answers, over readers that give a number of bytes a call.
 fn expect_rows<R: AllocGlobal + Abort>(
     rt: &R,
     rows: &str,

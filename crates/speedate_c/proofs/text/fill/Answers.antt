@@ -1,5 +1,4 @@
-use Rattle.std.specs.Prelude.{length, drop, ◌++◌, slice_set}
-use Rattle.std.proofs.Common.{ap, ◌∙◌}
+use Rattle.std.proofs.Common.{length, drop, ◌++◌, slice_set, ap, ◌∙◌}
 use Rattle.speedate_c.proofs.TextLemmas.{terminated}
 use Rattle.speedate_c.proofs.text.fill.Goals as goal
 

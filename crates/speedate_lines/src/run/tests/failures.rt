@@ -34,7 +34,7 @@ fn a_read_that_fails_leaves_the_unfinished_line(rt: HostRuntime) -> Result<(), A
     Ok(())
 }
 
-/// The answers to the lines of [`INPUT`] that are complete once so many of its bytes are read.
+/// The answers to the lines of [`INPUT`] that are complete once that many of its bytes are read.
 fn due(read: usize) -> &'static [u8] {
     match read {
         0..16 => b"",

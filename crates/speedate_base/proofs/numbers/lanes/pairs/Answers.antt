@@ -1,5 +1,4 @@
-use Rattle.std.proofs.Common.{◌≡◌, ◌∙◌, ap, sym, refl, ℕ, zero, suc, ◌+◌, ◌-◌, ◌*◌, ◌/◌, ◌%◌, ◌^◌, ◌<◌, ◌≤◌, get_or, List, [], ◌∷◌, length, arith, rules, Fits, w8, w64}
-use Rattle.std.specs.Prelude.{bit_and}
+use Rattle.std.proofs.Common.{◌≡◌, ◌∙◌, ap, sym, refl, ℕ, zero, suc, ◌+◌, ◌-◌, ◌*◌, ◌/◌, ◌%◌, ◌^◌, ◌<◌, ◌≤◌, get_or, List, [], ◌∷◌, length, arith, rules, Fits, w8, w64, bit_and}
 use Rattle.std.specs.Int.{from_le_bytes, to_le_bytes}
 use Rattle.std.proofs.lemmas.Bool.Decides.{nat_tests}
 use Rattle.std.proofs.lemmas.Nat.{and_mask, mod-pow-add, pow-add, pow_pos}
@@ -50,7 +49,7 @@ small-at [] small i = omega arith
 small-at (number ∷ numbers) small zero = small.0
 small-at (number ∷ numbers) small (suc i) = small-at numbers small.1 i
 
--- the largest number, moved down, is the mask of so many bytes
+-- the largest number, moved down, is the mask of the first bytes
 mask-is : (count : ℕ) → 1 ≤ count → count ≤ 8 → 18446744073709551615 / 2 ^ (64 - 8 * count) ≡ 2 ^ (8 * count) - 1
 mask-is count some few =
     let low = 2 ^ (64 - 8 * count) in

@@ -1,5 +1,4 @@
-use Rattle.std.proofs.Common.{List, ◌≡◌, ◌∙◌, sym, ap, ap₂, arith, pow-add, ℕ, ◌+◌, ◌-◌, ◌*◌, ◌/◌, ◌^◌, ◌≤◌, length}
-use Rattle.std.specs.Prelude.{unsigned_abs, pos, false}
+use Rattle.std.proofs.Common.{List, ◌≡◌, ◌∙◌, sym, ap, ap₂, arith, pow-add, ℕ, ◌+◌, ◌-◌, ◌*◌, ◌/◌, ◌^◌, ◌≤◌, length, unsigned_abs, pos, false}
 use Rattle.std.proofs.Math.Nat.{mul-div-mul_right}
 use Rattle.speedate_base.specs.Digits.{digits_value, fraction_value}
 use Rattle.speedate_base.proofs.DigitRunLemmas.{fraction_value-filled}

@@ -1,5 +1,4 @@
-use Rattle.std.proofs.Common.{◌≡◌, ◌∙◌, sym, ap, ap₂, lit<, arith, ℕ, ◌+◌, ◌-◌, ◌*◌, ◌/◌, ◌^◌, length}
-use Rattle.std.specs.Prelude.{unsigned_abs, false}
+use Rattle.std.proofs.Common.{◌≡◌, ◌∙◌, sym, ap, ap₂, lit<, arith, ℕ, ◌+◌, ◌-◌, ◌*◌, ◌/◌, ◌^◌, length, unsigned_abs, false}
 use Rattle.std.proofs.Math.Nat.{div-div-eq-div-mul, mul-div-mul_right}
 use Rattle.speedate_base.specs.Digits.{digits_value}
 use Rattle.speedate_base.proofs.NearestLemmas.{nearest-halved, scale-some}

@@ -1,8 +1,7 @@
-use Rattle.std.proofs.Common.{◌≡◌, ◌∙◌, arith, ap, ℕ, ◌+◌, ◌*◌, ◌<◌, Bool, true, false, not, pos, neg_ℤ, refl, nat_cmp, int_cmp}
+use Rattle.std.proofs.Common.{rules, ◌≡◌, ◌∙◌, arith, ℕ, Bool, true, false, pos, neg_ℤ, refl, nat_cmp, int_cmp}
 use Rattle.std.specs.Ordering.{bool_cmp, ordering_then}
 use Rattle.std.proofs.lemmas.Bool.Decides.{nat_tests}
 use Rattle.std.proofs.lemmas.Int.{ints}
-use Rattle.speedate_base.specs.Numbers.{with_sign}
 use Rattle.speedate.specs.Duration.{duration_numbers, signed_length}
 use Rattle.speedate.specs.DurationNumbers.{DurationNumbers, IsDuration, duration_order, length_microseconds}
 use Rattle.speedate.proofs.DurationLemmas.{is_duration}
@@ -23,11 +22,23 @@ order-length : (p q : Bool) (first second : DurationNumbers) → first.positive 
     → duration_order first second ≡ ordering_then (int_cmp (signed_length first) (signed_length second)) (bool_cmp first.positive second.positive)
 order-length true true first second is_first is_second one two = rw (is_first, is_second) (grind (arith, nat_tests, size-order first second one two))
 order-length false false first second is_first is_second one two =
-    rw (is_first, is_second, turned first.day second.day, turned first.second second.second, turned first.microsecond second.microsecond,
-    turned (length_microseconds first) (length_microseconds second)) (grind (arith, nat_tests, size-order second first two one))
+    rw (
+      is_first,
+      is_second,
+      turned first.day second.day,
+      turned first.second second.second,
+      turned first.microsecond second.microsecond,
+      turned (length_microseconds first) (length_microseconds second),
+    ) (grind (arith, nat_tests, size-order second first two one))
 order-length true false first second is_first is_second one two = rw (is_first, is_second) (grind (arith, ints, nat_tests))
 order-length false true first second is_first is_second one two = rw (is_first, is_second) (grind (arith, ints, nat_tests))
 
+pub returns-clause-order : goal.returns-clause-order
+returns-clause-order c = search rules
+
 pub returns-clause-length : goal.returns-clause-length
 returns-clause-length c =
-    ?
+    let first = duration_numbers c.args.self.now in
+    let second = duration_numbers c.args.other.now in
+    returns-clause-order c
+    ∙ order-length first.positive second.positive first second refl refl (is_duration c.args.self.now) (is_duration c.args.other.now)

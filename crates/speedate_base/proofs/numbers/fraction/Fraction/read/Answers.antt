@@ -6,7 +6,7 @@ use Rattle.speedate_base.proofs.DigitRunLemmas.{fraction_value-take}
 use Rattle.speedate_base.proofs.PatternLemmas.{eight_at-drop}
 use Rattle.speedate_base.proofs.numbers.fraction.Fraction.read.Goals as goal
 
--- the first bytes of a text, so many of them, and 0 where it has none
+-- the first `count` bytes of a text, and 0 where it has none
 abbrev first : ℕ → List ℕ → List ℕ
 first zero text = []
 first (suc count) [] = 0 ∷ first count []
