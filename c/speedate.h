@@ -12,7 +12,7 @@
  *   to *length. A buffer of the size named beside the type always has room; no call tells how much a text needs.
  *   The bytes after the zero byte stay as they are. Where the size is 0 the buffer may be NULL.
  * - Values and configurations go in by value. So `out` may be the variable that was just passed:
- *   speedate_date_add_days(date, 1, &date). Header and library have the same version: see speedate_version.
+ *   speedate_date_add_days(date, 1, &date).
  * - `out`, `taken` and `length` are addresses of variables of their types: not NULL, and not part of a text, of a
  *   buffer or of another of these.
  * - No memory is taken and nothing is kept between calls. Every call may run on every thread at any time.
@@ -29,12 +29,16 @@
 extern "C" {
 #endif
 
-/* The version of this interface. Within it no name, no struct, no number of a code and no text that is accepted changes
- * or goes. Calls and codes may be added, so a program runs with a library at least as new as its header. */
+/* The version of this interface. Within a version no name, struct, number of a code or accepted text changes or goes
+ * away; a later minor version may add calls and codes. So a program runs with a library of the same version as its
+ * header, and of the same minor version or a later one. */
 #define SPEEDATE_VERSION 1
+#define SPEEDATE_VERSION_MINOR 0
 
-/* The version of the library that is called, which is SPEEDATE_VERSION of its header. */
+/* The version and the minor version of the library that is called. They return these numbers, and no code. A library
+ * with another version than this header's, or with a lower minor version, does not fit the header. */
 int speedate_version(void);
+int speedate_version_minor(void);
 
 /* ---- Codes ---- */
 

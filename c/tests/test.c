@@ -280,6 +280,13 @@ static int is_call(const char *name) {
         PRINTS(speedate_##NAME(it, buffer, size, length))                                                              \
     }
 
+/* A call that returns a number of the header. */
+#define VERSION(NAME, NUMBER)                                                                                          \
+    if (is_call(#NAME)) {                                                                                              \
+        strcpy(answer, speedate_##NAME() == NUMBER ? "ok" : "another one");                                            \
+        return 1;                                                                                                      \
+    }
+
 /* Calls of a text: the text is the row's last argument. */
 static int run_text(const char *text, size_t size) {
     field = 1;
@@ -302,10 +309,8 @@ static int run_text(const char *text, size_t size) {
 /* Calls of values. */
 static int run_value(void) {
     field = 1;
-    if (is_call("version")) {
-        snprintf(answer, sizeof answer, speedate_version() == SPEEDATE_VERSION ? "ok" : "another one");
-        return 1;
-    }
+    VERSION(version, SPEEDATE_VERSION)
+    VERSION(version_minor, SPEEDATE_VERSION_MINOR)
     PRINT(code_name, int, (int)number)
     PRINT(code_documentation, int, (int)number)
     CHECK(date_check, SpeedateDate, date)
