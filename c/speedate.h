@@ -153,6 +153,29 @@ enum SpeedateCode {
 /* Calls return int. Cast to this in a switch for -Wswitch. */
 typedef enum SpeedateCode SpeedateCode;
 
+/* The name of a code as a constant string: "too_short" for 1, "ok" for 0, and "unknown code", never NULL, for a number
+ * that is not a code of this header. */
+static inline const char *speedate_code_string(int code) {
+    static const char *const faults[] = {
+        "ok", "too_short", "extra_characters", "invalid_char_date_time_sep", "invalid_char_date_sep", "date_not_exact",
+        "invalid_char_year", "invalid_char_month", "invalid_char_day", "invalid_char_time_sep", "invalid_char_hour",
+        "invalid_char_minute", "invalid_char_second", "invalid_char_second_fraction", "invalid_char_tz_sign",
+        "invalid_char_tz_hour", "invalid_char_tz_minute", "out_of_range_tz_minute", "out_of_range_tz", "tz_required",
+        "system_time_error", "out_of_range_month", "out_of_range_day", "out_of_range_hour", "out_of_range_minute",
+        "out_of_range_second", "second_fraction_too_long", "second_fraction_missing", "millisecond_fraction_too_long",
+        "duration_invalid_number", "duration_t_repeated", "duration_invalid_fraction", "duration_invalid_time_unit",
+        "duration_invalid_date_unit", "duration_invalid_days", "duration_value_too_large",
+        "duration_hour_value_too_large", "duration_days_too_large", "date_too_small", "date_too_large",
+        "time_too_large", "duration_unit_order", "microsecond_fraction_too_long"};
+    static const char *const mistakes[] = {"value_out_of_range", "config_out_of_range", "buffer_too_small",
+                                           "no_such_date"};
+    if (code >= SPEEDATE_OK && code <= SPEEDATE_MICROSECOND_FRACTION_TOO_LONG)
+        return faults[code];
+    if (code >= SPEEDATE_VALUE_OUT_OF_RANGE && code <= SPEEDATE_NO_SUCH_DATE)
+        return mistakes[code - SPEEDATE_VALUE_OUT_OF_RANGE];
+    return "unknown code";
+}
+
 /* Room for the name or the documentation text of a code, with its zero byte. */
 #define SPEEDATE_CODE_TEXT_SIZE 64
 

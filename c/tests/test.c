@@ -11,6 +11,7 @@
 #define _DEFAULT_SOURCE
 #include "speedate.h"
 
+#include <limits.h>
 #include <stdio.h>
 #include <stdlib.h>
 #include <string.h>
@@ -111,11 +112,7 @@ static void say(const char *form, long long it) {
 }
 
 static void say_code(int code) {
-    char name[SPEEDATE_CODE_TEXT_SIZE] = "ok";
-    size_t length;
-    if (code != SPEEDATE_OK && speedate_code_name(code, name, sizeof name, &length) != SPEEDATE_OK)
-        strcpy(name, "no code");
-    snprintf(answer, sizeof answer, "%s", name);
+    snprintf(answer, sizeof answer, "%s", speedate_code_string(code));
 }
 
 static int is_untouched(const void *out, size_t size) {
@@ -397,30 +394,27 @@ static int cut(char *row) {
     return count;
 }
 
-/* Each code has a name and a documentation text, for which there is room, and no other number has either. */
-static void try_codes(void) {
-    for (int code = -2; code < 200; code++) {
-        char text[SPEEDATE_CODE_TEXT_SIZE];
-        size_t length = 0;
-        int is_one = (code >= SPEEDATE_TOO_SHORT && code <= SPEEDATE_MICROSECOND_FRACTION_TOO_LONG) ||
-                     (code >= SPEEDATE_VALUE_OUT_OF_RANGE && code <= SPEEDATE_NO_SUCH_DATE);
-        int wanted = is_one ? SPEEDATE_OK : SPEEDATE_VALUE_OUT_OF_RANGE;
-        if (speedate_code_name(code, text, sizeof text, &length) != wanted ||
-            speedate_code_documentation(code, text, sizeof text, &length) != wanted) {
-            fprintf(stderr, "the code %d is named by mistake, or not at all\n", code);
-            failures++;
-        }
+/* A code has a name, which is its string too, and a documentation text, for which there is room. Another number has
+ * neither, and a string of its own. */
+static void try_code(int code) {
+    char name[SPEEDATE_CODE_TEXT_SIZE], text[SPEEDATE_CODE_TEXT_SIZE];
+    size_t length = 0;
+    int is_one = (code >= SPEEDATE_TOO_SHORT && code <= SPEEDATE_MICROSECOND_FRACTION_TOO_LONG) ||
+                 (code >= SPEEDATE_VALUE_OUT_OF_RANGE && code <= SPEEDATE_NO_SUCH_DATE);
+    int wanted = is_one ? SPEEDATE_OK : SPEEDATE_VALUE_OUT_OF_RANGE;
+    const char *string = speedate_code_string(code);
+    strcpy(name, code == SPEEDATE_OK ? "ok" : "unknown code");
+    if (speedate_code_name(code, name, sizeof name, &length) != wanted || !string || strcmp(string, name) != 0 ||
+        speedate_code_documentation(code, text, sizeof text, &length) != wanted) {
+        fprintf(stderr, "the code %d is named by mistake, or not at all\n", code);
+        failures++;
     }
 }
 
 /* Whether a field is the name of a code, with which the answer begins. */
 static int is_code(const char *it) {
-    char name[SPEEDATE_CODE_TEXT_SIZE];
-    size_t length;
-    if (strcmp(it, "ok") == 0)
-        return 1;
-    for (int code = 1; code <= SPEEDATE_NO_SUCH_DATE; code++)
-        if (speedate_code_name(code, name, sizeof name, &length) == SPEEDATE_OK && strcmp(it, name) == 0)
+    for (int code = 0; code <= SPEEDATE_NO_SUCH_DATE; code++)
+        if (strcmp(it, speedate_code_string(code)) == 0)
             return 1;
     return 0;
 }
@@ -465,7 +459,10 @@ int main(void) {
         return 1;
     }
     first_page = pages + page;
-    try_codes();
+    for (int code = -2; code < 200; code++)
+        try_code(code);
+    try_code(INT_MIN);
+    try_code(INT_MAX);
     while (fgets(row, sizeof row, stdin)) {
         row[strcspn(row, "\n")] = 0;
         if (row[0] == 0 || row[0] == '#')
