@@ -1,5 +1,5 @@
-/* Reads the lines of a log, each of which begins with a date-time, and prints them with that date-time in UTC. What the
- * log spans goes to the end. Lines without a date-time are told on standard error.
+/* Reads the lines of a log, each of which begins with a date-time, and prints them with that date-time in UTC. Its last
+ * line says how long the log lasts. Lines without a date-time are reported on standard error.
  *
  *     cc example.c $(pkg-config --cflags --libs speedate) -o example && ./example < LOG
  */
@@ -9,12 +9,11 @@
 #include <stdio.h>
 #include <stdlib.h>
 
-static void tell(int number, int code) {
-    char name[SPEEDATE_CODE_TEXT_SIZE], why[SPEEDATE_CODE_TEXT_SIZE];
+static void report(int number, int code) {
+    char why[SPEEDATE_CODE_TEXT_SIZE];
     size_t length;
-    if (speedate_code_name(code, name, sizeof name, &length) == SPEEDATE_OK &&
-        speedate_code_documentation(code, why, sizeof why, &length) == SPEEDATE_OK)
-        fprintf(stderr, "line %d: %s: %s\n", number, name, why);
+    if (speedate_code_documentation(code, why, sizeof why, &length) == SPEEDATE_OK)
+        fprintf(stderr, "line %d: %s: %s\n", number, speedate_code_string(code), why);
 }
 
 int main(void) {
@@ -32,7 +31,7 @@ int main(void) {
         if (code == SPEEDATE_OK)
             code = speedate_datetime_to_text(moment, text, sizeof text, &length);
         if (code != SPEEDATE_OK) {
-            tell(number, code);
+            report(number, code);
             continue;
         }
         fputs(text, stdout);

@@ -1,23 +1,23 @@
 /* SPDX-License-Identifier: MIT */
 /* speedate.h: exact dates, times of day, date-times and durations, read from texts and printed.
  *
- * What every call keeps to:
+ * What holds for every call:
  *
- * - It returns 0 (SPEEDATE_OK) where it did what it is for, otherwise the SpeedateCode that says why it refuses.
- *   Where it refuses it writes nothing.
- * - Where more is wrong than one thing, SPEEDATE_CONFIG_OUT_OF_RANGE comes first, then SPEEDATE_VALUE_OUT_OF_RANGE.
- * - A text goes in as an address and a size in bytes. It needs no zero byte at its end, and it may hold any bytes.
- *   Where the size is 0 the address may be NULL.
- * - A text comes out in a buffer of the caller's, with a zero byte after it, and its length without that byte goes
- *   to *length. A buffer of the size named beside the type always has room; no call tells how much a text needs.
- *   The bytes after the zero byte stay as they are. Where the size is 0 the buffer may be NULL.
- * - Values and configurations go in by value. So `out` may be the variable that was just passed:
- *   speedate_date_add_days(date, 1, &date). Header and library have the same version: see speedate_version.
- * - `out`, `taken` and `length` are addresses of variables of their types: not NULL, and not part of a text, of a
- *   buffer or of another of these.
- * - No memory is taken and nothing is kept between calls. Every call may run on every thread at any time.
+ * - It returns a code: 0 (SPEEDATE_OK) on success, otherwise the SpeedateCode that says why it fails. A call that fails
+ *   writes nothing. Only speedate_version, speedate_version_minor and speedate_code_string return something else.
+ * - If several things are wrong, SPEEDATE_CONFIG_OUT_OF_RANGE comes first, then SPEEDATE_VALUE_OUT_OF_RANGE.
+ * - A text is passed as an address and a size in bytes. It may hold any bytes, and needs no zero byte at its end. If
+ *   the size is 0, the address may be NULL.
+ * - A text is printed into a buffer of yours, with a zero byte after it, and its length without that byte is written to
+ *   *length. A buffer of the size that is named beside the type is always large enough; no call tells the size that a
+ *   text needs. Bytes after the zero byte keep their values. If the size is 0, the buffer may be NULL.
+ * - Values and configurations are passed by value. So `out` may point to the variable that is passed:
+ *   speedate_date_add_days(date, 1, &date).
+ * - `out`, `taken` and `length` point to variables of their types. They are not NULL, and do not overlap a text, a
+ *   buffer or one another.
+ * - No call allocates memory or keeps anything for the next one. Any thread may make any call at any time.
  *
- * The texts and their faults are the subject of docs/GRAMMAR.md, and docs/C.md shows how to build and call this.
+ * docs/GRAMMAR.md lists the texts and their faults; docs/C.md shows how to build the library and to call it.
  */
 #ifndef SPEEDATE_H
 #define SPEEDATE_H
@@ -29,31 +29,35 @@
 extern "C" {
 #endif
 
-/* The version of this interface. Within it no name, no struct, no number of a code and no text that is accepted changes
- * or goes. Calls and codes may be added, so a program runs with a library at least as new as its header. */
+/* The version of this interface. Within a version no name, struct, number of a code or accepted text changes or goes
+ * away; a later minor version may add calls and codes. So a program runs with any library that has the version of its
+ * header, and the same minor version or a later one. */
 #define SPEEDATE_VERSION 1
+#define SPEEDATE_VERSION_MINOR 0
 
-/* The version of the library that is called, which is SPEEDATE_VERSION of its header. */
+/* The version and the minor version of the library that is called. They return these numbers, and no code. A library
+ * with another version than this header's, or with a lower minor version, does not fit the header. */
 int speedate_version(void);
+int speedate_version_minor(void);
 
 /* ---- Codes ---- */
 
-/* What a call returns. A number never changes its meaning; later versions may add numbers. */
+/* What a call returns. A number never changes its meaning; later minor versions may add numbers. */
 enum SpeedateCode {
-    /* What was asked for is written. */
+    /* Success. */
     SPEEDATE_OK = 0,
 
-    /* 1 to 99: faults of a text or of a number. "Strict" are the calls whose names end in _strict. */
+    /* 1 to 99: faults of a text or of a number. A strict call is one whose name ends in _strict. */
 
-    /* The text ends before what it must hold. */
+    /* The text ends too early. */
     SPEEDATE_TOO_SHORT = 1,
-    /* Bytes are left over after a whole value. */
+    /* Something follows a complete value. */
     SPEEDATE_EXTRA_CHARACTERS = 2,
-    /* Between date and time stands none of `T`, `t`, `_` and space, or, strict, neither `T` nor `t`. */
+    /* The date is not followed by `T`, `t`, `_` or a space, or, in a strict call, by `T` or `t`. */
     SPEEDATE_INVALID_CHAR_DATE_TIME_SEP = 3,
-    /* A `-` is missing between year, month and day. */
+    /* Year, month and day are not separated by `-`. */
     SPEEDATE_INVALID_CHAR_DATE_SEP = 4,
-    /* A timestamp that was to be a date is no midnight, or a duration that was to move one is not whole days. */
+    /* A timestamp that is read as a date is not a midnight, or a duration that moves a date is not whole days. */
     SPEEDATE_DATE_NOT_EXACT = 5,
     /* The year is not four digits. */
     SPEEDATE_INVALID_CHAR_YEAR = 6,
@@ -61,29 +65,30 @@ enum SpeedateCode {
     SPEEDATE_INVALID_CHAR_MONTH = 7,
     /* The day is not two digits. */
     SPEEDATE_INVALID_CHAR_DAY = 8,
-    /* A `:` is missing between hour and minute, or, strict, before the second. */
+    /* Hour and minute are not separated by `:`, or, in a strict call, the second is missing. */
     SPEEDATE_INVALID_CHAR_TIME_SEP = 9,
-    /* The hour is not two digits, or a clock of a duration has no `:`, or more than digits before it. */
+    /* The hour is not two digits, or, in the clock of a duration, no `:` follows the hours or they are not digits. */
     SPEEDATE_INVALID_CHAR_HOUR = 10,
     /* The minute is not two digits. */
     SPEEDATE_INVALID_CHAR_MINUTE = 11,
     /* The second is not two digits. */
     SPEEDATE_INVALID_CHAR_SECOND = 12,
-    /* No call here returns it. */
+    /* No call of this header returns it. */
     SPEEDATE_INVALID_CHAR_SECOND_FRACTION = 13,
-    /* What follows a time is no beginning of an offset; or, strict, a comma follows the second, or U+2212 the clock. */
+    /* What follows a time does not begin an offset, or, in a strict call, the decimal mark is a comma or the sign of
+     * the offset is U+2212. */
     SPEEDATE_INVALID_CHAR_TZ_SIGN = 14,
     /* The hour of an offset is not two digits. */
     SPEEDATE_INVALID_CHAR_TZ_HOUR = 15,
-    /* The minute of an offset is not two digits, or, strict, its `:` is missing. */
+    /* The minute of an offset is not two digits, or, in a strict call, no `:` comes before it. */
     SPEEDATE_INVALID_CHAR_TZ_MINUTE = 16,
     /* The minute of an offset is over 59. */
     SPEEDATE_OUT_OF_RANGE_TZ_MINUTE = 17,
-    /* An offset is of 24 hours or more. */
+    /* An offset is 24 hours or more. */
     SPEEDATE_OUT_OF_RANGE_TZ = 18,
-    /* A value without offset cannot be moved to another one; or a strict text has none. */
+    /* A value without an offset cannot be moved to another offset, or, in a strict call, the text has no offset. */
     SPEEDATE_TZ_REQUIRED = 19,
-    /* No call here returns it: a clock stands before 1970. */
+    /* No call of this header returns it. In the library it means that a clock shows a time before 1970. */
     SPEEDATE_SYSTEM_TIME_ERROR = 20,
     /* The month is not 1 to 12. */
     SPEEDATE_OUT_OF_RANGE_MONTH = 21,
@@ -95,17 +100,17 @@ enum SpeedateCode {
     SPEEDATE_OUT_OF_RANGE_MINUTE = 24,
     /* The second is over 59. */
     SPEEDATE_OUT_OF_RANGE_SECOND = 25,
-    /* A fraction of a second has more than six digits, and the configuration refuses them. */
+    /* A fraction of a second has more than six digits, which the configuration refuses. */
     SPEEDATE_SECOND_FRACTION_TOO_LONG = 26,
     /* No digit follows the decimal mark after a second. */
     SPEEDATE_SECOND_FRACTION_MISSING = 27,
-    /* A fraction of a millisecond has more than three digits, and the configuration refuses them. */
+    /* A fraction of a millisecond has more than three digits, which the configuration refuses. */
     SPEEDATE_MILLISECOND_FRACTION_TOO_LONG = 28,
     /* A number of a duration does not begin with a digit. */
     SPEEDATE_DURATION_INVALID_NUMBER = 29,
     /* A duration has a second `T`. */
     SPEEDATE_DURATION_T_REPEATED = 30,
-    /* A component follows one with a fraction. */
+    /* A component follows one that has a fraction. */
     SPEEDATE_DURATION_INVALID_FRACTION = 31,
     /* A component after `T` has no designator of hours, minutes or seconds. */
     SPEEDATE_DURATION_INVALID_TIME_UNIT = 32,
@@ -113,66 +118,91 @@ enum SpeedateCode {
     SPEEDATE_DURATION_INVALID_DATE_UNIT = 33,
     /* The days of a duration are not followed by a form of `day`. */
     SPEEDATE_DURATION_INVALID_DAYS = 34,
-    /* A number or a sum of a duration is over 4,294,967,295; of _check: the flag, second or microsecond is out of
-     * range. */
+    /* A number or a sum of a duration is over 4,294,967,295; from a _check call, the flag, the second or the
+     * microsecond is out of range. */
     SPEEDATE_DURATION_VALUE_TOO_LARGE = 35,
-    /* The hours of a duration are over 2,400,000,000, have over ten digits, or are over 23 after days. */
+    /* The hours of a duration are over 2,400,000,000, have more than ten digits, or, after days, are over 23. */
     SPEEDATE_DURATION_HOUR_VALUE_TOO_LARGE = 36,
     /* A duration has more than 999,999,999 days. */
     SPEEDATE_DURATION_DAYS_TOO_LARGE = 37,
-    /* A timestamp, or a date that a duration or an offset moves, lies before the year 0000. */
+    /* The date of a timestamp, or one that a duration or an offset moves, is before the year 0000. */
     SPEEDATE_DATE_TOO_SMALL = 38,
-    /* A timestamp, or a date that a duration or an offset moves, lies after the year 9999; of _check: the year is
-     * over 9999. */
+    /* The date of a timestamp, or one that a duration or an offset moves, is after the year 9999; from a _check call,
+     * the year is over 9999. */
     SPEEDATE_DATE_TOO_LARGE = 39,
-    /* A time of day is another day's, or a sum on the way to it is too large; of _check: the microsecond is over
-     * 999,999. */
+    /* A time of day falls on another day, or a sum that leads to it is too large; from a _check call, the microsecond
+     * is over 999,999. */
     SPEEDATE_TIME_TOO_LARGE = 40,
-    /* A component of a duration is out of order, or repeated, and the configuration refuses that. */
+    /* A component of a duration is out of order or repeated, which the configuration refuses. */
     SPEEDATE_DURATION_UNIT_ORDER = 41,
-    /* A timestamp in microseconds has a digit after its point, and the configuration refuses it. */
+    /* A timestamp in microseconds has a digit after its point, which the configuration refuses. */
     SPEEDATE_MICROSECOND_FRACTION_TOO_LONG = 42,
 
-    /* From 101 on: what the caller has to correct. */
+    /* From 101 on: mistakes of the caller. */
 
-    /* A value that was passed is out of range, as a month 13 or a flag 2; or a number is no code. */
+    /* A value that was passed is out of range, such as month 13 or a flag of 2; or a number is not a code. */
     SPEEDATE_VALUE_OUT_OF_RANGE = 101,
-    /* A number of the configuration has no meaning. */
+    /* A field of the configuration is out of range. */
     SPEEDATE_CONFIG_OUT_OF_RANGE = 102,
     /* The buffer has no room for the text and its zero byte. */
     SPEEDATE_BUFFER_TOO_SMALL = 103,
-    /* There is no date of that day number, or so many days later. Other calls return SPEEDATE_DATE_TOO_SMALL or
-     * SPEEDATE_DATE_TOO_LARGE. */
+    /* No date from 0000-01-01 to 9999-12-31 has that day number, or is that many days away. Other calls return
+     * SPEEDATE_DATE_TOO_SMALL or SPEEDATE_DATE_TOO_LARGE. */
     SPEEDATE_NO_SUCH_DATE = 104
 };
 
-/* Calls return int. Cast to this in a switch for -Wswitch. */
+/* Calls return int. A switch over a cast to this type is checked by -Wswitch. */
 typedef enum SpeedateCode SpeedateCode;
+
+/* The name of a code as a constant string: "too_short" for 1, "ok" for 0, and "unknown code", never NULL, for a number
+ * that is not a code of this header. */
+static inline const char *speedate_code_string(int code) {
+    static const char *const faults[] = {
+        "ok", "too_short", "extra_characters", "invalid_char_date_time_sep", "invalid_char_date_sep", "date_not_exact",
+        "invalid_char_year", "invalid_char_month", "invalid_char_day", "invalid_char_time_sep", "invalid_char_hour",
+        "invalid_char_minute", "invalid_char_second", "invalid_char_second_fraction", "invalid_char_tz_sign",
+        "invalid_char_tz_hour", "invalid_char_tz_minute", "out_of_range_tz_minute", "out_of_range_tz", "tz_required",
+        "system_time_error", "out_of_range_month", "out_of_range_day", "out_of_range_hour", "out_of_range_minute",
+        "out_of_range_second", "second_fraction_too_long", "second_fraction_missing", "millisecond_fraction_too_long",
+        "duration_invalid_number", "duration_t_repeated", "duration_invalid_fraction", "duration_invalid_time_unit",
+        "duration_invalid_date_unit", "duration_invalid_days", "duration_value_too_large",
+        "duration_hour_value_too_large", "duration_days_too_large", "date_too_small", "date_too_large",
+        "time_too_large", "duration_unit_order", "microsecond_fraction_too_long"};
+    static const char *const mistakes[] = {"value_out_of_range", "config_out_of_range", "buffer_too_small",
+                                           "no_such_date"};
+    if (code >= SPEEDATE_OK && code <= SPEEDATE_MICROSECOND_FRACTION_TOO_LONG)
+        return faults[code];
+    if (code >= SPEEDATE_VALUE_OUT_OF_RANGE && code <= SPEEDATE_NO_SUCH_DATE)
+        return mistakes[code - SPEEDATE_VALUE_OUT_OF_RANGE];
+    return "unknown code";
+}
 
 /* Room for the name or the documentation text of a code, with its zero byte. */
 #define SPEEDATE_CODE_TEXT_SIZE 64
 
-/* Prints the name of a code: "too_short" for 1. SPEEDATE_VALUE_OUT_OF_RANGE for 0 and for a number that is no code. */
+/* Prints the name of a code of the library: "too_short" for 1. It fails with SPEEDATE_VALUE_OUT_OF_RANGE for 0 and for
+ * a number that is not a code. */
 int speedate_code_name(int code, char *buffer, size_t size, size_t *length);
 
-/* Prints the documentation text of a code: "input is too short" for 1. It refuses what speedate_code_name refuses. The
- * words of 1 to 40 are the Rust crate's, and may name another cause than the one met: log the name too. */
+/* Prints the documentation text of a code: "input is too short" for 1. It fails when speedate_code_name does. The texts
+ * of 1 to 40 are the Rust crate's, and may name another cause than the real one, so log the name too. */
 int speedate_code_documentation(int code, char *buffer, size_t size, size_t *length);
 
 /* ---- Configurations ---- */
 
-/* How texts and timestamps are read. In each field 0 is the default. A field that a call does not look at still has to
- * have a meaning. */
+/* How texts and timestamps are read. In each field 0 is the default. A field that a call does not use has to be in
+ * range too. */
 typedef struct SpeedateConfig {
-    /* The offset from UTC, in seconds, that the value of a timestamp gets: less than 24 hours either way. For Unix time
-     * set has_timestamp_offset to 1 and this to 0: another offset is attached and shifts nothing, so the instant
-     * changes. A text that is no timestamp never gets it: assign to time.has_offset and time.offset. */
+    /* The offset from UTC, in seconds, that the value of a timestamp gets: less than 24 hours in either direction. For
+     * Unix time set has_timestamp_offset to 1 and this to 0. Any other offset is attached and shifts nothing, so the
+     * instant is another one. A text that is not a timestamp never gets the offset; assign to time.has_offset and
+     * time.offset instead. */
     int32_t timestamp_offset;
-    /* 1 where the value of a timestamp gets that offset; 0 where it gets none. */
+    /* 1 if the value of a timestamp gets that offset, 0 if it gets none. */
     uint8_t has_timestamp_offset;
     /* The unit of timestamps, in texts too: SPEEDATE_UNIT_INFER, _SECOND, _MILLISECOND or _MICROSECOND. */
     uint8_t timestamp_unit;
-    /* What is done with digits past the microsecond in times, date-times, clocks of durations (00:00:01.5) and decimal
+    /* What happens to digits past the microsecond in times, date-times, clocks of durations (00:00:01.5) and decimal
      * timestamps: SPEEDATE_OVERFLOW_ERROR or _TRUNCATE. An ISO 8601 duration is rounded to the nearest microsecond
      * under both. */
     uint8_t overflow_behavior;
@@ -183,7 +213,7 @@ typedef struct SpeedateConfig {
 /* The default: SpeedateConfig config = SPEEDATE_CONFIG_DEFAULT; */
 #define SPEEDATE_CONFIG_DEFAULT {0, 0, 0, 0, 0}
 
-/* Seconds where the timestamp without its sign is at most 20,000,000,000, otherwise milliseconds. */
+/* Seconds if the timestamp without its sign is at most 20,000,000,000, otherwise milliseconds. */
 #define SPEEDATE_UNIT_INFER 0
 #define SPEEDATE_UNIT_SECOND 1
 #define SPEEDATE_UNIT_MILLISECOND 2
@@ -194,16 +224,16 @@ typedef struct SpeedateConfig {
 /* The digits are dropped, and a timestamp is rounded to the nearest microsecond. */
 #define SPEEDATE_OVERFLOW_TRUNCATE 1
 
-/* Components come in any order on their side of the T, and more than once. */
+/* Components may come in any order on their side of the T, and more than once. */
 #define SPEEDATE_ORDER_LAX 0
-/* Each component comes at most once: years, months, weeks, days, and after the T hours, minutes, seconds. */
+/* Each component may come once, in this order: years, months, weeks, days, and after the T hours, minutes, seconds. */
 #define SPEEDATE_ORDER_STRICT 1
 
 /* ---- Values ---- */
 
-/* No struct below has padding, and a call writes 0 into a field that says nothing. So two values that calls have
- * written are equal if and only if their bytes are, by memcmp. A struct that you fill in may differ: without the flag
- * of an offset its offset is not looked at. */
+/* No struct below has padding, and a call writes 0 into a field without a meaning. So two values that calls have
+ * written are equal if and only if memcmp finds their bytes equal. A struct that you fill in may differ: an offset
+ * without its flag is ignored. */
 
 /* A day of the Gregorian calendar, which is carried back to the year 0. */
 typedef struct SpeedateDate {
@@ -217,9 +247,9 @@ typedef struct SpeedateTime {
     uint8_t hour;         /* 0 to 23 */
     uint8_t minute;       /* 0 to 59 */
     uint8_t second;       /* 0 to 59 */
-    uint8_t has_offset;   /* 1 where there is an offset, otherwise 0 */
+    uint8_t has_offset;   /* 1 if there is an offset, otherwise 0 */
     uint32_t microsecond; /* 0 to 999,999 */
-    int32_t offset;       /* in seconds, positive east of UTC: -86,399 to 86,399; not looked at without the flag */
+    int32_t offset;       /* in seconds, positive east of UTC: -86,399 to 86,399; ignored without the flag */
 } SpeedateTime;
 
 /* A date and a time of day, as a clock at the offset shows them. */
@@ -230,7 +260,7 @@ typedef struct SpeedateDateTime {
 
 /* A length of time. Zero may be negative too. */
 typedef struct SpeedateDuration {
-    uint32_t negative;    /* 1 where it is negative, otherwise 0 */
+    uint32_t negative;    /* 1 if it is negative, otherwise 0 */
     uint32_t day;         /* 0 to 999,999,999, each of 86,400 seconds */
     uint32_t second;      /* 0 to 86,399 */
     uint32_t microsecond; /* 0 to 999,999 */
@@ -243,57 +273,56 @@ typedef struct SpeedateDuration {
 #define SPEEDATE_DATETIME_TEXT_SIZE 33
 #define SPEEDATE_DURATION_TEXT_SIZE 32
 
-/* Every call below that takes a value returns SPEEDATE_VALUE_OUT_OF_RANGE where it is out of range, except
- * speedate_duration_normalize; the _check calls alone say what is out of range. */
+/* Every call below that takes a value fails with SPEEDATE_VALUE_OUT_OF_RANGE if the value is out of range. The
+ * exceptions are the _check calls, which say what is out of range, and speedate_duration_normalize. */
 
 /* ---- Dates ---- */
 
-/* Reads a date, "2020-02-29", or a timestamp that stands in its place, "1582934400", in the unit of the
- * configuration. Every whole number is a timestamp: 20200229 too. A timestamp has to be a midnight. */
+/* Reads a date, "2020-02-29", or in its place a timestamp, "1582934400", in the unit of the configuration. Every whole
+ * number is a timestamp, 20200229 too. A timestamp has to be a midnight. */
 int speedate_date_parse(const char *text, size_t size, SpeedateConfig config, SpeedateDate *out);
 
-/* Reads a date, and no timestamp. */
+/* Reads a date and no timestamp. */
 int speedate_date_parse_rfc3339(const char *text, size_t size, SpeedateDate *out);
 
 /* Reads the date at the front of a text, whatever follows it, and writes how many bytes it takes to *taken:
  * 2020-02-29, and 10, from "2020-02-29 opening balance". */
 int speedate_date_parse_front(const char *text, size_t size, SpeedateDate *out, size_t *taken);
 
-/* SPEEDATE_OK where the numbers are those of a date. Otherwise, in this order: SPEEDATE_DATE_TOO_LARGE,
- * SPEEDATE_OUT_OF_RANGE_MONTH or SPEEDATE_OUT_OF_RANGE_DAY. */
+/* SPEEDATE_OK if the numbers are those of a date; otherwise the first of SPEEDATE_DATE_TOO_LARGE,
+ * SPEEDATE_OUT_OF_RANGE_MONTH and SPEEDATE_OUT_OF_RANGE_DAY that applies. */
 int speedate_date_check(SpeedateDate date);
 
-/* Prints a date: "2020-02-29". It reads back as the date. */
+/* Prints a date: "2020-02-29". The text reads back as the date. */
 int speedate_date_to_text(SpeedateDate date, char *buffer, size_t size, size_t *length);
 
-/* Writes -1 where the first date is the earlier one, 0 where they are equal, otherwise 1. It is the order of their
- * texts, too. */
+/* Writes -1 if the first date is the earlier one, 0 if they are equal, otherwise 1. Their texts have the same order. */
 int speedate_date_compare(SpeedateDate first, SpeedateDate second, int32_t *out);
 
-/* The date of a timestamp in the unit of the configuration: 1970-01-02 for 86,400 seconds. Where require_exact is 1
- * the timestamp has to be a midnight (SPEEDATE_DATE_NOT_EXACT); where it is 0 the date is that of the day in which it
- * lies; any other number is SPEEDATE_VALUE_OUT_OF_RANGE. SPEEDATE_DATE_TOO_SMALL before the year 0000,
- * SPEEDATE_DATE_TOO_LARGE after the year 9999. */
+/* The date of a timestamp in the unit of the configuration: 1970-01-02 for 86,400 seconds. If require_exact is 1, a
+ * timestamp that is not a midnight fails with SPEEDATE_DATE_NOT_EXACT; if it is 0, the date is that of the day in which
+ * the timestamp lies; any other number fails with SPEEDATE_VALUE_OUT_OF_RANGE. A timestamp before the year 0000 fails
+ * with SPEEDATE_DATE_TOO_SMALL, one after the year 9999 with SPEEDATE_DATE_TOO_LARGE. */
 int speedate_date_from_timestamp(int64_t timestamp, uint8_t require_exact, SpeedateConfig config, SpeedateDate *out);
 
 /* The second, and the millisecond, at which a date begins, counted from 1970-01-01T00:00:00. */
 int speedate_date_timestamp(SpeedateDate date, int64_t *out);
 int speedate_date_timestamp_ms(SpeedateDate date, int64_t *out);
 
-/* The number of days from 0000-01-01 to a date, 737,790 for 2020-01-01, and back. There is no date for a number over
- * 3,652,424 (SPEEDATE_NO_SUCH_DATE). */
+/* The number of days from 0000-01-01 to a date, 737,790 for 2020-01-01, and the date of such a number. A number over
+ * 3,652,424 fails with SPEEDATE_NO_SUCH_DATE. */
 int speedate_date_day_number(SpeedateDate date, uint32_t *out);
 int speedate_date_from_day_number(uint32_t number, SpeedateDate *out);
 
 /* The day of the year, 1 to 366. */
 int speedate_date_ordinal_day(SpeedateDate date, uint16_t *out);
 
-/* The date so many days later, or earlier for a negative number. SPEEDATE_NO_SUCH_DATE where that is before
- * 0000-01-01 or after 9999-12-31. */
+/* The date `days` days later, or earlier if the number is negative. It fails with SPEEDATE_NO_SUCH_DATE if that is
+ * before 0000-01-01 or after 9999-12-31. */
 int speedate_date_add_days(SpeedateDate date, int32_t days, SpeedateDate *out);
 
-/* The days from `earlier` to `date`: 2 for 2020-03-01 and the earlier 2020-02-28. They are negative where `earlier`
- * is the later one. Note the order: speedate_duration_between_dates takes the earlier one first. */
+/* The number of days from `earlier` to `date`: 2 for 2020-03-01 and the earlier 2020-02-28. It is negative if `earlier`
+ * is the later one. Note the order: speedate_duration_between_dates takes the earlier date first. */
 int speedate_date_days_since(SpeedateDate date, SpeedateDate earlier, int32_t *out);
 
 /* ---- Times ---- */
@@ -301,116 +330,118 @@ int speedate_date_days_since(SpeedateDate date, SpeedateDate earlier, int32_t *o
 /* Reads a time: "12:13:14.5+01:00". */
 int speedate_time_parse(const char *text, size_t size, SpeedateConfig config, SpeedateTime *out);
 
-/* Reads a time from the texts of RFC 3339 alone, without those with a second 60; SPEEDATE_OVERFLOW_ERROR refuses a
- * seventh digit of a fraction too. Of the configuration the overflow_behavior matters. A text that speedate_time_parse
- * refuses has its fault. */
+/* Reads the times of RFC 3339 and no others. Of these it refuses a second 60, and with SPEEDATE_OVERFLOW_ERROR more
+ * than six digits in a fraction. Of the configuration only overflow_behavior matters. A text that speedate_time_parse
+ * refuses has the same fault here. */
 int speedate_time_parse_strict(const char *text, size_t size, SpeedateConfig config, SpeedateTime *out);
 
 /* Reads the time at the front of a text, and writes how many bytes it takes to *taken: 12:13:14Z, and 9, from
  * "12:13:14Z GET /". */
 int speedate_time_parse_front(const char *text, size_t size, SpeedateConfig config, SpeedateTime *out, size_t *taken);
 
-/* SPEEDATE_OK where the numbers are those of a time. Otherwise, in this order: SPEEDATE_OUT_OF_RANGE_HOUR,
- * SPEEDATE_OUT_OF_RANGE_MINUTE, SPEEDATE_OUT_OF_RANGE_SECOND, SPEEDATE_TIME_TOO_LARGE for the microsecond, or
- * SPEEDATE_OUT_OF_RANGE_TZ for the offset or its flag. */
+/* SPEEDATE_OK if the numbers are those of a time; otherwise the first of SPEEDATE_OUT_OF_RANGE_HOUR,
+ * SPEEDATE_OUT_OF_RANGE_MINUTE, SPEEDATE_OUT_OF_RANGE_SECOND, SPEEDATE_TIME_TOO_LARGE (the microsecond) and
+ * SPEEDATE_OUT_OF_RANGE_TZ (the offset or its flag) that applies. */
 int speedate_time_check(SpeedateTime time);
 
-/* Prints a time: "12:13:14.500000+01:30", "12:13:14Z". It reads back as the time where the offset is absent or whole
- * minutes; the seconds of another offset are not printed. */
+/* Prints a time: "12:13:14.500000+01:30", "12:13:14Z". The text reads back as the time if the offset is absent or whole
+ * minutes; the seconds of any other offset are not printed. */
 int speedate_time_to_text(SpeedateTime time, char *buffer, size_t size, size_t *length);
 
-/* Writes -1 where the first time is the earlier one, 0 where they are the same instant, otherwise 1: in UTC where both
- * have an offset, otherwise as clocks show them. Times at other offsets can be the same instant. Sort only values that
- * all have an offset, or that all have none: in a mixture the order is not transitive. */
+/* Writes -1 if the first time is the earlier one, 0 if they are the same instant, otherwise 1: in UTC if both have an
+ * offset, otherwise as clocks show them. Times at different offsets can be the same instant. Sort only values that all
+ * have an offset, or that all have none: in a mixture the order is not transitive. */
 int speedate_time_compare(SpeedateTime first, SpeedateTime second, int32_t *out);
 
-/* The time so many seconds and microseconds after midnight, with the offset of the configuration: 10:00:06.5 for
- * 36,005 and 1,500,000. SPEEDATE_TIME_TOO_LARGE where that is not the same day. */
+/* The time `second` seconds and `microsecond` microseconds after midnight, with the offset of the configuration:
+ * 10:00:06.5 for 36,005 and 1,500,000. It fails with SPEEDATE_TIME_TOO_LARGE if that is not on the same day. */
 int speedate_time_from_timestamp(uint32_t second, uint32_t microsecond, SpeedateConfig config, SpeedateTime *out);
 
-/* The seconds, and the milliseconds, rounded down, since midnight, whatever the offset. */
+/* The seconds since midnight, and the milliseconds, rounded down, whatever the offset. */
 int speedate_time_total_seconds(SpeedateTime time, uint32_t *out);
 int speedate_time_total_ms(SpeedateTime time, uint32_t *out);
 
-/* The time at the same instant, as a clock at another offset, in seconds, shows it. SPEEDATE_OUT_OF_RANGE_TZ where the
- * offset is of 24 hours or more, SPEEDATE_TZ_REQUIRED where the time has none, SPEEDATE_TIME_TOO_LARGE where that clock
- * shows another day. */
+/* The time at the same instant, as a clock at another offset, in seconds, shows it. It fails with
+ * SPEEDATE_OUT_OF_RANGE_TZ if the offset is 24 hours or more, SPEEDATE_TZ_REQUIRED if the time has none, and
+ * SPEEDATE_TIME_TOO_LARGE if that clock shows another day. */
 int speedate_time_in_timezone(SpeedateTime time, int32_t offset, SpeedateTime *out);
 
 /* ---- Date-times ---- */
 
-/* Reads a date-time, "2020-02-29T12:13:14.5+01:00", or a timestamp that stands in its place, "1582978394.5", in the
- * unit and with the offset of the configuration. Every number is a timestamp: 20200229 too. */
+/* Reads a date-time, "2020-02-29T12:13:14.5+01:00", or in its place a timestamp, "1582978394.5", in the unit and with
+ * the offset of the configuration. Every number is a timestamp, 20200229 too. */
 int speedate_datetime_parse(const char *text, size_t size, SpeedateConfig config, SpeedateDateTime *out);
 
 /* Reads the same texts as speedate_datetime_parse, without timestamps. */
 int speedate_datetime_parse_rfc3339(const char *text, size_t size, SpeedateConfig config, SpeedateDateTime *out);
 
-/* Reads a date-time from the texts of RFC 3339 alone, as speedate_time_parse_strict does a time. */
+/* Reads the date-times of RFC 3339 and no others, as speedate_time_parse_strict reads times. */
 int speedate_datetime_parse_strict(const char *text, size_t size, SpeedateConfig config, SpeedateDateTime *out);
 
 /* Reads the date-time at the front of a text, and writes how many bytes it takes to *taken: 2026-11-22T12:13:14Z, and
- * 20, from "2026-11-22T12:13:14Z GET /". It reads no timestamp (cut the word and call speedate_datetime_parse) and no
- * bare date (call speedate_date_parse_front). An offset follows without a space. For nanoseconds set
- * SPEEDATE_OVERFLOW_TRUNCATE. */
+ * 20, from "2026-11-22T12:13:14Z GET /". It reads no timestamp (cut out the word and call speedate_datetime_parse) and
+ * no date alone (call speedate_date_parse_front). An offset has to follow without a space. For texts with nanoseconds
+ * set SPEEDATE_OVERFLOW_TRUNCATE. */
 int speedate_datetime_parse_front(const char *text, size_t size, SpeedateConfig config, SpeedateDateTime *out,
                                   size_t *taken);
 
-/* SPEEDATE_OK where the numbers are those of a date-time, otherwise what speedate_date_check says of the date, or then
- * speedate_time_check of the time. */
+/* SPEEDATE_OK if the numbers are those of a date-time; otherwise what speedate_date_check returns for the date, or if
+ * the date is right, speedate_time_check for the time. */
 int speedate_datetime_check(SpeedateDateTime value);
 
-/* Prints a date-time: "2020-02-29T12:13:14.500000+01:30". It reads back as a printed time does. */
+/* Prints a date-time: "2020-02-29T12:13:14.500000+01:30". The text reads back as that of a time does. */
 int speedate_datetime_to_text(SpeedateDateTime value, char *buffer, size_t size, size_t *length);
 
-/* Compares date-times as speedate_time_compare does times; what it says of sorting holds here too. */
+/* Compares date-times as speedate_time_compare does times. What is said there of sorting holds here too. */
 int speedate_datetime_compare(SpeedateDateTime first, SpeedateDateTime second, int32_t *out);
 
-/* The date-time of a timestamp in the unit of the configuration, and so many microseconds later, with the offset of the
- * configuration: 1970-01-01T00:00:01.000002 for 1 second and 2. SPEEDATE_TIME_TOO_LARGE where a sum on the way is too
- * large, SPEEDATE_DATE_TOO_SMALL before the year 0000, SPEEDATE_DATE_TOO_LARGE after the year 9999. */
+/* The date-time `microsecond` microseconds after a timestamp in the unit of the configuration, with the offset of the
+ * configuration: 1970-01-01T00:00:01.000002 for 1 second and 2 microseconds. It fails with SPEEDATE_TIME_TOO_LARGE if a
+ * sum that leads to it is too large, SPEEDATE_DATE_TOO_SMALL before the year 0000, and SPEEDATE_DATE_TOO_LARGE after
+ * the year 9999. */
 int speedate_datetime_from_timestamp(int64_t timestamp, uint32_t microsecond, SpeedateConfig config,
                                      SpeedateDateTime *out);
 
-/* The second, and the millisecond, rounded down, since 1970-01-01T00:00:00, with the date and time as if they were in
- * UTC: the offset is ignored. For Unix time call speedate_datetime_timestamp_tz. */
+/* The seconds since 1970-01-01T00:00:00, and the milliseconds, rounded down, as if date and time were in UTC: the
+ * offset is ignored. For Unix time call speedate_datetime_timestamp_tz. */
 int speedate_datetime_timestamp(SpeedateDateTime value, int64_t *out);
 int speedate_datetime_timestamp_ms(SpeedateDateTime value, int64_t *out);
 
-/* Unix time: the second, and the millisecond, rounded down, since 1970-01-01T00:00:00 in UTC. Without an offset the
- * date-time is taken to be in UTC. time.microsecond is the rest of the second: tv_nsec is 1000 times that. */
+/* Unix time: the seconds since 1970-01-01T00:00:00 in UTC, and the milliseconds, rounded down. A date-time without an
+ * offset is taken to be in UTC. time.microsecond is the rest of the second: tv_nsec is 1000 times that. */
 int speedate_datetime_timestamp_tz(SpeedateDateTime value, int64_t *out);
 int speedate_datetime_timestamp_tz_ms(SpeedateDateTime value, int64_t *out);
 
-/* The date-time at the same instant, as a clock at another offset, in seconds, shows it. SPEEDATE_OUT_OF_RANGE_TZ where
- * the offset is of 24 hours or more, SPEEDATE_TZ_REQUIRED where the date-time has none, SPEEDATE_DATE_TOO_SMALL or
- * SPEEDATE_DATE_TOO_LARGE where that clock shows a date outside the years 0000 to 9999. */
+/* The date-time at the same instant, as a clock at another offset, in seconds, shows it. It fails with
+ * SPEEDATE_OUT_OF_RANGE_TZ if the offset is 24 hours or more, SPEEDATE_TZ_REQUIRED if the date-time has none, and
+ * SPEEDATE_DATE_TOO_SMALL or SPEEDATE_DATE_TOO_LARGE if that clock shows a date outside the years 0000 to 9999. */
 int speedate_datetime_in_timezone(SpeedateDateTime value, int32_t offset, SpeedateDateTime *out);
 
 /* ---- Durations ---- */
 
-/* Reads a duration: "P1Y2DT3H4M5.5S" (ISO 8601), "-00:01:30.5" (a clock) or "2 days, 10:20" (days). A year is
- * 365 days and a month 30; no call adds calendar months. */
+/* Reads a duration: "P1Y2DT3H4M5.5S" (ISO 8601), "-00:01:30.5" (a clock) or "2 days, 10:20" (days and a clock). A year
+ * is 365 days and a month 30; no call adds calendar months. */
 int speedate_duration_parse(const char *text, size_t size, SpeedateConfig config, SpeedateDuration *out);
 
 /* Brings days, seconds and microseconds of any size into their ranges: 2 days, 101 seconds and 123 microseconds for 1,
- * 86,500 and 1,000,123. Only a `negative` over 1 is SPEEDATE_VALUE_OUT_OF_RANGE. SPEEDATE_DURATION_VALUE_TOO_LARGE
- * where a sum is over 4,294,967,295, SPEEDATE_DURATION_DAYS_TOO_LARGE where the days are over 999,999,999. */
+ * 86,500 and 1,000,123. It fails with SPEEDATE_VALUE_OUT_OF_RANGE if `negative` is over 1,
+ * SPEEDATE_DURATION_VALUE_TOO_LARGE if a sum is over 4,294,967,295, and SPEEDATE_DURATION_DAYS_TOO_LARGE if the days
+ * are over 999,999,999. */
 int speedate_duration_normalize(SpeedateDuration numbers, SpeedateDuration *out);
 
-/* SPEEDATE_OK where the numbers are those of a duration, SPEEDATE_DURATION_DAYS_TOO_LARGE for days over 999,999,999,
- * SPEEDATE_DURATION_VALUE_TOO_LARGE for another number that is out of range; the first field that is wrong counts. */
+/* SPEEDATE_OK if the numbers are those of a duration. Otherwise the first field that is out of range decides:
+ * SPEEDATE_DURATION_DAYS_TOO_LARGE for the days, SPEEDATE_DURATION_VALUE_TOO_LARGE for any other. */
 int speedate_duration_check(SpeedateDuration duration);
 
-/* Prints a duration: "PT1H30M". It reads back as the duration. */
+/* Prints a duration: "PT1H30M". The text reads back as the duration. */
 int speedate_duration_to_text(SpeedateDuration duration, char *buffer, size_t size, size_t *length);
 
-/* Writes -1 where the first duration is the smaller one, 0 where they are equal, otherwise 1. Negative zero is smaller
- * than zero. */
+/* Writes -1 if the first duration is the smaller one, 0 if they are equal, otherwise 1. Negative zero is smaller than
+ * zero. */
 int speedate_duration_compare(SpeedateDuration first, SpeedateDuration second, int32_t *out);
 
-/* The whole seconds with the sign, the milliseconds with the sign, cut toward zero, and the microseconds of the last
- * second with the sign. */
+/* The whole seconds, the milliseconds, rounded toward zero, and the microseconds of the last second, each with the
+ * sign of the duration. */
 int speedate_duration_signed_total_seconds(SpeedateDuration duration, int64_t *out);
 int speedate_duration_signed_total_ms(SpeedateDuration duration, int64_t *out);
 int speedate_duration_signed_microseconds(SpeedateDuration duration, int32_t *out);
@@ -418,20 +449,20 @@ int speedate_duration_signed_microseconds(SpeedateDuration duration, int32_t *ou
 /* The duration with the other sign. */
 int speedate_duration_negate(SpeedateDuration duration, SpeedateDuration *out);
 
-/* The duration from one date-time to another, by their instants in UTC; without an offset a date-time is taken to be in
- * UTC. It is negative where `later` is the earlier one. */
+/* The duration from one date-time to another, by their instants. A date-time without an offset is taken to be in UTC.
+ * The duration is negative if `later` is the earlier one. */
 int speedate_duration_between(SpeedateDateTime earlier, SpeedateDateTime later, SpeedateDuration *out);
 
-/* The date-time so long after another, and so long before it, at the same offset. SPEEDATE_DATE_TOO_SMALL or
- * SPEEDATE_DATE_TOO_LARGE where its date is outside the years 0000 to 9999. */
+/* Add a duration to a date-time, and subtract one; the offset stays. They fail with SPEEDATE_DATE_TOO_SMALL or
+ * SPEEDATE_DATE_TOO_LARGE if the date is outside the years 0000 to 9999. */
 int speedate_duration_after(SpeedateDuration duration, SpeedateDateTime start, SpeedateDateTime *out);
 int speedate_duration_before(SpeedateDuration duration, SpeedateDateTime start, SpeedateDateTime *out);
 
-/* The duration from one date to another, whole days. */
+/* The duration from one date to another, in whole days. */
 int speedate_duration_between_dates(SpeedateDate earlier, SpeedateDate later, SpeedateDuration *out);
 
-/* The date so many days after another, and so many before it. SPEEDATE_DATE_NOT_EXACT where the duration is not whole
- * days, SPEEDATE_DATE_TOO_SMALL or SPEEDATE_DATE_TOO_LARGE where the date is outside the years 0000 to 9999. */
+/* Add a duration to a date, and subtract one. They fail with SPEEDATE_DATE_NOT_EXACT if the duration is not whole
+ * days, and SPEEDATE_DATE_TOO_SMALL or SPEEDATE_DATE_TOO_LARGE if the date is outside the years 0000 to 9999. */
 int speedate_duration_after_date(SpeedateDuration duration, SpeedateDate start, SpeedateDate *out);
 int speedate_duration_before_date(SpeedateDuration duration, SpeedateDate start, SpeedateDate *out);
 

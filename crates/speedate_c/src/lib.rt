@@ -43,10 +43,20 @@ mod duration;
 mod text;
 mod time;
 
-/// The version of the interface, the macro `SPEEDATE_VERSION` of `c/speedate.h`: 1.
+/// The version of the interface, the macro `SPEEDATE_VERSION` of `c/speedate.h`: 1, which is not a
+/// code.
 #[unsafe(no_mangle)]
 pub extern "C" fn speedate_version() -> i32
     ensures version { result ≡ pos 1 }
 {
     1
+}
+
+/// The minor version of the interface, the macro `SPEEDATE_VERSION_MINOR` of `c/speedate.h`: 0,
+/// which is not a code.
+#[unsafe(no_mangle)]
+pub extern "C" fn speedate_version_minor() -> i32
+    ensures version { result ≡ pos 0 }
+{
+    0
 }

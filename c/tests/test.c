@@ -7,10 +7,11 @@
  * Each text is read from three places: a block of the heap of its very size, the end of a page after which none
  * can be read, and the beginning of one before which none can be; an empty one also from NULL. Each text is
  * printed into a buffer of its very size, at the end of such a page, and is refused by one that is a byte too small,
- * and by none. Where a call refuses, every byte that it could have written has to be as it was. */
+ * and by none. Each output stands before bytes that no call may touch, and a call that refuses may touch no output. */
 #define _DEFAULT_SOURCE
 #include "speedate.h"
 
+#include <limits.h>
 #include <stdio.h>
 #include <stdlib.h>
 #include <string.h>
@@ -111,11 +112,7 @@ static void say(const char *form, long long it) {
 }
 
 static void say_code(int code) {
-    char name[SPEEDATE_CODE_TEXT_SIZE] = "ok";
-    size_t length;
-    if (code != SPEEDATE_OK && speedate_code_name(code, name, sizeof name, &length) != SPEEDATE_OK)
-        strcpy(name, "no code");
-    snprintf(answer, sizeof answer, "%s", name);
+    snprintf(answer, sizeof answer, "%s", speedate_code_string(code));
 }
 
 static int is_untouched(const void *out, size_t size) {
@@ -125,10 +122,16 @@ static int is_untouched(const void *out, size_t size) {
     return 1;
 }
 
-static int said(int code, const void *out, size_t size) {
+/* Whether a call kept the bytes after an output, and the output too if it refused. */
+static int is_kept(int code, const void *output, size_t size, size_t with_guard) {
+    size_t written = code == SPEEDATE_OK ? size : 0;
+    return is_untouched((const char *)output + written, with_guard - written);
+}
+
+static int said(int code, int kept) {
     say_code(code);
-    if (code != SPEEDATE_OK && !is_untouched(out, size))
-        say(" but %lld bytes are not as they were", (long long)size);
+    if (!kept)
+        strcat(answer, " but wrote where it may not");
     if (code == SPEEDATE_OK)
         strcat(answer, "|");
     return code == SPEEDATE_OK;
@@ -168,24 +171,33 @@ static void say_number(long long it) {
 
 /* ---- The calls ---- */
 
+/* A place for an output, before bytes that no call may touch. */
+#define OUTPUT(TYPE, NAME)                                                                                             \
+    struct { TYPE output; unsigned char guard[16]; } NAME##_place;                                                     \
+    TYPE *NAME = &NAME##_place.output;                                                                                 \
+    memset(&NAME##_place, UNTOUCHED, sizeof NAME##_place);
+
+#define IS_KEPT(CODE, NAME) is_kept(CODE, &NAME##_place, sizeof *NAME, sizeof NAME##_place)
+
 /* A call that writes a value of a type. */
 #define WRITES(TYPE, SAY, CALL)                                                                                        \
     {                                                                                                                  \
-        TYPE out;                                                                                                      \
-        memset(&out, UNTOUCHED, sizeof out);                                                                           \
-        if (said(CALL, &out, sizeof out))                                                                              \
-            SAY(out);                                                                                                  \
+        OUTPUT(TYPE, out)                                                                                              \
+        int code = CALL;                                                                                               \
+        if (said(code, IS_KEPT(code, out)))                                                                            \
+            SAY(*out);                                                                                                 \
         return 1;                                                                                                      \
     }
 
 /* A call that reads the front of a text. */
 #define WRITES_FRONT(TYPE, SAY, CALL)                                                                                  \
     {                                                                                                                  \
-        struct { TYPE out; size_t taken; } both;                                                                       \
-        memset(&both, UNTOUCHED, sizeof both);                                                                         \
-        if (said(CALL, &both, sizeof both)) {                                                                          \
-            SAY(both.out);                                                                                             \
-            say("|%lld", (long long)both.taken);                                                                       \
+        OUTPUT(TYPE, out)                                                                                              \
+        OUTPUT(size_t, taken)                                                                                          \
+        int code = CALL;                                                                                               \
+        if (said(code, IS_KEPT(code, out) && IS_KEPT(code, taken))) {                                                  \
+            SAY(*out);                                                                                                 \
+            say("|%lld", (long long)*taken);                                                                           \
         }                                                                                                              \
         return 1;                                                                                                      \
     }
@@ -193,28 +205,32 @@ static void say_number(long long it) {
 /* A call that prints: with room for all, for just the text, and for a byte less. */
 #define PRINTS(CALL)                                                                                                   \
     {                                                                                                                  \
+        OUTPUT(size_t, length)                                                                                         \
         char *buffer = first_page;                                                                                     \
-        size_t size = page, length = 0;                                                                                \
+        size_t size = page;                                                                                            \
         memset(buffer, UNTOUCHED, page);                                                                               \
-        if (said(CALL, buffer, page)) {                                                                                \
+        int code = CALL;                                                                                               \
+        if (said(code, IS_KEPT(code, length) && (code == SPEEDATE_OK || is_untouched(buffer, page)))) {                \
             strcat(answer, buffer);                                                                                    \
-            if (strlen(buffer) != length || !is_untouched(buffer + length + 1, page - length - 1))                     \
+            if (strlen(buffer) != *length || !is_untouched(buffer + *length + 1, page - *length - 1))                  \
                 strcat(answer, " with another length");                                                                \
-            size = length + 1;                                                                                         \
+            size = *length + 1;                                                                                        \
             buffer = first_page + page - size;                                                                         \
             memset(first_page, UNTOUCHED, page);                                                                       \
-            if ((CALL) != SPEEDATE_OK || strlen(buffer) != length || !is_untouched(first_page, page - size))           \
+            if ((CALL) != SPEEDATE_OK || strlen(buffer) != *length || !is_untouched(first_page, page - size))          \
                 strcat(answer, " but not into its own size");                                                          \
-            size = length;                                                                                             \
+            size = *length;                                                                                            \
             buffer = first_page + page - size;                                                                         \
             memset(first_page, UNTOUCHED, page);                                                                       \
-            length = page;                                                                                             \
-            if ((CALL) != SPEEDATE_BUFFER_TOO_SMALL || length != page || !is_untouched(first_page, page))              \
+            *length = page;                                                                                            \
+            if ((CALL) != SPEEDATE_BUFFER_TOO_SMALL || *length != page || !is_untouched(first_page, page))             \
                 strcat(answer, " and into a byte less");                                                               \
             size = 0;                                                                                                  \
             buffer = NULL;                                                                                             \
-            if ((CALL) != SPEEDATE_BUFFER_TOO_SMALL || length != page)                                                 \
+            if ((CALL) != SPEEDATE_BUFFER_TOO_SMALL || *length != page)                                                \
                 strcat(answer, " and into no buffer");                                                                 \
+            if (!IS_KEPT(SPEEDATE_OK, length))                                                                         \
+                strcat(answer, " and after the length");                                                               \
         }                                                                                                              \
         return 1;                                                                                                      \
     }
@@ -226,26 +242,26 @@ static int is_call(const char *name) {
 #define VALUE(TYPE, SAY, NAME, ARGUMENT, READ)                                                                         \
     if (is_call(#NAME)) {                                                                                              \
         ARGUMENT it = READ();                                                                                          \
-        WRITES(TYPE, SAY, speedate_##NAME(it, &out))                                                                   \
+        WRITES(TYPE, SAY, speedate_##NAME(it, out))                                                                    \
     }
 
 #define TWO_VALUES(TYPE, SAY, NAME, FIRST, READ_FIRST, SECOND, READ_SECOND)                                            \
     if (is_call(#NAME)) {                                                                                              \
         FIRST first = READ_FIRST();                                                                                    \
         SECOND second = READ_SECOND();                                                                                 \
-        WRITES(TYPE, SAY, speedate_##NAME(first, second, &out))                                                        \
+        WRITES(TYPE, SAY, speedate_##NAME(first, second, out))                                                         \
     }
 
 #define PARSE(TYPE, SAY, NAME)                                                                                         \
     if (is_call(#NAME)) {                                                                                              \
         SpeedateConfig it = config();                                                                                  \
-        WRITES(TYPE, SAY, speedate_##NAME(text, size, it, &out))                                                       \
+        WRITES(TYPE, SAY, speedate_##NAME(text, size, it, out))                                                        \
     }
 
 #define FRONT(TYPE, SAY, NAME)                                                                                         \
     if (is_call(#NAME)) {                                                                                              \
         SpeedateConfig it = config();                                                                                  \
-        WRITES_FRONT(TYPE, SAY, speedate_##NAME(text, size, it, &both.out, &both.taken))                               \
+        WRITES_FRONT(TYPE, SAY, speedate_##NAME(text, size, it, out, taken))                                           \
     }
 
 #define CHECK(NAME, TYPE, READ)                                                                                        \
@@ -258,16 +274,23 @@ static int is_call(const char *name) {
 #define PRINT(NAME, TYPE, READ)                                                                                        \
     if (is_call(#NAME)) {                                                                                              \
         TYPE it = READ();                                                                                              \
-        PRINTS(speedate_##NAME(it, buffer, size, &length))                                                             \
+        PRINTS(speedate_##NAME(it, buffer, size, length))                                                              \
+    }
+
+/* A call that returns a number of the header. */
+#define VERSION(NAME, NUMBER)                                                                                          \
+    if (is_call(#NAME)) {                                                                                              \
+        strcpy(answer, speedate_##NAME() == NUMBER ? "ok" : "another one");                                            \
+        return 1;                                                                                                      \
     }
 
 /* Calls of a text: the text is the row's last argument. */
 static int run_text(const char *text, size_t size) {
     field = 1;
     if (is_call("date_parse_rfc3339"))
-        WRITES(SpeedateDate, say_date, speedate_date_parse_rfc3339(text, size, &out))
+        WRITES(SpeedateDate, say_date, speedate_date_parse_rfc3339(text, size, out))
     if (is_call("date_parse_front"))
-        WRITES_FRONT(SpeedateDate, say_date, speedate_date_parse_front(text, size, &both.out, &both.taken))
+        WRITES_FRONT(SpeedateDate, say_date, speedate_date_parse_front(text, size, out, taken))
     PARSE(SpeedateDate, say_date, date_parse)
     PARSE(SpeedateTime, say_time, time_parse)
     PARSE(SpeedateTime, say_time, time_parse_strict)
@@ -283,10 +306,8 @@ static int run_text(const char *text, size_t size) {
 /* Calls of values. */
 static int run_value(void) {
     field = 1;
-    if (is_call("version")) {
-        snprintf(answer, sizeof answer, speedate_version() == SPEEDATE_VERSION ? "ok" : "another one");
-        return 1;
-    }
+    VERSION(version, SPEEDATE_VERSION)
+    VERSION(version_minor, SPEEDATE_VERSION_MINOR)
     PRINT(code_name, int, (int)number)
     PRINT(code_documentation, int, (int)number)
     CHECK(date_check, SpeedateDate, date)
@@ -296,7 +317,7 @@ static int run_value(void) {
         int64_t timestamp = number();
         uint8_t exact = (uint8_t)number();
         SpeedateConfig it = config();
-        WRITES(SpeedateDate, say_date, speedate_date_from_timestamp(timestamp, exact, it, &out))
+        WRITES(SpeedateDate, say_date, speedate_date_from_timestamp(timestamp, exact, it, out))
     }
     VALUE(int64_t, say_number, date_timestamp, SpeedateDate, date)
     VALUE(int64_t, say_number, date_timestamp_ms, SpeedateDate, date)
@@ -311,7 +332,7 @@ static int run_value(void) {
     if (is_call("time_from_timestamp")) {
         uint32_t second = (uint32_t)number(), microsecond = (uint32_t)number();
         SpeedateConfig it = config();
-        WRITES(SpeedateTime, say_time, speedate_time_from_timestamp(second, microsecond, it, &out))
+        WRITES(SpeedateTime, say_time, speedate_time_from_timestamp(second, microsecond, it, out))
     }
     VALUE(uint32_t, say_number, time_total_seconds, SpeedateTime, time_value)
     VALUE(uint32_t, say_number, time_total_ms, SpeedateTime, time_value)
@@ -323,7 +344,7 @@ static int run_value(void) {
         int64_t timestamp = number();
         uint32_t microsecond = (uint32_t)number();
         SpeedateConfig it = config();
-        WRITES(SpeedateDateTime, say_datetime, speedate_datetime_from_timestamp(timestamp, microsecond, it, &out))
+        WRITES(SpeedateDateTime, say_datetime, speedate_datetime_from_timestamp(timestamp, microsecond, it, out))
     }
     VALUE(int64_t, say_number, datetime_timestamp, SpeedateDateTime, datetime)
     VALUE(int64_t, say_number, datetime_timestamp_ms, SpeedateDateTime, datetime)
@@ -373,30 +394,27 @@ static int cut(char *row) {
     return count;
 }
 
-/* Each code has a name and a documentation text, for which there is room, and no other number has either. */
-static void try_codes(void) {
-    for (int code = -2; code < 200; code++) {
-        char text[SPEEDATE_CODE_TEXT_SIZE];
-        size_t length = 0;
-        int is_one = (code >= SPEEDATE_TOO_SHORT && code <= SPEEDATE_MICROSECOND_FRACTION_TOO_LONG) ||
-                     (code >= SPEEDATE_VALUE_OUT_OF_RANGE && code <= SPEEDATE_NO_SUCH_DATE);
-        int wanted = is_one ? SPEEDATE_OK : SPEEDATE_VALUE_OUT_OF_RANGE;
-        if (speedate_code_name(code, text, sizeof text, &length) != wanted ||
-            speedate_code_documentation(code, text, sizeof text, &length) != wanted) {
-            fprintf(stderr, "the code %d is named by mistake, or not at all\n", code);
-            failures++;
-        }
+/* A code has a name, which is its string too, and a documentation text, for which there is room. Another number has
+ * neither, and a string of its own. */
+static void try_code(int code) {
+    char name[SPEEDATE_CODE_TEXT_SIZE], text[SPEEDATE_CODE_TEXT_SIZE];
+    size_t length = 0;
+    int is_one = (code >= SPEEDATE_TOO_SHORT && code <= SPEEDATE_MICROSECOND_FRACTION_TOO_LONG) ||
+                 (code >= SPEEDATE_VALUE_OUT_OF_RANGE && code <= SPEEDATE_NO_SUCH_DATE);
+    int wanted = is_one ? SPEEDATE_OK : SPEEDATE_VALUE_OUT_OF_RANGE;
+    const char *string = speedate_code_string(code);
+    strcpy(name, code == SPEEDATE_OK ? "ok" : "unknown code");
+    if (speedate_code_name(code, name, sizeof name, &length) != wanted || !string || strcmp(string, name) != 0 ||
+        speedate_code_documentation(code, text, sizeof text, &length) != wanted) {
+        fprintf(stderr, "the code %d is named by mistake, or not at all\n", code);
+        failures++;
     }
 }
 
 /* Whether a field is the name of a code, with which the answer begins. */
 static int is_code(const char *it) {
-    char name[SPEEDATE_CODE_TEXT_SIZE];
-    size_t length;
-    if (strcmp(it, "ok") == 0)
-        return 1;
-    for (int code = 1; code <= SPEEDATE_NO_SUCH_DATE; code++)
-        if (speedate_code_name(code, name, sizeof name, &length) == SPEEDATE_OK && strcmp(it, name) == 0)
+    for (int code = 0; code <= SPEEDATE_NO_SUCH_DATE; code++)
+        if (strcmp(it, speedate_code_string(code)) == 0)
             return 1;
     return 0;
 }
@@ -441,7 +459,10 @@ int main(void) {
         return 1;
     }
     first_page = pages + page;
-    try_codes();
+    for (int code = -2; code < 200; code++)
+        try_code(code);
+    try_code(INT_MIN);
+    try_code(INT_MAX);
     while (fgets(row, sizeof row, stdin)) {
         row[strcspn(row, "\n")] = 0;
         if (row[0] == 0 || row[0] == '#')

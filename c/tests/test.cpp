@@ -10,5 +10,5 @@ int main() {
     size_t length = 0;
     if (speedate_datetime_to_text(value, text, sizeof text, &length) != SPEEDATE_OK)
         return 1;
-    return length == 20 && text[19] == 'Z' ? 0 : 1;
+    return length == 20 && text[19] == 'Z' && speedate_code_string(SPEEDATE_TOO_SHORT)[0] == 't' ? 0 : 1;
 }
