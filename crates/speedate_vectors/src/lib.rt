@@ -15,6 +15,8 @@ mod durations;
 #[cfg(test)]
 mod faults;
 #[cfg(test)]
+mod first_calls;
+#[cfg(test)]
 mod fractions;
 pub mod laws;
 #[cfg(test)]
