@@ -88,15 +88,23 @@ impl Duration {
 
     /// Reads a duration from a text: a day, an hour and 42 seconds from `"1 day, 1:00:42"`.
     ///
-    /// One `+` or `-` may come first. If nothing follows, the fault is `TooShort`. What follows has one
-    /// of three forms, chosen in this order, and is brought into the ranges of the fields last, with
-    /// the faults of [`Duration::new`]. In each list the faults stand in the order in which they are
-    /// looked for.
+    /// One `+` or `-` may come first. What follows has one of three forms, chosen in this order, and is
+    /// brought into the ranges of the fields last:
     ///
-    /// **ISO 8601**, if it begins with `P`, as `P1Y2DT3H4M5.5S`: components in any order on their side
-    /// of the `T`. A year has 365 days and a month 30. The last component may have a fraction of any
-    /// length, which is taken to its nearest microsecond. The first item, from the left, that has a
-    /// fault gives it:
+    /// - **ISO 8601**, if it begins with `P`, as `P1Y2DT3H4M5.5S`: components in any order on their
+    ///   side of the `T`. A year has 365 days and a month 30. The last component may have a fraction of
+    ///   any length, which is taken to its nearest microsecond.
+    /// - **Days**, if it has a `d` or `D` anywhere, or fewer than five bytes, as `2 days, 10:20`; a
+    ///   clock may follow, after a comma, a space, both or neither. The form is this library's own.
+    /// - **A clock** otherwise, as `24:01:03.5`, which says how long a clock has run since 0. The form
+    ///   is this library's own.
+    ///
+    /// # Errors
+    ///
+    /// `TooShort` if nothing follows the sign; then those of the form, in each list in the order in
+    /// which they are looked for; last those of [`Duration::new`].
+    ///
+    /// Of an ISO 8601 duration the first item, from the left, that has a fault gives it:
     ///
     /// - `DurationTRepeated` for a second `T`;
     /// - `DurationInvalidNumber` if a component does not begin with a digit;
@@ -107,8 +115,7 @@ impl Duration {
     /// - `DurationValueTooLarge` if the days or the seconds up to it exceed 4,294,967,295;
     /// - `TooShort`, at the end, if there is no component.
     ///
-    /// **Days**, if it has a `d` or `D` anywhere, or fewer than five bytes, as `2 days, 10:20`; a clock
-    /// may follow, after a comma, a space, both or neither. The form is this library's own:
+    /// Of days:
     ///
     /// - `DurationInvalidNumber` if it does not begin with a digit;
     /// - `DurationValueTooLarge` if the number exceeds 4,294,967,295;
@@ -117,8 +124,7 @@ impl Duration {
     /// - `TooShort` if the clock after it has fewer than five bytes, then the faults of a clock;
     /// - `DurationHourValueTooLarge` if that clock has 24 hours or more.
     ///
-    /// **A clock** otherwise, as `24:01:03.5`, which says how long a clock has run since 0. The form is
-    /// this library's own:
+    /// Of a clock:
     ///
     /// - `InvalidCharHour` if there is no `:`;
     /// - `DurationHourValueTooLarge` if more than ten bytes come before it;
@@ -153,18 +159,23 @@ impl Duration {
     /// `b"00:00:01.1234567"` with the behavior `Truncate`. The bytes need not be text. The offset
     /// does not matter.
     ///
-    /// By default the forms and the faults are those of [`Duration::parse_str`]. The behavior
-    /// `Truncate` drops the digits of a clock's second past the sixth. To an ISO 8601 duration it does
-    /// not matter: every digit of its fraction counts.
+    /// The forms are those of [`Duration::parse_str`]. The behavior `Truncate` drops the digits of a
+    /// clock's second past the sixth. To an ISO 8601 duration it does not matter: every digit of its
+    /// fraction counts.
     ///
     /// With the order `Strict` each component of an ISO 8601 duration comes at most once, in the order
-    /// `Y`, `M`, `W`, `D`, and after the `T` `H`, `M`, `S`. Otherwise, as in `b"P1D1Y"`, the fault is
-    /// `DurationUnitOrder`. It is looked for after the fault of a byte that is no designator of its
-    /// side, and before that of sums that are too large. What `Strict` accepts has the same value with
-    /// `Lax`; days and clocks are read alike with both.
+    /// `Y`, `M`, `W`, `D`, and after the `T` `H`, `M`, `S`. What `Strict` accepts has the same value
+    /// with `Lax`; days and clocks are read alike with both.
     ///
     /// With the order `Lax` two neighbouring components on one side of the `T`, with no decimal mark in
     /// them or before them, can change places: `b"P1DT2H3M"` and `b"P1DT3M2H"` have the same answer.
+    ///
+    /// # Errors
+    ///
+    /// Those of [`Duration::parse_str`], but with `Truncate` there is no `SecondFractionTooLong`. With
+    /// `Strict` a component out of order, or repeated, as in `b"P1D1Y"`, is `DurationUnitOrder`, which
+    /// is looked for after the fault of a byte that is no designator of its side, and before that of
+    /// sums that are too large.
     #[inline(always)]
     pub fn parse_bytes_with_config(bytes: &[u8], config: &TimeConfig) -> Result<Self, ParseError>
         ensures answer { result gives duration_answer config.now.iso_order config.now.microseconds_precision_overflow_behavior bytes.now }

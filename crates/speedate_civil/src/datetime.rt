@@ -77,9 +77,13 @@ impl DateTime {
 
     /// Reads a date-time from bytes, and no timestamp, by a configuration: 12:13:12.123456 on 1 January
     /// 2020 from `b"2020-01-01T12:13:12.1234567"` with the behavior `Truncate`, which drops the digits
-    /// of a second past the sixth. The bytes need not be text. The form and the faults are those of
-    /// [`DateTime::parse_str_rfc3339`], but with `Truncate` there is no `SecondFractionTooLong`. The
-    /// offset of the configuration does not matter.
+    /// of a second past the sixth. The bytes need not be text. The form is that of
+    /// [`DateTime::parse_str_rfc3339`]. The offset of the configuration does not matter.
+    ///
+    /// # Errors
+    ///
+    /// Those of [`DateTime::parse_str_rfc3339`], but with `Truncate` there is no
+    /// `SecondFractionTooLong`.
     #[inline(always)]
     pub fn parse_bytes_rfc3339_with_config(
         bytes: &[u8],

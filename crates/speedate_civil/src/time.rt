@@ -144,8 +144,11 @@ impl Time {
 
     /// Reads a time from bytes, by a configuration: 12:13:12.123456 from `b"12:13:12.1234567"` with the
     /// behavior `Truncate`, which drops the digits of a second past the sixth. The bytes need not be
-    /// text. The form and the faults are those of [`Time::parse_str`], but with `Truncate` there is no
-    /// `SecondFractionTooLong`. The offset of the configuration does not matter.
+    /// text. The form is that of [`Time::parse_str`]. The offset of the configuration does not matter.
+    ///
+    /// # Errors
+    ///
+    /// Those of [`Time::parse_str`], but with `Truncate` there is no `SecondFractionTooLong`.
     #[inline(always)]
     pub fn parse_bytes_with_config(bytes: &[u8], config: &TimeConfig) -> Result<Self, ParseError>
         ensures answer { result gives time_answer config.now.microseconds_precision_overflow_behavior bytes.now }
@@ -160,8 +163,12 @@ impl Time {
     /// A time that goes on has to go on without a fault: after a `:` that follows the minute with two
     /// digits, after a decimal mark that follows the second with a digit, after a sign that follows the
     /// clock with an offset; `Z` or `z` is an offset too. Any other byte after the clock, or none, ends
-    /// a time without an offset. The faults are those of [`Time::parse_bytes_with_config`], in its
-    /// order, except `InvalidCharTzSign` and `ExtraCharacters`.
+    /// a time without an offset.
+    ///
+    /// # Errors
+    ///
+    /// Those of [`Time::parse_bytes_with_config`], in its order, except `InvalidCharTzSign` and
+    /// `ExtraCharacters`.
     #[inline(always)]
     pub fn parse_front(bytes: &[u8], config: &TimeConfig) -> Result<(Self, usize), ParseError>
         ensures answer { result gives_front time_front config.now.microseconds_precision_overflow_behavior bytes.now }

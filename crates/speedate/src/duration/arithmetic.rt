@@ -35,9 +35,13 @@ impl Duration {
     }
 
     /// The date-time this long after another, or before it where the duration is negative, at the same
-    /// offset: 2020-03-01T00:30:00+01:00 for an hour and 2020-02-29T23:30:00+01:00. `DateTooSmall`
-    /// where the date that a clock at the offset shows is before the year 0000, `DateTooLarge` where it
-    /// is after the year 9999. [`Duration::before`] leads back.
+    /// offset: 2020-03-01T00:30:00+01:00 for an hour and 2020-02-29T23:30:00+01:00.
+    /// [`Duration::before`] leads back.
+    ///
+    /// # Errors
+    ///
+    /// `DateTooSmall` where the date that a clock at the offset shows is before the year 0000,
+    /// `DateTooLarge` where it is after the year 9999.
     #[inline(always)]
     pub fn after(&self, start: &DateTime) -> Result<DateTime, ParseError>
         ensures answer { result gives date_time_after (signed_length (duration_numbers self.now)) (date_and_time start.now) }
@@ -56,8 +60,12 @@ impl Duration {
     }
 
     /// The date-time this long before another, or after it where the duration is negative, at the same
-    /// offset: 2020-02-29T23:30:00+01:00 for an hour and 2020-03-01T00:30:00+01:00. The faults are those
-    /// of [`Duration::after`], which leads back.
+    /// offset: 2020-02-29T23:30:00+01:00 for an hour and 2020-03-01T00:30:00+01:00. [`Duration::after`]
+    /// leads back.
+    ///
+    /// # Errors
+    ///
+    /// Those of [`Duration::after`].
     pub fn before(&self, start: &DateTime) -> Result<DateTime, ParseError>
         ensures answer { result gives date_time_after (neg_ℤ (signed_length (duration_numbers self.now))) (date_and_time start.now) }
         ensures ends { IfOk result (λ end. utc_microsecond (date_and_time end)
@@ -157,8 +165,12 @@ impl Duration {
         start.checked_add_days(days).ok_or(fault)
     }
 
-    /// The date this many days before another, or after it where the duration is negative: 2020-02-28 for
-    /// two days and 2020-03-01. The faults are those of [`Duration::after_date`], which leads back.
+    /// The date this many days before another, or after it where the duration is negative: 2020-02-28
+    /// for two days and 2020-03-01. [`Duration::after_date`] leads back.
+    ///
+    /// # Errors
+    ///
+    /// Those of [`Duration::after_date`].
     pub fn before_date(&self, start: &Date) -> Result<Date, ParseError>
         ensures answer { result gives date_after_days (negated (duration_numbers self.now)) (ymd start.now) }
         ensures days { IfOk result (λ end. days_between (ymd end) (ymd start.now) ≡ signed_days (duration_numbers self.now)) }

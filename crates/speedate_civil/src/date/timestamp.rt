@@ -21,9 +21,12 @@ impl Date {
     /// 2022-06-07 from `"1654560000"`.
     ///
     /// A text that is no date but a whole number is the timestamp of a midnight, in seconds if the
-    /// number without its sign is at most 20,000,000,000, otherwise in milliseconds. It then has the
-    /// faults of [`Date::from_timestamp`] for an exact date. Any other text has those of
-    /// [`Date::parse_str_rfc3339`].
+    /// number without its sign is at most 20,000,000,000, otherwise in milliseconds.
+    ///
+    /// # Errors
+    ///
+    /// A timestamp has the faults of [`Date::from_timestamp`] for an exact date, any other text those
+    /// of [`Date::parse_str_rfc3339`].
     pub fn parse_str(text: &str) -> Result<Self, ParseError>
         ensures answer { result gives date_or_timestamp unit.Infer text.now }
     {

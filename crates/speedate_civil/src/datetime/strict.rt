@@ -19,9 +19,13 @@ impl DateTime {
     ///
     /// It accepts the texts of RFC 3339 and no others, with the two exceptions of
     /// [`Time::parse_bytes_strict`](crate::time::Time::parse_bytes_strict). The value is that of
-    /// [`DateTime::parse_bytes_rfc3339_with_config`] with this behavior, and a text that has a fault
-    /// there has it here too. Of the others one is refused with `InvalidCharDateTimeSep` if neither `T`
-    /// nor `t` parts date and time, and then with the faults of `Time::parse_bytes_strict`.
+    /// [`DateTime::parse_bytes_rfc3339_with_config`] with this behavior.
+    ///
+    /// # Errors
+    ///
+    /// A text that has a fault there has it here too. Of the others one is refused with
+    /// `InvalidCharDateTimeSep` if neither `T` nor `t` parts date and time, and then with the faults of
+    /// `Time::parse_bytes_strict`.
     pub fn parse_bytes_strict(
         bytes: &[u8],
         behavior: MicrosecondsPrecisionOverflowBehavior,

@@ -18,8 +18,11 @@ impl Time {
     ///
     /// It accepts the texts of RFC 3339 and no others, with two exceptions: a second 60 is refused, and
     /// the behavior `Error` refuses a fraction of more than six digits. The value is that of
-    /// [`Time::parse_bytes_with_config`] with this behavior, and a text that has a fault there has it
-    /// here too. Of the others these are refused, in this order:
+    /// [`Time::parse_bytes_with_config`] with this behavior.
+    ///
+    /// # Errors
+    ///
+    /// A text that has a fault there has it here too. Of the others these are refused, in this order:
     ///
     /// - with `InvalidCharTimeSep`, if there is no second;
     /// - with `InvalidCharTzSign`, if the decimal mark is a comma;
