@@ -1,6 +1,7 @@
 -- The duration between two values, and the value a duration after another: lengths with their sign, and the instants and dates
 -- that they lead to.
-use Rattle.std.proofs.Common.{rules, arith, ◌∙◌, ap, sym, ◌≡◌, ℕ, ◌+◌, ◌*◌, ◌<◌, ◌≤◌, Bool, true, not, ◌||◌, ◌==◌, ℤ, pos, neg_ℤ, ◌+ℤ◌, ◌-ℤ◌, ◌*ℤ◌, ◌≤ℤ◌, Option, Result, Ok, Err, IfOk, unsigned_abs, refl, [], ◌∷◌, if◌then◌else◌, ok_or, unwrap_or, int_cmp}
+use Rattle.std.proofs.Common.{rules, arith, ◌∙◌, ap, sym, ◌≡◌, ℕ, ◌+◌, ◌*◌, ◌<◌, ◌≤◌, Bool, true, not, ◌||◌, ◌==◌, nat_le, ℤ, pos, neg_ℤ, ◌+ℤ◌, ◌-ℤ◌, ◌*ℤ◌, ◌≤ℤ◌, Option, Result, Ok, Err, IfOk, unsigned_abs, refl, [], ◌∷◌, if◌then◌else◌, ok_or, unwrap_or, int_cmp}
+use Rattle.std.proofs.lemmas.Bool.Decides.{nat_tests}
 use Rattle.std.proofs.lemmas.Int.{ints}
 use Rattle.std.proofs.lemmas.Result.{IfOk-weaker}
 use Rattle.speedate_base.specs.declared.faults.ParseError.{ParseError}
@@ -13,7 +14,7 @@ use Rattle.speedate_civil.proofs.DateTimeInstantLemmas.{instant_date_time-shown}
 use Rattle.speedate_civil.proofs.DateTimeTimestampLemmas.{instant_date_time-local}
 use Rattle.speedate_civil.proofs.DateTimeValueLemmas.{is_date_and_time, offset-small, local_second-late, local_second-early}
 use Rattle.speedate.proofs.DurationLemmas.{of_length-only}
-use Rattle.speedate.specs.Duration.{signed_length, duration_of_length, with_positive_zero, duration_between, date_time_after, negated, signed_days, date_after_days, is_whole_days}
+use Rattle.speedate.specs.Duration.{signed_length, duration_of_length, length_answer, with_positive_zero, duration_between, date_time_after, negated, signed_days, date_after_days, is_whole_days}
 use Rattle.speedate.specs.DurationNumbers.{DurationNumbers, IsDuration, length_seconds, length_microseconds, of_length, signed_seconds, signed_microsecond}
 use Rattle.speedate_base.specs.declared.faults.ParseError.TheVariants as fault
 use Rattle.speedate_base.specs.Requirement.{◌else_fault◌}
@@ -41,6 +42,18 @@ signed_length-kept length = search (rules)
 signed-kept : (positive : Bool) (size : ℕ) → duration_of_length (with_sign (not positive) size) ≡ of_length (positive || (size == 0)) size
 signed-kept positive size = search (rules)
 
+-- a duration comes back from its length, but positive zero for negative zero
+length-back : (numbers : DurationNumbers) → IsDuration numbers → duration_of_length (signed_length numbers) ≡ with_positive_zero numbers
+length-back numbers valid =
+    let positive = numbers.positive || (length_microseconds numbers == 0) in
+    signed-kept numbers.positive (length_microseconds numbers)
+    ∙ ap (λ (found : DurationNumbers). record found { positive = positive }) (of_length-only numbers valid)
+
+pub length_answer-back : (numbers : DurationNumbers) → IsDuration numbers → length_answer (signed_length numbers) ≡ Ok (with_positive_zero numbers)
+length_answer-back numbers valid =
+    let few : nat_le numbers.day 999999999 ≡ true = grind (arith, nat_tests, valid.day) in
+    rw (length-back numbers valid, few) refl
+
 -- what lies so much later, and what lies so much earlier
 pub between-later : (earlier later length : ℤ) → length ≡ later -ℤ earlier → later ≡ earlier +ℤ length
 between-later earlier later length same = omega (arith, ints)
@@ -57,10 +70,7 @@ opposite-apart length back other turned = omega (arith, ints)
 -- so the duration between two date-times that lie so far apart is the one of that length
 pub between-exact : (earlier later : DateAndTime) (numbers : DurationNumbers) → IsDuration numbers
     → utc_microsecond later ≡ utc_microsecond earlier +ℤ signed_length numbers → duration_between earlier later ≡ with_positive_zero numbers
-between-exact earlier later numbers valid same =
-    let positive = numbers.positive || (length_microseconds numbers == 0) in
-    ap duration_of_length (difference _ _ _ same) ∙ signed-kept numbers.positive (length_microseconds numbers)
-    ∙ ap (λ (found : DurationNumbers). record found { positive = positive }) (of_length-only numbers valid)
+between-exact earlier later numbers valid same = ap duration_of_length (difference _ _ _ same) ∙ length-back numbers valid
 
 -- at one offset clocks are as far apart as the instants are
 moved : (second local offset length : ℤ) (microsecond own : ℕ)

@@ -1,5 +1,5 @@
 -- Durations: from texts, in print, and between and after other values.
-use Rattle.std.specs.Prelude.{◌≡◌, MatchBool, ℕ, zero, suc, ◌-◌, Bool, not, ◌||◌, List, [], ◌∷◌, length, drop, slice_index, nat_lt, ◌==◌, if◌then◌else◌, Result, Ok, Err, ◌/◌, ◌%◌, ◌&&◌, ◌++◌, codes, true, false, ℤ, pos, negsuc, ◌+ℤ◌, ◌-ℤ◌, int_le, unsigned_abs}
+use Rattle.std.specs.Prelude.{◌≡◌, MatchBool, ℕ, zero, suc, ◌-◌, Bool, not, ◌||◌, List, [], ◌∷◌, length, drop, slice_index, nat_lt, ◌==◌, if◌then◌else◌, Result, Ok, Err, ◌/◌, ◌%◌, ◌&&◌, ◌++◌, codes, true, false, ℤ, pos, negsuc, ◌+ℤ◌, ◌-ℤ◌, int_le, unsigned_abs, nat_le}
 use Rattle.std.specs.Fmt.{decimal}
 use Rattle.std.specs.List.{list_any}
 use Rattle.std.specs.Option.{ok_or}
@@ -154,6 +154,12 @@ signed_length numbers = with_sign (not numbers.positive) (length_microseconds nu
 abbrev pub duration_of_length : ℤ → DurationNumbers
 duration_of_length (pos length) = of_length true length
 duration_of_length (negsuc below) = of_length false (suc below)
+
+-- the same, or the fault of one that has too many days
+abbrev pub length_answer : ℤ → Result DurationNumbers ParseError
+length_answer length =
+    let duration = duration_of_length length in
+    meets ((nat_le duration.day 999999999 else_fault fault.DurationDaysTooLarge) ∷ []) (Ok duration)
 
 -- a duration with the other sign
 abbrev pub negated : DurationNumbers → DurationNumbers

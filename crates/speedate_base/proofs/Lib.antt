@@ -9,3 +9,4 @@ mod BlockLemmas
 pub mod PatternLemmas
 mod RoundingLemmas
 mod DecimalLemmas
+mod ScaledLemmas

@@ -1,12 +1,12 @@
 -- Whole numbers and decimals, as texts and as what is read of them. This grammar is the library's own.
-use Rattle.std.specs.Prelude.{◌≡◌, ◌⊎◌, MatchBool, codes, ℕ, ◌+◌, ◌^◌, Bool, ◌&&◌, ◌||◌, List, [], ◌∷◌, ◌++◌, length, slice_index, nat_lt, nat_le, ◌==◌, if◌then◌else◌, Option, Some, None, ℤ, pos, neg_ℤ, true, false}
+use Rattle.std.specs.Prelude.{◌≡◌, ◌⊎◌, MatchBool, codes, ℕ, ◌+◌, ◌*◌, ◌/◌, ◌%◌, ◌^◌, Bool, ◌&&◌, ◌||◌, List, [], ◌∷◌, ◌++◌, length, slice_index, nat_lt, nat_le, ◌==◌, if◌then◌else◌, Option, Some, None, ℤ, pos, neg_ℤ, int_lt, unsigned_abs, true, false}
 use Rattle.std.specs.Char.{is_ascii_digit}
 use Rattle.std.specs.List.{list_all}
 use Rattle.speedate_base.specs.declared.numbers.int_float.Decimal.{Decimal}
 use Rattle.speedate_base.specs.declared.numbers.int_float.IntFloat.TheVariants as number
 use Rattle.speedate_base.specs.declared.numbers.int_float.IntFloat.{IntFloat}
 use Rattle.speedate_base.specs.Ascii.{plus_sign, hyphen, full_stop}
-use Rattle.speedate_base.specs.Digits.{run_length, run_digits, run_value}
+use Rattle.speedate_base.specs.Digits.{run_length, run_digits, run_value, digits_value}
 
 -- a text begins with `-`
 abbrev pub has_minus : List ℕ → Bool
@@ -24,14 +24,17 @@ with_sign negative size = if negative then neg_ℤ (pos size) else pos size
 abbrev pub fits_i64 : Bool → ℕ → Bool
 fits_i64 negative size = if negative then nat_le size (2 ^ 63) else nat_lt size (2 ^ 63)
 
+-- a size with its sign, if it fits
+abbrev pub signed_answer : Bool → ℕ → Option ℤ
+signed_answer negative size = if fits_i64 negative size then Some (with_sign negative size) else None
+
 -- the whole number that a text is, if it is an optional sign and one or more digits, and fits
 abbrev pub whole_number : List ℕ → Option ℤ
 whole_number text =
     let start = sign_length text in
     let digits = run_length text start in
     let size = run_value text start in
-    if nat_lt 0 digits && (start + digits == length text) && fits_i64 (has_minus text) size
-    then Some (with_sign (has_minus text) size) else None
+    if nat_lt 0 digits && (start + digits == length text) then signed_answer (has_minus text) size else None
 
 -- a decimal by its parts
 pub record DecimalParts : Type 0 where
@@ -65,6 +68,20 @@ decimal_parts text = record {
   fraction = run_digits text (point_place text + 1);
 }
 
+-- a decimal is its digits, as one number, over ten to the number of those after the point
+abbrev pub decimal_digits : DecimalParts → ℕ
+decimal_digits decimal = digits_value (decimal.whole ++ decimal.fraction)
+
+abbrev pub decimal_scale : DecimalParts → ℕ
+decimal_scale decimal = 10 ^ length decimal.fraction
+
+-- a decimal times ten to the power of the places, if that is whole and fits
+abbrev pub scaled_decimal : ℕ → DecimalParts → Option ℤ
+scaled_decimal places decimal =
+    let size = decimal_digits decimal * 10 ^ places in
+    let scale = decimal_scale decimal in
+    if size % scale == 0 then signed_answer decimal.negative (size / scale) else None
+
 -- what a text is as a number: a whole one, a decimal, or none
 pub data Number : Type 0 where
   Whole : ℤ → Number
@@ -83,6 +100,12 @@ whole_or None next = next
 -- the number that a text is
 abbrev pub number_answer : List ℕ → Number
 number_answer text = whole_or (whole_number text) (decimal_answer text)
+
+-- a number times ten to the power of the places, if that is whole and fits
+abbrev pub scaled_number : ℕ → Number → Option ℤ
+scaled_number places (Whole n) = signed_answer (int_lt n (pos 0)) (unsigned_abs n * 10 ^ places)
+scaled_number places (Fractional decimal) = scaled_decimal places decimal
+scaled_number places NoNumber = None
 
 -- a sign as it stands in a text: `-` if and only if it is negative, otherwise `+` or nothing
 abbrev pub IsSign : Bool → List ℕ → Type 0

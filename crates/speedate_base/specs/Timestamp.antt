@@ -1,5 +1,5 @@
 -- Timestamps in seconds, milliseconds or microseconds since 1970-01-01T00:00:00 (Unix time), and the instants that they mean.
-use Rattle.std.specs.Prelude.{ℕ, ◌^◌, Bool, true, IsTrue, nat_le, nat_lt, if◌then◌else◌, List, [], ◌∷◌, ℤ, pos, neg_ℤ, ◌*ℤ◌, int_le, unsigned_abs, Result, Ok, ◌*◌, ◌++◌, length, ◌+◌, ◌/◌, ◌%◌, ◌+ℤ◌, int_lt}
+use Rattle.std.specs.Prelude.{ℕ, ◌^◌, Bool, true, IsTrue, nat_le, nat_lt, if◌then◌else◌, List, [], ◌∷◌, ℤ, pos, neg_ℤ, ◌*ℤ◌, int_le, unsigned_abs, Result, Ok, ◌*◌, length, ◌+◌, ◌/◌, ◌%◌, ◌+ℤ◌, int_lt}
 use Rattle.std.specs.Int.{int_div_euclid, int_rem_euclid}
 use Rattle.speedate_base.specs.declared.config.MicrosecondsPrecisionOverflowBehavior.{MicrosecondsPrecisionOverflowBehavior}
 use Rattle.speedate_base.specs.declared.config.TimestampUnit.TheVariants as unit
@@ -9,9 +9,8 @@ use Rattle.speedate_base.specs.declared.faults.ParseError.{ParseError}
 use Rattle.speedate_base.specs.declared.util.unit.UnixUnit.{UnixUnit}
 use Rattle.speedate_base.specs.declared.util.unix_time.UnixTime.{UnixTime}
 use Rattle.speedate_base.specs.Config.{refuses_digits}
-use Rattle.speedate_base.specs.Digits.{digits_value}
 use Rattle.speedate_base.specs.Nearest.{nearest}
-use Rattle.speedate_base.specs.Numbers.{DecimalParts, with_sign}
+use Rattle.speedate_base.specs.Numbers.{DecimalParts, decimal_digits, decimal_scale, with_sign}
 use Rattle.speedate_base.specs.Requirement.{Requirement, ◌else_fault◌, meets, ◌implies◌}
 
 -- the seconds of a day
@@ -115,13 +114,6 @@ abbrev pub range_answer : Instant → Result Instant ParseError
 range_answer instant = meets (range_table instant) (Ok instant)
 
 -- Decimal timestamps (Unix time): what they mean to the nearest microsecond, and how many digits a text may have after its point.
-
--- a decimal is its digits, as one number, over ten to the number of those after the point
-abbrev pub decimal_digits : DecimalParts → ℕ
-decimal_digits decimal = digits_value (decimal.whole ++ decimal.fraction)
-
-abbrev pub decimal_scale : DecimalParts → ℕ
-decimal_scale decimal = 10 ^ length decimal.fraction
 
 -- the unit of a decimal timestamp: an inferred one goes by the whole decimal
 abbrev pub decimal_row : TimestampUnit → DecimalParts → UnitRow

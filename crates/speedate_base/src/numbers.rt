@@ -1,7 +1,7 @@
 //! Whole numbers and decimals, and the digits that they are made of.
 
 ghost use Rattle.std.specs.Prelude.{◌≡◌, ◌^◌, ◌<◌, ◌≤◌, length, Some, None, if◌then◌else◌};
-ghost use Rattle.speedate_base.specs.Numbers.{has_minus, sign_length, with_sign, fits_i64, whole_number, point_place, decimal_answer, number_answer, number_of, JoinsToFloat};
+ghost use Rattle.speedate_base.specs.Numbers.{has_minus, sign_length, with_sign, signed_answer, whole_number, point_place, decimal_answer, number_answer, number_of, JoinsToFloat};
 
 pub(crate) mod digits;
 mod fraction;
@@ -127,7 +127,7 @@ pub fn with_sign(negative: bool, size: u64) -> i64
 
 /// A size with its sign, if it fits an `i64`.
 fn signed(negative: bool, size: u64) -> Option<i64>
-    ensures value { result ≡ (if fits_i64 negative size then Some (with_sign negative size) else None) }
+    ensures value { result ≡ signed_answer negative size }
 {
     if size <= i64::MAX as u64 {
         Some(with_sign(negative, size))

@@ -49,6 +49,36 @@ const NUMBERS: &str = "\
 'xxx'                                 none
 ' '                                   none";
 
+/// Powers of ten, texts, and the whole number that each text is times that power.
+const SCALED: &str = "\
+2           '12.50'                    1250
+2           '12'                       1200
+2           '12.345'                   none
+2           '12.34<0*40>'              1234
+2           '12.34<0*40>1'             none
+1           '1.500000000000000000000'  15
+3           '1.5'                      1500
+2           '-0.05'                    -5
+2           '-12'                      -1200
+2           '-0.0'                     0
+2           '.5'                       50
+2           '5.'                       500
+0           '5.<0*40>'                 5
+0           '5.5'                      none
+40          '.<0*39>1'                 1
+18          '1'                        1000000000000000000
+19          '1'                        none
+2           '92233720368547758.07'     9223372036854775807
+2           '92233720368547758.08'     none
+2           '-92233720368547758.08'    -9223372036854775808
+2           '-92233720368547759'       none
+3           '18446744073709551.616'    none
+4294967295  '0'                        0
+4294967295  '.<0*40>'                  0
+4294967295  '1'                        none
+4294967295  '.<0*40>1'                 none
+2           '1.5e3'                    none";
+
 #[test]
 fn whole_numbers(rt: HostRuntime) {
     for row in WHOLE.lines() {
@@ -97,4 +127,13 @@ fn numbers(rt: HostRuntime) {
     }
     assert!(rt; Decimal::new(false, b"", b"").is_none());
     assert!(rt; Decimal::new(false, b"1", b"5e3").is_none());
+}
+
+#[test]
+fn scaled_numbers(rt: HostRuntime) {
+    for row in SCALED.lines() {
+        let (places, text, want) = quoted(&rt, row);
+        let places = value(&rt, places);
+        same(&rt, float_parse_str(&text).scaled(places), want.parse().ok(), row);
+    }
 }

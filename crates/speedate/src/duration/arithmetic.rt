@@ -6,15 +6,16 @@ ghost use Rattle.speedate_base.specs.Timestamp.{instant_at, instant_of};
 ghost use Rattle.speedate_civil.specs.DateTime.{local_microsecond, utc_microsecond, date_and_time};
 ghost use Rattle.speedate_civil.specs.Calendar.{days_between};
 ghost use Rattle.speedate.specs.declared.duration.Duration.{Duration};
-ghost use Rattle.speedate.specs.Duration.{duration_numbers, signed_length, duration_of_length, negated, with_positive_zero, duration_between, date_time_after, duration_between_dates, signed_days, date_after_days};
+ghost use Rattle.speedate.specs.Duration.{duration_numbers, signed_length, duration_of_length, length_answer, negated, with_positive_zero, duration_between, date_time_after, duration_between_dates, signed_days, date_after_days};
 
-use super::Duration;
+use super::{DAYS_MAX, Duration};
 use speedate_base::faults::ParseError;
 use speedate_base::util::{SECONDS_PER_DAY, UnixTime};
 use speedate_civil::date::Date;
 use speedate_civil::datetime::{DateTime, instant_date_time};
 
 impl Duration {
+    ghost use Rattle.speedate_base.specs.Requirement.{result_map};
     ghost use Rattle.speedate_civil.specs.DateTime.{◌gives◌};
 
     /// The duration from one date-time to another, by their instants in UTC: an hour from
@@ -94,6 +95,39 @@ impl Duration {
             second: self.second,
             microsecond: self.microsecond,
         }
+    }
+
+    /// The length in microseconds, with the sign: -1,500,000 for -PT1.5S, and 0 for PT0S and -PT0S.
+    /// [`Duration::from_signed_microseconds`] leads back, to PT0S of both.
+    pub fn signed_total_microseconds(&self) -> i128
+        ensures microsecond { result ≡ signed_length (duration_numbers self.now) }
+        ensures leads_back { length_answer result ≡ Ok (with_positive_zero (duration_numbers self.now)) }
+    {
+        1_000_000 * i128::from(self.signed_total_seconds()) + i128::from(self.signed_microseconds())
+    }
+
+    /// The duration of a length in microseconds, with the sign: -PT1.5S for -1,500,000, and PT0S for 0.
+    /// Sums and multiples of lengths are exact: the longest duration has fewer than 2^77 microseconds.
+    ///
+    /// # Errors
+    ///
+    /// `DurationDaysTooLarge` if it has more than 999,999,999 days.
+    pub fn from_signed_microseconds(microseconds: i128) -> Result<Self, ParseError>
+        ensures answer { result_map duration_numbers result ≡ length_answer microseconds }
+        ensures length { IfOk result (λ duration. signed_length (duration_numbers duration) ≡ microseconds) }
+    {
+        let size = microseconds.unsigned_abs();
+        let (seconds, per_day) = (size / 1_000_000, u128::from(SECONDS_PER_DAY));
+        let day = seconds / per_day;
+        if day > u128::from(DAYS_MAX) {
+            return Err(ParseError::DurationDaysTooLarge);
+        }
+        Ok(Duration {
+            positive: microseconds >= 0,
+            day: day as u32,
+            second: (seconds % per_day) as u32,
+            microsecond: (size % 1_000_000) as u32,
+        })
     }
 
     /// The duration of a number of microseconds.

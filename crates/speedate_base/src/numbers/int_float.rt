@@ -1,8 +1,11 @@
 //! Numbers as they stand in texts.
 
-ghost use Rattle.std.specs.Prelude.{◌≡◌, ◌+◌, ◌<◌, length, IsTrue};
+ghost use Rattle.std.specs.Prelude.{◌≡◌, ◌+◌, ◌-◌, ◌*◌, ◌^◌, ◌<◌, length, min, IsTrue};
 ghost use Rattle.std.specs.Char.{is_ascii_digit};
 ghost use Rattle.std.specs.List.{list_all};
+
+use super::digits::digits_number;
+use super::signed;
 
 /// A decimal of any length: its sign, and the digits before and after its point, borrowed from a text.
 /// The decimal of `"-1.50"` is negative, and has the digits `1` and `50`.
@@ -25,7 +28,7 @@ pub struct Decimal<'a> {
 
 impl<'a> Decimal<'a> {
     ghost use Rattle.std.specs.Option.{option_map};
-    ghost use Rattle.speedate_base.specs.Numbers.{decimal_of, decimal_of_digits};
+    ghost use Rattle.speedate_base.specs.Numbers.{decimal_of, decimal_of_digits, scaled_decimal};
 
     /// The decimal of a sign and the digits before and after its point: that of `"-1.50"` for true,
     /// `b"1"` and `b"50"`. `None` if a byte is no digit, or if there is no digit at all.
@@ -44,6 +47,25 @@ impl<'a> Decimal<'a> {
             whole,
             fraction,
         })
+    }
+
+    /// The decimal times ten to the power of `places`, if that is whole and fits an `i64`: 1,250, the
+    /// cents of an amount, for the decimal of `"12.50"` and 2.
+    ///
+    /// Zeros at the end of the fraction do not matter, however many there are. `None` if another digit
+    /// is left, as for `"12.345"` and 2, or if the number does not fit. `"-0.0"` gives 0.
+    #[tactic(auto, using(crate::proofs::ScaledLemmas::scaled_rules))]
+    pub fn scaled(self, places: u32) -> Option<i64>
+        ensures answer { result ≡ scaled_decimal places (decimal_of self.entry) }
+    {
+        let count = self.fraction.len().min(places as usize);
+        let (counted, rest) = self.fraction.split_at(count);
+        if digits_number(rest) != 0 {
+            return None;
+        }
+        let whole = scaled_size(digits_number(self.whole), places);
+        let fraction = scaled_size(digits_number(counted), places - count as u32);
+        signed(self.negative, whole.saturating_add(fraction))
     }
 }
 
@@ -66,7 +88,7 @@ pub enum IntFloat<'a> {
 }
 
 impl IntFloat<'_> {
-    ghost use Rattle.speedate_base.specs.Numbers.{is_no_number};
+    ghost use Rattle.speedate_base.specs.Numbers.{is_no_number, number_of, scaled_number};
 
     /// Whether it is `Err`: true for the answer to `"1.5e3"`.
     pub fn is_err(&self) -> bool
@@ -74,4 +96,23 @@ impl IntFloat<'_> {
     {
         matches!(self, IntFloat::Err)
     }
+
+    /// The number times ten to the power of `places`, if that is whole and fits an `i64`: 1,200 for
+    /// `"12"` and 2, and 1,250 for `"12.50"`. `None` as for [`Decimal::scaled`], and for `Err`.
+    pub fn scaled(self, places: u32) -> Option<i64>
+        ensures answer { result ≡ scaled_number places (number_of self.entry) }
+    {
+        match self {
+            IntFloat::Int(number) => signed(number < 0, scaled_size(number.unsigned_abs(), places)),
+            IntFloat::Float(decimal) => decimal.scaled(places),
+            IntFloat::Err => None,
+        }
+    }
+}
+
+/// A size times ten to the power of `places`, or `u64::MAX` if that is larger: 1,200 for 12 and 2.
+fn scaled_size(size: u64, places: u32) -> u64
+    ensures size { result ≡ min (size * 10 ^ places) (2 ^ 64 - 1) }
+{
+    size.saturating_mul(10_u64.saturating_pow(places))
 }

@@ -2,8 +2,8 @@
 
 ghost use Rattle.std.specs.Prelude.{◌≡◌, IfOk};
 ghost use Rattle.std.specs.Option.{ForSome};
-ghost use Rattle.speedate_base.specs.Timestamp.{decimal_row, decimal_scale, decimal_size, decimal_instant, row};
-ghost use Rattle.speedate_base.specs.Numbers.{decimal_of};
+ghost use Rattle.speedate_base.specs.Timestamp.{decimal_row, decimal_size, decimal_instant, row};
+ghost use Rattle.speedate_base.specs.Numbers.{decimal_scale, decimal_of};
 ghost use Rattle.speedate_base.specs.Nearest.{IsNearest};
 ghost use Rattle.speedate_base.specs.Offset.{IsOffset, IsWholeMinutes};
 ghost use Rattle.speedate_base.specs.Requirement.{result_map};
