@@ -155,8 +155,8 @@ impl Default for DateConfigBuilder {
 /// offset the value of a timestamp gets, and whether the components of a duration have to come in order.
 ///
 /// The default refuses such digits, attaches no offset, and takes any order;
-/// `TimeConfig::builder().unix_timestamp_offset(Some(3600)).build()` attaches one hour. That the offset
-/// is less than 24 hours is part of the type.
+/// `TimeConfig::builder().unix_timestamp_offset(Some(3600)).build()` attaches one hour. The type
+/// holds offsets of less than 24 hours and no others.
 #[derive(Clone, Copy, Debug, PartialEq, Eq)]
 pub struct TimeConfig {
     /// What is done with digits past the microsecond.

@@ -3,7 +3,7 @@
 //! rounding of fractions.
 //!
 //! A crate that reads dates or times needs `speedate` alone, which gives the faults, the
-//! configurations and the numbers. This crate is for readers and printers of further forms.
+//! configurations and the numbers. Use this crate to parse or print other forms.
 #![tactic(auto)]
 
 pub mod config;

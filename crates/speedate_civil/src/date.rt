@@ -24,7 +24,7 @@ const TEXT_LENGTH: usize = 10;
 /// from numbers by [`Date::new`]. It is printed as `YYYY-MM-DD`, as `2020-02-29`: Display writes this
 /// text, whatever width and fill are asked for.
 ///
-/// That it is a day of the calendar is part of the type: the check proves it at each literal, and for a
+/// The type holds days of the calendar and nothing else: the check proves it at each literal, and for a
 /// constant where it is used. Both are written as in Rust:
 /// `const NEW_YEAR: Date = Date { year: 2020, month: 1, day: 1 };`.
 ///

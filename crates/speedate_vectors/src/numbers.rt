@@ -134,6 +134,11 @@ fn scaled_numbers(rt: HostRuntime) {
     for row in SCALED.lines() {
         let (places, text, want) = quoted(&rt, row);
         let places = value(&rt, places);
-        same(&rt, float_parse_str(&text).scaled(places), want.parse().ok(), row);
+        same(
+            &rt,
+            float_parse_str(&text).scaled(places),
+            want.parse().ok(),
+            row,
+        );
     }
 }

@@ -10,7 +10,7 @@ use super::signed;
 /// A decimal of any length: its sign, and the digits before and after its point, borrowed from a text.
 /// The decimal of `"-1.50"` is negative, and has the digits `1` and `50`.
 ///
-/// That the bytes are digits, at least one in all, is part of the type. It stands in place of the `f64`
+/// The type holds digits and nothing else, at least one in all. It stands in place of the `f64`
 /// of the Rust crate: `DateTime::from_decimal_with_config` takes it where that has
 /// `from_float_with_config`.
 #[derive(Clone, Copy, Debug)]

@@ -10,8 +10,7 @@ use speedate_base::faults::ParseError;
 use speedate_base::util::{LAST_SECOND, UnixTime};
 
 /// A moment that a clock tells: the time since 1970-01-01T00:00:00 in UTC (Unix time).
-/// [`DateTime::now_at`] makes a date-time of it. That the microseconds are less than a second is part
-/// of the type.
+/// [`DateTime::now_at`] makes a date-time of it. The type holds microseconds of less than a second.
 #[derive(Clone, Copy, Debug, PartialEq, Eq)]
 pub struct Moment {
     /// The seconds since 1970-01-01T00:00:00, rounded down.
