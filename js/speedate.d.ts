@@ -1,0 +1,117 @@
+// SPDX-License-Identifier: MIT
+// A call throws a SpeedateError where it refuses a text or a value; a TypeError where an argument, a field or an option is
+// of another type or name, or an option has another value; and a RangeError for a number that no argument can be.
+
+/** A day of the Gregorian calendar, carried back to the year 0: `year` 0 to 9999, `month` 1 to 12, `day` 1 to its length. */
+export type SpeedateDate = { readonly year: number; readonly month: number; readonly day: number };
+/** A time of day: `hour` 0 to 23, `minute` and `second` 0 to 59, `millisecond` and `microsecond` 0 to 999 each, and
+ * `offsetSeconds`, the offset from UTC, -86399 to 86399, positive east of it, or null. */
+export type SpeedateTime = {
+  readonly hour: number; readonly minute: number; readonly second: number;
+  readonly millisecond: number; readonly microsecond: number; readonly offsetSeconds: number | null;
+};
+/** A date and a time of day, as a clock at the offset shows them. */
+export type SpeedateDateTime = SpeedateDate & SpeedateTime;
+/** A length of time: up to 999999999 days of 86400 seconds, 86399 `seconds`, and 999 `milliseconds` and `microseconds` each. All
+ * have the sign, and zero may be negative: `-PT0S` is no `PT0S`. */
+export type SpeedateDuration = {
+  readonly sign: 1 | -1; readonly days: number; readonly seconds: number; readonly milliseconds: number; readonly microseconds: number;
+};
+export type SpeedateValue = SpeedateDate | SpeedateTime | SpeedateDateTime | SpeedateDuration;
+
+/** Why a text or a value is refused. */
+export type Fault = @FAULTS@;
+/** A refusal. Its message says what the fault means. */
+export class SpeedateError extends RangeError {
+  private constructor();
+  readonly fault: Fault;
+  /** The number of the fault in C. */ readonly code: number;
+}
+/** What a `safe` call answers, which throws no SpeedateError. */
+export type Answer<Value> = { readonly ok: true; readonly value: Value } | Refusal;
+export type Refusal = { readonly ok: false; readonly fault: Fault; readonly code: number; readonly message: string };
+/** The value at the front of a text, and its size in bytes of UTF-8, and in units of a string: 10 of `2020-02-29 rent`. */
+export type Front<Value, Text> = { readonly value: Value; readonly size: number } & (Text extends string ? { readonly length: number } : unknown);
+
+/** `infer` is `s` if the timestamp without its sign is at most 20000000000, otherwise `ms`. */
+export type TimestampUnit = "infer" | "s" | "ms" | "us";
+
+/** Timestamps are read too, in this unit: every whole number, 20200229 as well, and of date-times every decimal. A date's has
+ * to be a midnight. */
+export type TimestampOptions = { timestamps?: TimestampUnit };
+/** The offset that the value of a timestamp gets, in seconds: 0 for Unix time. It is attached, and shifts nothing. */
+export type OffsetOptions = { timestampOffset?: number };
+/** What happens to digits past the microsecond: `error`, the default, refuses the text; `truncate` drops them, and rounds a
+ * timestamp to the nearest microsecond. An ISO 8601 duration is rounded under both. */
+export type OverflowOptions = { overflow?: "error" | "truncate" };
+/** Only the texts of RFC 3339 are read, without a second 60. */
+export type StrictOptions = OverflowOptions & { strict?: boolean };
+/** Timestamps and the texts of RFC 3339 alone exclude each other. */
+export type DateTimeOptions =
+  | (StrictOptions & { timestamps?: undefined; timestampOffset?: undefined })
+  | (OverflowOptions & Required<TimestampOptions> & OffsetOptions & { strict?: false });
+/** The order of the components of an ISO 8601 duration: any, and repeated (`lax`, the default), or each once, in order. */
+export type DurationOptions = OverflowOptions & { isoOrder?: "lax" | "strict" };
+
+/** A string, in which a lone surrogate counts as U+FFFD, or bytes of UTF-8. */
+export type Text = string | Uint8Array;
+type Reader<Value, Options> = (text: Text, options?: Options) => Value;
+type FrontReader<Value, Options> = <It extends Text>(text: It, options?: Options) => Front<Value, It>;
+type SafeFrontReader<Value, Options> = <It extends Text>(text: It, options?: Options) => Answer<Front<Value, It>>;
+
+/** Reads a date: `2020-02-29`. */
+export const parseDate: Reader<SpeedateDate, TimestampOptions>;
+/** Reads a time of day: `12:13:14.5+01:00`. */
+export const parseTime: Reader<SpeedateTime, StrictOptions>;
+/** Reads a date-time: `2020-02-29T12:13:14.5+01:00`. */
+export const parseDateTime: Reader<SpeedateDateTime, DateTimeOptions>;
+/** Reads a duration: `PT90M`, `-00:01:30.5` or `2 days, 10:20`. A year is 365 days, and a month 30. */
+export const parseDuration: Reader<SpeedateDuration, DurationOptions>;
+/** Reads the date at the front of a text, whatever follows it. It has no options. */
+export const parseDateFront: FrontReader<SpeedateDate, Record<string, never>>;
+/** The same of a time: `12:13` of `12:13, noon`. */
+export const parseTimeFront: FrontReader<SpeedateTime, OverflowOptions>;
+/** The same of a date-time: `2020-02-29T12:13:14Z` of `2020-02-29T12:13:14Z GET /`. */
+export const parseDateTimeFront: FrontReader<SpeedateDateTime, OverflowOptions>;
+// They answer a fault where the readers above throw it.
+export const safeParseDate: Reader<Answer<SpeedateDate>, TimestampOptions>, safeParseTime: Reader<Answer<SpeedateTime>, StrictOptions>;
+export const safeParseDateTime: Reader<Answer<SpeedateDateTime>, DateTimeOptions>;
+export const safeParseDuration: Reader<Answer<SpeedateDuration>, DurationOptions>;
+export const safeParseDateFront: SafeFrontReader<SpeedateDate, Record<string, never>>;
+export const safeParseTimeFront: SafeFrontReader<SpeedateTime, OverflowOptions>;
+export const safeParseDateTimeFront: SafeFrontReader<SpeedateDateTime, OverflowOptions>;
+
+/** The date of a timestamp: 1970-01-02 of 86400 seconds. `date_not_exact` where that is no midnight, unless `exact` is false;
+ * `date_too_small` or `date_too_large` outside the years 0 to 9999. */
+export function dateFromTimestamp(timestamp: number | bigint, unit: TimestampUnit, options?: { exact?: boolean }): SpeedateDate;
+/** The time so long after midnight: 01:00:00 of 3600 seconds. `time_too_large` from 24 hours on. */
+export function timeFromTimestamp(timestamp: number | bigint, unit: "s" | "ms" | "us", options?: OffsetOptions): SpeedateTime;
+/** The date-time of a timestamp. `date_too_small` or `date_too_large` outside the years 0 to 9999. */
+export function dateTimeFromTimestamp(timestamp: number | bigint, unit: TimestampUnit, options?: OffsetOptions): SpeedateDateTime;
+/** Unix time, rounded down to the millisecond. `tz_required` without an offset. */
+export function epochMilliseconds(value: SpeedateDateTime): number;
+/** The same as a Date. */
+export function toDate(value: SpeedateDateTime): Date;
+/** The date-time of a Date, at the offset 0. `date_too_small` or `date_too_large` outside the years 0 to 9999. */
+export function fromDate(date: Date): SpeedateDateTime;
+
+/** The one text of a value: `PT1H30M` of 90 minutes. A RangeError where an offset is not whole minutes, since it would read back
+ * as another. */
+export function format(value: SpeedateValue): string;
+/** -1 if the first value is the smaller one, 0 if they are equal, otherwise 1. Times and date-times compare by instant if both
+ * have an offset, otherwise as clocks show them: sort values that all have one, or that all have none. */
+export function compare<Value extends SpeedateValue>(first: Value, second: Value): -1 | 0 | 1;
+/** The date so many days later. `no_such_date` outside the years 0 to 9999. */
+export function addDays(date: SpeedateDate, days: number): SpeedateDate;
+/** The days from `earlier` to `date`, negative where `earlier` is the later one. */
+export function daysSince(date: SpeedateDate, earlier: SpeedateDate): number;
+/** The value so long after `start`, at the same offset. `date_not_exact` where a date would move by a part of a day;
+ * `date_too_small` or `date_too_large` outside the years 0 to 9999. */
+export function after<Start extends SpeedateDate>(start: Start, duration: SpeedateDuration): Start;
+/** The value so long before it. */
+export function before<Start extends SpeedateDate>(start: Start, duration: SpeedateDuration): Start;
+/** The duration from one value to the other. A date-time without offset is taken to be in UTC. */
+export function between<Value extends SpeedateDate>(earlier: Value, later: Value): SpeedateDuration;
+/** The value at the same instant, as a clock at another offset shows it. `out_of_range_tz` from 24 hours on; `tz_required` without
+ * an offset; `time_too_large` where a time would be another day's; `date_too_small` or `date_too_large` as above. */
+export function inTimezone<Value extends SpeedateTime>(value: Value, offsetSeconds: number): Value;

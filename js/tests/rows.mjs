@@ -1,0 +1,112 @@
+// Runs rows of the C functions through the package: node rows.mjs ROWS. A row is a call of C, its arguments, the name of
+// its code and what it writes, with `|` between them. A text is read as a string and as bytes, by the call that throws and by
+// the safe one, with the options that it has of a configuration. The fault is that of C's `_check` where C has
+// VALUE_OUT_OF_RANGE; an offset with another flag than 0 and 1 is 24 hours, and a sign with another is 2; a timestamp and
+// microseconds are one number; Unix time needs an offset. Rows of calls that are not here are counted, as are those of a
+// configuration or an exact flag without meaning, and of a time over 64 bits of microseconds.
+import assert from "node:assert/strict";
+import { readFileSync } from "node:fs";
+import * as speedate from "speedate";
+
+const { after, before, between, compare, epochMilliseconds, format, inTimezone, SpeedateError } = speedate;
+
+const numbers = (field) => field.split(" ").map(Number);
+const date = (field) => { const [year, month, day] = numbers(field); return { year, month, day }; };
+const time = (field) => {
+  const [hour, minute, second, flag, micro, offset] = numbers(field).slice(-6);
+  const offsetSeconds = flag === 0 ? null : flag === 1 ? offset : 86400;
+  return { hour, minute, second, millisecond: Math.floor(micro / 1000), microsecond: micro % 1000, offsetSeconds };
+};
+const datetime = (field) => ({ ...date(field), ...time(field) });
+const duration = (field) => {
+  const [negative, ...sizes] = numbers(field);
+  const sign = [1, -1][negative] ?? 2;
+  const [days, seconds, micro] = sizes.map((it) => it * Math.sign(sign) || 0);
+  return { sign, days, seconds, milliseconds: Math.trunc(micro / 1000) || 0, microseconds: micro % 1000 || 0 };
+};
+/** What C writes as this package answers it: a value is told by how many numbers it has. */
+const answered = (field) => ({ 3: date, 4: duration, 6: time, 9: datetime })[field.split(" ").length]?.(field) ?? field;
+
+/** The options of these names that a configuration is. */
+function options(config, ...names) {
+  const [offset, flag, unit, overflow, order] = config === "default" ? [0, 0, 0, 0, 0] : numbers(config);
+  const units = { timestamps: ["infer", "s", "ms", "us"][unit], timestampOffset: flag ? offset : undefined };
+  const all = { ...units, overflow: ["error", "truncate"][overflow], isoOrder: ["lax", "strict"][order] };
+  return Object.fromEntries(names.map((name) => [name, all[name]]));
+}
+
+/** Kinds by their names in C: what makes a value of a field, the name here, and the options of a call `parse` of C. */
+const KINDS = {
+  date: [date, "Date", ["timestamps"]], time: [time, "Time", ["overflow"]],
+  datetime: [datetime, "DateTime", ["timestamps", "timestampOffset", "overflow"]],
+  duration: [duration, "Duration", ["overflow", "isoOrder"]],
+};
+/** The calls of values by the end of their name in C, where `of` makes a value of the kind that begins the name. */
+const CALLS = {
+  check: (of, it) => void compare(of(it), of(it)),
+  to_text: (of, it) => format(of(it)),
+  compare: (of, one, other) => compare(of(one), of(other)),
+  add_days: (of, it, days) => speedate.addDays(of(it), Number(days)),
+  days_since: (of, it, from) => speedate.daysSince(of(it), of(from)),
+  in_timezone: (of, it, offset) => inTimezone(of(it), Number(offset)),
+  timestamp_tz: (of, it) => Math.floor(epochMilliseconds(of(it)) / 1000), timestamp_tz_ms: (of, it) => epochMilliseconds(of(it)),
+  between: (of, one, other) => between(datetime(one), datetime(other)), between_dates: (of, one, other) => between(date(one), date(other)),
+  after: (of, it, start) => after(datetime(start), of(it)), after_date: (of, it, start) => after(date(start), of(it)),
+  before: (of, it, start) => before(datetime(start), of(it)), before_date: (of, it, start) => before(date(start), of(it)),
+  from_timestamp(of, it, more, config) {
+    const { timestamps: unit, ...offset } = options(config, "timestamps", "timestampOffset");
+    if (of === date) return speedate.dateFromTimestamp(BigInt(it), unit, { exact: more === "1" });
+    if (of === time) return speedate.timeFromTimestamp(BigInt(it) * 1000000n + BigInt(more), "us", offset);
+    if (more === "0") return speedate.dateTimeFromTimestamp(BigInt(it), unit, offset);
+    return speedate.dateTimeFromTimestamp(BigInt(it) * ({ ms: 1000n, us: 1n }[unit] ?? 1000000n) + BigInt(more), "us", offset);
+  },
+};
+/** What no call here can be given, by the call of C and its code. */
+const LEFT_OUT = / config_out_of_range|^date_from_timestamp value_out_of_range|^datetime_from_timestamp time_too_large/;
+
+/** What a call answers, a number as a text, or its fault. */
+function outcome(call, ...args) {
+  try {
+    const it = call(...args);
+    return { ok: true, value: typeof it === "number" ? String(it) : it };
+  } catch (error) {
+    if (!(error instanceof SpeedateError)) throw error;
+    return { ok: false, fault: error.fault, code: error.code, message: error.message };
+  }
+}
+
+/** What the readers of a text answer, as a string and as bytes: `how` is the end of their name in C. Only `parse` has all options. */
+function read([, kind, names], how, fields) {
+  const name = kind + (how === "_front" ? "Front" : "");
+  const chosen = fields.length > 1 ? options(fields[0], ...(how ? ["overflow"] : names)) : {};
+  if (how === "_strict") chosen.strict = true;
+  return [fields.at(-1), Buffer.from(fields.at(-1))].map((text) => {
+    const result = outcome(speedate[`parse${name}`], text, chosen);
+    assert.deepEqual(speedate[`safeParse${name}`](text, chosen), result);
+    return result;
+  });
+}
+
+let ran = 0;
+const left = {};
+for (const row of readFileSync(process.argv[2], "utf8").split("\n").filter((it) => it && !it.startsWith("#"))) {
+  const [call, ...fields] = row.split("|");
+  const [, kind, name] = /^([a-z]+)_?(.*)$/.exec(call);
+  const [, how] = /^parse(|_rfc3339|_strict|_front)$/.exec(name) ?? [];
+  const at = fields.findIndex((it) => /^(ok|[a-z]+_[a-z_]+)$/.test(it));
+  const [args, [code, written, size]] = [fields.slice(0, at), fields.slice(at)];
+  if ((how === undefined && !(kind in KINDS && name in CALLS)) || LEFT_OUT.test(`${call} ${code}`)) {
+    left[call] = (left[call] ?? 0) + 1;
+    continue;
+  }
+  ran++;
+  const hasNoOffset = name.startsWith("timestamp_tz") && args[0].split(" ")[6] === "0";
+  for (const { fault = "ok", value } of how === undefined ? [outcome(CALLS[name], KINDS[kind][0], ...args)] : read(KINDS[kind], how, args)) {
+    if (code === "value_out_of_range") assert.match(fault, /^(out_of_range_|date_too_|time_too_|duration_\w+_too_)/, row);
+    else assert.equal(fault, hasNoOffset ? "tz_required" : code, row);
+    if (size) assert.equal(value.size, Number(size), row);
+    if (fault === "ok" && written !== undefined) assert.deepEqual(size ? value.value : value, answered(written), row);
+  }
+}
+assert.ok(ran > 200);
+console.log(`${ran} rows; not those of ${Object.entries(left).map(([call, count]) => `${call} (${count})`).join(", ")}`);
