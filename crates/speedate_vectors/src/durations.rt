@@ -127,10 +127,23 @@ const PARTS: &str = "\
 +  4294967295  86400       0          duration_value_too_large
 +  4294967295  4294967295  905969663  duration_value_too_large";
 
-/// Durations, and their seconds, microseconds of a second and milliseconds, with the sign.
+/// Durations, and their seconds, microseconds of a second, milliseconds and microseconds, with the sign.
 const TOTALS: &str = "\
--PT1.001S                      -1               -1000    -1001
--P2739726Y9DT23H59M59.999999S  -86399999999999  -999999  -86399999999999999";
+-PT0S                          0                0        0                   0
+-PT1.001S                      -1               -1000    -1001               -1001000
+-P2739726Y9DT23H59M59.999999S  -86399999999999  -999999  -86399999999999999  -86399999999999999999";
+
+/// Microseconds, and the duration of that length.
+const LENGTHS: &str = "\
+0                                         PT0S
+-1                                        -PT0.000001S
+-1001000                                  -PT1.001S
+86399999999999999999                      P2739726Y9DT23H59M59.999999S
+-86399999999999999999                     -P2739726Y9DT23H59M59.999999S
+86400000000000000000                      duration_days_too_large
+-86400000000000000000                     duration_days_too_large
+170141183460469231731687303715884105727   duration_days_too_large
+-170141183460469231731687303715884105728  duration_days_too_large";
 
 /// Two date-times, and the duration from the one to the other.
 const BETWEEN: &str = "\
@@ -196,11 +209,22 @@ fn parts(rt: HostRuntime) {
 #[test]
 fn totals(rt: HostRuntime) {
     for row in TOTALS.lines() {
-        let [text, second, part, millisecond, ..] = words(row);
+        let [text, second, part, millisecond, microsecond] = words(row);
         let length = Duration::parse_str(text).ok().expect(&rt, row);
         same(&rt, length.signed_total_seconds(), value(&rt, second), row);
         same(&rt, length.signed_microseconds(), value(&rt, part), row);
         same(&rt, length.signed_total_ms(), value(&rt, millisecond), row);
+        let total = length.signed_total_microseconds();
+        same(&rt, total, value(&rt, microsecond), row);
+    }
+}
+
+#[test]
+fn lengths(rt: HostRuntime) {
+    for row in LENGTHS.lines() {
+        let [microseconds, want, ..] = words(row);
+        let length = Duration::from_signed_microseconds(value(&rt, microseconds));
+        expect(&rt, length, want, row);
     }
 }
 

@@ -133,12 +133,7 @@ fn numbers(rt: HostRuntime) {
 fn scaled_numbers(rt: HostRuntime) {
     for row in SCALED.lines() {
         let (places, text, want) = quoted(&rt, row);
-        let places = value(&rt, places);
-        same(
-            &rt,
-            float_parse_str(&text).scaled(places),
-            want.parse().ok(),
-            row,
-        );
+        let scaled = float_parse_str(&text).scaled(value(&rt, places));
+        same(&rt, scaled, want.parse().ok(), row);
     }
 }
