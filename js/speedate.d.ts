@@ -113,5 +113,5 @@ export function before<Start extends SpeedateDate>(start: Start, duration: Speed
 /** The duration from one value to the other. A date-time without offset is taken to be in UTC. */
 export function between<Value extends SpeedateDate>(earlier: Value, later: Value): SpeedateDuration;
 /** The value at the same instant, as a clock at another offset shows it. `out_of_range_tz` from 24 hours on; `tz_required` without
- * an offset; `time_too_large` where a time would be another day's; `date_too_small` or `date_too_large` as above. */
+ * an offset; `time_too_large` if a time would fall on another day; `date_too_small` or `date_too_large` as above. */
 export function inTimezone<Value extends SpeedateTime>(value: Value, offsetSeconds: number): Value;
