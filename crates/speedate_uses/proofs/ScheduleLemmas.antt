@@ -40,6 +40,14 @@ wait_more true true every gone some not_longer = omega (arith, ints)
 wait_more true false every zero some not_longer = omega (arith, ints)
 wait_more true false every (suc gone) some not_longer = absurd (cc)
 
+-- and `every` is no longer than that
+pub wait-short : (one two : Bool) (every gone most : ℕ) → pos 0 <ℤ with_sign (not one) every
+    → is_gt (ordering_then (int_cmp (with_sign (not one) every) (with_sign (not two) gone)) (bool_cmp one two)) ≡ false → gone < most → every < most
+wait-short false two every gone most some not_longer few = absurd (omega (arith, ints))
+wait-short true true every gone most some not_longer few = grind (arith, nat_tests)
+wait-short true false every zero most some not_longer few = grind (arith, nat_tests)
+wait-short true false every (suc gone) most some not_longer few = absurd (cc)
+
 -- the run that is found is the first one
 pub first_run : (positive : Bool) (last now run : ℤ) (every : ℕ) → int_lt (pos 0) (with_sign (not positive) every) ≡ true
     → run ≡ last +ℤ pos (next_count every (now -ℤ last) * every) → IsNextRun last (with_sign (not positive) every) now run
