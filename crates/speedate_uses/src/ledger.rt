@@ -1,13 +1,14 @@
-//! A ledger: lines that begin with dates, in order and sorted.
+//! A ledger: lines that begin with dates, in order and sorted, and amounts in cents.
 
 ghost use Rattle.std.specs.Prelude.{◌≡◌, OnErr, OnOk};
 ghost use Rattle.std.specs.List.{IsAllAdjacentAnswer};
 ghost use Rattle.std.specs.List.Sorted.{IsPermutation, IsSortedByKey, IsStableByKey};
 ghost use Rattle.speedate.specs.Date.{ymd};
 ghost use Rattle.speedate.specs.Calendar.{date_order};
+ghost use Rattle.speedate.specs.Numbers.{number_answer, scaled_number};
 ghost use Rattle.speedate_uses.specs.Ledger.{is_in_order};
 
-use speedate::Date;
+use speedate::{Date, float_parse_bytes};
 use std::alloc::{AllocError, Allocator};
 
 /// Whether two lines of a ledger begin with dates, and the second's is not before the first's: false
@@ -38,6 +39,14 @@ pub struct Entry {
     pub cents: i64,
 }
 
+/// An amount in cents: -4,250 for `-42.50`, and 1,200 for `12`. `None` for `12.345`, which is no whole
+/// number of cents, and for what is no number.
+pub fn cents(amount: &[u8]) -> Option<i64>
+    ensures cents { result ≡ scaled_number 2 (number_answer amount.now) }
+{
+    float_parse_bytes(amount).scaled(2)
+}
+
 /// Sorts the entries of a ledger by date, the earliest first. Those of one day stay in their order.
 pub fn sort_by_date<A: Allocator>(alloc: A, entries: &mut [Entry]) -> Result<(), AllocError>
     ensures same { IsPermutation entries.old entries.new }
@@ -50,7 +59,7 @@ pub fn sort_by_date<A: Allocator>(alloc: A, entries: &mut [Entry]) -> Result<(),
 
 #[cfg(test)]
 mod tests {
-    use super::{Entry, are_in_order, sort_by_date};
+    use super::{Entry, are_in_order, cents, sort_by_date};
     use crate::checks::{same, value};
     use std::process::Abort;
 
@@ -64,16 +73,25 @@ mod tests {
         same(&rt, are_in_order(&lines), false, "no date");
     }
 
-    fn entry<R: Abort>(rt: &R, date: &str, cents: i64) -> Entry {
+    #[test]
+    fn amounts_in_cents(rt: HostRuntime) {
+        same(&rt, cents(b"-42.50"), Some(-4_250), "two places");
+        same(&rt, cents(b"12"), Some(1_200), "a whole number");
+        same(&rt, cents(b"12.345"), None, "no whole number of cents");
+        same(&rt, cents(b"12 EUR"), None, "no number");
+    }
+
+    fn entry<R: Abort>(rt: &R, date: &str, amount: &[u8]) -> Entry {
         let date = value(rt, date);
+        let cents = cents(amount).expect(rt, "an amount");
         Entry { date, cents }
     }
 
     #[test]
     fn entries_by_date(rt: HostRuntime) {
-        let food = entry(&rt, "2026-11-30", -4_250);
-        let rent = entry(&rt, "2026-12-01", -90_000);
-        let wages = entry(&rt, "2026-12-01", 250_000);
+        let food = entry(&rt, "2026-11-30", b"-42.50");
+        let rent = entry(&rt, "2026-12-01", b"-900");
+        let wages = entry(&rt, "2026-12-01", b"2500.0");
         let mut entries = [rent, wages, food];
         let sorted = sort_by_date(rt.alloc(), &mut entries);
         assert!(rt; sorted.is_ok() && entries == [food, rent, wages]);

@@ -1,5 +1,5 @@
 //! Uses of the library, as crates of other workspaces would write them: each file is one use, with
-//! its test. `docs/CALLING.md` shows parts of two of them.
+//! its test. `README.md` shows part of one, and `docs/CALLING.md` of another.
 #![tactic(auto)]
 
 pub mod calendar;

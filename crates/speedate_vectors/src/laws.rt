@@ -49,60 +49,81 @@ pub fn clone_each<'a>(each: &Each<'a>) -> Result<Each<'a>, AllocError>
     each.clone()
 }
 
-/// Which of two values of each type are equal.
-#[derive(Clone, Copy)]
-pub struct Same {
-    /// The faults: not two variants.
-    pub faults: (bool, bool),
-    /// The choices: not two variants.
-    pub choices: (bool, bool, bool),
-    /// The configurations: not no offset and the offset 0.
-    pub configs: (bool, bool, bool),
-    /// What is read and computed: not no offset and the offset 0, nor `PT0S` and `-PT0S`.
-    pub values: (bool, bool, bool, bool, bool),
+/// Whether the faults are equal, and the choices: false for two variants.
+pub fn same_choices(first: &Each<'_>, second: &Each<'_>) -> (bool, bool, bool, bool, bool)
+    ensures fault { IsTrue result.0 ↔ (first.now.faults.0 ≡ second.now.faults.0) }
+    ensures config_error { IsTrue result.1 ↔ (first.now.faults.1 ≡ second.now.faults.1) }
+    ensures behavior { IsTrue result.2 ↔ (first.now.choices.0 ≡ second.now.choices.0) }
+    ensures iso_order { IsTrue result.3 ↔ (first.now.choices.1 ≡ second.now.choices.1) }
+    ensures unit { IsTrue result.4 ↔ (first.now.choices.2 ≡ second.now.choices.2) }
+{
+    (
+        first.faults.0 == second.faults.0,
+        first.faults.1 == second.faults.1,
+        first.choices.0 == second.choices.0,
+        first.choices.1 == second.choices.1,
+        first.choices.2 == second.choices.2,
+    )
 }
 
-/// Which of two values of each type are equal: those whose fields are.
-pub fn same_each(first: &Each<'_>, second: &Each<'_>) -> Same
-    ensures fault { IsTrue result.faults.0 ↔ (first.now.faults.0 ≡ second.now.faults.0) }
-    ensures config_error { IsTrue result.faults.1 ↔ (first.now.faults.1 ≡ second.now.faults.1) }
-    ensures behavior { IsTrue result.choices.0 ↔ (first.now.choices.0 ≡ second.now.choices.0) }
-    ensures iso_order { IsTrue result.choices.1 ↔ (first.now.choices.1 ≡ second.now.choices.1) }
-    ensures unit { IsTrue result.choices.2 ↔ (first.now.choices.2 ≡ second.now.choices.2) }
-    ensures date_config { IsTrue result.configs.0 ↔ (first.now.configs.0 ≡ second.now.configs.0) }
-    ensures time_config { IsTrue result.configs.1 ↔ (first.now.configs.1 ≡ second.now.configs.1) }
-    ensures date_time_config { IsTrue result.configs.2
-        ↔ ((first.now.configs.2.timestamp_unit ≡ second.now.configs.2.timestamp_unit)
-        × (first.now.configs.2.time_config ≡ second.now.configs.2.time_config)) }
-    ensures date { IsTrue result.values.0 ↔ (ymd first.now.values.0 ≡ ymd second.now.values.0) }
-    ensures time { IsTrue result.values.1 ↔ (time_of_day first.now.values.1 ≡ time_of_day second.now.values.1) }
-    ensures date_time { IsTrue result.values.2 ↔ (date_and_time first.now.values.2 ≡ date_and_time second.now.values.2) }
-    ensures moment { IsTrue result.values.3 ↔ (first.now.values.3 ≡ second.now.values.3) }
-    ensures duration { IsTrue result.values.4 ↔ (duration_numbers first.now.values.4 ≡ duration_numbers second.now.values.4) }
+/// Whether two configurations of dates are equal: false if their units differ.
+pub fn same_date_config(first: &DateConfig, second: &DateConfig) -> bool
+    ensures same { IsTrue result ↔ (first.now ≡ second.now) }
 {
-    Same {
-        faults: (
-            first.faults.0 == second.faults.0,
-            first.faults.1 == second.faults.1,
-        ),
-        choices: (
-            first.choices.0 == second.choices.0,
-            first.choices.1 == second.choices.1,
-            first.choices.2 == second.choices.2,
-        ),
-        configs: (
-            first.configs.0 == second.configs.0,
-            first.configs.1 == second.configs.1,
-            first.configs.2 == second.configs.2,
-        ),
-        values: (
-            first.values.0 == second.values.0,
-            first.values.1 == second.values.1,
-            first.values.2 == second.values.2,
-            first.values.3 == second.values.3,
-            first.values.4 == second.values.4,
-        ),
-    }
+    first == second
+}
+
+/// Whether two configurations are equal: false if one has no offset and the other the offset 0.
+pub fn same_time_config(first: &TimeConfig, second: &TimeConfig) -> bool
+    ensures same { IsTrue result ↔ (first.now ≡ second.now) }
+{
+    first == second
+}
+
+/// Whether two configurations of date-times are equal: false if their units differ.
+pub fn same_date_time_config(first: &DateTimeConfig, second: &DateTimeConfig) -> bool
+    ensures same { IsTrue result
+        ↔ ((first.now.timestamp_unit ≡ second.now.timestamp_unit)
+        × (first.now.time_config.microseconds_precision_overflow_behavior ≡ second.now.time_config.microseconds_precision_overflow_behavior)
+        × (first.now.time_config.unix_timestamp_offset ≡ second.now.time_config.unix_timestamp_offset)
+        × (first.now.time_config.iso_order ≡ second.now.time_config.iso_order)) }
+{
+    first == second
+}
+
+/// Whether two dates are equal: false if their days differ.
+pub fn same_date(first: &Date, second: &Date) -> bool
+    ensures same { IsTrue result ↔ (ymd first.now ≡ ymd second.now) }
+{
+    first == second
+}
+
+/// Whether two times are equal: false if one has no offset and the other the offset 0.
+pub fn same_time(first: &Time, second: &Time) -> bool
+    ensures same { IsTrue result ↔ (time_of_day first.now ≡ time_of_day second.now) }
+{
+    first == second
+}
+
+/// Whether two date-times are equal: false if their offsets differ.
+pub fn same_date_time(first: &DateTime, second: &DateTime) -> bool
+    ensures same { IsTrue result ↔ (date_and_time first.now ≡ date_and_time second.now) }
+{
+    first == second
+}
+
+/// Whether two moments are equal: false if their microseconds differ.
+pub fn same_moment(first: &Moment, second: &Moment) -> bool
+    ensures same { IsTrue result ↔ (first.now ≡ second.now) }
+{
+    first == second
+}
+
+/// Whether two durations are equal: false for `PT0S` and `-PT0S`.
+pub fn same_duration(first: &Duration, second: &Duration) -> bool
+    ensures same { IsTrue result ↔ (duration_numbers first.now ≡ duration_numbers second.now) }
+{
+    first == second
 }
 
 /// Whether the first date is before the second, which it is if and only if its day number is smaller:
