@@ -6,7 +6,7 @@ use Rattle.speedate_base.specs.declared.config.TimestampUnit.TheVariants as unit
 use Rattle.speedate_base.specs.declared.config.TimestampUnit.{TimestampUnit}
 use Rattle.speedate_base.specs.declared.faults.ParseError.TheVariants as fault
 use Rattle.speedate_base.specs.declared.faults.ParseError.{ParseError}
-use Rattle.speedate_base.specs.declared.util.unit.UnixUnit.{UnixUnit}
+use Rattle.speedate_base.specs.declared.util.unix_time.UnixUnit.{UnixUnit}
 use Rattle.speedate_base.specs.declared.util.unix_time.UnixTime.{UnixTime}
 use Rattle.speedate_base.specs.Config.{refuses_digits}
 use Rattle.speedate_base.specs.Nearest.{nearest}

@@ -7,14 +7,14 @@ pub(crate) mod digits;
 mod fraction;
 mod int_float;
 pub(crate) mod lanes;
-mod places;
 
 use digits::spelled_number;
-pub use digits::{DigitRun, digit_run, few_digits, run_end};
+pub use digits::{
+    DigitRun, byte_at, digit_run, few_digits, is_decimal_mark, run_end, two_digits,
+};
 pub use fraction::{Fraction, takes_digits};
 pub use int_float::{Decimal, IntFloat};
 pub use lanes::{LANES, eight_bytes, fitting, pairs};
-pub use places::{byte_at, is_decimal_mark, two_digits};
 
 /// The whole number that a text is: -12 for `"-012"`.
 ///

@@ -6,15 +6,13 @@ ghost use Rattle.speedate_base.specs.Timestamp.{instant_answer, instant_of};
 
 mod decimal_timestamp;
 mod rounding;
-mod unit;
 mod unix_time;
 
 use crate::config::TimestampUnit;
 use crate::faults::ParseError;
 pub use decimal_timestamp::{decimal_to_seconds_micros, decimal_unit};
 pub use rounding::{LARGEST_UNIT, nearest_microseconds, twice_microseconds};
-pub use unit::UnixUnit;
-pub use unix_time::{FIRST_SECOND, LAST_SECOND, UnixTime};
+pub use unix_time::{FIRST_SECOND, LAST_SECOND, UnixTime, UnixUnit};
 
 /// The seconds of a day.
 pub const SECONDS_PER_DAY: u32 = 86_400;

@@ -1,15 +1,15 @@
 //! Date-times: a date and a time of day, with or without an offset from UTC.
 
-ghost use Rattle.std.specs.Prelude.{◌≡◌, ◌≤◌, ◌↔◌, IfOk, IsTrue, Ok, length, slice_index, take, OnOk};
+ghost use Rattle.std.specs.Prelude.{◌≡◌, ◌≤◌, ◌↔◌, ◌==◌, ◌||◌, IfOk, IsOk, IsTrue, Ok, length, slice_index, take, OnOk};
+ghost use Rattle.speedate_base.specs.Ascii.{capital_t, small_t};
 ghost use Rattle.speedate_base.specs.declared.config.MicrosecondsPrecisionOverflowBehavior.TheVariants as behavior;
 ghost use Rattle.speedate_base.specs.Numbers.{NoNumber, number_answer};
-ghost use Rattle.speedate_base.specs.Requirement.{result_map, with_size};
+ghost use Rattle.speedate_base.specs.Requirement.{meets};
 ghost use Rattle.speedate_civil.specs.DateTime.{DateAndTime, is_separator, date_time_front, date_time_answer};
+ghost use Rattle.speedate_civil.specs.Standard.{standard_date_time, strict_date_time_answer, IsDateTime};
 
-mod decimal;
 mod now;
 mod order;
-mod strict;
 mod text;
 mod timestamp;
 mod timezone;
@@ -96,6 +96,31 @@ impl DateTime {
         Self::parse_whole(bytes, config.microseconds_precision_overflow_behavior)
     }
 
+    /// Reads a date-time from bytes that are a date-time of RFC 3339 5.6, and no timestamp: 12:13:14 on
+    /// 29 February 2020 in UTC from `b"2020-02-29T12:13:14Z"`. The bytes need not be text.
+    ///
+    /// It accepts the texts of RFC 3339 and no others, with the two exceptions of
+    /// [`Time::parse_bytes_strict`]. The value is that of
+    /// [`DateTime::parse_bytes_rfc3339_with_config`] with this behavior.
+    ///
+    /// # Errors
+    ///
+    /// A text that has a fault there has it here too. Of the others one is refused with
+    /// `InvalidCharDateTimeSep` if neither `T` nor `t` parts date and time, and then with the faults of
+    /// `Time::parse_bytes_strict`.
+    pub fn parse_bytes_strict(
+        bytes: &[u8],
+        behavior: MicrosecondsPrecisionOverflowBehavior,
+    ) -> Result<Self, ParseError>
+        ensures answer { result gives strict_date_time_answer behavior bytes.now }
+        ensures standard { IsOk result ↔ IsDateTime behavior bytes.now }
+        ensures minutes { IfOk result (λ value. IsWholeMinutes value.time.tz_offset) }
+    {
+        let value = Self::parse_whole(bytes, behavior)?;
+        require_standard_date_time(bytes)?;
+        Ok(value)
+    }
+
     /// Reads the date-time at the front of a text, whatever follows it, and returns how many bytes it
     /// takes: 12:13:14.5 on 22 November 2026, an hour east of UTC, and 27, from
     /// `b"2026-11-22T12:13:14.5+01:00 GET /"`. It reads no timestamps.
@@ -163,4 +188,24 @@ fn has_separator(bytes: &[u8]) -> bool
 {
     let byte = byte_at(bytes, 10);
     matches!(byte, b'T' | b't' | b' ' | b'_')
+}
+
+/// Refuses a text that is read as a date-time, but is none of RFC 3339.
+#[tactic(auto, using(std::proofs::lemmas::List::take_rest))]
+fn require_standard_date_time(text: &[u8]) -> Result<(), ParseError>
+    ensures answer { result ≡ meets (standard_date_time text.now) (Ok tt) }
+{
+    if !has_letter_t(text) {
+        return Err(ParseError::InvalidCharDateTimeSep);
+    }
+    Time::require_standard(&text[TIME_PLACE..])
+}
+
+/// Whether `T` or `t` follows the ten bytes of a date.
+fn has_letter_t(text: &[u8]) -> bool
+    ensures value { result ≡ ((slice_index text.now 10 == capital_t) || (slice_index text.now 10 == small_t)) }
+    ensures there { IsTrue result → 11 ≤ length text.now }
+{
+    let byte = byte_at(text, 10);
+    byte == b'T' || byte == b't'
 }

@@ -7,18 +7,17 @@ ghost use Rattle.speedate_base.specs.Offset.{IsOffset};
 mod offset;
 mod order;
 mod pure;
-mod strict;
 mod text;
 mod timezone;
 
 pub(crate) use offset::end_fault;
-use offset::read_offset;
+use offset::{has_minus_sign, is_utc, read_offset};
 pub use pure::PureTime;
 use speedate_base::config::{MicrosecondsPrecisionOverflowBehavior, TimeConfig};
 use speedate_base::faults::ParseError;
+use speedate_base::numbers::{byte_at, run_end};
 use speedate_base::util::SECONDS_PER_DAY;
 use std::str::FromStr;
-pub(crate) use strict::require_standard;
 pub(crate) use timezone::clock_shift;
 
 /// A time of day, to the microsecond, with an offset from UTC or without one.
@@ -53,11 +52,12 @@ pub struct Time {
 }
 
 impl Time {
-    ghost use Rattle.std.specs.Prelude.{◌+◌, ◌*◌, ◌<◌, ◌↔◌, IfOk, Ok, drop, take, length, None};
+    ghost use Rattle.std.specs.Prelude.{◌+◌, ◌*◌, ◌<◌, ◌↔◌, IfOk, IsOk, Ok, drop, take, length, None};
     ghost use Rattle.speedate_base.specs.declared.config.MicrosecondsPrecisionOverflowBehavior.TheVariants as behavior;
     ghost use Rattle.speedate_base.specs.Offset.{IsWholeMinutes};
     ghost use Rattle.speedate_base.specs.Timestamp.{seconds_per_day};
-    ghost use Rattle.speedate_base.specs.Requirement.{result_map, with_size};
+    ghost use Rattle.speedate_base.specs.Requirement.{meets};
+    ghost use Rattle.speedate_civil.specs.Standard.{standard_offset, standard_time, strict_time_answer, IsFullTime};
     ghost use Rattle.speedate_civil.specs.Time.{time_of_day, TimeOfDay, second_of_day, millisecond_of_day, microsecond_of_day, time_at, timestamp_answer, time_front, time_answer, ◌gives◌, ◌gives_front◌, new_time_answer};
 
     /// The time of an hour, a minute, a second, a microsecond, and an offset from UTC in seconds or
@@ -157,6 +157,35 @@ impl Time {
         Self::parse_whole(bytes, config.microseconds_precision_overflow_behavior)
     }
 
+    /// Reads a time from bytes that are a full-time of RFC 3339 5.6: 12:13:14 and a half, an hour east
+    /// of UTC, from `b"12:13:14.5+01:00"`. The bytes need not be text.
+    ///
+    /// It accepts the texts of RFC 3339 and no others, with two exceptions: a second 60 is refused, and
+    /// the behavior `Error` refuses a fraction of more than six digits. The value is that of
+    /// [`Time::parse_bytes_with_config`] with this behavior.
+    ///
+    /// # Errors
+    ///
+    /// A text that has a fault there has it here too. Of the others these are refused, in this order:
+    ///
+    /// - with `InvalidCharTimeSep`, if there is no second;
+    /// - with `InvalidCharTzSign`, if the decimal mark is a comma;
+    /// - with `TzRequired`, if there is no offset;
+    /// - with `InvalidCharTzSign`, if the sign of the offset is U+2212;
+    /// - with `InvalidCharTzMinute`, if no `:` follows the hour of the offset.
+    pub fn parse_bytes_strict(
+        bytes: &[u8],
+        behavior: MicrosecondsPrecisionOverflowBehavior,
+    ) -> Result<Self, ParseError>
+        ensures answer { result gives strict_time_answer behavior bytes.now }
+        ensures standard { IsOk result ↔ IsFullTime behavior bytes.now }
+        ensures minutes { IfOk result (λ time. IsWholeMinutes time.tz_offset) }
+    {
+        let time = Self::parse_whole(bytes, behavior)?;
+        Self::require_standard(bytes)?;
+        Ok(time)
+    }
+
     /// Reads the time at the front of a text, whatever follows it, and returns how many bytes it takes:
     /// 12:13:14.5 an hour east of UTC, and 16, from `b"12:13:14.5+01:00 GET /"`.
     ///
@@ -215,6 +244,38 @@ impl Time {
         let clock = PureTime::parse(bytes, place, behavior)?;
         let (tz_offset, size) = read_offset(bytes, place + clock.size)?;
         Ok((clock.at_offset(tz_offset), clock.size + size))
+    }
+
+    /// Refuses a text that is read as a time, but is none of RFC 3339.
+    #[inline(always)]
+    pub(crate) fn require_standard(text: &[u8]) -> Result<(), ParseError>
+        ensures answer { result ≡ meets (standard_time text.now) (Ok tt) }
+    {
+        if byte_at(text, 5) != b':' {
+            return Err(ParseError::InvalidCharTimeSep);
+        }
+        match byte_at(text, 8) {
+            b',' => Err(ParseError::InvalidCharTzSign),
+            b'.' => Self::require_standard_offset(text, run_end(text, 9)),
+            _ => Self::require_standard_offset(text, 8),
+        }
+    }
+
+    /// Refuses an offset that is read at `place`, but is none of RFC 3339.
+    fn require_standard_offset(text: &[u8], place: usize) -> Result<(), ParseError>
+        ensures answer { result ≡ meets (standard_offset (drop place text.now)) (Ok tt) }
+    {
+        if place >= text.len() {
+            return Err(ParseError::TzRequired);
+        }
+        if has_minus_sign(text, place) {
+            return Err(ParseError::InvalidCharTzSign);
+        }
+        if is_utc(text[place]) || byte_at(text, place + 3) == b':' {
+            Ok(())
+        } else {
+            Err(ParseError::InvalidCharTzMinute)
+        }
     }
 
     /// The time of the seconds and microseconds after midnight, without an offset: 10:00:06.5 for
@@ -294,8 +355,7 @@ impl FromStr for Time {
     type Err = ParseError;
 
     ghost use Rattle.speedate_base.specs.declared.config.MicrosecondsPrecisionOverflowBehavior.TheVariants as behavior;
-    ghost use Rattle.speedate_base.specs.Requirement.{result_map};
-    ghost use Rattle.speedate_civil.specs.Time.{time_of_day, time_answer, ◌gives◌};
+    ghost use Rattle.speedate_civil.specs.Time.{time_answer, ◌gives◌};
 
     ghost from_str_gives = { λ text result. result gives time_answer behavior.Error text };
 

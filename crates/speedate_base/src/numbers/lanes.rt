@@ -5,7 +5,7 @@ ghost use Rattle.std.specs.Char.{is_ascii_digit};
 ghost use Rattle.std.specs.List.{list_all, prefix_len};
 ghost use Rattle.speedate_base.specs.Digits.{digits_value, eight_at, fit_length, fit_digits, neighbours};
 
-use super::places::byte_at;
+use super::digits::byte_at;
 use std::simd::prelude::*;
 
 /// How many bytes are looked at together.

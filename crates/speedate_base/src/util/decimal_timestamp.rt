@@ -10,8 +10,8 @@ ghost use Rattle.speedate_base.specs.Nearest.{nearest};
 ghost use Rattle.speedate_base.specs.Requirement.{result_map};
 
 use super::rounding::{filled, nearest_microseconds};
-use super::unit::{MICROSECOND, MILLISECOND, SECOND, UnixUnit};
-use super::{INFERRED_SECONDS_MAX, UnixTime};
+use super::unix_time::{MICROSECOND, MILLISECOND, SECOND};
+use super::{INFERRED_SECONDS_MAX, UnixTime, UnixUnit};
 use crate::config::TimestampUnit;
 use crate::faults::ParseError;
 use crate::numbers::digits::digits_number;

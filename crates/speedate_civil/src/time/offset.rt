@@ -99,7 +99,7 @@ fn signed_offset(
     ensures minutes { IfOk result (λ front. IsWholeMinutes front.0) }
     ensures within { IfOk result (λ front. place + front.1 ≤ sign + length bytes.now) }
 {
-    let (hour, minute, size) = hour_and_minute(eight_bytes(bytes, place))?;
+    let ((hour, minute), size) = hour_and_minute(eight_bytes(bytes, place))?;
     if minute > 59 {
         return Err(ParseError::OutOfRangeTzMinute);
     }
@@ -113,10 +113,10 @@ fn signed_offset(
 /// The hour and the minute at the front of an offset without its sign, and how many bytes they take:
 /// `HH:MM` or `HHMM`.
 #[inline(always)]
-fn hour_and_minute(front: u8x8) -> Result<(u8, u8, usize), ParseError>
+fn hour_and_minute(front: u8x8) -> Result<((u8, u8), usize), ParseError>
     ensures numbers { result ≡ meets (offset_digits front)
-        (Ok (two_digit_value front 0, offset_minute front, offset_digits_length front)) }
-    ensures small { IfOk result (λ numbers. (numbers.0 ≤ 99) × (numbers.1 ≤ 99)) }
+        (Ok ((two_digit_value front 0, offset_minute front), offset_digits_length front)) }
+    ensures small { IfOk result (λ front. (front.0.0 ≤ 99) × (front.0.1 ≤ 99)) }
 {
     let pattern = u8x8::from_array(*b"00:00:00");
     let fits = fitting(front, pattern);
@@ -125,7 +125,7 @@ fn hour_and_minute(front: u8x8) -> Result<(u8, u8, usize), ParseError>
     }
     if fits >= 5 {
         let [hour, _, _, minute, _, _, _, _] = pairs(front, pattern, 5);
-        return Ok((hour, minute, 5));
+        return Ok(((hour, minute), 5));
     }
     if fits > 2 {
         return Err(ParseError::InvalidCharTzMinute);
@@ -135,18 +135,18 @@ fn hour_and_minute(front: u8x8) -> Result<(u8, u8, usize), ParseError>
 
 /// The hour, the minute and the length of an offset that has no `:` after the two digits of its hour.
 #[inline(always)]
-fn hour_then_minute(front: u8x8) -> Result<(u8, u8, usize), ParseError>
+fn hour_then_minute(front: u8x8) -> Result<((u8, u8), usize), ParseError>
     requires { fit_length (codes "00:00:00") front ≡ 2 }
     ensures numbers { result ≡ meets (offset_digits front)
-        (Ok (two_digit_value front 0, offset_minute front, offset_digits_length front)) }
-    ensures small { IfOk result (λ numbers. (numbers.0 ≤ 99) × (numbers.1 ≤ 99)) }
+        (Ok ((two_digit_value front 0, offset_minute front), offset_digits_length front)) }
+    ensures small { IfOk result (λ front. (front.0.0 ≤ 99) × (front.0.1 ≤ 99)) }
 {
     let pattern = u8x8::splat(b'0');
     if fitting(front, pattern) < 4 {
         return Err(ParseError::InvalidCharTzMinute);
     }
     let [hour, _, minute, _, _, _, _, _] = pairs(front, pattern, 4);
-    Ok((hour, minute, 4))
+    Ok(((hour, minute), 4))
 }
 
 /// An offset of this size, with its sign.

@@ -15,26 +15,26 @@ use Rattle.speedate_base.specs.declared.faults.ParseError.TheVariants as fault
 use Rattle.speedate_civil.proofs.time.offset.signed_offset.Goals as goal
 
 -- hour, minute and length of an offset after its sign, or the fault of its digits
-abbrev numbers_of : List ℕ → Result (ℕ × ℕ × ℕ) ParseError
-numbers_of rest = meets (offset_digits rest) (Ok (two_digit_value rest 0, offset_minute rest, offset_digits_length rest))
+abbrev numbers_of : List ℕ → Result ((ℕ × ℕ) × ℕ) ParseError
+numbers_of rest = meets (offset_digits rest) (Ok ((two_digit_value rest 0, offset_minute rest), offset_digits_length rest))
 
 -- eight bytes have them all
 eight-enough : (rest : List ℕ) → numbers_of (eight_at rest 0) ≡ numbers_of rest
 eight-enough rest = grind (arith, common_steps)
 
-read : (text front : List ℕ) (place : ℕ) (answer : Result (ℕ × ℕ × ℕ) ParseError) → front ≡ eight_at text place → answer ≡ numbers_of front
+read : (text front : List ℕ) (place : ℕ) (answer : Result ((ℕ × ℕ) × ℕ) ParseError) → front ≡ eight_at text place → answer ≡ numbers_of front
     → answer ≡ numbers_of (drop place text)
 read text front place answer from is = is ∙ ap (numbers_of) (from ∙ eight_at-drop place text) ∙ eight-enough (drop place text)
 
 -- what is left to decide once they are known
-abbrev decided : Bool → ℕ → ℕ × ℕ × ℕ → Result (Option ℤ × ℕ) ParseError
+abbrev decided : Bool → ℕ → (ℕ × ℕ) × ℕ → Result (Option ℤ × ℕ) ParseError
 decided west sign numbers = meets (
-    (nat_le numbers.1 59 else_fault fault.OutOfRangeTzMinute)
-    ∷ (nat_lt (3600 * numbers.0 + 60 * numbers.1) seconds_per_day else_fault fault.OutOfRangeTz)
+    (nat_le numbers.0.1 59 else_fault fault.OutOfRangeTzMinute)
+    ∷ (nat_lt (3600 * numbers.0.0 + 60 * numbers.0.1) seconds_per_day else_fault fault.OutOfRangeTz)
     ∷ []
-    ) (Ok (Some (with_sign west (3600 * numbers.0 + 60 * numbers.1)), sign + numbers.2))
+    ) (Ok (Some (with_sign west (3600 * numbers.0.0 + 60 * numbers.0.1)), sign + numbers.1))
 
-known : (west : Bool) (sign : ℕ) (text front : List ℕ) (place : ℕ) (numbers : ℕ × ℕ × ℕ) → front ≡ eight_at text place → Ok numbers ≡ numbers_of front
+known : (west : Bool) (sign : ℕ) (text front : List ℕ) (place : ℕ) (numbers : (ℕ × ℕ) × ℕ) → front ≡ eight_at text place → Ok numbers ≡ numbers_of front
     → decided west sign numbers ≡ signed_front west sign (drop place text)
 known west sign text front place numbers from is =
     let rest : List ℕ = drop place text in
@@ -52,17 +52,17 @@ returns-in_err-hour-clause-answer c =
 
 pub returns-then-minute-gt59-clause-answer : goal.returns-then-minute-gt59-clause-answer
 returns-then-minute-gt59-clause-answer c =
-    let is = known c.args.west c.args.sign c.args.bytes.now _ c.args.place (c.in_ok-hour.hour, c.in_ok-hour.minute, c.in_ok-hour.size) c.eight_bytes.ensures.bytes c.in_ok-hour.ensures.numbers in
+    let is = known c.args.west c.args.sign c.args.bytes.now _ c.args.place ((c.in_ok-hour.hour, c.in_ok-hour.minute), c.in_ok-hour.size) c.eight_bytes.ensures.bytes c.in_ok-hour.ensures.numbers in
     grind (arith, nat_tests) ∙ is
 
 pub returns-then-seconds-ge-SECONDS_PER_DAY-clause-answer : goal.returns-then-seconds-ge-SECONDS_PER_DAY-clause-answer
 returns-then-seconds-ge-SECONDS_PER_DAY-clause-answer c =
-    let is = known c.args.west c.args.sign c.args.bytes.now _ c.args.place (c.in_ok-hour.hour, c.in_ok-hour.minute, c.in_ok-hour.size) c.eight_bytes.ensures.bytes c.in_ok-hour.ensures.numbers in
+    let is = known c.args.west c.args.sign c.args.bytes.now _ c.args.place ((c.in_ok-hour.hour, c.in_ok-hour.minute), c.in_ok-hour.size) c.eight_bytes.ensures.bytes c.in_ok-hour.ensures.numbers in
     grind (arith, nat_tests, c.from.ensures, c.from-2.ensures) ∙ is
 
 pub returns-clause-answer : goal.returns-clause-answer
 returns-clause-answer c =
-    let is = known c.args.west c.args.sign c.args.bytes.now _ c.args.place (c.in_ok-hour.hour, c.in_ok-hour.minute, c.in_ok-hour.size) c.eight_bytes.ensures.bytes c.in_ok-hour.ensures.numbers in
+    let is = known c.args.west c.args.sign c.args.bytes.now _ c.args.place ((c.in_ok-hour.hour, c.in_ok-hour.minute), c.in_ok-hour.size) c.eight_bytes.ensures.bytes c.in_ok-hour.ensures.numbers in
     let fits : SFits w32 c.with_sign.result = search rules in
     let value = to_z-of_z w32 c.with_sign.result fits in
     grind (arith, nat_tests, c.from.ensures, c.from-2.ensures, value, c.with_sign.ensures.value) ∙ is
