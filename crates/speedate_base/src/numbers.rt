@@ -9,9 +9,7 @@ mod int_float;
 pub(crate) mod lanes;
 
 use digits::spelled_number;
-pub use digits::{
-    DigitRun, byte_at, digit_run, few_digits, is_decimal_mark, run_end, two_digits,
-};
+pub use digits::{DigitRun, byte_at, digit_run, few_digits, is_decimal_mark, run_end, two_digits};
 pub use fraction::{Fraction, takes_digits};
 pub use int_float::{Decimal, IntFloat};
 pub use lanes::{LANES, eight_bytes, fitting, pairs};

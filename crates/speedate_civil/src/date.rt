@@ -80,7 +80,7 @@ impl Date {
     ghost use Rattle.arrayvec.specs.ArrayString.{array_string_len};
     ghost use Rattle.speedate_base.specs.declared.config.DateConfig.{DateConfig};
     ghost use Rattle.speedate_base.specs.Numbers.{NoNumber, number_answer};
-    ghost use Rattle.speedate_base.specs.Requirement.{result_map, with_size};
+    ghost use Rattle.speedate_base.specs.Requirement.{result_map};
     ghost use Rattle.speedate_civil.specs.declared.date.Date.{Date};
     ghost use Rattle.speedate_civil.specs.Calendar.{Ymd};
     ghost use Rattle.speedate_civil.specs.Date.{ymd, date_front, date_answer, date_text, date_or_timestamp, ◌gives◌, ◌gives_front◌, new_date_answer};

@@ -1,7 +1,7 @@
 //! Dates from timestamps, from texts that are a timestamp instead of a date, and from clocks.
 
 ghost use Rattle.std.specs.Prelude.{◌≡◌, ◌==◌, ◌&&◌, Err, IsTrue, Option, int_le};
-ghost use Rattle.speedate_base.specs.Requirement.{result_map, ◌implies◌};
+ghost use Rattle.speedate_base.specs.Requirement.{◌implies◌};
 ghost use Rattle.speedate_base.specs.Timestamp.{first_second, last_second};
 ghost use Rattle.speedate_base.specs.declared.config.TimestampUnit.TheVariants as unit;
 ghost use Rattle.speedate_civil.specs.Date.{ymd, date_answer, day_at, second_at, date_timestamp_answer, date_or_timestamp, ◌gives◌};

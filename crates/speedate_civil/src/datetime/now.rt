@@ -41,7 +41,7 @@ impl Moment {
 
 impl DateTime {
     ghost use Rattle.speedate_civil.specs.declared.datetime.now.Moment.{Moment};
-    ghost use Rattle.speedate_civil.specs.DateTime.{date_and_time, moment_answer, now_answer, ◌gives◌};
+    ghost use Rattle.speedate_civil.specs.DateTime.{moment_answer, now_answer, ◌gives◌};
 
     /// The date-time of a moment, as a clock at an offset, in seconds, shows it:
     /// 2022-06-08T00:59:59+01:00 for second 1,654,646,399 and 3,600.

@@ -191,10 +191,7 @@ impl DateTime {
 
     /// The date-time of a decimal timestamp in a text, whose digits are counted if the configuration
     /// refuses those past the microsecond.
-    fn parse_decimal(
-        decimal: Decimal<'_>,
-        config: &DateTimeConfig,
-    ) -> Result<Self, ParseError>
+    fn parse_decimal(decimal: Decimal<'_>, config: &DateTimeConfig) -> Result<Self, ParseError>
         ensures answer { result gives date_time_decimal_text config.now.timestamp_unit
             config.now.time_config.microseconds_precision_overflow_behavior
             config.now.time_config.unix_timestamp_offset (decimal_of decimal.entry) }

@@ -1,7 +1,6 @@
 //! Date-times at other offsets.
 
 ghost use Rattle.std.specs.Prelude.{◌≡◌, ◌<◌, ◌+ℤ◌, IfOk, Some, unsigned_abs};
-ghost use Rattle.speedate_base.specs.Requirement.{result_map};
 ghost use Rattle.speedate_civil.specs.DateTime.{utc_second, date_and_time, date_time_with_offset, date_time_in_timezone, ◌gives◌};
 
 use super::{DateTime, instant_date_time};

@@ -1,8 +1,8 @@
 //! Offsets from UTC, after a time.
 
-ghost use Rattle.std.specs.Prelude.{◌≡◌, ◌≤◌, ◌+◌, ◌<◌, ◌∷◌, ◌*◌, ◌++◌, ◌-ℤ◌, ◌==◌, ◌||◌, IfOk, Ok, IsTrue, length, drop, codes, if◌then◌else◌, pos, unsigned_abs};
+ghost use Rattle.std.specs.Prelude.{◌≡◌, ◌≤◌, ◌+◌, ◌<◌, ◌∷◌, ◌*◌, ◌++◌, ◌==◌, ◌||◌, IfOk, Ok, IsTrue, length, drop, codes, if◌then◌else◌, unsigned_abs};
 ghost use Rattle.std.specs.Int.{is_negative};
-ghost use Rattle.std.specs.Option.{ForSome, unwrap_or};
+ghost use Rattle.std.specs.Option.{ForSome};
 ghost use Rattle.arrayvec.specs.ArrayString.{array_string_len};
 ghost use Rattle.speedate_base.specs.Ascii.{plus_sign, hyphen};
 ghost use Rattle.speedate_base.specs.Digits.{two_digit_value, fit_length};
@@ -10,7 +10,6 @@ ghost use Rattle.speedate_base.specs.Numbers.{with_sign};
 ghost use Rattle.speedate_base.specs.Offset.{IsOffset, IsWholeMinutes};
 ghost use Rattle.speedate_base.specs.Timestamp.{seconds_per_day};
 ghost use Rattle.speedate_base.specs.Requirement.{meets};
-ghost use Rattle.speedate_civil.specs.DateTime.{move_table};
 ghost use Rattle.speedate_civil.specs.Time.{end_fault, has_minus_sign, is_plus_or_minus, is_utc, offset_digits, offset_front, signed_front, offset_minute, offset_digits_length, offset_size_text, offset_text};
 
 use crate::text::two_digit_text;

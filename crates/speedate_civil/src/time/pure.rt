@@ -47,7 +47,7 @@ impl PureTime {
     ghost use Rattle.speedate_base.specs.Offset.{IsOffset, IsWholeMinutes};
     ghost use Rattle.speedate_base.specs.Requirement.{result_map};
     ghost use Rattle.speedate_civil.specs.Reader.{second_there};
-    ghost use Rattle.speedate_civil.specs.Time.{at_hour, clock_answer, clock_front, minute_front, clock_of, has_decimal_mark, time_of_day, time_of};
+    ghost use Rattle.speedate_civil.specs.Time.{clock_answer, clock_front, minute_front, clock_of, has_decimal_mark, time_of_day, time_of};
 
     /// Reads the clock that begins at `place`, whatever follows it: 12:13:14 and a half, in ten bytes,
     /// from `b"P12:13:14.5Z"` at place 1.

@@ -4,7 +4,7 @@ ghost use Rattle.std.specs.Prelude.{◌≡◌, ◌*◌, ◌<◌, ◌&&◌, ◌-�
 ghost use Rattle.speedate_base.specs.Timestamp.{seconds_per_day};
 ghost use Rattle.std.specs.Option.{ForSome, unwrap_or};
 ghost use Rattle.speedate_base.specs.Offset.{IsOffset};
-ghost use Rattle.speedate_base.specs.Requirement.{meets, result_map};
+ghost use Rattle.speedate_base.specs.Requirement.{meets};
 ghost use Rattle.speedate_civil.specs.DateTime.{time_with_offset, time_in_timezone, move_table};
 ghost use Rattle.speedate_civil.specs.Time.{time_of_day, utc_second_of_day, ◌gives◌};
 
