@@ -1,12 +1,12 @@
 -- A duration as days and a clock, `1 day, 10:20`. This form is the library's own. `text` begins with the days.
-use Rattle.std.specs.Prelude.{ℕ, Bool, not, ◌||◌, List, [], ◌∷◌, codes, length, drop, slice_index, nat_eq, nat_le, nat_lt, ◌==◌, if◌then◌else◌, Result, Ok}
+use Rattle.std.specs.Prelude.{ℕ, ◌+◌, Bool, not, ◌||◌, List, [], ◌∷◌, codes, length, drop, slice_index, nat_eq, nat_le, nat_lt, ◌==◌, if◌then◌else◌, Result, Ok}
 use Rattle.std.specs.List.{list_any, starts_with}
 use Rattle.speedate_base.specs.declared.config.MicrosecondsPrecisionOverflowBehavior.{MicrosecondsPrecisionOverflowBehavior}
 use Rattle.speedate_base.specs.declared.faults.ParseError.{ParseError}
 use Rattle.speedate_base.specs.declared.faults.ParseError.TheVariants as fault
 use Rattle.speedate_base.specs.Ascii.{capital_d, small_d}
 use Rattle.speedate_base.specs.Digits.{run_length, run_value}
-use Rattle.speedate_base.specs.Requirement.{Requirement, ◌else_fault◌, meets, result_and_then}
+use Rattle.speedate_base.specs.Requirement.{Requirement, ◌else_fault◌, meets, result_and_then, ◌>>=◌}
 use Rattle.speedate.specs.ClockForm.{clock_form}
 use Rattle.speedate.specs.DurationNumbers.{UnsignedDuration}
 
@@ -14,10 +14,10 @@ use Rattle.speedate.specs.DurationNumbers.{UnsignedDuration}
 abbrev pub is_day_letter : ℕ → Bool
 is_day_letter byte = (byte == small_d) || (byte == capital_d)
 
--- what follows the first of some texts that a text begins with, or the whole text if it begins with none of them
-abbrev pub after_one_of : List (List ℕ) → List ℕ → List ℕ
-after_one_of [] text = text
-after_one_of (one ∷ others) text = if starts_with nat_eq text one then drop (length one) text else after_one_of others text
+-- how many bytes the first of some texts has that a text begins with: 0 if it begins with none of them
+abbrev pub size_of_one : List (List ℕ) → List ℕ → ℕ
+size_of_one [] text = 0
+size_of_one (one ∷ others) text = if starts_with nat_eq text one then length one else size_of_one others text
 
 -- what may follow the letter in the word `days` or `day`, small or in capitals
 abbrev pub day_endings : List (List ℕ)
@@ -28,15 +28,18 @@ abbrev pub gaps : List (List ℕ)
 gaps = codes ", " ∷ codes "," ∷ codes " " ∷ []
 
 -- a text is a number, a space or none, the letter of a day, an ending or none, a gap or none, and then a clock or nothing:
--- what is left of it after the space, the letter and the gap
-abbrev pub after_space : List ℕ → List ℕ
-after_space text = after_one_of (codes " " ∷ []) (drop (run_length text 0) text)
+-- the places of the letter, of the ending and of the gap, and how many bytes come before the clock
+abbrev pub letter_place : List ℕ → ℕ
+letter_place text = run_length text 0 + size_of_one (codes " " ∷ []) (drop (run_length text 0) text)
 
-abbrev pub after_letter : List ℕ → List ℕ
-after_letter text = drop 1 (after_space text)
+abbrev pub ending_place : List ℕ → ℕ
+ending_place text = letter_place text + 1
 
-abbrev pub after_gap : List ℕ → List ℕ
-after_gap text = after_one_of gaps (after_one_of day_endings (after_letter text))
+abbrev pub gap_place : List ℕ → ℕ
+gap_place text = ending_place text + size_of_one day_endings (drop (ending_place text) text)
+
+abbrev pub days_size : List ℕ → ℕ
+days_size text = gap_place text + size_of_one gaps (drop (gap_place text) text)
 
 -- an ending is whole, or none is begun
 abbrev pub has_whole_ending : List ℕ → Bool
@@ -48,9 +51,13 @@ abbrev pub days_table : List ℕ → List Requirement
 days_table text =
     (nat_lt 0 (run_length text 0) else_fault fault.DurationInvalidNumber)
     ∷ (nat_le (run_value text 0) 4294967295 else_fault fault.DurationValueTooLarge)
-    ∷ (is_day_letter (slice_index (after_space text) 0) else_fault fault.DurationInvalidDays)
-    ∷ (has_whole_ending (after_letter text) else_fault fault.DurationInvalidDays)
+    ∷ (is_day_letter (slice_index text (letter_place text)) else_fault fault.DurationInvalidDays)
+    ∷ (has_whole_ending (drop (ending_place text) text) else_fault fault.DurationInvalidDays)
     ∷ []
+
+-- the days at the front of a text, and how many bytes come before the clock, or the text's fault
+abbrev pub days_front : List ℕ → Result (ℕ × ℕ) ParseError
+days_front text = meets (days_table text) (Ok (run_value text 0, days_size text))
 
 -- the numbers of days and of what follows them: of nothing, or of a clock of fewer than 24 hours
 unfoldable pub after_days : MicrosecondsPrecisionOverflowBehavior → ℕ → List ℕ → Result UnsignedDuration ParseError
@@ -61,5 +68,6 @@ after_days behavior days rest =
 
 -- the numbers that a text says in this form, the days of any size, or the text's fault
 unfoldable pub day_form : MicrosecondsPrecisionOverflowBehavior → List ℕ → Result UnsignedDuration ParseError
-day_form behavior text =
-    meets (days_table text) (after_days behavior (run_value text 0) (after_gap text))
+day_form behavior text = do
+  days ← days_front text
+  after_days behavior days.0 (drop days.1 text)

@@ -197,6 +197,11 @@ fn duration(rt: HostRuntime) -> Result<(), ParseError> {
     assert_eq!(rt; length.signed_total_seconds(), -86_401);
     assert_eq!(rt; length.signed_total_ms(), -86_401_500);
 
+    let length = Duration::parse_str("-PT1.5S")?;
+    assert_eq!(rt; length.signed_total_microseconds(), -1_500_000);
+    let length = Duration::from_signed_microseconds(4_500_000)?;
+    assert_eq!(rt; length.to_text().as_str(), "PT4.5S");
+
     Ok(())
 }
 
@@ -215,4 +220,7 @@ fn numbers(rt: HostRuntime) {
     assert!(rt; matches!(float_parse_str("12"), IntFloat::Int(12)));
     assert!(rt; matches!(float_parse_str("-1.50"), IntFloat::Float(_)));
     assert!(rt; float_parse_str("1.5e3").is_err());
+
+    assert_eq!(rt; float_parse_str("12.50").scaled(2), Some(1_250));
+    assert_eq!(rt; float_parse_str("12.345").scaled(2), None);
 }

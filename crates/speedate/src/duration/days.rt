@@ -1,10 +1,9 @@
 //! The form of a duration that begins with days.
 
-ghost use Rattle.std.specs.Prelude.{◌≡◌, ℕ, List, ◌-◌, ◌^◌, min, codes, ◌∷◌, [], Some, None, Ok, if◌then◌else◌};
-ghost use Rattle.speedate_base.specs.Requirement.{meets, result_map};
+ghost use Rattle.std.specs.Prelude.{◌≡◌, ◌-◌, ◌^◌, ◌≤◌, length, min, codes, ◌∷◌, [], Some, None, IfSome, IfOk, if◌then◌else◌};
+ghost use Rattle.speedate_base.specs.Requirement.{result_map};
 ghost use Rattle.speedate_base.specs.Digits.{run_length, run_value};
-ghost use Rattle.speedate.specs.DayForm.{after_one_of, day_endings, gaps, has_whole_ending, is_day_letter, after_gap, days_table, after_days, day_form};
-ghost use Rattle.std.specs.Option.{option_map};
+ghost use Rattle.speedate.specs.DayForm.{size_of_one, day_endings, gaps, has_whole_ending, is_day_letter, days_front, after_days, day_form};
 
 use super::unsigned::UnsignedDuration;
 use speedate_base::config::MicrosecondsPrecisionOverflowBehavior;
@@ -27,8 +26,8 @@ impl UnsignedDuration {
         requires value { days.value ≡ min (run_value bytes.now 0) (2 ^ 64 - 1) }
         ensures answer { result_map unsigned_numbers result ≡ day_form behavior bytes.now }
     {
-        let (count, rest) = days_at_front(bytes, days)?;
-        Self::after_days(rest, count, behavior)
+        let (days, size) = days_at_front(bytes, days)?;
+        Self::after_days(&bytes[size..], days, behavior)
     }
 
     /// Reads what follows the days, nothing or a clock of fewer than 24 hours, and joins the two.
@@ -58,14 +57,14 @@ impl UnsignedDuration {
     }
 }
 
-/// How many days the digits at the front are, and what follows these and what parts them from a
-/// clock.
+/// How many days the digits at the front are, and how many bytes they take with the word and the gap that
+/// follow them.
 #[inline(always)]
-fn days_at_front(bytes: &[u8], days: DigitRun) -> Result<(u32, &[u8]), ParseError>
+fn days_at_front(bytes: &[u8], days: DigitRun) -> Result<(u32, usize), ParseError>
     requires length { days.length ≡ run_length bytes.now 0 }
     requires value { days.value ≡ min (run_value bytes.now 0) (2 ^ 64 - 1) }
-    ensures answer { result_map {B = ℕ × List ℕ} (λ days. (days.0, days.1.now)) result
-        ≡ meets (days_table bytes.now) (Ok (run_value bytes.now 0, after_gap bytes.now)) }
+    ensures answer { result ≡ days_front bytes.now }
+    ensures within { IfOk result (λ days. days.1 ≤ length bytes.now) }
 {
     if days.length == 0 {
         return Err(ParseError::DurationInvalidNumber);
@@ -73,12 +72,14 @@ fn days_at_front(bytes: &[u8], days: DigitRun) -> Result<(u32, &[u8]), ParseErro
     if days.value > u64::from(u32::MAX) {
         return Err(ParseError::DurationValueTooLarge);
     }
-    let word = without_space(&bytes[days.length..]);
-    if !is_day_letter(byte_at(word, 0)) {
+    let letter = days.length + space_size(&bytes[days.length..]);
+    if !is_day_letter(byte_at(bytes, letter)) {
         return Err(ParseError::DurationInvalidDays);
     }
-    let rest = without_ending(&word[1..]).ok_or(ParseError::DurationInvalidDays)?;
-    Ok((days.value as u32, without_gap(rest)))
+    let ending = letter + 1;
+    let size = ending_size(&bytes[ending..]).ok_or(ParseError::DurationInvalidDays)?;
+    let gap = ending + size;
+    Ok((days.value as u32, gap + gap_size(&bytes[gap..])))
 }
 
 /// Whether a byte is the letter of a day.
@@ -89,40 +90,43 @@ pub(super) fn is_day_letter(byte: u8) -> bool
     byte == b'd' || byte == b'D'
 }
 
-/// A text without the space that it begins with, if there is one.
+/// How many bytes the space has that a text begins with: 0 if it begins with none.
 #[inline(always)]
-fn without_space(text: &[u8]) -> &[u8]
-    ensures rest { result.now ≡ after_one_of (codes " " ∷ []) text.now }
+fn space_size(text: &[u8]) -> usize
+    ensures size { result ≡ size_of_one (codes " " ∷ []) text.now }
+    ensures within { result ≤ length text.now }
 {
     match text {
-        [b' ', rest @ ..] => rest,
-        _ => text,
+        [b' ', ..] => 1,
+        _ => 0,
     }
 }
 
-/// A text without the rest of a word that it begins with, `ays`, `ay`, `AYS` or `AY`, if there is one:
-/// the longest of them. `None` if a word goes on in another way.
+/// How many bytes the rest of a word has that a text begins with, `ays`, `ay`, `AYS` or `AY`: those of the
+/// longest of them, 0 if no word goes on. `None` if a word goes on in another way.
 #[inline(always)]
-fn without_ending(text: &[u8]) -> Option<&[u8]>
-    ensures rest { option_map (λ rest. rest.now) result
-        ≡ (if has_whole_ending text.now then Some (after_one_of day_endings text.now) else None) }
+fn ending_size(text: &[u8]) -> Option<usize>
+    ensures size { result ≡ (if has_whole_ending text.now then Some (size_of_one day_endings text.now) else None) }
+    ensures within { IfSome result (λ size. size ≤ length text.now) }
 {
     match text {
-        [b'a', b'y', b's', rest @ ..] | [b'A', b'Y', b'S', rest @ ..] => Some(rest),
-        [b'a', b'y', rest @ ..] | [b'A', b'Y', rest @ ..] => Some(rest),
+        [b'a', b'y', b's', ..] | [b'A', b'Y', b'S', ..] => Some(3),
+        [b'a', b'y', ..] | [b'A', b'Y', ..] => Some(2),
         [b'a' | b'A', ..] => None,
-        _ => Some(text),
+        _ => Some(0),
     }
 }
 
-/// A text without the comma, the space, or both, between days and a clock, if it begins so.
+/// How many bytes the comma, the space, or both, between days and a clock have: 0 if a text begins with
+/// neither.
 #[inline(always)]
-fn without_gap(text: &[u8]) -> &[u8]
-    ensures rest { result.now ≡ after_one_of gaps text.now }
+fn gap_size(text: &[u8]) -> usize
+    ensures size { result ≡ size_of_one gaps text.now }
+    ensures within { result ≤ length text.now }
 {
     match text {
-        [b',', b' ', rest @ ..] => rest,
-        [b',', rest @ ..] | [b' ', rest @ ..] => rest,
-        _ => text,
+        [b',', b' ', ..] => 2,
+        [b',' | b' ', ..] => 1,
+        _ => 0,
     }
 }

@@ -150,36 +150,42 @@ impl Sums {
             second: 0,
             microsecond: 0,
         };
-        let (days, rest) = none.with_short_components(body);
-        let (sums, rest) = days.with_short_time(rest);
-        sums.with_items(rest)
+        let (days, size) = none.with_short_components(body);
+        let rest = &body[size..];
+        let (sums, size) = days.with_short_time(rest);
+        sums.with_items(&rest[size..])
     }
 
-    /// The sums with the short components after a `T`, if a first one begins a text, and what follows
-    /// them.
+    /// The sums with the short components after a `T`, if a first one begins a text, and how many bytes they
+    /// have.
     #[inline(always)]
-    fn with_short_time(self, text: &[u8]) -> (Self, &[u8])
-        ensures answer { iso_from (sums_parts result.0) result.1.now ≡ iso_from (sums_parts self) text.now }
+    fn with_short_time(self, text: &[u8]) -> (Self, usize)
+        ensures answer { iso_from (sums_parts result.0) (drop result.1 text.now) ≡ iso_from (sums_parts self) text.now }
+        ensures within { result.1 ≤ length text.now }
     {
         match text {
-            [b'T', rest @ ..] if !self.is_time => self.begin_time().with_short_components(rest),
-            _ => (self, text),
+            [b'T', rest @ ..] if !self.is_time => {
+                let (sums, size) = self.begin_time().with_short_components(rest);
+                (sums, 1 + size)
+            }
+            _ => (self, 0),
         }
     }
 
-    /// The sums with the short components that begin a text, as many as there are, and what follows
-    /// them.
+    /// The sums with the short components that begin a text, as many as there are, and how many bytes they
+    /// have.
     #[inline(always)]
-    fn with_short_components(self, text: &[u8]) -> (Self, &[u8])
-        ensures answer { iso_from (sums_parts result.0) result.1.now ≡ iso_from (sums_parts self) text.now }
+    fn with_short_components(self, text: &[u8]) -> (Self, usize)
+        ensures answer { iso_from (sums_parts result.0) (drop result.1 text.now) ≡ iso_from (sums_parts self) text.now }
+        ensures within { result.1 ≤ length text.now }
     {
         let mut sums = self;
-        let mut rest = text;
-        while let Some((next, size)) = sums.with_short_component(rest) {
+        let mut size = 0;
+        while let Some((next, length)) = sums.with_short_component(&text[size..]) {
             sums = next;
-            rest = &rest[size..];
+            size += length;
         }
-        (sums, rest)
+        (sums, size)
     }
 
     /// The sums with the component that begins a text, and how many bytes it has, if it is a whole
