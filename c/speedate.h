@@ -385,8 +385,8 @@ int speedate_datetime_parse_strict(const char *text, size_t size, SpeedateConfig
 int speedate_datetime_parse_front(const char *text, size_t size, SpeedateConfig config, SpeedateDateTime *out,
                                   size_t *taken);
 
-/* SPEEDATE_OK if the numbers are those of a date-time; otherwise what speedate_date_check returns for the date, or if
- * the date is right, speedate_time_check for the time. */
+/* SPEEDATE_OK if the numbers are those of a date-time; otherwise what speedate_date_check returns for the date, or, if
+ * the date is in range, what speedate_time_check returns for the time. */
 int speedate_datetime_check(SpeedateDateTime value);
 
 /* Prints a date-time: "2020-02-29T12:13:14.500000+01:30". The text reads back as that of a time does. */
@@ -440,8 +440,8 @@ int speedate_duration_to_text(SpeedateDuration duration, char *buffer, size_t si
  * zero. */
 int speedate_duration_compare(SpeedateDuration first, SpeedateDuration second, int32_t *out);
 
-/* The whole seconds, the milliseconds, rounded toward zero, and the microseconds of the last second, each with the
- * sign of the duration. */
+/* The whole seconds and the whole milliseconds, both cut toward zero, and the microseconds that the whole seconds
+ * leave, each with the sign of the duration. */
 int speedate_duration_signed_total_seconds(SpeedateDuration duration, int64_t *out);
 int speedate_duration_signed_total_ms(SpeedateDuration duration, int64_t *out);
 int speedate_duration_signed_microseconds(SpeedateDuration duration, int32_t *out);

@@ -1,6 +1,7 @@
 // SPDX-License-Identifier: MIT
 // A call throws a SpeedateError where it refuses a text or a value; a TypeError where an argument, a field or an option is
-// of another type or name, or an option has another value; and a RangeError for a number that no argument can be.
+// of another type or name, or an option has another value; and a RangeError for a number that an argument cannot be,
+// such as 1.5 days.
 
 /** A day of the Gregorian calendar, carried back to the year 0: `year` 0 to 9999, `month` 1 to 12, `day` 1 to its length. */
 export type SpeedateDate = { readonly year: number; readonly month: number; readonly day: number };

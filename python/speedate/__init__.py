@@ -251,7 +251,7 @@ class Config:
     - `overflow_behavior`: digits past the microsecond are refused with `error`, the default. With `truncate` they are
       dropped, and a decimal timestamp is rounded to the nearest microsecond.
     - `iso_order`: the components of an ISO 8601 duration come in any order with `lax`, the default. With `strict` they
-      come in their own, each once.
+      come in the order of the standard, each at most once.
 
     >>> time("12:13:14.123456789", Config(overflow_behavior="truncate"))
     datetime.time(12, 13, 14, 123456)
@@ -410,7 +410,7 @@ def date_time_front(text: _Text, config: Optional[Config] = None) -> Tuple[datet
 
 
 def date_from_timestamp(timestamp: int, config: Optional[Config] = None, *, exact: bool = True) -> datetime.date:
-    """The date of a timestamp of 64 bits, which has to be a midnight. With `exact=False` it is any moment of the day.
+    """The date of a timestamp of 64 bits, which has to be a midnight. With `exact=False` it may be any moment.
 
     >>> date_from_timestamp(1582978394, exact=False)
     datetime.date(2020, 2, 29)
