@@ -139,7 +139,7 @@ impl<'a> IsoFraction<'a> {
             Err(fault) if !fault.ends_with("_too_large") => Err(fault),
             _ if total >= seconds_end || total >= days_end => too_large(),
             _ if total >= end => Err("duration_days_too_large".to_owned()),
-            _ => Ok(Value::Duration(of_length(is_negative, total))),
+            _ => Ok(Value::Duration(of_amount(is_negative, total))),
         };
         Some(Exact { answer, microseconds: total, ends: vec![seconds_end, days_end, end] })
     }
@@ -159,7 +159,7 @@ fn seconds_of(is_clock: bool, designator: u8) -> Option<u64> {
     }
 }
 
-fn of_length(is_negative: bool, length: i128) -> Duration {
+fn of_amount(is_negative: bool, length: i128) -> Duration {
     let second = length % MICROSECONDS_A_DAY / MICROSECONDS_A_SECOND;
     Duration {
         negative: is_negative.into(),

@@ -12,7 +12,7 @@ use Rattle.speedate_base.specs.Requirement.{meets, result_and_then}
 use Rattle.speedate_base.proofs.RequirementLemmas.{meets-all, meets-and_then}
 use Rattle.speedate.specs.Duration.{iso_after, iso_from, iso_form, unsigned_answer, duration_answer}
 use Rattle.speedate.specs.DurationNumbers.{signed_form}
-use Rattle.speedate.specs.IsoForm.{Item, TimeDesignator, item_text, Sums, item_at, item_table, with_item, sums_length}
+use Rattle.speedate.specs.IsoForm.{Item, TimeDesignator, item_text, Sums, item_at, item_table, with_item, sums_amount}
 use Rattle.speedate.specs.Reader.{item_front}
 
 -- the answer after the bytes of an item
@@ -43,7 +43,7 @@ pub iso_from-front : (sums : Sums) (text : List ℕ) (front : Result (Sums × �
 iso_from-front sums text front some same = search (rules, meets-and_then, iso_from-step)
 
 -- and where nothing is left, it is what the items add up to
-pub iso_from-end : (sums : Sums) (text : List ℕ) → length text ≡ 0 → iso_from sums text ≡ (if sums.some then Ok (sums_length sums) else Err fault.TooShort)
+pub iso_from-end : (sums : Sums) (text : List ℕ) → length text ≡ 0 → iso_from sums text ≡ (if sums.some then Ok (sums_amount sums) else Err fault.TooShort)
 unfolding iso_after
 iso_from-end sums [] none = refl
 iso_from-end sums (byte ∷ rest) none = absurd (cc)

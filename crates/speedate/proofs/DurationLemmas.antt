@@ -1,12 +1,12 @@
 -- Durations are in their ranges, and have one normal form.
 use Rattle.std.proofs.Common.{rules, ◌≡◌, Ok}
-use Rattle.speedate.specs.DurationNumbers.{DurationNumbers, IsDuration, length_microseconds, of_length, normal_form}
+use Rattle.speedate.specs.DurationNumbers.{DurationNumbers, IsDuration, amount_microseconds, of_amount, normal_form}
 use Rattle.speedate.specs.declared.duration.Duration.{Duration}
 use Rattle.speedate.specs.Duration.{duration_numbers}
 
 -- numbers in their ranges are those of their length
-pub of_length-only : (numbers : DurationNumbers) → IsDuration numbers → of_length numbers.positive (length_microseconds numbers) ≡ numbers
-of_length-only numbers valid = search rules
+pub of_amount-only : (numbers : DurationNumbers) → IsDuration numbers → of_amount numbers.positive (amount_microseconds numbers) ≡ numbers
+of_amount-only numbers valid = search rules
 
 -- the normal form of a duration is itself
 pub normal_form-same : (numbers : DurationNumbers) → IsDuration numbers → normal_form numbers ≡ Ok numbers

@@ -13,9 +13,9 @@ use Rattle.speedate_civil.specs.DateTime.{DateAndTime, IsDateAndTime, local_seco
 use Rattle.speedate_civil.proofs.DateTimeInstantLemmas.{instant_date_time-shown}
 use Rattle.speedate_civil.proofs.DateTimeTimestampLemmas.{instant_date_time-local}
 use Rattle.speedate_civil.proofs.DateTimeValueLemmas.{is_date_and_time, offset-small, local_second-late, local_second-early}
-use Rattle.speedate.proofs.DurationLemmas.{of_length-only}
-use Rattle.speedate.specs.Duration.{signed_length, duration_of_length, length_answer, with_positive_zero, duration_between, date_time_after, negated, signed_days, date_after_days, is_whole_days}
-use Rattle.speedate.specs.DurationNumbers.{DurationNumbers, IsDuration, length_seconds, length_microseconds, of_length, signed_seconds, signed_microsecond}
+use Rattle.speedate.proofs.DurationLemmas.{of_amount-only}
+use Rattle.speedate.specs.Duration.{signed_amount, duration_of_amount, amount_answer, with_positive_zero, duration_between, date_time_after, negated, signed_days, date_after_days, is_whole_days}
+use Rattle.speedate.specs.DurationNumbers.{DurationNumbers, IsDuration, amount_seconds, amount_microseconds, of_amount, signed_seconds, signed_microsecond}
 use Rattle.speedate_base.specs.declared.faults.ParseError.TheVariants as fault
 use Rattle.speedate_base.specs.Requirement.{◌else_fault◌}
 use Rattle.speedate_base.proofs.RequirementLemmas.{meets-all}
@@ -30,27 +30,27 @@ signs-joined : (negative : Bool) (seconds microseconds : ℕ)
     → with_sign negative (seconds * 1000000 + microseconds) ≡ pos 1000000 *ℤ with_sign negative seconds +ℤ with_sign negative microseconds
 signs-joined negative seconds microseconds = search (rules)
 
-pub signed_length-joined : (numbers : DurationNumbers)
-    → signed_length numbers ≡ pos 1000000 *ℤ signed_seconds numbers +ℤ signed_microsecond numbers
-signed_length-joined numbers = signs-joined (not numbers.positive) (length_seconds numbers) numbers.microsecond
+pub signed_amount-joined : (numbers : DurationNumbers)
+    → signed_amount numbers ≡ pos 1000000 *ℤ signed_seconds numbers +ℤ signed_microsecond numbers
+signed_amount-joined numbers = signs-joined (not numbers.positive) (amount_seconds numbers) numbers.microsecond
 
 -- the numbers of a length have it
-pub signed_length-kept : (length : ℤ) → signed_length (duration_of_length length) ≡ length
-signed_length-kept length = search (rules)
+pub signed_amount-kept : (length : ℤ) → signed_amount (duration_of_amount length) ≡ length
+signed_amount-kept length = search (rules)
 
 -- the duration of a length with its sign: none has the positive one
-signed-kept : (positive : Bool) (size : ℕ) → duration_of_length (with_sign (not positive) size) ≡ of_length (positive || (size == 0)) size
+signed-kept : (positive : Bool) (size : ℕ) → duration_of_amount (with_sign (not positive) size) ≡ of_amount (positive || (size == 0)) size
 signed-kept positive size = search (rules)
 
 -- a duration comes back from its length, but positive zero for negative zero
-length-back : (numbers : DurationNumbers) → IsDuration numbers → duration_of_length (signed_length numbers) ≡ with_positive_zero numbers
+length-back : (numbers : DurationNumbers) → IsDuration numbers → duration_of_amount (signed_amount numbers) ≡ with_positive_zero numbers
 length-back numbers valid =
-    let positive = numbers.positive || (length_microseconds numbers == 0) in
-    signed-kept numbers.positive (length_microseconds numbers)
-    ∙ ap (λ (found : DurationNumbers). record found { positive = positive }) (of_length-only numbers valid)
+    let positive = numbers.positive || (amount_microseconds numbers == 0) in
+    signed-kept numbers.positive (amount_microseconds numbers)
+    ∙ ap (λ (found : DurationNumbers). record found { positive = positive }) (of_amount-only numbers valid)
 
-pub length_answer-back : (numbers : DurationNumbers) → IsDuration numbers → length_answer (signed_length numbers) ≡ Ok (with_positive_zero numbers)
-length_answer-back numbers valid =
+pub amount_answer-back : (numbers : DurationNumbers) → IsDuration numbers → amount_answer (signed_amount numbers) ≡ Ok (with_positive_zero numbers)
+amount_answer-back numbers valid =
     let few : nat_le numbers.day 999999999 ≡ true = grind (arith, nat_tests, valid.day) in
     rw (length-back numbers valid, few) refl
 
@@ -69,8 +69,8 @@ opposite-apart length back other turned = omega (arith, ints)
 
 -- so the duration between two date-times that lie so far apart is the one of that length
 pub between-exact : (earlier later : DateAndTime) (numbers : DurationNumbers) → IsDuration numbers
-    → utc_microsecond later ≡ utc_microsecond earlier +ℤ signed_length numbers → duration_between earlier later ≡ with_positive_zero numbers
-between-exact earlier later numbers valid same = ap duration_of_length (difference _ _ _ same) ∙ length-back numbers valid
+    → utc_microsecond later ≡ utc_microsecond earlier +ℤ signed_amount numbers → duration_between earlier later ≡ with_positive_zero numbers
+between-exact earlier later numbers valid same = ap duration_of_amount (difference _ _ _ same) ∙ length-back numbers valid
 
 -- at one offset clocks are as far apart as the instants are
 moved : (second local offset length : ℤ) (microsecond own : ℕ)
@@ -139,7 +139,7 @@ ends-back (Ok end) start length back attached turned same =
 ends-back (Err fault) start length back attached turned same = tt
 
 -- there are fewer than 3,652,427 days between two date-times
-few-days : (length : ℤ) → unsigned_abs length < 315569692800000000 → (duration_of_length length).day ≤ 3652426
+few-days : (length : ℤ) → unsigned_abs length < 315569692800000000 → (duration_of_amount length).day ≤ 3652426
 few-days length small = search (rules)
 
 apart : (one two : ℕ) (second seconds offset other : ℤ) → first_second ≤ℤ second → second ≤ℤ last_second → first_second ≤ℤ seconds → seconds ≤ℤ last_second
@@ -148,7 +148,7 @@ apart : (one two : ℕ) (second seconds offset other : ℤ) → first_second ≤
 apart one two second seconds offset other late early later earlier near by small little = omega (arith, ints)
 
 pub between-days : (earlier later : DateAndTime) → IsDateAndTime earlier → IsDateAndTime later
-    → (duration_of_length (utc_microsecond later -ℤ utc_microsecond earlier)).day ≤ 3652426
+    → (duration_of_amount (utc_microsecond later -ℤ utc_microsecond earlier)).day ≤ 3652426
 between-days earlier later valid other = search (rules, few-days, apart, local_second-late, local_second-early, offset-small)
 
 -- the same days the other way lead back

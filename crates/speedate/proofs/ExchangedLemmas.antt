@@ -13,7 +13,7 @@ use Rattle.speedate_base.specs.Requirement.{meets, result_and_then}
 use Rattle.speedate.specs.Duration.{iso_from, duration_answer}
 use Rattle.speedate.proofs.DurationAnswerLemmas.{iso_from-item, duration_answer-iso}
 use Rattle.speedate.specs.DurationNumbers.{UnsignedDuration, signed_form}
-use Rattle.speedate.specs.IsoOrder.{has_decimal_mark, IsWhole, AreWhole, IsPlain, AreExchanged}
+use Rattle.speedate.specs.IsoOrder.{is_fractional, IsWhole, AreWhole, IsPlain, AreExchanged}
 use Rattle.speedate.specs.IsoForm.{DurationUnit, units, unit_in, ComponentText, Item, Component, item_text, item_at, item_table, Sums, no_sums, with_component, with_item, with_items}
 use Rattle.speedate.proofs.IsoItemLemmas.{item_at-amount}
 
@@ -60,7 +60,7 @@ amount-side : (unit : Option DurationUnit) (component : ComponentText) (sums : S
 amount-side unit component sums = search (rules)
 
 -- without a fraction it brings none
-amount-fraction : (unit : Option DurationUnit) (component : ComponentText) (sums : Sums) → has_decimal_mark component ≡ false → sums.fraction ≡ false
+amount-fraction : (unit : Option DurationUnit) (component : ComponentText) (sums : Sums) → is_fractional component ≡ false → sums.fraction ≡ false
     → (with_component unit component sums).fraction ≡ false
 amount-fraction unit component sums none whole = search (rules, or_from)
 
@@ -79,9 +79,9 @@ amounts-swap : (one two : Option DurationUnit) (first second : ComponentText) (s
 amounts-swap one two first second sums free = search (rules)
 
 -- the unit of the second does not depend on the first
-with_amount-next : (first second : ComponentText) (sums : Sums) → with_item (Component second) (with_item (Component first) sums)
+with_number-next : (first second : ComponentText) (sums : Sums) → with_item (Component second) (with_item (Component first) sums)
     ≡ with_component (unit_in (units sums.is_time) second.designator) second (with_component (unit_in (units sums.is_time) first.designator) first sums)
-with_amount-next first second sums = search rules
+with_number-next first second sums = search rules
 
 -- so the sums of two components do not depend on their order
 amounts-exchanged : (first second : ComponentText) (sums : Sums) → IsFree sums

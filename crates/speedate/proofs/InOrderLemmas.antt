@@ -9,7 +9,7 @@ use Rattle.speedate_base.specs.declared.config.MicrosecondsPrecisionOverflowBeha
 use Rattle.speedate_base.specs.declared.faults.ParseError.{ParseError}
 use Rattle.speedate_base.specs.declared.faults.ParseError.TheVariants as fault
 use Rattle.speedate_base.specs.Ascii.{capital_p}
-use Rattle.speedate_base.specs.Numbers.{has_minus, sign_length}
+use Rattle.speedate_base.specs.Numbers.{has_minus, sign_size}
 use Rattle.speedate_base.proofs.NumberLemmas.{sign-of_text}
 use Rattle.speedate_base.specs.Requirement.{meets, AllHold, result_and_then}
 use Rattle.speedate_base.proofs.RequirementLemmas.{meets-all}
@@ -17,7 +17,7 @@ use Rattle.speedate.specs.DurationNumbers.{DurationNumbers, UnsignedDuration, si
 use Rattle.speedate.specs.Duration.{form_answer, iso_after, iso_from, iso_form, unsigned_answer, duration_answer}
 use Rattle.speedate.proofs.DurationAnswerLemmas.{iso_from-item, duration_answer-iso}
 use Rattle.speedate.specs.IsoOrder.{IsLaxOrRefused, IsAnswerInOrder, are_in_order, IsMadeOf, is_iso}
-use Rattle.speedate.specs.IsoForm.{DurationUnit, units, unit_in, ComponentText, Item, TimeDesignator, Component, item_text, item_at, item_table, units_after, Sums, no_sums, with_component, with_item, with_items, AreGood, sums_length, Ends}
+use Rattle.speedate.specs.IsoForm.{DurationUnit, units, unit_in, ComponentText, Item, TimeDesignator, Component, item_text, item_at, item_table, units_after, Sums, no_sums, with_component, with_item, with_items, AreGood, sums_amount, Ends}
 use Rattle.speedate.proofs.IsoFormLemmas.{answer-only, iso_after-is}
 use Rattle.speedate.proofs.IsoItemLemmas.{item_at-text}
 
@@ -94,7 +94,7 @@ component-strict unit component next sums is has = search (rules, false≢true)
 
 -- what good items add up to
 abbrev lax_end : Sums → Answer
-lax_end sums = if sums.some then Ok (sums_length sums) else Err fault.TooShort
+lax_end sums = if sums.some then Ok (sums_amount sums) else Err fault.TooShort
 
 abbrev strict_end : Bool → Sums → Answer
 strict_end in_order sums = if in_order then lax_end sums else Err fault.DurationUnitOrder
@@ -162,7 +162,7 @@ first-byte text is = search (rules, false≢true, eqb-true)
 
 -- one that is read has nothing after its good items, and a component among them
 some-read : (positive some : Bool) (sums : Sums) (numbers : DurationNumbers)
-    → Ok numbers ≡ result_and_then (signed_form positive) (if some then Ok (sums_length sums) else Err fault.TooShort) → some ≡ true
+    → Ok numbers ≡ result_and_then (signed_form positive) (if some then Ok (sums_amount sums) else Err fault.TooShort) → some ≡ true
 some-read positive some sums numbers same = search (rules)
 
 ends-read : (positive : Bool) (sums : Sums) (rest : List ℕ) (form : Answer) (numbers : DurationNumbers) → Ends sums rest form
@@ -173,11 +173,11 @@ ends-read positive sums rest form numbers ends same = search (rules)
 answer-items : (behavior : MicrosecondsPrecisionOverflowBehavior) (text : List ℕ) (numbers : DurationNumbers) → is_iso text ≡ true
     → duration_answer order.Lax behavior text ≡ Ok numbers → (items : List Item) × IsMadeOf text items
 answer-items behavior text numbers iso same =
-    let sign : List ℕ = take (sign_length text) text in
-    let rest = drop (sign_length text) text in
+    let sign : List ℕ = take (sign_size text) text in
+    let rest = drop (sign_size text) text in
     let body : List ℕ = drop 1 rest in
     let is_sign = sign-of_text text in
-    let begins : text ≡ sign ++ capital_p ∷ body = sym (take-append-drop (sign_length text) text) ∙ ap (λ (rest : List ℕ). sign ++ rest) (first-byte rest iso) in
+    let begins : text ≡ sign ++ capital_p ∷ body = sym (take-append-drop (sign_size text) text) ∙ ap (λ (rest : List ℕ). sign ++ rest) (first-byte rest iso) in
     let read = sym same ∙ ap (duration_answer order.Lax behavior) begins ∙ duration_answer-iso order.Lax behavior (has_minus text) sign body is_sign in
     let from = iso_after-is 0 (no_sums order.Lax) body in
     let ended = ends-read (not (has_minus text)) (with_items from.0 (no_sums order.Lax)) from.1 (iso_form order.Lax body) numbers from.4 read in

@@ -7,12 +7,12 @@ use Rattle.speedate_base.specs.declared.config.IsoOrder.{IsoOrder}
 use Rattle.speedate_base.specs.declared.config.MicrosecondsPrecisionOverflowBehavior.{MicrosecondsPrecisionOverflowBehavior}
 use Rattle.speedate_base.specs.declared.faults.ParseError.{ParseError}
 use Rattle.speedate_base.specs.Ascii.{capital_p}
-use Rattle.speedate_base.specs.Numbers.{has_minus, sign_length}
+use Rattle.speedate_base.specs.Numbers.{has_minus, sign_size}
 use Rattle.speedate_base.specs.Requirement.{meets, AllHold, result_and_then}
 use Rattle.speedate_base.proofs.RequirementLemmas.{meets-all, meets-next, meets-value}
 use Rattle.speedate.specs.Duration.{iso_after, iso_form, form_answer, unsigned_answer, duration_answer, IsGrammarAnswer}
 use Rattle.speedate.specs.DurationNumbers.{UnsignedDuration, signed_form}
-use Rattle.speedate.specs.IsoForm.{Item, item_text, IsItem, item_at, Sums, no_sums, with_item, with_items, item_table, AreGood, sums_length, Ends, IsAnswerFrom}
+use Rattle.speedate.specs.IsoForm.{Item, item_text, IsItem, item_at, Sums, no_sums, with_item, with_items, item_table, AreGood, sums_amount, Ends, IsAnswerFrom}
 use Rattle.speedate.proofs.IsoItemLemmas.{item_at-text, item-front}
 
 abbrev Answer : Type 0
@@ -64,17 +64,17 @@ answer-with sums item text answer is all from =
     (item ∷ from.0, from.1, joined, (is, all, from.3), from.4)
 
 -- and what follows a text's first item leads to the answer of the text, if the item meets its table; otherwise its fault is the answer
-from-step : (sums : Sums) (byte : ℕ) (rest : List ℕ) (met : Answer) (next : Answer) → meets (item_table sums (item_at (byte ∷ rest))) (Ok (sums_length sums)) ≡ met
+from-step : (sums : Sums) (byte : ℕ) (rest : List ℕ) (met : Answer) (next : Answer) → meets (item_table sums (item_at (byte ∷ rest))) (Ok (sums_amount sums)) ≡ met
     → IsAnswerFrom (with_item (item_at (byte ∷ rest)) sums) (drop (length (item_text (item_at (byte ∷ rest))) - 1) rest) next
     → IsAnswerFrom sums (byte ∷ rest) (meets (item_table sums (item_at (byte ∷ rest))) next)
 from-step sums byte rest (Ok length) next met from =
     let item = item_at (byte ∷ rest) in
-    let all = (meets-value (item_table sums item) (sums_length sums) length met).0 in
+    let all = (meets-value (item_table sums item) (sums_amount sums) length met).0 in
     let front = item-front sums byte rest all in
     subst (λ (text : List ℕ). IsAnswerFrom sums text (meets (item_table sums item) next)) (sym front.1)
     (subst (IsAnswerFrom sums _) (sym (meets-all (item_table sums item) next all)) (answer-with sums item _ next front.0 all from))
 from-step sums byte rest (Err fault) next met from =
-    ([], byte ∷ rest, refl, tt, (fault, met, sym (meets-next (item_table sums (item_at (byte ∷ rest))) (sums_length sums) (Err fault) next (sym met))))
+    ([], byte ∷ rest, refl, tt, (fault, met, sym (meets-next (item_table sums (item_at (byte ∷ rest))) (sums_amount sums) (Err fault) next (sym met))))
 
 -- so every text has an answer, which the function gives
 pub iso_after-is : (skipped : ℕ) (sums : Sums) (text : List ℕ) → IsAnswerFrom sums (drop skipped text) (iso_after skipped sums text)
@@ -101,7 +101,7 @@ pub duration_answer-grammar : (order : IsoOrder) (behavior : MicrosecondsPrecisi
     → IsGrammarAnswer order behavior text (duration_answer order behavior text)
 unfolding unsigned_answer
 duration_answer-grammar order behavior text =
-    let rest = drop (sign_length text) text in
+    let rest = drop (sign_size text) text in
     let iso = slice_index rest 0 == capital_p in
     let is = form-is order behavior rest iso in
     record {

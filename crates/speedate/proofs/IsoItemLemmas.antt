@@ -15,7 +15,7 @@ use Rattle.speedate_base.proofs.DigitRunLemmas.{run_length-append}
 use Rattle.speedate_base.proofs.NumberLemmas.{run-digits}
 use Rattle.speedate_base.specs.Requirement.{AllHold}
 use Rattle.speedate_base.proofs.RequirementLemmas.{meets-all}
-use Rattle.speedate.specs.IsoForm.{DurationUnit, units, unit_in, ComponentText, Item, TimeDesignator, Component, item_text, IsFraction, IsItem, fraction_length, component_at, item_at, Sums, with_amount, with_component, with_item, item_table, are_counted}
+use Rattle.speedate.specs.IsoForm.{DurationUnit, units, unit_in, ComponentText, Item, TimeDesignator, Component, item_text, IsFraction, IsItem, fraction_size, component_at, item_at, Sums, with_number, with_component, with_item, item_table, are_counted}
 use Rattle.speedate.specs.Reader.{item_front, unit_place}
 
 -- the designator of a unit is no digit and no decimal mark
@@ -34,7 +34,7 @@ run-end digits byte rest all other = run_length-append digits (byte ∷ rest) al
 
 -- a fraction ends before a designator
 fraction-end : (fraction : List ℕ) (designator : ℕ) (rest : List ℕ) → IsFraction fraction → is_ascii_digit designator ≡ false → is_decimal_mark designator ≡ false
-    → fraction_length (fraction ++ designator ∷ rest) ≡ length fraction
+    → fraction_size (fraction ++ designator ∷ rest) ≡ length fraction
 fraction-end fraction designator rest is digit point = search (rules, run-end)
 
 -- nor does it begin with a digit
@@ -71,7 +71,7 @@ digits-after : (text : List ℕ) (has_mark : Bool) → list_all is_ascii_digit (
 digits-after text true = ap (list_all is_ascii_digit) (drop-take 1 (run_length text 1) text) ∙ run-digits (drop 1 text)
 digits-after text false = refl
 
-pub fraction-digits : (text : List ℕ) → list_all is_ascii_digit (drop 1 (take (fraction_length text) text)) ≡ true
+pub fraction-digits : (text : List ℕ) → list_all is_ascii_digit (drop 1 (take (fraction_size text) text)) ≡ true
 fraction-digits text = digits-after text (is_decimal_mark (slice_index text 0))
 
 -- what the reader of a component cites
@@ -84,8 +84,8 @@ fraction-front [] true same = grind (arith, ints, nat_tests, false≢true, run-d
 fraction-front (mark ∷ text) true same = grind (arith, ints, nat_tests, false≢true, run-digits)
 
 -- how many bytes a component has, from the lengths of its parts
-component-size : (text : List ℕ) → fraction_length (drop (run_length text 0) text) ≤ length (drop (run_length text 0) text)
-    → length (item_text (Component (component_at text))) ≡ run_length text 0 + fraction_length (drop (run_length text 0) text) + 1
+component-size : (text : List ℕ) → fraction_size (drop (run_length text 0) text) ≤ length (drop (run_length text 0) text)
+    → length (item_text (Component (component_at text))) ≡ run_length text 0 + fraction_size (drop (run_length text 0) text) + 1
 component-size text within = search (rules, length-take-le, prefix_len-le-length, length-append)
 
 -- a designator with a unit stands within its text
@@ -108,7 +108,7 @@ front-of sums byte rest false same hold =
     let text : List ℕ = byte ∷ rest in
     let count = run_length text 0 in
     let later = drop count text in
-    let size = fraction_length later in
+    let size = fraction_size later in
     let within = designator-within sums.is_time later size hold.1.1.1.0 in
     let sized : count + size + 1 ≡ suc (length (item_text (Component (component_at text))) - 1) = omega (arith, component-size text (omega (arith, within))) in (
       (run-digits text, fraction-front later (is_decimal_mark (slice_index later 0)) refl),
@@ -127,7 +127,7 @@ few-parts number value end count few same = search (rules)
 pub short-front : (sums next : Sums) (text : List ℕ) (number end designator : ℕ) (few : Bool) (unit : DurationUnit)
     → ◌≡◌ {A = Option (ℕ × ℕ)} (Some (number, end)) (if few then Some (run_value text 0, run_length text 0) else None) → 0 < end → number ≤ 4294967295 → designator ≡ slice_index text end
     → sums.fraction ≡ false → Some unit ≡ unit_in (units sums.is_time) designator → is_some (unit_in sums.next_units designator) ≡ true
-    → next ≡ with_amount unit number [] sums → are_counted (with_amount unit number [] sums) ≡ true
+    → next ≡ with_number unit number [] sums → are_counted (with_number unit number [] sums) ≡ true
     → ◌≡◌ {A = Result (Sums × ℕ) ParseError} (Ok (next, end + 1)) (item_front sums (item_at text))
 short-front sums next text number end designator few unit read some small there none is comes added counted =
     let parts = few-parts number (run_value text 0) end (run_length text 0) few read in
@@ -141,7 +141,7 @@ short-front sums next text number end designator few unit read some small there 
     let item = ap item_at (parted text count 0 within ∙ ap (λ (byte : ℕ). (take count text ++ [] ++ byte ∷ []) ++ drop (count + 0 + 1) text) (sym first))
     ∙ item_at-amount sums.is_time component (drop (count + 0 + 1) text) (run-digits text, tt) digits has in
     let same : with_item (Component component) sums ≡ next = ap (λ (unit : Option DurationUnit). with_component unit component sums) (sym is)
-    ∙ ap (λ (n : ℕ). with_amount unit n [] sums) (sym parts.0) ∙ sym added in
+    ∙ ap (λ (n : ℕ). with_number unit n [] sums) (sym parts.0) ∙ sym added in
     let all : AllHold (item_table sums (Component component)) =
     (digits, (grind (arith, nat_tests, small, parts.0), (ap not none, (has, (comes, (ap are_counted (same ∙ added) ∙ counted, tt)))))) in
     let sized : length (item_text (Component component)) ≡ end + 1 =

@@ -28,7 +28,7 @@ use Rattle.speedate.specs.IsoOrder.{IsLaxOrRefused}
 use Rattle.speedate.proofs.InOrderLemmas.{duration-both}
 use Rattle.speedate.proofs.DurationLemmas.{normal_form-same}
 use Rattle.speedate.specs.DurationNumbers.{DurationNumbers, UnsignedDuration, IsDuration, signed_form}
-use Rattle.speedate.specs.IsoForm.{DurationUnit, unit, units, unit_in, units_after, ComponentText, TimeDesignator, Component, IsItem, IsFraction, Sums, fraction_seconds, fraction_microseconds, with_amount, with_component, with_item, are_counted, item_table}
+use Rattle.speedate.specs.IsoForm.{DurationUnit, unit, units, unit_in, units_after, ComponentText, TimeDesignator, Component, IsItem, IsFraction, Sums, fraction_seconds, fraction_microseconds, with_number, with_component, with_item, are_counted, item_table}
 
 -- a number without leading zeros is digits that spell it
 abbrev AreDigits : List ℕ → Type 0
@@ -85,15 +85,15 @@ at next is_time some day second =
 -- a number, its fraction and its unit lead to the sums with that number of the unit
 amount-leads : (sums : Sums) (unit : DurationUnit) (number : ℕ) (fraction rest : List ℕ) → unit_in (units sums.is_time) unit.designator ≡ Some unit
     → is_some (unit_in sums.next_units unit.designator) ≡ true → sums.fraction ≡ false → IsFraction fraction → number ≤ 4294967295
-    → (with_amount unit number fraction sums).day ≤ 4294967295 → (with_amount unit number fraction sums).second ≤ 4294967295
-    → iso_from sums (decimal number ++ fraction ++ unit.designator ∷ [] ++ rest) ≡ iso_from (with_amount unit number fraction sums) rest
+    → (with_number unit number fraction sums).day ≤ 4294967295 → (with_number unit number fraction sums).second ≤ 4294967295
+    → iso_from sums (decimal number ++ fraction ++ unit.designator ∷ [] ++ rest) ≡ iso_from (with_number unit number fraction sums) rest
 amount-leads sums unit number fraction rest found comes whole is few few_days few_seconds =
     let component : ComponentText = record { number = decimal number; fraction = fraction; designator = unit.designator } in
     let small : number < 2 ^ 64 = omega (arith, few) in
     let spelled = digits_value-decimal digits_model number small in
     let fits : digits_value (decimal number) ≤ 4294967295 = omega (arith, spelled, few) in
-    let sum : with_item (Component component) sums ≡ with_amount unit number fraction sums =
-    ap (λ one. with_component one component sums) found ∙ ap (λ (n : ℕ). with_amount unit n fraction sums) spelled in
+    let sum : with_item (Component component) sums ≡ with_number unit number fraction sums =
+    ap (λ one. with_component one component sums) found ∙ ap (λ (n : ℕ). with_number unit n fraction sums) spelled in
     let counted = and_from _ _ (le-leb _ 4294967295 few_days) (le-leb _ 4294967295 few_seconds) in
     let digits = lt-ltb 0 (length (decimal number)) (decimal_nonempty number small) in
     let is_item : IsItem (Component component) = (digits_decimal digits_model number small, is) in
@@ -115,7 +115,7 @@ counted-leads next is_time some true unit number day second rest none found come
     λ i. iso_from (at next is_time some (days i) (seconds i)) rest
 counted-leads next is_time some false unit number day second rest other found comes few few_days few_seconds =
     let sums = at next is_time some day second in
-    let after = with_amount unit number [] sums in
+    let after = with_number unit number [] sums in
     let days : after.day ≡ day + number * unit.day = omega (arith, no-seconds unit) in
     let seconds : after.second ≡ second + number * unit.second = omega (arith, no-seconds unit) in
     let microseconds : after.microsecond ≡ 0 = omega (arith, no-microseconds unit) in
@@ -141,7 +141,7 @@ seconds-end : (next : List DurationUnit) (some : Bool) (number microsecond day s
 seconds-end next some number microsecond day second comes few small few_days few_seconds =
     let sums = at next true some day second in
     let fraction = short_fraction_text microsecond in
-    let after = with_amount (unit capital_s 0 1) number fraction sums in
+    let after = with_number (unit capital_s 0 1) number fraction sums in
     let means = fraction-of microsecond (microsecond == 0) refl small in
     let days : after.day ≡ day = omega (arith, means.1) in
     let seconds : after.second ≡ second + number = omega (arith, means.1) in

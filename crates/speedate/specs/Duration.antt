@@ -9,7 +9,7 @@ use Rattle.speedate_base.specs.declared.faults.ParseError.TheVariants as fault
 use Rattle.speedate_base.specs.declared.faults.ParseError.{ParseError}
 use Rattle.speedate_base.specs.Ascii.{capital_p, hyphen, full_stop, digit_zero, capital_d, capital_h, capital_m, capital_s, capital_t, capital_y}
 use Rattle.speedate_base.specs.Digits.{six_digit_text}
-use Rattle.speedate_base.specs.Numbers.{has_minus, sign_length, with_sign}
+use Rattle.speedate_base.specs.Numbers.{has_minus, sign_size, with_sign}
 use Rattle.speedate_base.specs.Requirement.{meets, result_and_then, ◌else_fault◌, result_map}
 use Rattle.speedate_base.specs.Timestamp.{instant_at}
 use Rattle.speedate_civil.specs.Calendar.{Ymd, date_added, days_between}
@@ -18,8 +18,8 @@ use Rattle.speedate.specs.declared.duration.Duration.{Duration}
 use Rattle.speedate.specs.declared.duration.unsigned.UnsignedDuration.{UnsignedDuration as StructUnsignedDuration}
 use Rattle.speedate.specs.ClockForm.{clock_form}
 use Rattle.speedate.specs.DayForm.{is_day_letter, day_form}
-use Rattle.speedate.specs.DurationNumbers.{DurationNumbers, UnsignedDuration, signed_form, length_microseconds, of_length}
-use Rattle.speedate.specs.IsoForm.{Sums, no_sums, item_text, item_at, item_table, with_item, sums_length, IsAnswerFrom}
+use Rattle.speedate.specs.DurationNumbers.{DurationNumbers, UnsignedDuration, signed_form, amount_microseconds, of_amount}
+use Rattle.speedate.specs.IsoForm.{Sums, no_sums, item_text, item_at, item_table, with_item, sums_amount, IsAnswerFrom}
 
 -- the numbers of a duration
 abbrev pub duration_numbers : Duration → DurationNumbers
@@ -44,7 +44,7 @@ unsigned_numbers length = record { day = length.day; second = length.second; mic
 
 -- the answer to what is left of a text after some items; the skipped bytes are those of the last of them
 unfoldable pub iso_after : ℕ → Sums → List ℕ → Result UnsignedDuration ParseError
-iso_after skipped sums [] = if sums.some then Ok (sums_length sums) else Err fault.TooShort
+iso_after skipped sums [] = if sums.some then Ok (sums_amount sums) else Err fault.TooShort
 iso_after zero sums (byte ∷ rest) =
     let item = item_at (byte ∷ rest) in
     meets (item_table sums item) (iso_after (length (item_text item) - 1) (with_item item sums) rest)
@@ -76,12 +76,12 @@ unsigned_answer order behavior text =
 -- the answer to a text: the duration that it is, or its fault. The sign and the normal form are applied last
 abbrev pub duration_answer : IsoOrder → MicrosecondsPrecisionOverflowBehavior → List ℕ → Result DurationNumbers ParseError
 duration_answer order behavior text =
-    result_and_then (signed_form (not (has_minus text))) (unsigned_answer order behavior (drop (sign_length text) text))
+    result_and_then (signed_form (not (has_minus text))) (unsigned_answer order behavior (drop (sign_size text) text))
 
 -- the same as a relation: after the sign and a `P` a text is good items and an end
 abbrev pub IsDurationAnswer : IsoOrder → MicrosecondsPrecisionOverflowBehavior → List ℕ → Result DurationNumbers ParseError → Type 0
 IsDurationAnswer order behavior text answer =
-    let rest = drop (sign_length text) text in
+    let rest = drop (sign_size text) text in
     (form : Result UnsignedDuration ParseError)
     × MatchBool (slice_index rest 0 == capital_p) (IsAnswerFrom (no_sums order) (drop 1 rest) form) (form ≡ form_answer behavior rest)
     × (answer ≡ result_and_then (signed_form (not (has_minus text))) form)
@@ -147,18 +147,18 @@ duration_text numbers = start_text numbers.positive ++ days_text numbers ++ rest
 -- The duration between two values, and the value a duration after another, by microseconds of any size.
 
 -- the length of a duration in microseconds, with its sign
-abbrev pub signed_length : DurationNumbers → ℤ
-signed_length numbers = with_sign (not numbers.positive) (length_microseconds numbers)
+abbrev pub signed_amount : DurationNumbers → ℤ
+signed_amount numbers = with_sign (not numbers.positive) (amount_microseconds numbers)
 
 -- the duration of a number of microseconds; zero is positive
-abbrev pub duration_of_length : ℤ → DurationNumbers
-duration_of_length (pos length) = of_length true length
-duration_of_length (negsuc below) = of_length false (suc below)
+abbrev pub duration_of_amount : ℤ → DurationNumbers
+duration_of_amount (pos length) = of_amount true length
+duration_of_amount (negsuc below) = of_amount false (suc below)
 
 -- the same, or the fault of one that has too many days
-abbrev pub length_answer : ℤ → Result DurationNumbers ParseError
-length_answer length =
-    let duration = duration_of_length length in
+abbrev pub amount_answer : ℤ → Result DurationNumbers ParseError
+amount_answer length =
+    let duration = duration_of_amount length in
     meets ((nat_le duration.day 999999999 else_fault fault.DurationDaysTooLarge) ∷ []) (Ok duration)
 
 -- a duration with the other sign
@@ -167,11 +167,11 @@ negated numbers = record numbers { positive = not numbers.positive }
 
 -- a duration, but positive zero for negative zero
 abbrev pub with_positive_zero : DurationNumbers → DurationNumbers
-with_positive_zero numbers = record numbers { positive = numbers.positive || (length_microseconds numbers == 0) }
+with_positive_zero numbers = record numbers { positive = numbers.positive || (amount_microseconds numbers == 0) }
 
 -- the duration from one date-time to another, by their instants in UTC; it is negative if the other one is earlier
 abbrev pub duration_between : DateAndTime → DateAndTime → DurationNumbers
-duration_between earlier later = duration_of_length (utc_microsecond later -ℤ utc_microsecond earlier)
+duration_between earlier later = duration_of_amount (utc_microsecond later -ℤ utc_microsecond earlier)
 
 -- the date-time a number of microseconds after another, at its offset, or the fault of a date that is outside the years 0000 to
 -- 9999 there

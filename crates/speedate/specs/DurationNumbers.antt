@@ -33,15 +33,15 @@ pub record IsDuration (numbers : DurationNumbers) : Type 0 where
   pub microsecond : numbers.microsecond < 1000000
 
 -- its length in seconds, and in microseconds, without its sign
-abbrev pub length_seconds : DurationNumbers → ℕ
-length_seconds numbers = numbers.day * seconds_per_day + numbers.second
+abbrev pub amount_seconds : DurationNumbers → ℕ
+amount_seconds numbers = numbers.day * seconds_per_day + numbers.second
 
-abbrev pub length_microseconds : DurationNumbers → ℕ
-length_microseconds numbers = length_seconds numbers * 1000000 + numbers.microsecond
+abbrev pub amount_microseconds : DurationNumbers → ℕ
+amount_microseconds numbers = amount_seconds numbers * 1000000 + numbers.microsecond
 
 -- the numbers that have this length in microseconds: seconds and microseconds in their ranges, and days of any size
-abbrev pub of_length : Bool → ℕ → DurationNumbers
-of_length positive length = record {
+abbrev pub of_amount : Bool → ℕ → DurationNumbers
+of_amount positive length = record {
   positive = positive;
   day = length / 1000000 / seconds_per_day;
   second = length / 1000000 % seconds_per_day;
@@ -66,7 +66,7 @@ normal_table numbers =
 
 -- the normal form: the numbers in their ranges that have the same length, or the fault
 abbrev pub normal_form : DurationNumbers → Result DurationNumbers ParseError
-normal_form numbers = meets (normal_table numbers) (Ok (of_length numbers.positive (length_microseconds numbers)))
+normal_form numbers = meets (normal_table numbers) (Ok (of_amount numbers.positive (amount_microseconds numbers)))
 
 -- the normal form of a length with a sign
 abbrev pub signed_form : Bool → UnsignedDuration → Result DurationNumbers ParseError
@@ -75,11 +75,11 @@ signed_form positive length =
 
 -- the length in whole seconds with the sign
 abbrev pub signed_seconds : DurationNumbers → ℤ
-signed_seconds numbers = with_sign (not numbers.positive) (length_seconds numbers)
+signed_seconds numbers = with_sign (not numbers.positive) (amount_seconds numbers)
 
 -- the length in milliseconds with the sign, cut toward zero
 abbrev pub signed_milliseconds : DurationNumbers → ℤ
-signed_milliseconds numbers = with_sign (not numbers.positive) (1000 * length_seconds numbers + numbers.microsecond / 1000)
+signed_milliseconds numbers = with_sign (not numbers.positive) (1000 * amount_seconds numbers + numbers.microsecond / 1000)
 
 -- the microseconds of a second with the sign
 abbrev pub signed_microsecond : DurationNumbers → ℤ

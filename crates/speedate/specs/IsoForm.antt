@@ -70,8 +70,8 @@ IsItem TimeDesignator = Unit {0}
 IsItem (Component component) = IsTrue (list_all is_ascii_digit component.number) × IsFraction component.fraction
 
 -- how many bytes the fraction has that stands at the front of a text
-abbrev pub fraction_length : List ℕ → ℕ
-fraction_length text = if is_decimal_mark (slice_index text 0) then 1 + run_length text 1 else 0
+abbrev pub fraction_size : List ℕ → ℕ
+fraction_size text = if is_decimal_mark (slice_index text 0) then 1 + run_length text 1 else 0
 
 -- the item that begins a text, whole or cut short: after the end of the text its designator is 0
 abbrev pub component_at : List ℕ → ComponentText
@@ -79,8 +79,8 @@ component_at text =
     let rest = drop (run_length text 0) text in
     record {
       number = take (run_length text 0) text;
-      fraction = take (fraction_length rest) rest;
-      designator = slice_index rest (fraction_length rest);
+      fraction = take (fraction_size rest) rest;
+      designator = slice_index rest (fraction_size rest);
     }
 
 abbrev pub item_at : List ℕ → Item
@@ -122,8 +122,8 @@ next_units_after order.Lax is_time designator next = units is_time
 next_units_after order.Strict is_time designator next = units_after designator next
 
 -- the sums with a number of a unit, and with a fraction of it
-abbrev pub with_amount : DurationUnit → ℕ → List ℕ → Sums → Sums
-with_amount unit number fraction sums =
+abbrev pub with_number : DurationUnit → ℕ → List ℕ → Sums → Sums
+with_number unit number fraction sums =
     let digits = drop 1 fraction in
     record {
       order = sums.order;
@@ -143,7 +143,7 @@ are_counted sums = nat_le sums.day 4294967295 && nat_le sums.second 4294967295
 -- the sums with an item; a component whose designator has no unit adds nothing
 abbrev pub with_component : Option DurationUnit → ComponentText → Sums → Sums
 with_component None component sums = sums
-with_component (Some unit) component sums = with_amount unit (digits_value component.number) component.fraction sums
+with_component (Some unit) component sums = with_number unit (digits_value component.number) component.fraction sums
 
 abbrev pub with_item : Item → Sums → Sums
 with_item TimeDesignator sums = record sums { is_time = true; next_units = units true }
@@ -175,14 +175,14 @@ AreGood sums [] = Unit {0}
 AreGood sums (item ∷ items) = IsItem item × AllHold (item_table sums item) × AreGood (with_item item sums) items
 
 -- the length that they are
-abbrev pub sums_length : Sums → UnsignedDuration
-sums_length sums = record { day = sums.day; second = sums.second; microsecond = sums.microsecond }
+abbrev pub sums_amount : Sums → UnsignedDuration
+sums_amount sums = record { day = sums.day; second = sums.second; microsecond = sums.microsecond }
 
 -- how good items end: with nothing after them, and a component among them or not; or with an item that fails
 abbrev pub Ends : Sums → List ℕ → Result UnsignedDuration ParseError → Type 0
-Ends sums [] answer = answer ≡ (if sums.some then Ok (sums_length sums) else Err fault.TooShort)
+Ends sums [] answer = answer ≡ (if sums.some then Ok (sums_amount sums) else Err fault.TooShort)
 Ends sums (byte ∷ rest) answer =
-    (fault : ParseError) × (meets (item_table sums (item_at (byte ∷ rest))) (Ok (sums_length sums)) ≡ Err fault) × (answer ≡ Err fault)
+    (fault : ParseError) × (meets (item_table sums (item_at (byte ∷ rest))) (Ok (sums_amount sums)) ≡ Err fault) × (answer ≡ Err fault)
 
 -- the answer to a text after items: it is good items and an end
 abbrev pub IsAnswerFrom : Sums → List ℕ → Result UnsignedDuration ParseError → Type 0

@@ -9,7 +9,7 @@ use Rattle.speedate_base.specs.declared.config.MicrosecondsPrecisionOverflowBeha
 use Rattle.speedate_base.specs.declared.faults.ParseError.TheVariants as fault
 use Rattle.speedate_base.specs.declared.faults.ParseError.{ParseError}
 use Rattle.speedate_base.specs.Ascii.{capital_p}
-use Rattle.speedate_base.specs.Numbers.{sign_length, IsSign}
+use Rattle.speedate_base.specs.Numbers.{sign_size, IsSign}
 use Rattle.speedate.specs.Duration.{duration_answer}
 use Rattle.speedate.specs.DurationNumbers.{DurationNumbers}
 use Rattle.speedate.specs.IsoForm.{DurationUnit, units, unit_in, units_after, Item, TimeDesignator, Component, item_text, no_sums, with_items, AreGood, ComponentText, IsItem, Sums, with_item}
@@ -36,7 +36,7 @@ IsLaxOrRefused lax answer = (answer ≡ lax) ⊎ (answer ≡ Err fault.DurationU
 
 -- a text is an ISO 8601 duration, and neither days nor a clock: after its sign it begins with `P`
 abbrev pub is_iso : List ℕ → Bool
-is_iso text = slice_index (drop (sign_length text) text) 0 == capital_p
+is_iso text = slice_index (drop (sign_size text) text) 0 == capital_p
 
 -- an answer to a text in the order that is asked for, beside the one in the lax order: it is that one, or the refusal of a
 -- component out of order; an ISO 8601 duration that the lax order reads is made of good items; the strict order refuses such
@@ -51,8 +51,8 @@ pub record IsAnswerInOrder (asked : IsoOrder) (behavior : MicrosecondsPrecisionO
 -- ISO 8601 durations that differ only in the order of two neighbouring components of one side.
 
 -- a component has a fraction, even if it is only a decimal mark
-abbrev pub has_decimal_mark : ComponentText → Bool
-has_decimal_mark component = nat_lt 0 (length component.fraction)
+abbrev pub is_fractional : ComponentText → Bool
+is_fractional component = nat_lt 0 (length component.fraction)
 
 -- an item is whole: a `T`, or a component that has digits and the designator of a unit of its side
 abbrev pub IsWhole : Sums → Item → Type 0
@@ -67,7 +67,7 @@ AreWhole sums (item ∷ items) = IsWhole sums item × AreWhole (with_item item s
 
 -- a component is whole and no decimal mark is in it or before it: in any order it can be refused for its size alone
 abbrev pub IsPlain : Sums → ComponentText → Type 0
-IsPlain sums component = IsWhole sums (Component component) × (has_decimal_mark component ≡ false) × (sums.fraction ≡ false)
+IsPlain sums component = IsWhole sums (Component component) × (is_fractional component ≡ false) × (sums.fraction ≡ false)
 
 -- the text of a duration that has two components, one next to the other, after items and before a rest
 abbrev pub pair_text : List ℕ → List Item → ComponentText → ComponentText → List ℕ → List ℕ

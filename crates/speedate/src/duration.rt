@@ -2,7 +2,7 @@
 
 ghost use Rattle.std.specs.Prelude.{◌≡◌, ℕ, ◌<◌, ◌≤◌, IfOk, List, unsigned_abs};
 ghost use Rattle.speedate_base.specs.Requirement.{result_map};
-ghost use Rattle.speedate.specs.DurationNumbers.{length_seconds, length_microseconds, normal_form, signed_form, signed_seconds, signed_microsecond, signed_milliseconds};
+ghost use Rattle.speedate.specs.DurationNumbers.{amount_seconds, amount_microseconds, normal_form, signed_form, signed_seconds, signed_microsecond, signed_milliseconds};
 
 mod arithmetic;
 mod clock;
@@ -66,8 +66,8 @@ impl Duration {
     /// - `DurationDaysTooLarge` if the days exceed 999,999,999.
     pub fn new(positive: bool, day: u32, second: u32, microsecond: u32) -> Result<Self, ParseError>
         ensures answer { result gives normal_form (record { positive = positive; day = day; second = second; microsecond = microsecond }) }
-        ensures length { IfOk result (λ duration. length_microseconds (duration_numbers duration)
-            ≡ length_microseconds (record { positive = positive; day = day; second = second; microsecond = microsecond })) }
+        ensures length { IfOk result (λ duration. amount_microseconds (duration_numbers duration)
+            ≡ amount_microseconds (record { positive = positive; day = day; second = second; microsecond = microsecond })) }
     {
         let second = second
             .checked_add(microsecond / 1_000_000)
@@ -255,7 +255,7 @@ impl Duration {
 
     /// The length in whole seconds, without the sign.
     fn seconds(&self) -> u64
-        ensures seconds { result ≡ length_seconds (duration_numbers self.now) }
+        ensures seconds { result ≡ amount_seconds (duration_numbers self.now) }
     {
         u64::from(self.day) * u64::from(SECONDS_PER_DAY) + u64::from(self.second)
     }

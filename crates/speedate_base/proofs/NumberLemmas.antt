@@ -7,7 +7,7 @@ use Rattle.std.proofs.lemmas.List.Sums.{prefix_len_passes, take_while-cons}
 use Rattle.std.proofs.lemmas.List.{get_or-drop, take-append-drop, drop-drop, drop_more, take_all, length-drop, length-take-le}
 use Rattle.speedate_base.specs.Ascii.{full_stop}
 use Rattle.speedate_base.specs.Digits.{run_length, run_digits}
-use Rattle.speedate_base.specs.Numbers.{has_minus, sign_length, point_place, is_decimal, decimal_parts, IsSign, JoinsTo, DecimalParts, Fractional, NoNumber, whole_or, whole_number, number_answer, decimal_of, number_of, JoinsToFloat}
+use Rattle.speedate_base.specs.Numbers.{has_minus, sign_size, point_place, is_decimal, decimal_parts, IsSign, JoinsTo, DecimalParts, Fractional, NoNumber, whole_or, whole_number, number_answer, decimal_value, number_value, JoinsToFloat}
 use Rattle.speedate_base.specs.declared.numbers.int_float.IntFloat.{IntFloat}
 use Rattle.speedate_base.specs.declared.numbers.int_float.IntFloat.TheVariants as number
 
@@ -22,13 +22,13 @@ front_digits bytes count is = rw is (run-digits bytes)
 pub ruleset part_rules = (front_digits, length-drop, length-take-le)
 
 -- a text begins with its sign
-pub sign-of_text : (text : List ℕ) → IsSign (has_minus text) (take (sign_length text) text)
+pub sign-of_text : (text : List ℕ) → IsSign (has_minus text) (take (sign_size text) text)
 sign-of_text text = search rules
 
 -- a decimal's sign, digits, point and digits are its text
 pub decimal_parts-join : (text : List ℕ) → is_decimal text ≡ true → JoinsTo (decimal_parts text) text
 decimal_parts-join text is =
-    let start = sign_length text in
+    let start = sign_size text in
     let point = point_place text in
     let first = and_parts ((slice_index text point == full_stop) && (point + 1 + run_length text (point + 1) == length text)) _ is in
     let tests = and_parts (slice_index text point == full_stop) _ first.0 in
@@ -53,17 +53,17 @@ tested d text (Some n) test is same = cc
 tested d text None test is same = search (rules, decimal_parts-join)
 
 -- so what is answered as a decimal joins to its text
-pub number_of-joins : (read : IntFloat) (text : List ℕ) → number_of read ≡ number_answer text → JoinsToFloat read text
-number_of-joins (number.Int n) text same = tt
-number_of-joins (number.Float decimal) text same = tested (decimal_of decimal) text (whole_number text) (is_decimal text) refl same
-number_of-joins number.Err text same = tt
+pub number_value-joins : (read : IntFloat) (text : List ℕ) → number_value read ≡ number_answer text → JoinsToFloat read text
+number_value-joins (number.Int n) text same = tt
+number_value-joins (number.Float decimal) text same = tested (decimal_value decimal) text (whole_number text) (is_decimal text) refl same
+number_value-joins number.Err text same = tt
 
 -- a text that goes on after its digits is no whole number
 pub whole_number-none : (text : List ℕ) → (point_place text ≡ length text → ⊥) → whole_number text ≡ None
 whole_number-none text other = search rules
 
-sign_length-small : (text : List ℕ) → sign_length text ≤ 1
-sign_length-small text = search rules
+sign_size-small : (text : List ℕ) → sign_size text ≤ 1
+sign_size-small text = search rules
 
 -- each byte of a run is a digit
 run-passes : (text : List ℕ) (start place : ℕ) → start ≤ place → place < start + run_length text start → is_ascii_digit (get_or text place 0) ≡ true
@@ -77,15 +77,15 @@ run-passes text start place after before =
 whole_number-other : (text : List ℕ) (place : ℕ) → 1 ≤ place → place < length text → is_ascii_digit (get_or text place 0) ≡ false
     → whole_number text ≡ None
 whole_number-other text place after within other =
-    let small = sign_length-small text in
+    let small = sign_size-small text in
     whole_number-none text
-    (λ same. false≢true (sym other ∙ run-passes text (sign_length text) place (omega (arith, small)) (omega (arith, same))))
+    (λ same. false≢true (sym other ∙ run-passes text (sign_size text) place (omega (arith, small)) (omega (arith, same))))
 
 -- nor is it a decimal, if that byte is no point
 is_decimal-other : (text : List ℕ) (place : ℕ) → 1 ≤ place → place < length text → is_ascii_digit (get_or text place 0) ≡ false
     → (get_or text place 0 == full_stop) ≡ false → is_decimal text ≡ false
 is_decimal-other text place after within other no_point =
-    search (rules, and_parts, eqb-true, cases_lt, false≢true, false_from_ne_true, run-passes, sign_length-small)
+    search (rules, and_parts, eqb-true, cases_lt, false≢true, false_from_ne_true, run-passes, sign_size-small)
 
 -- so it is no number
 pub number_answer-other : (text : List ℕ) (place : ℕ) → 1 ≤ place → place < length text → is_ascii_digit (get_or text place 0) ≡ false

@@ -13,8 +13,8 @@ abbrev pub has_minus : List ℕ → Bool
 has_minus text = slice_index text 0 == hyphen
 
 -- how many bytes its sign has: none, or one `+` or `-`
-abbrev pub sign_length : List ℕ → ℕ
-sign_length text = if (slice_index text 0 == plus_sign) || has_minus text then 1 else 0
+abbrev pub sign_size : List ℕ → ℕ
+sign_size text = if (slice_index text 0 == plus_sign) || has_minus text then 1 else 0
 
 -- a size with its sign
 abbrev pub with_sign : Bool → ℕ → ℤ
@@ -31,7 +31,7 @@ signed_answer negative size = if fits_i64 negative size then Some (with_sign neg
 -- the whole number that a text is, if it is an optional sign and one or more digits, and fits
 abbrev pub whole_number : List ℕ → Option ℤ
 whole_number text =
-    let start = sign_length text in
+    let start = sign_size text in
     let digits = run_length text start in
     let size = run_value text start in
     if nat_lt 0 digits && (start + digits == length text) then signed_answer (has_minus text) size else None
@@ -50,12 +50,12 @@ decimal_of_digits decimal =
 
 -- the place of a decimal's point, after its sign and the digits before it
 abbrev pub point_place : List ℕ → ℕ
-point_place text = sign_length text + run_length text (sign_length text)
+point_place text = sign_size text + run_length text (sign_size text)
 
 -- the text is an optional sign, digits, one point and digits, with a digit on one side at least
 abbrev pub is_decimal : List ℕ → Bool
 is_decimal text =
-    let whole = run_length text (sign_length text) in
+    let whole = run_length text (sign_size text) in
     let point = point_place text in
     let fraction = run_length text (point + 1) in
     (slice_index text point == full_stop) && (point + 1 + fraction == length text) && nat_lt 0 (whole + fraction)
@@ -64,7 +64,7 @@ is_decimal text =
 abbrev pub decimal_parts : List ℕ → DecimalParts
 decimal_parts text = record {
   negative = has_minus text;
-  whole = run_digits text (sign_length text);
+  whole = run_digits text (sign_size text);
   fraction = run_digits text (point_place text + 1);
 }
 
@@ -117,18 +117,18 @@ JoinsTo decimal text =
     (sign : List ℕ) × IsSign decimal.negative sign × (text ≡ sign ++ decimal.whole ++ full_stop ∷ decimal.fraction)
 
 -- the parts of a `Decimal`
-abbrev pub decimal_of : Decimal → DecimalParts
-decimal_of decimal = record { negative = decimal.negative; whole = decimal.whole.now; fraction = decimal.fraction.now }
+abbrev pub decimal_value : Decimal → DecimalParts
+decimal_value decimal = record { negative = decimal.negative; whole = decimal.whole.now; fraction = decimal.fraction.now }
 
 -- what was read, as a number
-abbrev pub number_of : IntFloat → Number
-number_of (number.Int n) = Whole n
-number_of (number.Float decimal) = Fractional (decimal_of decimal)
-number_of number.Err = NoNumber
+abbrev pub number_value : IntFloat → Number
+number_value (number.Int n) = Whole n
+number_value (number.Float decimal) = Fractional (decimal_value decimal)
+number_value number.Err = NoNumber
 
 -- a decimal that was read joins to its text
 abbrev pub JoinsToFloat : IntFloat → List ℕ → Type 0
-JoinsToFloat (number.Float decimal) text = JoinsTo (decimal_of decimal) text
+JoinsToFloat (number.Float decimal) text = JoinsTo (decimal_value decimal) text
 JoinsToFloat other text = Unit {0}
 
 -- what was read is no number

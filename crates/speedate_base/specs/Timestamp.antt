@@ -120,12 +120,12 @@ abbrev pub decimal_row : TimestampUnit → DecimalParts → UnitRow
 decimal_row unit decimal = unit_row unit (nat_le (decimal_digits decimal) (inferred_seconds_max * decimal_scale decimal))
 
 -- a decimal in microseconds, with its sign: the numerator of a fraction whose denominator is its scale
-abbrev pub decimal_size : UnitRow → DecimalParts → ℤ
-decimal_size row decimal = with_sign decimal.negative (decimal_digits decimal * row.microseconds)
+abbrev pub decimal_numerator : UnitRow → DecimalParts → ℤ
+decimal_numerator row decimal = with_sign decimal.negative (decimal_digits decimal * row.microseconds)
 
 -- the microseconds since 1970-01-01T00:00:00 that it means, to the nearest
 abbrev pub decimal_microsecond : UnitRow → DecimalParts → ℤ
-decimal_microsecond row decimal = nearest (decimal_size row decimal) (decimal_scale decimal)
+decimal_microsecond row decimal = nearest (decimal_numerator row decimal) (decimal_scale decimal)
 
 -- the instant that it means, to the nearest microsecond
 abbrev pub decimal_instant : UnitRow → DecimalParts → Instant
@@ -137,9 +137,9 @@ digits_table behavior row decimal =
     ((refuses_digits behavior implies nat_le (length decimal.fraction) row.digits) else_fault row.too_long) ∷ []
 
 -- the numbers of an instant
-abbrev pub instant_of : UnixTime → Instant
-instant_of time = record { second = time.second; microsecond = time.microsecond }
+abbrev pub unix_instant : UnixTime → Instant
+unix_instant time = record { second = time.second; microsecond = time.microsecond }
 
 -- the row of a unit
-abbrev pub row : UnixUnit → UnitRow
-row unit = record { microseconds = unit.microseconds; digits = unit.digits; too_long = unit.too_long }
+abbrev pub unix_row : UnixUnit → UnitRow
+unix_row unit = record { microseconds = unit.microseconds; digits = unit.digits; too_long = unit.too_long }

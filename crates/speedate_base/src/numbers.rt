@@ -1,7 +1,7 @@
 //! Whole numbers and decimals, and the digits that they are made of.
 
 ghost use Rattle.std.specs.Prelude.{◌≡◌, ◌^◌, ◌<◌, ◌≤◌, length, Some, None, if◌then◌else◌};
-ghost use Rattle.speedate_base.specs.Numbers.{has_minus, sign_length, with_sign, signed_answer, whole_number, point_place, decimal_answer, number_answer, number_of, JoinsToFloat};
+ghost use Rattle.speedate_base.specs.Numbers.{has_minus, sign_size, with_sign, signed_answer, whole_number, point_place, decimal_answer, number_answer, number_value, JoinsToFloat};
 
 pub(crate) mod digits;
 mod fraction;
@@ -49,7 +49,7 @@ pub fn int_parse_bytes(bytes: &[u8]) -> Option<i64>
 /// whole number that does not fit an `i64`, is `Err`.
 #[inline(always)]
 pub fn float_parse_str(text: &str) -> IntFloat<'_>
-    ensures answer { number_of result ≡ number_answer text.now }
+    ensures answer { number_value result ≡ number_answer text.now }
     ensures joined { JoinsToFloat result text.now }
 {
     float_parse_bytes(text.as_bytes())
@@ -59,7 +59,7 @@ pub fn float_parse_str(text: &str) -> IntFloat<'_>
 /// is as for [`float_parse_str`].
 #[inline(always)]
 pub fn float_parse_bytes(bytes: &[u8]) -> IntFloat<'_>
-    ensures answer { number_of result ≡ number_answer bytes.now }
+    ensures answer { number_value result ≡ number_answer bytes.now }
     ensures joined { JoinsToFloat result bytes.now }
 {
     let (negative, start) = sign(bytes);
@@ -81,10 +81,10 @@ pub fn float_parse_bytes(bytes: &[u8]) -> IntFloat<'_>
 #[tactic(auto, using(crate::proofs::NumberLemmas::part_rules))]
 fn decimal(bytes: &[u8], negative: bool, start: usize, point: usize) -> IntFloat<'_>
     requires negative { negative ≡ has_minus bytes.now }
-    requires start { start ≡ sign_length bytes.now }
+    requires start { start ≡ sign_size bytes.now }
     requires point { point ≡ point_place bytes.now }
     requires within { point < length bytes.now }
-    ensures answer { number_of result ≡ decimal_answer bytes.now }
+    ensures answer { number_value result ≡ decimal_answer bytes.now }
 {
     if bytes[point] != b'.'
         || run_end(bytes, point + 1) != bytes.len()
@@ -104,7 +104,7 @@ fn decimal(bytes: &[u8], negative: bool, start: usize, point: usize) -> IntFloat
 #[inline(always)]
 pub fn sign(bytes: &[u8]) -> (bool, usize)
     ensures negative { result.0 ≡ has_minus bytes.now }
-    ensures len { result.1 ≡ sign_length bytes.now }
+    ensures length { result.1 ≡ sign_size bytes.now }
     ensures within { result.1 ≤ length bytes.now }
 {
     match bytes {

@@ -2,7 +2,7 @@
 
 ghost use Rattle.std.specs.Prelude.{◌≡◌};
 ghost use Rattle.speedate_base.specs.Requirement.{result_map};
-ghost use Rattle.speedate_base.specs.Timestamp.{instant_answer, instant_of};
+ghost use Rattle.speedate_base.specs.Timestamp.{instant_answer, unix_instant};
 
 mod decimal_timestamp;
 mod rounding;
@@ -30,7 +30,7 @@ pub fn timestamp_to_seconds_micros(
     timestamp: i64,
     unit: TimestampUnit,
 ) -> Result<UnixTime, ParseError>
-    ensures answer { result_map instant_of result ≡ instant_answer unit timestamp }
+    ensures answer { result_map unix_instant result ≡ instant_answer unit timestamp }
 {
     match unit {
         TimestampUnit::Second => Ok(UnixTime::from_seconds(timestamp)),

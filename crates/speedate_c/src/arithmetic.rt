@@ -1,7 +1,7 @@
 //! The duration between two values, and the value a duration after another, as C sees them.
 
 ghost use Rattle.std.specs.Prelude.{◌≡◌, neg_ℤ};
-ghost use Rattle.speedate.specs.Duration.{date_after_days, date_time_after, duration_between, duration_between_dates, negated, signed_length};
+ghost use Rattle.speedate.specs.Duration.{date_after_days, date_time_after, duration_between, duration_between_dates, negated, signed_amount};
 ghost use Rattle.speedate_c.specs.After.{after_answer, after_value, with_value};
 ghost use Rattle.speedate_c.specs.Code.{value_out_of_range};
 ghost use Rattle.speedate_c.specs.Date.{date_of, shown_date};
@@ -43,7 +43,7 @@ pub extern "C" fn speedate_duration_after(
 ) -> i32
     ensures answer { (result, out.new) ≡ with_value (duration_of duration) (value_out_of_range, out.old)
         (λ duration. with_value (date_time_of start) (value_out_of_range, out.old)
-        (λ start. after_answer shown_date_time out.old (date_time_after (signed_length duration) start))) }
+        (λ start. after_answer shown_date_time out.old (date_time_after (signed_amount duration) start))) }
 {
     let duration = value_or_return!(duration);
     let start = value_or_return!(start);
@@ -61,7 +61,7 @@ pub extern "C" fn speedate_duration_before(
 ) -> i32
     ensures answer { (result, out.new) ≡ with_value (duration_of duration) (value_out_of_range, out.old)
         (λ duration. with_value (date_time_of start) (value_out_of_range, out.old)
-        (λ start. after_answer shown_date_time out.old (date_time_after (neg_ℤ (signed_length duration)) start))) }
+        (λ start. after_answer shown_date_time out.old (date_time_after (neg_ℤ (signed_amount duration)) start))) }
 {
     let duration = value_or_return!(duration);
     let start = value_or_return!(start);

@@ -2,7 +2,7 @@
 use Rattle.std.proofs.Common.{◌≡◌, ℕ, true, int_le, length, Option, ℤ, pos, ◌+ℤ◌, ◌*ℤ◌, IfOk, Ok, refl, arith, ◌∙◌, ap, sym, subst}
 use Rattle.std.proofs.lemmas.Int.{ints}
 use Rattle.speedate_base.specs.declared.config.TimestampUnit.{TimestampUnit}
-use Rattle.speedate_base.specs.Timestamp.{decimal_row, decimal_size, decimal_microsecond, decimal_instant, Instant, timestamp_microsecond, instant_at, instant_answer, unit_table, first_second, range_table, range_answer, later_instant, later_answer, sum_table}
+use Rattle.speedate_base.specs.Timestamp.{decimal_row, decimal_numerator, decimal_microsecond, decimal_instant, Instant, timestamp_microsecond, instant_at, instant_answer, unit_table, first_second, range_table, range_answer, later_instant, later_answer, sum_table}
 use Rattle.speedate_base.specs.Numbers.{decimal_scale, DecimalParts}
 use Rattle.speedate_base.specs.Nearest.{IsNearest}
 use Rattle.speedate_civil.specs.DateTime.{DateAndTime, local_second, local_microsecond, IsShownAt, date_time_at, instant_date_time, date_time_timestamp_answer, date_time_decimal_answer, meant_microsecond}
@@ -56,9 +56,9 @@ date_time_timestamp-instant unit offset microseconds timestamp =
 -- that of a decimal timestamp lies at the microsecond that is nearest to it
 pub date_time_decimal-nearest : (unit : TimestampUnit) (offset : Option ℤ) (decimal : DecimalParts)
     → IfOk (date_time_decimal_answer unit offset decimal)
-    (λ value. IsNearest (decimal_size (decimal_row unit decimal) decimal) (decimal_scale decimal) (local_microsecond value))
+    (λ value. IsNearest (decimal_numerator (decimal_row unit decimal) decimal) (decimal_scale decimal) (local_microsecond value))
 date_time_decimal-nearest unit offset decimal =
     let row = decimal_row unit decimal in
-    let Is = IsNearest (decimal_size row decimal) (decimal_scale decimal) in
+    let Is = IsNearest (decimal_numerator row decimal) (decimal_scale decimal) in
     instant_date_time-holds Is offset (decimal_instant row decimal) (subst Is (sym (instant_at-microsecond (decimal_microsecond row decimal)))
-    (nearest-is (decimal_size row decimal) (decimal_scale decimal) (scale-some (length decimal.fraction))))
+    (nearest-is (decimal_numerator row decimal) (decimal_scale decimal) (scale-some (length decimal.fraction))))

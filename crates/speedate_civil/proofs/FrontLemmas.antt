@@ -11,7 +11,7 @@ use Rattle.speedate_base.specs.Ascii.{colon, hyphen}
 use Rattle.speedate_base.specs.Digits.{run_length, run_digits, two_digit_value, is_decimal_mark}
 use Rattle.speedate_base.specs.Requirement.{AllHold, alone, meets, result_and_then}
 use Rattle.speedate_civil.specs.Calendar.{Ymd}
-use Rattle.speedate_civil.specs.Time.{Clock, at_hour, clock_answer, clock_front, hour_table, hour_range, minute_clock, minute_digits, minute_table, has_second, has_decimal_mark, end_fault, offset_digits_length, offset_front, signed_front, TimeOfDay, time_front, time_answer, time_of}
+use Rattle.speedate_civil.specs.Time.{Clock, at_hour, clock_answer, clock_front, hour_table, hour_range, minute_clock, minute_digits, minute_table, has_second, has_decimal_mark, end_fault, offset_digits_size, offset_front, signed_front, TimeOfDay, time_front, time_answer, clock_with_offset}
 use Rattle.speedate_civil.specs.DateTime.{DateAndTime, date_time_answer, date_time_front, separator_table}
 use Rattle.speedate_civil.specs.Date.{date_front, date_answer, date_numbers, date_table}
 use Rattle.speedate_base.proofs.RequirementLemmas.{meets-all, meets-ok, meets-value}
@@ -75,7 +75,7 @@ clock-taken behavior text count within inside = grind (arith, le-leb, drop-take,
 
 -- the digits of an offset
 digits-taken : (west : Bool) (sign : ℕ) (numbers : List ℕ) (there : Bool) → (slice_index numbers 2 == colon) ≡ there
-    → signed_front west sign (take (offset_digits_length numbers) numbers) ≡ signed_front west sign numbers
+    → signed_front west sign (take (offset_digits_size numbers) numbers) ≡ signed_front west sign numbers
 digits-taken west sign numbers there is = grind (arith, nat_tests, bytes-taken, get_or-take)
 
 -- the offset, by what it begins with
@@ -83,8 +83,8 @@ abbrev OffsetTaken : List ℕ → Result (Option ℤ × ℕ) ParseError → Type
 OffsetTaken rest answer = IfOk answer (λ front. offset_front (take front.1 rest) ≡ Ok front)
 
 signed-taken : (west : Bool) (sign : ℕ) (rest : List ℕ)
-    → (offset_front (take (sign + offset_digits_length (drop sign rest)) rest)
-    ≡ signed_front west sign (drop sign (take (sign + offset_digits_length (drop sign rest)) rest)))
+    → (offset_front (take (sign + offset_digits_size (drop sign rest)) rest)
+    ≡ signed_front west sign (drop sign (take (sign + offset_digits_size (drop sign rest)) rest)))
     → OffsetTaken rest (signed_front west sign (drop sign rest))
 signed-taken west sign rest is = grind (arith, nat_tests, drop-take, meets-all, digits-taken)
 
@@ -94,7 +94,7 @@ offset-taken rest =
     (λ some. signed-taken (slice_index rest 0 == hyphen) 1 rest (grind (arith, get_or-take)))
     (λ none utc. grind (arith, get_or-take))
     (λ none other there. signed-taken true 3 rest
-    (let count : ℕ = 3 + offset_digits_length (drop 3 rest) in
+    (let count : ℕ = 3 + offset_digits_size (drop 3 rest) in
     rw (get_or-take count rest 0 0 (omega arith), get_or-take count rest 1 0 (omega arith), get_or-take count rest 2 0 (omega arith), none, other, there) refl))
     (λ none other nothing. refl)
 
@@ -124,7 +124,7 @@ clock-size behavior text clock read = ap (λ (found : Clock). found.size) (clock
 -- a clock and the offset after it are a time
 pub time_front-is : (behavior : MicrosecondsPrecisionOverflowBehavior) (text : List ℕ) (clock : Clock) (offset : Option ℤ × ℕ)
     → clock_front behavior text ≡ Ok clock → offset_front (drop clock.size text) ≡ Ok offset
-    → time_front behavior text ≡ Ok (time_of clock offset.0, clock.size + offset.1)
+    → time_front behavior text ≡ Ok (clock_with_offset clock offset.0, clock.size + offset.1)
 time_front-is behavior text clock offset read after = cc
 
 -- a time at the front of a text is that of its bytes alone

@@ -17,7 +17,7 @@ use Rattle.speedate_base.specs.Requirement.{Requirement, ◌implies◌, AllHold,
 use Rattle.speedate_civil.specs.declared.datetime.DateTime.{DateTime}
 use Rattle.speedate_civil.specs.declared.time.Time.{Time}
 use Rattle.speedate_civil.specs.Calendar.{Ymd, IsDate}
-use Rattle.speedate_civil.specs.Time.{Clock, clock_front, has_decimal_mark, has_second, minute_text, end_fault, is_plus_or_minus, offset_digits, offset_front, offset_ranges, signed_front, TimeOfDay, time_of, time_front, time_answer, time_of_day}
+use Rattle.speedate_civil.specs.Time.{Clock, clock_front, has_decimal_mark, has_second, minute_text, end_fault, is_plus_or_minus, offset_digits, offset_front, offset_ranges, signed_front, TimeOfDay, clock_with_offset, time_front, time_answer, time_of_day}
 use Rattle.speedate_civil.specs.DateTime.{DateAndTime, date_time_answer, date_time_front, separator_table, date_and_time}
 use Rattle.speedate_civil.specs.Date.{date_front, date_table, date_text}
 use Rattle.speedate_civil.specs.Standard.{IsFullDate, IsDateTime, IsTwoDigits, IsSecfrac, IsPartialTime, IsNumoffset, IsTimeOffset, IsFullTime, offset_place, standard_date_time, standard_offset, standard_time, strict_date_time_answer, strict_time_answer}
@@ -199,7 +199,7 @@ taken-of : (behavior : MicrosecondsPrecisionOverflowBehavior) (text offset : Lis
     → drop clock.size text ≡ offset → length text ≡ clock.size + length offset → (slice_index text 5 == colon) ≡ true → (slice_index text 8 == comma) ≡ false
     → clock.size ≡ offset_place text → Taken behavior text
 taken-of behavior text offset clock after read rest long second plain place =
-    let front : TimeOfDay × ℕ = (time_of clock after.front.0, clock.size + after.front.1) in
+    let front : TimeOfDay × ℕ = (clock_with_offset clock after.front.0, clock.size + after.front.1) in
     let fault = λ (value : TimeOfDay). end_fault value.offset in
     let is : time_front behavior text ≡ Ok front = time_front-is behavior text clock after.front read (ap offset_front rest ∙ after.read) in
     let rows : AllHold (standard_offset (drop (offset_place text) text)) = search rules in (

@@ -8,7 +8,7 @@ use Rattle.speedate_base.specs.Ascii.{colon, full_stop}
 use Rattle.speedate_base.specs.Digits.{two_digit_text, six_digit_text, is_decimal_mark}
 use Rattle.speedate_base.specs.Offset.{IsWholeMinutes}
 use Rattle.speedate_base.specs.Requirement.{alone, result_and_then}
-use Rattle.speedate_civil.specs.Time.{Clock, at_hour, clock_answer, clock_front, minute_text, end_fault, offset_front, offset_text, TimeOfDay, IsTime, time_front, time_answer, time_of, clock_text, time_text, is_after_time}
+use Rattle.speedate_civil.specs.Time.{Clock, at_hour, clock_answer, clock_front, minute_text, end_fault, offset_front, offset_text, TimeOfDay, IsTime, time_front, time_answer, clock_with_offset, clock_text, time_text, is_after_time}
 use Rattle.speedate_base.proofs.RequirementLemmas.{alone-whole}
 use Rattle.speedate_civil.proofs.ClockLemmas.{clock-whole, clock-fraction}
 use Rattle.speedate_civil.proofs.OffsetLemmas.{offset_text-first, offset_text-front}
@@ -16,7 +16,7 @@ use Rattle.speedate_civil.proofs.OffsetLemmas.{offset_text-first, offset_text-fr
 -- what is read after a clock decides on the time
 pub time_front-after : (behavior : MicrosecondsPrecisionOverflowBehavior) (text : List ℕ) (clock : Clock) (offset : Result (Option ℤ × ℕ) ParseError)
     → Ok clock ≡ clock_front behavior text → offset ≡ offset_front (drop clock.size text)
-    → result_and_then (λ (after : Option ℤ × ℕ). Ok (time_of clock after.0, clock.size + after.1)) offset ≡ time_front behavior text
+    → result_and_then (λ (after : Option ℤ × ℕ). Ok (clock_with_offset clock after.0, clock.size + after.1)) offset ≡ time_front behavior text
 time_front-after behavior text clock offset read after = rw (sym read, after) refl
 
 -- a printed hour, before a clock that is read

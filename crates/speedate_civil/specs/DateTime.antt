@@ -16,7 +16,7 @@ use Rattle.speedate_civil.specs.declared.datetime.DateTime.{DateTime}
 use Rattle.speedate_civil.specs.declared.datetime.now.Moment.{Moment}
 use Rattle.speedate_civil.specs.Calendar.{Ymd, IsDate, midnight_second, date_after}
 use Rattle.speedate_civil.specs.Date.{ymd, date_front, date_text, day_at, second_at}
-use Rattle.speedate_civil.specs.Time.{microsecond_row, TimeOfDay, IsTime, second_of_day, time_of_day, end_fault, time_front, time_text, time_at, utc_second_of_day}
+use Rattle.speedate_civil.specs.Time.{microsecond_range, TimeOfDay, IsTime, second_of_day, time_of_day, end_fault, time_front, time_text, time_at, utc_second_of_day}
 
 -- a date-time by its date and its time of day
 pub record DateAndTime : Type 0 where
@@ -152,7 +152,7 @@ date_time_or_timestamp unit behavior offset text =
 
 -- the moment of its numbers, as an instant
 abbrev pub new_moment_answer : ℕ → ℕ → Result Instant ParseError
-new_moment_answer second microsecond = meets (microsecond_row microsecond ∷ []) (Ok (record { second = pos second; microsecond = microsecond }))
+new_moment_answer second microsecond = meets (microsecond_range microsecond ∷ []) (Ok (record { second = pos second; microsecond = microsecond }))
 
 -- What a clock tells: a moment since 1970-01-01T00:00:00 in UTC (Unix time), or none if it stands before that.
 

@@ -86,8 +86,8 @@ abbrev pub ◌gives_front◌ : Result (Time × ℕ) ParseError → Result (TimeO
 result gives_front front = result_map (with_size time_of_day) result ≡ front
 
 -- what microseconds of a second have to meet
-abbrev pub microsecond_row : ℕ → Requirement
-microsecond_row microsecond = nat_le microsecond 999999 else_fault fault.TimeTooLarge
+abbrev pub microsecond_range : ℕ → Requirement
+microsecond_range microsecond = nat_le microsecond 999999 else_fault fault.TimeTooLarge
 
 -- the time of its numbers
 abbrev pub new_time_answer : ℕ → ℕ → ℕ → ℕ → Option ℤ → Result TimeOfDay ParseError
@@ -96,7 +96,7 @@ new_time_answer hour minute second microsecond offset =
     (nat_le hour 23 else_fault fault.OutOfRangeHour)
     ∷ (nat_le minute 59 else_fault fault.OutOfRangeMinute)
     ∷ (nat_le second 59 else_fault fault.OutOfRangeSecond)
-    ∷ microsecond_row microsecond
+    ∷ microsecond_range microsecond
     ∷ offset_table offset)
     (Ok (record { hour = hour; minute = minute; second = second; microsecond = microsecond; offset = offset }))
 
@@ -189,8 +189,8 @@ abbrev pub fraction_text : ℕ → List ℕ
 fraction_text microsecond = if microsecond == 0 then [] else full_stop ∷ six_digit_text microsecond
 
 -- the numbers of a clock that was read
-abbrev pub clock_of : PureTime → Clock
-clock_of time = record {
+abbrev pub clock_parts : PureTime → Clock
+clock_parts time = record {
   hour = time.hour;
   minute = time.minute;
   second = time.second;
@@ -220,8 +220,8 @@ abbrev pub offset_minute_place : List ℕ → ℕ
 offset_minute_place numbers = if slice_index numbers 2 == colon then 3 else 2
 
 -- how many bytes its hour and minute take
-abbrev pub offset_digits_length : List ℕ → ℕ
-offset_digits_length numbers = offset_minute_place numbers + 2
+abbrev pub offset_digits_size : List ℕ → ℕ
+offset_digits_size numbers = offset_minute_place numbers + 2
 
 -- its minute
 abbrev pub offset_minute : List ℕ → ℕ
@@ -249,7 +249,7 @@ offset_ranges numbers =
 abbrev pub signed_front : Bool → ℕ → List ℕ → Result (Option ℤ × ℕ) ParseError
 signed_front west sign numbers =
     meets (offset_digits numbers) (meets (offset_ranges numbers)
-    (Ok (Some (with_sign west (offset_size numbers)), sign + offset_digits_length numbers)))
+    (Ok (Some (with_sign west (offset_size numbers)), sign + offset_digits_size numbers)))
 
 -- the offset that follows a time, if any, and how many bytes it takes, or the fault of what follows it
 abbrev pub offset_front : List ℕ → Result (Option ℤ × ℕ) ParseError
@@ -282,8 +282,8 @@ offset_text (Some offset) = let size = unsigned_abs offset in
 -- Departs from it: as a clock and an offset do.
 
 -- the time of a clock and an offset
-abbrev pub time_of : Clock → Option ℤ → TimeOfDay
-time_of clock offset = record {
+abbrev pub clock_with_offset : Clock → Option ℤ → TimeOfDay
+clock_with_offset clock offset = record {
   hour = clock.hour;
   minute = clock.minute;
   second = clock.second;
@@ -296,7 +296,7 @@ abbrev pub time_front : MicrosecondsPrecisionOverflowBehavior → List ℕ → R
 time_front behavior text = do
   clock ← clock_front behavior text
   offset ← offset_front (drop clock.size text)
-  Ok (time_of clock offset.0, clock.size + offset.1)
+  Ok (clock_with_offset clock offset.0, clock.size + offset.1)
 
 -- the time that a text is, or the text's fault
 abbrev pub time_answer : MicrosecondsPrecisionOverflowBehavior → List ℕ → Result TimeOfDay ParseError

@@ -11,14 +11,14 @@ use Rattle.speedate.specs.DurationNumbers.{DurationNumbers, signed_seconds}
 use Rattle.speedate.specs.Requirement.{result_map, result_and_then}
 
 -- the duration after a space
-abbrev pub length_answer : List ℕ → Result DurationNumbers ParseError
-length_answer [] = Err fault.TooShort
-length_answer (byte ∷ text) = if byte == space then duration_answer order.Lax behavior.Error text else Err fault.ExtraCharacters
+abbrev pub duration_after_space : List ℕ → Result DurationNumbers ParseError
+duration_after_space [] = Err fault.TooShort
+duration_after_space (byte ∷ text) = if byte == space then duration_answer order.Lax behavior.Error text else Err fault.ExtraCharacters
 
 -- when work began, and how long it lasted
 abbrev pub shift_answer : List ℕ → Result (DateAndTime × DurationNumbers) ParseError
 shift_answer line =
-    result_and_then (λ front. result_map (λ length. (front.0, length)) (length_answer (drop front.1 line))) (date_time_front behavior.Error line)
+    result_and_then (λ front. result_map (λ length. (front.0, length)) (duration_after_space (drop front.1 line))) (date_time_front behavior.Error line)
 
 -- the seconds of all durations together
 abbrev pub total_seconds : List DurationNumbers → ℤ

@@ -2,8 +2,8 @@
 use Rattle.std.specs.Prelude.{◌≡◌, ℕ, ◌+◌, ◌*◌, ◌/◌, ◌≤◌, if◌then◌else◌, Option, Some, None, ℤ, pos, negsuc, ◌+ℤ◌, ◌-ℤ◌, ◌*ℤ◌, ◌<ℤ◌, ◌≤ℤ◌, int_lt, Result, Ok}
 use Rattle.speedate.specs.declared.ParseError.{ParseError}
 use Rattle.speedate.specs.DateTime.{DateAndTime, utc_microsecond}
-use Rattle.speedate.specs.Duration.{signed_length, date_time_after}
-use Rattle.speedate.specs.DurationNumbers.{DurationNumbers, length_microseconds}
+use Rattle.speedate.specs.Duration.{signed_amount, date_time_after}
+use Rattle.speedate.specs.DurationNumbers.{DurationNumbers, amount_microseconds}
 use Rattle.speedate.specs.Requirement.{result_map}
 
 -- which run after the last one is the first that is later than now, where the interval, and what
@@ -16,8 +16,8 @@ next_count every (negsuc below) = 1
 -- where the time between two runs is zero or negative
 abbrev pub next_run_answer : DateAndTime → DurationNumbers → DateAndTime → Result (Option DateAndTime) ParseError
 next_run_answer last every now =
-    let length = length_microseconds every in
-    if int_lt (pos 0) (signed_length every)
+    let length = amount_microseconds every in
+    if int_lt (pos 0) (signed_amount every)
     then result_map Some (date_time_after (pos (next_count length (utc_microsecond now -ℤ utc_microsecond last) * length)) last)
     else Ok None
 

@@ -4,7 +4,7 @@ ghost use Rattle.std.specs.Prelude.{◌≡◌, ◌*◌, ◌≤◌, length, map, 
 ghost use Rattle.speedate.specs.DateTime.{date_and_time};
 ghost use Rattle.speedate.specs.Duration.{duration_numbers, ◌gives◌};
 ghost use Rattle.speedate.specs.Requirement.{result_map};
-ghost use Rattle.speedate_uses.specs.Hours.{length_answer, shift_answer, total_seconds};
+ghost use Rattle.speedate_uses.specs.Hours.{duration_after_space, shift_answer, total_seconds};
 
 use speedate::{DateTime, Duration, ParseError, TimeConfig};
 
@@ -20,7 +20,7 @@ pub fn shift(line: &[u8]) -> Result<(DateTime, Duration), ParseError>
 
 /// The duration after a space: the bytes between two readers are matched in a function of their own.
 fn length_after(rest: &[u8]) -> Result<Duration, ParseError>
-    ensures answer { result gives length_answer rest.now }
+    ensures answer { result gives duration_after_space rest.now }
 {
     match rest {
         [b' ', text @ ..] => Duration::parse_bytes(text),

@@ -2,8 +2,8 @@
 
 ghost use Rattle.std.specs.Prelude.{◌≡◌, ◌↔◌, ◌*◌, ◌<◌, ◌≤◌, ◌^◌, ◌<ℤ◌, ◌≤ℤ◌, IfOk, IfSome, IsTrue, None, Ok, int_lt, option_map, pos};
 ghost use Rattle.speedate.specs.DateTime.{utc_microsecond, date_and_time};
-ghost use Rattle.speedate.specs.Duration.{duration_numbers, signed_length};
-ghost use Rattle.speedate.specs.DurationNumbers.{length_microseconds};
+ghost use Rattle.speedate.specs.Duration.{duration_numbers, signed_amount};
+ghost use Rattle.speedate.specs.DurationNumbers.{amount_microseconds};
 ghost use Rattle.speedate.specs.Requirement.{result_map};
 ghost use Rattle.speedate_uses.specs.Schedule.{IsNextRun, next_count, next_run_answer};
 
@@ -23,9 +23,9 @@ pub fn next_run(
     ensures answer { result_map (option_map date_and_time) result
         ≡ next_run_answer (date_and_time last.now) (duration_numbers every.now) (date_and_time now.now) }
     ensures first { IfOk result (λ next. IfSome next (λ run. IsNextRun (utc_microsecond (date_and_time last.now))
-        (signed_length (duration_numbers every.now)) (utc_microsecond (date_and_time now.now)) (utc_microsecond (date_and_time run)))) }
+        (signed_amount (duration_numbers every.now)) (utc_microsecond (date_and_time now.now)) (utc_microsecond (date_and_time run)))) }
     ensures offset { IfOk result (λ next. IfSome next (λ run. run.time.tz_offset ≡ last.now.time.tz_offset)) }
-    ensures none { (result ≡ Ok None) ↔ (signed_length (duration_numbers every.now) ≤ℤ pos 0) }
+    ensures none { (result ≡ Ok None) ↔ (signed_amount (duration_numbers every.now) ≤ℤ pos 0) }
 {
     if !is_positive(every) {
         return Ok(None);
@@ -35,7 +35,7 @@ pub fn next_run(
 }
 
 fn is_positive(every: &Duration) -> bool
-    ensures { result ≡ int_lt (pos 0) (signed_length (duration_numbers every.now)) }
+    ensures { result ≡ int_lt (pos 0) (signed_amount (duration_numbers every.now)) }
 {
     every.cmp(&of_microseconds(0)).is_gt()
 }
@@ -44,10 +44,10 @@ fn is_positive(every: &Duration) -> bool
 /// number of times `every` that is longer.
 #[tactic(auto, using(crate::proofs::ScheduleLemmas::wait_once, crate::proofs::ScheduleLemmas::wait_more))]
 fn next_wait(gone: &Duration, every: &Duration) -> Duration
-    requires positive { pos 0 <ℤ signed_length (duration_numbers every.now) }
+    requires positive { pos 0 <ℤ signed_amount (duration_numbers every.now) }
     requires days { gone.now.day ≤ 3652426 }
-    ensures length { let every = length_microseconds (duration_numbers every.now) in
-        signed_length (duration_numbers result) ≡ pos (next_count every (signed_length (duration_numbers gone.now)) * every) }
+    ensures length { let every = amount_microseconds (duration_numbers every.now) in
+        signed_amount (duration_numbers result) ≡ pos (next_count every (signed_amount (duration_numbers gone.now)) * every) }
 {
     if every.cmp(gone).is_gt() {
         return *every;
@@ -57,8 +57,8 @@ fn next_wait(gone: &Duration, every: &Duration) -> Duration
 }
 
 fn microseconds(duration: &Duration) -> u64
-    requires { length_microseconds (duration_numbers duration.now) < 2 ^ 63 }
-    ensures { result ≡ length_microseconds (duration_numbers duration.now) }
+    requires { amount_microseconds (duration_numbers duration.now) < 2 ^ 63 }
+    ensures { result ≡ amount_microseconds (duration_numbers duration.now) }
 {
     let seconds = 86_400 * u64::from(duration.day) + u64::from(duration.second);
     1_000_000 * seconds + u64::from(duration.microsecond)
@@ -67,7 +67,7 @@ fn microseconds(duration: &Duration) -> u64
 fn of_microseconds(length: u64) -> Duration
     requires { length < 2 ^ 63 }
     ensures positive { IsTrue result.positive }
-    ensures length { signed_length (duration_numbers result) ≡ pos length }
+    ensures length { signed_amount (duration_numbers result) ≡ pos length }
 {
     let seconds = length / 1_000_000;
     Duration {

@@ -2,11 +2,11 @@
 
 ghost use Rattle.std.specs.Prelude.{◌≡◌, ◌<◌, ◌≤◌, ◌+ℤ◌, ◌-ℤ◌, ◌*ℤ◌, IfOk, Ok, pos, neg_ℤ, unsigned_abs};
 ghost use Rattle.std.specs.Ordering.{int_cmp};
-ghost use Rattle.speedate_base.specs.Timestamp.{instant_at, instant_of};
+ghost use Rattle.speedate_base.specs.Timestamp.{instant_at, unix_instant};
 ghost use Rattle.speedate_civil.specs.DateTime.{local_microsecond, utc_microsecond, date_and_time};
 ghost use Rattle.speedate_civil.specs.Calendar.{days_between};
 ghost use Rattle.speedate.specs.declared.duration.Duration.{Duration};
-ghost use Rattle.speedate.specs.Duration.{duration_numbers, signed_length, duration_of_length, length_answer, negated, with_positive_zero, duration_between, date_time_after, duration_between_dates, signed_days, date_after_days};
+ghost use Rattle.speedate.specs.Duration.{duration_numbers, signed_amount, duration_of_amount, amount_answer, negated, with_positive_zero, duration_between, date_time_after, duration_between_dates, signed_days, date_after_days};
 
 use super::{DAYS_MAX, Duration};
 use speedate_base::faults::ParseError;
@@ -24,12 +24,12 @@ impl Duration {
     /// offsets are equal, [`Duration::after`] leads from the one exactly to the other.
     pub fn between(earlier: &DateTime, later: &DateTime) -> Duration
         ensures answer { duration_numbers result ≡ duration_between (date_and_time earlier.now) (date_and_time later.now) }
-        ensures length { signed_length (duration_numbers result)
+        ensures length { signed_amount (duration_numbers result)
             ≡ utc_microsecond (date_and_time later.now) -ℤ utc_microsecond (date_and_time earlier.now) }
-        ensures ends { IfOk (date_time_after (signed_length (duration_numbers result)) (date_and_time earlier.now))
+        ensures ends { IfOk (date_time_after (signed_amount (duration_numbers result)) (date_and_time earlier.now))
             (λ end. utc_microsecond end ≡ utc_microsecond (date_and_time later.now)) }
         ensures leads_back { later.now.time.tz_offset ≡ earlier.now.time.tz_offset
-            → date_time_after (signed_length (duration_numbers result)) (date_and_time earlier.now) ≡ Ok (date_and_time later.now) }
+            → date_time_after (signed_amount (duration_numbers result)) (date_and_time earlier.now) ≡ Ok (date_and_time later.now) }
         ensures days { result.day ≤ 3652426 }
     {
         Self::of_microseconds(utc_microsecond(later) - utc_microsecond(earlier))
@@ -45,16 +45,16 @@ impl Duration {
     /// `DateTooLarge` where it is after the year 9999.
     #[inline(always)]
     pub fn after(&self, start: &DateTime) -> Result<DateTime, ParseError>
-        ensures answer { result gives date_time_after (signed_length (duration_numbers self.now)) (date_and_time start.now) }
+        ensures answer { result gives date_time_after (signed_amount (duration_numbers self.now)) (date_and_time start.now) }
         ensures ends { IfOk result (λ end. utc_microsecond (date_and_time end)
-            ≡ utc_microsecond (date_and_time start.now) +ℤ signed_length (duration_numbers self.now)) }
+            ≡ utc_microsecond (date_and_time start.now) +ℤ signed_amount (duration_numbers self.now)) }
         ensures offset { IfOk result (λ end. end.time.tz_offset ≡ start.now.time.tz_offset) }
         ensures between { IfOk result (λ end. duration_between (date_and_time start.now) (date_and_time end)
             ≡ with_positive_zero (duration_numbers self.now)) }
-        ensures order { (other : Duration) → IfOk result (λ end. IfOk (date_time_after (signed_length (duration_numbers other)) (date_and_time start.now))
+        ensures order { (other : Duration) → IfOk result (λ end. IfOk (date_time_after (signed_amount (duration_numbers other)) (date_and_time start.now))
             (λ next. int_cmp (utc_microsecond (date_and_time end)) (utc_microsecond next)
-            ≡ int_cmp (signed_length (duration_numbers self.now)) (signed_length (duration_numbers other)))) }
-        ensures leads_back { IfOk result (λ end. date_time_after (neg_ℤ (signed_length (duration_numbers self.now))) (date_and_time end)
+            ≡ int_cmp (signed_amount (duration_numbers self.now)) (signed_amount (duration_numbers other)))) }
+        ensures leads_back { IfOk result (λ end. date_time_after (neg_ℤ (signed_amount (duration_numbers self.now))) (date_and_time end)
             ≡ Ok (date_and_time start.now)) }
     {
         instant_date_time(self.end(start), start.time.tz_offset)
@@ -68,17 +68,17 @@ impl Duration {
     ///
     /// Those of [`Duration::after`].
     pub fn before(&self, start: &DateTime) -> Result<DateTime, ParseError>
-        ensures answer { result gives date_time_after (neg_ℤ (signed_length (duration_numbers self.now))) (date_and_time start.now) }
+        ensures answer { result gives date_time_after (neg_ℤ (signed_amount (duration_numbers self.now))) (date_and_time start.now) }
         ensures ends { IfOk result (λ end. utc_microsecond (date_and_time end)
-            ≡ utc_microsecond (date_and_time start.now) -ℤ signed_length (duration_numbers self.now)) }
+            ≡ utc_microsecond (date_and_time start.now) -ℤ signed_amount (duration_numbers self.now)) }
         ensures offset { IfOk result (λ end. end.time.tz_offset ≡ start.now.time.tz_offset) }
         ensures between { IfOk result (λ end. duration_between (date_and_time end) (date_and_time start.now)
             ≡ with_positive_zero (duration_numbers self.now)) }
         ensures order { (other : Duration) → IfOk result (λ end.
-            IfOk (date_time_after (neg_ℤ (signed_length (duration_numbers other))) (date_and_time start.now))
+            IfOk (date_time_after (neg_ℤ (signed_amount (duration_numbers other))) (date_and_time start.now))
             (λ next. int_cmp (utc_microsecond (date_and_time end)) (utc_microsecond next)
-            ≡ int_cmp (signed_length (duration_numbers other)) (signed_length (duration_numbers self.now)))) }
-        ensures leads_back { IfOk result (λ end. date_time_after (signed_length (duration_numbers self.now)) (date_and_time end)
+            ≡ int_cmp (signed_amount (duration_numbers other)) (signed_amount (duration_numbers self.now)))) }
+        ensures leads_back { IfOk result (λ end. date_time_after (signed_amount (duration_numbers self.now)) (date_and_time end)
             ≡ Ok (date_and_time start.now)) }
     {
         self.negated().after(start)
@@ -87,7 +87,7 @@ impl Duration {
     /// The duration with the other sign: -PT1S for PT1S, and PT0S for -PT0S.
     pub fn negated(&self) -> Duration
         ensures numbers { duration_numbers result ≡ negated (duration_numbers self.now) }
-        ensures length { signed_length (duration_numbers result) ≡ neg_ℤ (signed_length (duration_numbers self.now)) }
+        ensures length { signed_amount (duration_numbers result) ≡ neg_ℤ (signed_amount (duration_numbers self.now)) }
     {
         Duration {
             positive: !self.positive,
@@ -100,8 +100,8 @@ impl Duration {
     /// The length in microseconds, with the sign: -1,500,000 for -PT1.5S, and 0 for PT0S and -PT0S.
     /// [`Duration::from_signed_microseconds`] leads back, to PT0S of both.
     pub fn signed_total_microseconds(&self) -> i128
-        ensures microsecond { result ≡ signed_length (duration_numbers self.now) }
-        ensures leads_back { length_answer result ≡ Ok (with_positive_zero (duration_numbers self.now)) }
+        ensures microsecond { result ≡ signed_amount (duration_numbers self.now) }
+        ensures leads_back { amount_answer result ≡ Ok (with_positive_zero (duration_numbers self.now)) }
     {
         1_000_000 * i128::from(self.signed_total_seconds()) + i128::from(self.signed_microseconds())
     }
@@ -113,8 +113,8 @@ impl Duration {
     ///
     /// `DurationDaysTooLarge` if it has more than 999,999,999 days.
     pub fn from_signed_microseconds(microseconds: i128) -> Result<Self, ParseError>
-        ensures answer { result_map duration_numbers result ≡ length_answer microseconds }
-        ensures length { IfOk result (λ duration. signed_length (duration_numbers duration) ≡ microseconds) }
+        ensures answer { result_map duration_numbers result ≡ amount_answer microseconds }
+        ensures length { IfOk result (λ duration. signed_amount (duration_numbers duration) ≡ microseconds) }
     {
         let size = microseconds.unsigned_abs();
         let (seconds, per_day) = (size / 1_000_000, u128::from(SECONDS_PER_DAY));
@@ -132,7 +132,7 @@ impl Duration {
 
     /// The duration of a number of microseconds.
     fn of_microseconds(length: i64) -> Duration
-        ensures numbers { duration_numbers result ≡ duration_of_length length }
+        ensures numbers { duration_numbers result ≡ duration_of_amount length }
     {
         let size = length.unsigned_abs();
         let (seconds, per_day) = (size / 1_000_000, u64::from(SECONDS_PER_DAY));
@@ -146,8 +146,8 @@ impl Duration {
 
     /// The instant this long after a date-time, as a clock at its offset shows it.
     fn end(&self, start: &DateTime) -> UnixTime
-        ensures instant { instant_of result
-            ≡ instant_at (local_microsecond (date_and_time start.now) +ℤ signed_length (duration_numbers self.now)) }
+        ensures instant { unix_instant result
+            ≡ instant_at (local_microsecond (date_and_time start.now) +ℤ signed_amount (duration_numbers self.now)) }
     {
         UnixTime::carried(
             start.timestamp() + self.signed_total_seconds(),

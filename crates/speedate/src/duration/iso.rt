@@ -8,7 +8,7 @@ ghost use Rattle.std.specs.Option.{ForSome, option_map, is_some};
 ghost use Rattle.speedate_base.specs.declared.faults.ParseError.TheVariants as fault;
 ghost use Rattle.speedate_base.specs.Ascii.{capital_t};
 ghost use Rattle.speedate_base.specs.Requirement.{result_map, with_size};
-ghost use Rattle.speedate.specs.IsoForm.{Component, TimeDesignator, units, unit_in, fraction_length, unit_seconds, next_units_after, fraction_seconds, fraction_microseconds, component_at, item_at, are_counted, with_amount, with_item, item_table, sums_length, no_sums};
+ghost use Rattle.speedate.specs.IsoForm.{Component, TimeDesignator, units, unit_in, fraction_size, unit_seconds, next_units_after, fraction_seconds, fraction_microseconds, component_at, item_at, are_counted, with_number, with_item, item_table, sums_amount, no_sums};
 
 use super::unsigned::UnsignedDuration;
 use speedate_base::config::IsoOrder;
@@ -250,8 +250,8 @@ impl Sums {
         requires unit { IsUnitOf self.is_time unit.now }
         requires place { self.passed ≤ unit.now.place }
         requires short { number < 1000000 }
-        ensures sums { IfSome result (λ sums. sums_parts sums ≡ with_amount (unit_parts unit.now) number [] (sums_parts self)) }
-        ensures counted { is_some result ≡ are_counted (with_amount (unit_parts unit.now) number [] (sums_parts self)) }
+        ensures sums { IfSome result (λ sums. sums_parts sums ≡ with_number (unit_parts unit.now) number [] (sums_parts self)) }
+        ensures counted { is_some result ≡ are_counted (with_number (unit_parts unit.now) number [] (sums_parts self)) }
     {
         Some(Sums {
             order: self.order,
@@ -268,7 +268,7 @@ impl Sums {
     /// The length that all items add up to, if a component is among them.
     #[inline(always)]
     fn length(self) -> Result<UnsignedDuration, ParseError>
-        ensures answer { result_map unsigned_numbers result ≡ (if self.some then Ok (sums_length (sums_parts self)) else Err fault.TooShort) }
+        ensures answer { result_map unsigned_numbers result ≡ (if self.some then Ok (sums_amount (sums_parts self)) else Err fault.TooShort) }
     {
         if !self.some {
             return Err(ParseError::TooShort);
@@ -343,14 +343,14 @@ impl Sums {
         if !self.takes(&unit) {
             return Err(ParseError::DurationUnitOrder);
         }
-        let sums = self.with_amount(number.value as u32, &unit, &rest[..size], microseconds)?;
+        let sums = self.with_number(number.value as u32, &unit, &rest[..size], microseconds)?;
         Ok((sums, number.length + size + 1))
     }
 
     /// The sums with a number of a unit, and a fraction of it, which is nothing or a decimal mark and
     /// digits; `microseconds` is what these are of a second.
     #[inline(always)]
-    fn with_amount(
+    fn with_number(
         self,
         number: u32,
         unit: &DurationUnit,
@@ -363,8 +363,8 @@ impl Sums {
         requires digits { IsTrue (list_all is_ascii_digit (drop 1 fraction.now)) }
         requires microseconds { microseconds ≡ fraction_value 6 (drop 1 fraction.now) }
         requires small { microseconds < 1000000 }
-        ensures sums { result_map sums_parts result ≡ (if are_counted (with_amount (unit_parts unit.now) number fraction.now (sums_parts self))
-            then Ok (with_amount (unit_parts unit.now) number fraction.now (sums_parts self)) else Err fault.DurationValueTooLarge) }
+        ensures sums { result_map sums_parts result ≡ (if are_counted (with_number (unit_parts unit.now) number fraction.now (sums_parts self))
+            then Ok (with_number (unit_parts unit.now) number fraction.now (sums_parts self)) else Err fault.DurationValueTooLarge) }
     {
         let (whole, microsecond) = match fraction {
             [] => (0, 0),
@@ -397,9 +397,9 @@ impl Sums {
 /// how many bytes it has with its decimal mark: 120,000 and 4 for `b".120S"`, and 0 and 0 if there is none.
 #[inline(always)]
 fn fraction_at_front(text: &[u8]) -> (u32, usize)
-    ensures microseconds { result.0 ≡ fraction_value 6 (drop 1 (take (fraction_length text.now) text.now)) }
+    ensures microseconds { result.0 ≡ fraction_value 6 (drop 1 (take (fraction_size text.now) text.now)) }
     ensures small { result.0 < 1000000 }
-    ensures length { result.1 ≡ fraction_length text.now }
+    ensures length { result.1 ≡ fraction_size text.now }
     ensures within { result.1 ≤ length text.now }
 {
     if !is_decimal_mark(byte_at(text, 0)) {

@@ -5,7 +5,7 @@ ghost use Rattle.std.proofs.Common.{rules};
 ghost use Rattle.std.specs.Cmp.{po, on_total};
 ghost use Rattle.std.specs.Cmp.Rules.{comparing};
 ghost use Rattle.std.specs.Ordering.{on, as_partial_cmp, bool_cmp, int_cmp, ordering_then};
-ghost use Rattle.speedate.specs.Duration.{duration_numbers, signed_length};
+ghost use Rattle.speedate.specs.Duration.{duration_numbers, signed_amount};
 ghost use Rattle.speedate.specs.DurationNumbers.{duration_order, duration_order-same, duration_order-total, signed_day, signed_second, signed_microsecond};
 
 use super::Duration;
@@ -51,7 +51,7 @@ impl Ord for Duration {
     /// zero: -PT2S, -PT1S, -PT0S, PT0S and PT1S are in order.
     fn cmp(&self, other: &Duration) -> Ordering
         ensures order { result ≡ duration_order (duration_numbers self.now) (duration_numbers other.now) }
-        ensures length { result ≡ ordering_then (int_cmp (signed_length (duration_numbers self.now)) (signed_length (duration_numbers other.now)))
+        ensures length { result ≡ ordering_then (int_cmp (signed_amount (duration_numbers self.now)) (signed_amount (duration_numbers other.now)))
             (bool_cmp self.now.positive other.now.positive) }
     {
         self.key().cmp(&other.key())
@@ -68,7 +68,7 @@ impl PartialOrd for Duration {
     /// `Some(Ordering::Less)` for -PT0S and PT0S.
     fn partial_cmp(&self, other: &Duration) -> Option<Ordering>
         ensures order { result ≡ Some (duration_order (duration_numbers self.now) (duration_numbers other.now)) }
-        ensures length { result ≡ Some (ordering_then (int_cmp (signed_length (duration_numbers self.now)) (signed_length (duration_numbers other.now)))
+        ensures length { result ≡ Some (ordering_then (int_cmp (signed_amount (duration_numbers self.now)) (signed_amount (duration_numbers other.now)))
             (bool_cmp self.now.positive other.now.positive)) }
     {
         Some(self.cmp(other))

@@ -28,12 +28,12 @@ pub struct Decimal<'a> {
 
 impl<'a> Decimal<'a> {
     ghost use Rattle.std.specs.Option.{option_map};
-    ghost use Rattle.speedate_base.specs.Numbers.{decimal_of, decimal_of_digits, scaled_decimal};
+    ghost use Rattle.speedate_base.specs.Numbers.{decimal_value, decimal_of_digits, scaled_decimal};
 
     /// The decimal of a sign and the digits before and after its point: that of `"-1.50"` for true,
     /// `b"1"` and `b"50"`. `None` if a byte is no digit, or if there is no digit at all.
     pub fn new(negative: bool, whole: &'a [u8], fraction: &'a [u8]) -> Option<Self>
-        ensures answer { option_map decimal_of result
+        ensures answer { option_map decimal_value result
             ≡ decimal_of_digits (record { negative = negative; whole = whole.now; fraction = fraction.now }) }
     {
         if !are_digits(whole)
@@ -56,7 +56,7 @@ impl<'a> Decimal<'a> {
     /// is left, as for `"12.345"` and 2, or if the number does not fit. `"-0.0"` gives 0.
     #[tactic(auto, using(crate::proofs::ScaledLemmas::scaled_rules))]
     pub fn scaled(self, places: u32) -> Option<i64>
-        ensures answer { result ≡ scaled_decimal places (decimal_of self.entry) }
+        ensures answer { result ≡ scaled_decimal places (decimal_value self.entry) }
     {
         let count = self.fraction.len().min(places as usize);
         let (counted, rest) = self.fraction.split_at(count);
@@ -88,7 +88,7 @@ pub enum IntFloat<'a> {
 }
 
 impl IntFloat<'_> {
-    ghost use Rattle.speedate_base.specs.Numbers.{is_no_number, number_of, scaled_number};
+    ghost use Rattle.speedate_base.specs.Numbers.{is_no_number, number_value, scaled_number};
 
     /// Whether it is `Err`: true for the answer to `"1.5e3"`.
     pub fn is_err(&self) -> bool
@@ -100,7 +100,7 @@ impl IntFloat<'_> {
     /// The number times ten to the power of `places`, if that is whole and fits an `i64`: 1,200 for
     /// `"12"` and 2, and 1,250 for `"12.50"`. `None` as for [`Decimal::scaled`], and for `Err`.
     pub fn scaled(self, places: u32) -> Option<i64>
-        ensures answer { result ≡ scaled_number places (number_of self.entry) }
+        ensures answer { result ≡ scaled_number places (number_value self.entry) }
     {
         match self {
             IntFloat::Int(number) => signed(number < 0, scaled_size(number.unsigned_abs(), places)),

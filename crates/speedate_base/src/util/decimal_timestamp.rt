@@ -3,9 +3,9 @@
 ghost use Rattle.std.specs.Prelude.{◌≡◌, ◌<◌, ◌≤◌, ◌^◌, ◌==◌, ◌*◌, length, IsTrue, IfOk, nat_le, if◌then◌else◌};
 ghost use Rattle.std.specs.Char.{is_ascii_digit};
 ghost use Rattle.std.specs.List.{list_all};
-ghost use Rattle.speedate_base.specs.Timestamp.{decimal_row, decimal_instant, row, IsInYears, inferred_seconds_max, range_answer, instant_of};
+ghost use Rattle.speedate_base.specs.Timestamp.{decimal_row, decimal_instant, unix_row, IsInYears, inferred_seconds_max, range_answer, unix_instant};
 ghost use Rattle.speedate_base.specs.Digits.{digits_value};
-ghost use Rattle.speedate_base.specs.Numbers.{decimal_digits, decimal_of, decimal_scale, with_sign};
+ghost use Rattle.speedate_base.specs.Numbers.{decimal_digits, decimal_value, decimal_scale, with_sign};
 ghost use Rattle.speedate_base.specs.Nearest.{nearest};
 ghost use Rattle.speedate_base.specs.Requirement.{result_map};
 
@@ -26,7 +26,7 @@ const FAR_MICROSECONDS: u64 = 1 << 60;
 /// An inferred unit is seconds if the decimal without its sign, with all its digits, is at most
 /// 20,000,000,000, otherwise milliseconds.
 pub fn decimal_unit(decimal: Decimal<'_>, unit: TimestampUnit) -> UnixUnit
-    ensures row { row result ≡ decimal_row unit (decimal_of decimal.entry) }
+    ensures row { unix_row result ≡ decimal_row unit (decimal_value decimal.entry) }
 {
     match unit {
         TimestampUnit::Second => SECOND,
@@ -45,8 +45,8 @@ pub fn decimal_unit(decimal: Decimal<'_>, unit: TimestampUnit) -> UnixUnit
 /// Whether a decimal timestamp is in seconds if its unit is inferred.
 #[tactic(auto, using(crate::proofs::DecimalLemmas::inferred_rules))]
 fn is_inferred_seconds(decimal: Decimal<'_>) -> bool
-    ensures { result ≡ nat_le (decimal_digits (decimal_of decimal.entry))
-        (inferred_seconds_max * decimal_scale (decimal_of decimal.entry)) }
+    ensures { result ≡ nat_le (decimal_digits (decimal_value decimal.entry))
+        (inferred_seconds_max * decimal_scale (decimal_value decimal.entry)) }
 {
     // Ten digits spell less than the bound, and twelve of which the first is not 0 spell more.
     if decimal.whole.len() <= 10 {
@@ -71,8 +71,8 @@ pub fn decimal_to_seconds_micros(
     decimal: Decimal<'_>,
     unit: UnixUnit,
 ) -> Result<UnixTime, ParseError>
-    ensures answer { result_map instant_of result ≡ range_answer (decimal_instant (row unit) (decimal_of decimal.entry)) }
-    ensures within { IfOk result (λ time. IsInYears (instant_of time)) }
+    ensures answer { result_map unix_instant result ≡ range_answer (decimal_instant (unix_row unit) (decimal_value decimal.entry)) }
+    ensures within { IfOk result (λ time. IsInYears (unix_instant time)) }
 {
     let whole = digits_number(decimal.whole).saturating_mul(unit.microseconds);
     if whole > FAR_MICROSECONDS {

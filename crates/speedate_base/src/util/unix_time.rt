@@ -23,12 +23,12 @@ pub struct UnixTime {
 impl UnixTime {
     ghost use Rattle.std.specs.Prelude.{IfOk, pos, ◌*ℤ◌, ◌+ℤ◌, unsigned_abs};
     ghost use Rattle.speedate_base.specs.Requirement.{result_map};
-    ghost use Rattle.speedate_base.specs.Timestamp.{IsInYears, instant_at, range_answer, instant_of, later_answer};
+    ghost use Rattle.speedate_base.specs.Timestamp.{IsInYears, instant_at, range_answer, unix_instant, later_answer};
 
     /// The instant of a timestamp in seconds.
     #[inline(always)]
     pub(super) fn from_seconds(timestamp: i64) -> Self
-        ensures { instant_of result ≡ instant_at (pos 1000000 *ℤ timestamp) }
+        ensures { unix_instant result ≡ instant_at (pos 1000000 *ℤ timestamp) }
     {
         UnixTime {
             second: timestamp,
@@ -39,7 +39,7 @@ impl UnixTime {
     /// The instant of a timestamp in milliseconds: second -1 and 999,000 microseconds for -1.
     #[inline(always)]
     pub(super) fn from_milliseconds(timestamp: i64) -> Self
-        ensures { instant_of result ≡ instant_at (pos 1000 *ℤ timestamp) }
+        ensures { unix_instant result ≡ instant_at (pos 1000 *ℤ timestamp) }
     {
         UnixTime {
             second: timestamp.div_euclid(1_000),
@@ -50,7 +50,7 @@ impl UnixTime {
     /// The instant of a timestamp in microseconds: second -1 and 999,999 microseconds for -1.
     #[inline(always)]
     pub(super) fn from_microseconds(timestamp: i64) -> Self
-        ensures { instant_of result ≡ instant_at timestamp }
+        ensures { unix_instant result ≡ instant_at timestamp }
     {
         UnixTime {
             second: timestamp.div_euclid(1_000_000),
@@ -62,7 +62,7 @@ impl UnixTime {
     /// 999,999 microseconds for 1 and -1.
     pub fn carried(second: i64, microsecond: i32) -> Self
         requires { unsigned_abs second < 100000000000000 }
-        ensures instant { instant_of result ≡ instant_at (pos 1000000 *ℤ second +ℤ microsecond) }
+        ensures instant { unix_instant result ≡ instant_at (pos 1000000 *ℤ second +ℤ microsecond) }
     {
         UnixTime {
             second: second + i64::from(microsecond.div_euclid(1_000_000)),
@@ -74,7 +74,7 @@ impl UnixTime {
     /// after second 1. Fails with `TimeTooLarge` if the microseconds exceed `u32::MAX` together, or if
     /// the seconds and those carried exceed `i64::MAX`.
     pub fn later(self, microseconds: u32) -> Result<Self, ParseError>
-        ensures later { result_map instant_of result ≡ later_answer microseconds (instant_of self) }
+        ensures later { result_map unix_instant result ≡ later_answer microseconds (unix_instant self) }
     {
         let sum = self
             .microsecond
@@ -93,8 +93,8 @@ impl UnixTime {
     /// The same instant, if it lies in the years 0000 to 9999: second 0 for second 0. Fails with
     /// `DateTooSmall` before them and with `DateTooLarge` after them, as for second 253,402,300,800.
     pub fn in_years(self) -> Result<Self, ParseError>
-        ensures answer { result_map instant_of result ≡ range_answer (instant_of self) }
-        ensures within { IfOk result (λ time. IsInYears (instant_of time)) }
+        ensures answer { result_map unix_instant result ≡ range_answer (unix_instant self) }
+        ensures within { IfOk result (λ time. IsInYears (unix_instant time)) }
     {
         if self.second < FIRST_SECOND {
             return Err(ParseError::DateTooSmall);

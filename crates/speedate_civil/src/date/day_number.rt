@@ -16,7 +16,7 @@ use speedate_base::util::SECONDS_PER_DAY;
 const LAST_DAY_NUMBER: u32 = 3_652_424;
 
 /// The day number of 1970-01-01.
-const UNIX_EPOCH: i64 = 719_528;
+const EPOCH_DAY: i64 = 719_528;
 
 /// The days of the 399 years before the year 0. Years are counted from the first of them, so that
 /// the last of each four years is the one that may be leap, and the last of each four centuries
@@ -224,7 +224,7 @@ impl Date {
         ensures second { result ≡ midnight_second (ymd self.now) }
         ensures leads_back { (exact : Bool) → date_timestamp_answer unit.Second exact result ≡ Ok (ymd self.now) }
     {
-        (i64::from(self.day_number()) - UNIX_EPOCH) * i64::from(SECONDS_PER_DAY)
+        (i64::from(self.day_number()) - EPOCH_DAY) * i64::from(SECONDS_PER_DAY)
     }
 
     /// The Unix timestamp of the date's midnight in UTC, in milliseconds: 86,400,000 for 1970-01-02. It

@@ -8,7 +8,7 @@ impl DateTime {
     ghost use Rattle.std.specs.Prelude.{◌≡◌, None};
     ghost use Rattle.std.specs.Cmp.Lexicographic.{slice_cmp};
     ghost use Rattle.std.specs.Ordering.{nat_cmp, ordering_reverse};
-    ghost use Rattle.speedate_base.specs.Timestamp.{instant_of};
+    ghost use Rattle.speedate_base.specs.Timestamp.{unix_instant};
     ghost use Rattle.speedate_civil.specs.declared.datetime.DateTime.{DateTime};
     ghost use Rattle.speedate_civil.specs.DateTime.{date_and_time, date_time_text, date_time_instant, date_time_instant_order, BothOrNeither, IsNotAfter};
 
@@ -36,7 +36,7 @@ impl DateTime {
 
     /// The instant of the date-time, in UTC or as a clock shows it; an absent offset is 0.
     fn instant(&self, is_utc: bool) -> UnixTime
-        ensures { instant_of result ≡ date_time_instant is_utc (date_and_time self.now) }
+        ensures { unix_instant result ≡ date_time_instant is_utc (date_and_time self.now) }
     {
         UnixTime {
             second: if is_utc {

@@ -5,9 +5,9 @@ ghost use Rattle.std.specs.Option.{ForSome};
 ghost use Rattle.speedate_base.specs.declared.config.MicrosecondsPrecisionOverflowBehavior.TheVariants as behavior;
 ghost use Rattle.speedate_base.specs.declared.config.TimestampUnit.TheVariants as unit;
 ghost use Rattle.speedate_base.specs.Nearest.{IsNearest};
-ghost use Rattle.speedate_base.specs.Numbers.{decimal_scale, decimal_of};
+ghost use Rattle.speedate_base.specs.Numbers.{decimal_scale, decimal_value};
 ghost use Rattle.speedate_base.specs.Offset.{IsOffset, IsWholeMinutes};
-ghost use Rattle.speedate_base.specs.Timestamp.{IsInYears, instant_of, decimal_row, decimal_size, decimal_instant, row};
+ghost use Rattle.speedate_base.specs.Timestamp.{IsInYears, unix_instant, decimal_row, decimal_numerator, decimal_instant, unix_row};
 ghost use Rattle.speedate_civil.specs.DateTime.{local_second, utc_second, local_millisecond, utc_millisecond, local_microsecond, date_and_time, date_time_answer, IsShownAt, date_time_at, instant_date_time, date_time_timestamp_answer, meant_microsecond, date_time_or_timestamp, date_time_decimal_answer, date_time_decimal_text, ◌gives◌};
 
 use crate::date::Date;
@@ -180,10 +180,10 @@ impl DateTime {
         config: &DateTimeConfig,
     ) -> Result<Self, ParseError>
         ensures answer { result gives date_time_decimal_answer config.now.timestamp_unit
-            config.now.time_config.unix_timestamp_offset (decimal_of decimal.entry) }
+            config.now.time_config.unix_timestamp_offset (decimal_value decimal.entry) }
         ensures nearest { IfOk result (λ value. IsNearest
-            (decimal_size (decimal_row config.now.timestamp_unit (decimal_of decimal.entry)) (decimal_of decimal.entry))
-            (decimal_scale (decimal_of decimal.entry)) (local_microsecond (date_and_time value))) }
+            (decimal_numerator (decimal_row config.now.timestamp_unit (decimal_value decimal.entry)) (decimal_value decimal.entry))
+            (decimal_scale (decimal_value decimal.entry)) (local_microsecond (date_and_time value))) }
     {
         let unit = decimal_unit(decimal, config.timestamp_unit);
         Self::at_decimal(decimal, unit, config.time_config.unix_timestamp_offset)
@@ -194,7 +194,7 @@ impl DateTime {
     fn parse_decimal(decimal: Decimal<'_>, config: &DateTimeConfig) -> Result<Self, ParseError>
         ensures answer { result gives date_time_decimal_text config.now.timestamp_unit
             config.now.time_config.microseconds_precision_overflow_behavior
-            config.now.time_config.unix_timestamp_offset (decimal_of decimal.entry) }
+            config.now.time_config.unix_timestamp_offset (decimal_value decimal.entry) }
         ensures minutes { IsWholeMinutes config.now.time_config.unix_timestamp_offset
             → IfOk result (λ value. IsWholeMinutes value.time.tz_offset) }
     {
@@ -213,7 +213,7 @@ impl DateTime {
         offset: Option<i32>,
     ) -> Result<Self, ParseError>
         requires { ForSome offset IsOffset }
-        ensures answer { result gives instant_date_time offset (decimal_instant (row unit) (decimal_of decimal.entry)) }
+        ensures answer { result gives instant_date_time offset (decimal_instant (unix_row unit) (decimal_value decimal.entry)) }
         ensures minutes { IsWholeMinutes offset → IfOk result (λ value. IsWholeMinutes value.time.tz_offset) }
     {
         let time = decimal_to_seconds_micros(decimal, unit)?;
@@ -221,10 +221,10 @@ impl DateTime {
     }
     /// The date-time at an instant of the years 0000 to 9999, with the offset attached.
     fn at_instant(time: UnixTime, offset: Option<i32>) -> Self
-        requires within { IsInYears (instant_of time) }
+        requires within { IsInYears (unix_instant time) }
         requires offset { ForSome offset IsOffset }
-        ensures value { date_and_time result ≡ date_time_at offset (instant_of time) }
-        ensures shown { IsShownAt offset (instant_of time) (date_and_time result) }
+        ensures value { date_and_time result ≡ date_time_at offset (unix_instant time) }
+        ensures shown { IsShownAt offset (unix_instant time) (date_and_time result) }
     {
         let (date, second) = Date::at_second(time.second);
         let time = Time::at_second(second, time.microsecond, offset);
@@ -287,8 +287,8 @@ impl FromStr for DateTime {
 /// caller.
 pub fn instant_date_time(time: UnixTime, offset: Option<i32>) -> Result<DateTime, ParseError>
     requires { ForSome offset IsOffset }
-    ensures answer { result gives instant_date_time offset (instant_of time) }
-    ensures shown { IfOk result (λ value. IsShownAt offset (instant_of time) (date_and_time value)) }
+    ensures answer { result gives instant_date_time offset (unix_instant time) }
+    ensures shown { IfOk result (λ value. IsShownAt offset (unix_instant time) (date_and_time value)) }
 {
     let within = time.in_years()?;
     Ok(DateTime::at_instant(within, offset))

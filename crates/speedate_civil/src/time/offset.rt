@@ -10,7 +10,7 @@ ghost use Rattle.speedate_base.specs.Numbers.{with_sign};
 ghost use Rattle.speedate_base.specs.Offset.{IsOffset, IsWholeMinutes};
 ghost use Rattle.speedate_base.specs.Timestamp.{seconds_per_day};
 ghost use Rattle.speedate_base.specs.Requirement.{meets};
-ghost use Rattle.speedate_civil.specs.Time.{end_fault, has_minus_sign, is_plus_or_minus, is_utc, offset_digits, offset_front, signed_front, offset_minute, offset_digits_length, offset_size_text, offset_text};
+ghost use Rattle.speedate_civil.specs.Time.{end_fault, has_minus_sign, is_plus_or_minus, is_utc, offset_digits, offset_front, signed_front, offset_minute, offset_digits_size, offset_size_text, offset_text};
 
 use crate::text::two_digit_text;
 use arrayvec::ArrayString;
@@ -114,7 +114,7 @@ fn signed_offset(
 #[inline(always)]
 fn hour_and_minute(front: u8x8) -> Result<((u8, u8), usize), ParseError>
     ensures numbers { result ≡ meets (offset_digits front)
-        (Ok ((two_digit_value front 0, offset_minute front), offset_digits_length front)) }
+        (Ok ((two_digit_value front 0, offset_minute front), offset_digits_size front)) }
     ensures small { IfOk result (λ front. (front.0.0 ≤ 99) × (front.0.1 ≤ 99)) }
 {
     let pattern = u8x8::from_array(*b"00:00:00");
@@ -137,7 +137,7 @@ fn hour_and_minute(front: u8x8) -> Result<((u8, u8), usize), ParseError>
 fn hour_then_minute(front: u8x8) -> Result<((u8, u8), usize), ParseError>
     requires { fit_length (codes "00:00:00") front ≡ 2 }
     ensures numbers { result ≡ meets (offset_digits front)
-        (Ok ((two_digit_value front 0, offset_minute front), offset_digits_length front)) }
+        (Ok ((two_digit_value front 0, offset_minute front), offset_digits_size front)) }
     ensures small { IfOk result (λ front. (front.0.0 ≤ 99) × (front.0.1 ≤ 99)) }
 {
     let pattern = u8x8::splat(b'0');

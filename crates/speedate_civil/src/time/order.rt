@@ -8,7 +8,7 @@ impl Time {
     ghost use Rattle.std.specs.Prelude.{◌≡◌, None};
     ghost use Rattle.std.specs.Cmp.Lexicographic.{slice_cmp};
     ghost use Rattle.std.specs.Ordering.{nat_cmp, ordering_reverse};
-    ghost use Rattle.speedate_base.specs.Timestamp.{instant_of};
+    ghost use Rattle.speedate_base.specs.Timestamp.{unix_instant};
     ghost use Rattle.speedate_civil.specs.declared.time.Time.{Time};
     ghost use Rattle.speedate_civil.specs.DateTime.{time_instant, time_instant_order, BothOrNeither, IsNotAfter};
     ghost use Rattle.speedate_civil.specs.Time.{time_of_day, time_text};
@@ -35,7 +35,7 @@ impl Time {
 
     /// The instant of the time on 1970-01-01, in UTC or as a clock shows it; an absent offset is 0.
     fn instant(&self, is_utc: bool) -> UnixTime
-        ensures { instant_of result ≡ time_instant is_utc (time_of_day self.now) }
+        ensures { unix_instant result ≡ time_instant is_utc (time_of_day self.now) }
     {
         let second = i64::from(self.total_seconds());
         let offset = i64::from(self.tz_offset.unwrap_or(0));

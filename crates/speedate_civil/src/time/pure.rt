@@ -47,7 +47,7 @@ impl PureTime {
     ghost use Rattle.speedate_base.specs.Offset.{IsOffset, IsWholeMinutes};
     ghost use Rattle.speedate_base.specs.Requirement.{result_map};
     ghost use Rattle.speedate_civil.specs.Reader.{second_there};
-    ghost use Rattle.speedate_civil.specs.Time.{clock_answer, clock_front, minute_front, clock_of, has_decimal_mark, time_of_day, time_of};
+    ghost use Rattle.speedate_civil.specs.Time.{clock_answer, clock_front, minute_front, clock_parts, has_decimal_mark, time_of_day, clock_with_offset};
 
     /// Reads the clock that begins at `place`, whatever follows it: 12:13:14 and a half, in ten bytes,
     /// from `b"P12:13:14.5Z"` at place 1.
@@ -62,7 +62,7 @@ impl PureTime {
         behavior: MicrosecondsPrecisionOverflowBehavior,
     ) -> Result<Self, ParseError>
         requires { place ≤ length bytes.now }
-        ensures answer { result_map clock_of result ≡ clock_front behavior (drop place bytes.now) }
+        ensures answer { result_map clock_parts result ≡ clock_front behavior (drop place bytes.now) }
         ensures within { IfOk result (λ time. place + time.size ≤ length bytes.now) }
     {
         let text = &bytes[place..];
@@ -108,7 +108,7 @@ impl PureTime {
         behavior: MicrosecondsPrecisionOverflowBehavior,
     ) -> Result<Self, ParseError>
         requires { place ≤ length bytes.now }
-        ensures answer { result_map clock_of result ≡ minute_front behavior (drop place bytes.now) }
+        ensures answer { result_map clock_parts result ≡ minute_front behavior (drop place bytes.now) }
         ensures within { IfOk result (λ time. place + time.size ≤ length bytes.now) }
     {
         let rest = &bytes[place..];
@@ -134,7 +134,7 @@ impl PureTime {
     #[inline(always)]
     pub(super) fn at_offset(self, tz_offset: Option<i32>) -> Time
         requires { ForSome tz_offset IsOffset }
-        ensures time { time_of_day result ≡ time_of (clock_of self) tz_offset }
+        ensures time { time_of_day result ≡ clock_with_offset (clock_parts self) tz_offset }
         ensures minutes { IsWholeMinutes tz_offset → IsWholeMinutes result.tz_offset }
     {
         Time {
@@ -160,7 +160,7 @@ impl PureTime {
         requires minute { minute ≡ two_digit_value (drop place bytes.now) 0 }
         requires range { minute ≤ 59 }
         requires second { second ≡ second_there (drop place bytes.now) }
-        ensures answer { result_map clock_of result ≡ clock_answer behavior (drop place bytes.now) }
+        ensures answer { result_map clock_parts result ≡ clock_answer behavior (drop place bytes.now) }
         ensures minute { IfOk result (λ time. time.minute ≡ minute) }
         ensures within { IfOk result (λ time. place + time.size ≤ length bytes.now) }
     {

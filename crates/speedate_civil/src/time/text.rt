@@ -66,7 +66,7 @@ impl Time {
     fn push_clock<const LENGTH: usize>(&self, text: &mut ArrayString<LENGTH>)
         requires room { array_string_len text.old + 8 ≤ LENGTH }
         ensures text { text.new.bytes ≡ text.old.bytes ++ clock_text (time_of_day self.now) }
-        ensures len { array_string_len text.new ≡ array_string_len text.old + 8 }
+        ensures length { array_string_len text.new ≡ array_string_len text.old + 8 }
     {
         text.push_str(two_digit_text(self.hour));
         text.push(':');

@@ -2,7 +2,7 @@ use Rattle.std.proofs.Common.{refl, rules, subst, sym}
 use Rattle.std.proofs.Math.IntN.{neg_ℤ-neg_ℤ}
 use Rattle.std.proofs.lemmas.Result.{IfOk-weaker}
 use Rattle.speedate_civil.specs.DateTime.{date_and_time, IsShownAt}
-use Rattle.speedate.specs.Duration.{duration_numbers, signed_length}
+use Rattle.speedate.specs.Duration.{duration_numbers, signed_amount}
 use Rattle.speedate.proofs.DurationMoveLemmas.{shown-later, between-exact, ends-order, ends-back}
 use Rattle.speedate.proofs.DurationLemmas.{is_duration}
 use Rattle.speedate.proofs.duration.Duration.after.Goals as goal
@@ -11,7 +11,7 @@ pub returns-clause-ends : goal.returns-clause-ends
 returns-clause-ends c =
     let start = date_and_time c.args.start.now in
     IfOk-weaker c.instant_date_time.result _ _
-    (λ end shown. shown-later start (date_and_time end) (signed_length (duration_numbers c.args.self.now))
+    (λ end shown. shown-later start (date_and_time end) (signed_amount (duration_numbers c.args.self.now))
     (subst (λ instant. IsShownAt start.time.offset instant (date_and_time end)) c.end.ensures.instant shown)) c.instant_date_time.ensures.shown
 
 pub returns-clause-between : goal.returns-clause-between
@@ -21,11 +21,11 @@ returns-clause-between c =
 
 pub returns-clause-order : goal.returns-clause-order
 returns-clause-order c other =
-    let length = signed_length (duration_numbers c.args.self.now) in
-    let next = signed_length (duration_numbers other) in
+    let length = signed_amount (duration_numbers c.args.self.now) in
+    let next = signed_amount (duration_numbers other) in
     IfOk-weaker c.instant_date_time.result _ _
     (λ end same. ends-order (date_and_time c.args.start.now) (date_and_time end) length next length next refl same) (returns-clause-ends c)
 
 pub returns-clause-leads_back : goal.returns-clause-leads_back
 returns-clause-leads_back c =
-    ends-back c.instant_date_time.result c.args.start.now (signed_length (duration_numbers c.args.self.now)) _ (search rules) (sym (neg_ℤ-neg_ℤ _)) (returns-clause-ends c)
+    ends-back c.instant_date_time.result c.args.start.now (signed_amount (duration_numbers c.args.self.now)) _ (search rules) (sym (neg_ℤ-neg_ℤ _)) (returns-clause-ends c)

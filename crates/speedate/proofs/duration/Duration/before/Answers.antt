@@ -1,7 +1,7 @@
 use Rattle.std.proofs.Common.{neg_ℤ}
 use Rattle.std.proofs.lemmas.Result.{IfOk-weaker}
 use Rattle.speedate_civil.specs.DateTime.{date_and_time}
-use Rattle.speedate.specs.Duration.{duration_numbers, signed_length}
+use Rattle.speedate.specs.Duration.{duration_numbers, signed_amount}
 use Rattle.speedate.proofs.DurationMoveLemmas.{opposite, opposite-apart, between-exact, ends-order, ends-back}
 use Rattle.speedate.proofs.DurationLemmas.{is_duration}
 use Rattle.speedate.proofs.duration.Duration.before.Goals as goal
@@ -14,11 +14,11 @@ returns-clause-between c =
 
 pub returns-clause-order : goal.returns-clause-order
 returns-clause-order c other =
-    let next = signed_length (duration_numbers other) in
+    let next = signed_amount (duration_numbers other) in
     IfOk-weaker c.after.result _ _
-    (λ end same. ends-order (date_and_time c.args.start.now) (date_and_time end) _ (neg_ℤ next) next (signed_length (duration_numbers c.args.self.now))
+    (λ end same. ends-order (date_and_time c.args.start.now) (date_and_time end) _ (neg_ℤ next) next (signed_amount (duration_numbers c.args.self.now))
     (opposite-apart _ _ next c.negated.ensures.length) same) c.after.ensures.ends
 
 pub returns-clause-leads_back : goal.returns-clause-leads_back
 returns-clause-leads_back c =
-    ends-back c.after.result c.args.start.now _ (signed_length (duration_numbers c.args.self.now)) c.after.ensures.offset c.negated.ensures.length c.after.ensures.ends
+    ends-back c.after.result c.args.start.now _ (signed_amount (duration_numbers c.args.self.now)) c.after.ensures.offset c.negated.ensures.length c.after.ensures.ends

@@ -2,26 +2,26 @@ use Rattle.std.proofs.Common.{arith, ap, sym, subst, ◌∙◌, ◌≤◌}
 use Rattle.std.proofs.lemmas.Int.{ints}
 use Rattle.speedate_civil.specs.DateTime.{date_and_time}
 use Rattle.speedate_civil.proofs.DateTimeValueLemmas.{is_date_and_time}
-use Rattle.speedate.specs.Duration.{duration_numbers, signed_length, duration_of_length}
+use Rattle.speedate.specs.Duration.{duration_numbers, signed_amount, duration_of_amount}
 use Rattle.speedate.specs.DurationNumbers.{DurationNumbers}
-use Rattle.speedate.proofs.DurationMoveLemmas.{signed_length-kept, between-days, between-later, between-ends, date_time_after-exact}
+use Rattle.speedate.proofs.DurationMoveLemmas.{signed_amount-kept, between-days, between-later, between-ends, date_time_after-exact}
 use Rattle.speedate.proofs.duration.Duration.between.Goals as goal
 
 pub returns-clause-answer : goal.returns-clause-answer
 returns-clause-answer c =
     c.of_microseconds.ensures.numbers
-    ∙ ap duration_of_length (omega (arith, ints, c.utc_microsecond.ensures.microsecond, c.utc_microsecond.ensures.small, c.utc_microsecond-2.ensures.microsecond, c.utc_microsecond-2.ensures.small))
+    ∙ ap duration_of_amount (omega (arith, ints, c.utc_microsecond.ensures.microsecond, c.utc_microsecond.ensures.small, c.utc_microsecond-2.ensures.microsecond, c.utc_microsecond-2.ensures.small))
 
 pub returns-clause-length : goal.returns-clause-length
-returns-clause-length c = ap signed_length (returns-clause-answer c) ∙ signed_length-kept _
+returns-clause-length c = ap signed_amount (returns-clause-answer c) ∙ signed_amount-kept _
 
 pub returns-clause-ends : goal.returns-clause-ends
 returns-clause-ends c =
-    between-ends (date_and_time c.args.earlier.now) (date_and_time c.args.later.now) (signed_length (duration_numbers c.of_microseconds.result)) (returns-clause-length c)
+    between-ends (date_and_time c.args.earlier.now) (date_and_time c.args.later.now) (signed_amount (duration_numbers c.of_microseconds.result)) (returns-clause-length c)
 
 pub returns-clause-leads_back : goal.returns-clause-leads_back
 returns-clause-leads_back c attached =
-    date_time_after-exact (signed_length (duration_numbers c.of_microseconds.result)) (date_and_time c.args.earlier.now) (date_and_time c.args.later.now) (is_date_and_time c.args.later.now) attached
+    date_time_after-exact (signed_amount (duration_numbers c.of_microseconds.result)) (date_and_time c.args.earlier.now) (date_and_time c.args.later.now) (is_date_and_time c.args.later.now) attached
     (between-later _ _ _ (returns-clause-length c))
 
 pub returns-clause-days : goal.returns-clause-days

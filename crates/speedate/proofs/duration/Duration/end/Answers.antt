@@ -2,7 +2,7 @@ use Rattle.std.proofs.Common.{arith, ap, ◌∙◌}
 use Rattle.std.proofs.lemmas.Int.{ints}
 use Rattle.speedate_base.specs.Timestamp.{instant_at}
 use Rattle.speedate.specs.Duration.{duration_numbers}
-use Rattle.speedate.proofs.DurationMoveLemmas.{signed_length-joined}
+use Rattle.speedate.proofs.DurationMoveLemmas.{signed_amount-joined}
 use Rattle.speedate.proofs.duration.Duration.end.Goals as goal
 
 pub carried-requires : goal.carried-requires
@@ -10,4 +10,4 @@ carried-requires c = omega (arith, ints, c.timestamp.ensures.small, c.signed_tot
 
 pub returns : goal.returns
 returns c =
-    record { instant = c.carried.ensures.instant ∙ ap instant_at (omega (arith, ints, signed_length-joined (duration_numbers c.args.self.now))) }
+    record { instant = c.carried.ensures.instant ∙ ap instant_at (omega (arith, ints, signed_amount-joined (duration_numbers c.args.self.now))) }

@@ -2,14 +2,14 @@ use Rattle.std.proofs.Common.{◌≡◌, ◌∙◌, ap, sym, subst, ℕ, rules, 
 use Rattle.std.proofs.lemmas.Int.{to_z-of_z}
 use Rattle.speedate_civil.specs.DateTime.{DateAndTime, IsShownAt, date_time_at}
 use Rattle.speedate_civil.specs.Time.{time_at, time_of_day}
-use Rattle.speedate_base.specs.Timestamp.{instant_of}
+use Rattle.speedate_base.specs.Timestamp.{unix_instant}
 use Rattle.speedate_civil.specs.Date.{ymd}
 use Rattle.speedate_civil.proofs.DateTimeInstantLemmas.{date_time_at-shown}
 use Rattle.speedate_civil.proofs.datetime.DateTime.at_instant.Goals as goal
 
 pub returns-clause-shown : goal.returns-clause-shown
 returns-clause-shown c =
-    let instant = instant_of c.args.time in
+    let instant = unix_instant c.args.time in
     let offset = c.args.offset in
     let fits : SFits w64 c.args.time.second = search rules in
     let date = simp to_z-of_z at c.at_second-second.ensures.date in

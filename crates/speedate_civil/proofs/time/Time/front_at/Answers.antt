@@ -1,13 +1,13 @@
 use Rattle.std.proofs.Common.{rules, ◌∙◌, ap, sym, ℕ, ◌+◌, List, Ok, drop, drop-drop}
 use Rattle.std.proofs.lemmas.Result.{err_from_is_err_and}
-use Rattle.speedate_civil.specs.Time.{offset_front, TimeOfDay, clock_of}
+use Rattle.speedate_civil.specs.Time.{offset_front, TimeOfDay, clock_parts}
 use Rattle.speedate_civil.proofs.TimeLemmas.{time_front-after}
 use Rattle.speedate_civil.proofs.time.Time.front_at.Goals as goal
 
 pub returns-in_err-tz_offset-clause-answer : goal.returns-in_err-tz_offset-clause-answer
 returns-in_err-tz_offset-clause-answer c =
     let text : List ℕ = drop c.args.place c.args.bytes.now in
-    let clock = clock_of c.in_ok-clock.clock in
+    let clock = clock_parts c.in_ok-clock.clock in
     let p = err_from_is_err_and c.from_residual-in_err-tz_offset.result c.from_residual-in_err-tz_offset.ensures.1 in
     rw (p.1, p.2) (time_front-after c.args.behavior text clock _ c.in_ok-clock.ensures.answer
     (c.in_err-tz_offset.ensures.answer ∙ ap offset_front (sym (drop-drop clock.size c.args.place c.args.bytes.now))))
@@ -15,7 +15,7 @@ returns-in_err-tz_offset-clause-answer c =
 pub returns-clause-answer : goal.returns-clause-answer
 returns-clause-answer c =
     let text : List ℕ = drop c.args.place c.args.bytes.now in
-    let clock = clock_of c.in_ok-clock.clock in
+    let clock = clock_parts c.in_ok-clock.clock in
     let size = clock.size + c.in_ok-tz_offset.size in
     ap (λ (time : TimeOfDay). Ok (time, size)) c.at_offset.ensures.time
     ∙ time_front-after c.args.behavior text clock _ c.in_ok-clock.ensures.answer

@@ -8,7 +8,7 @@ use Rattle.speedate_base.specs.Digits.{two_digit_value, eight_at}
 use Rattle.speedate_base.specs.Numbers.{with_sign}
 use Rattle.speedate_base.specs.Timestamp.{seconds_per_day}
 use Rattle.speedate_base.specs.Requirement.{◌else_fault◌, meets}
-use Rattle.speedate_civil.specs.Time.{offset_digits, offset_ranges, signed_front, offset_minute, offset_digits_length, offset_size}
+use Rattle.speedate_civil.specs.Time.{offset_digits, offset_ranges, signed_front, offset_minute, offset_digits_size, offset_size}
 use Rattle.speedate_base.proofs.RequirementLemmas.{meets-all, meets-next, meets-value}
 use Rattle.speedate_base.proofs.PatternLemmas.{eight_at-drop}
 use Rattle.speedate_base.specs.declared.faults.ParseError.TheVariants as fault
@@ -16,7 +16,7 @@ use Rattle.speedate_civil.proofs.time.offset.signed_offset.Goals as goal
 
 -- hour, minute and length of an offset after its sign, or the fault of its digits
 abbrev numbers_of : List ℕ → Result ((ℕ × ℕ) × ℕ) ParseError
-numbers_of rest = meets (offset_digits rest) (Ok ((two_digit_value rest 0, offset_minute rest), offset_digits_length rest))
+numbers_of rest = meets (offset_digits rest) (Ok ((two_digit_value rest 0, offset_minute rest), offset_digits_size rest))
 
 -- eight bytes have them all
 eight-enough : (rest : List ℕ) → numbers_of (eight_at rest 0) ≡ numbers_of rest
@@ -40,14 +40,14 @@ known west sign text front place numbers from is =
     let rest : List ℕ = drop place text in
     let value = meets-value (offset_digits rest) _ numbers (sym (read text front place _ from is)) in
     ap (decided west sign) (sym value.1)
-    ∙ sym (meets-all (offset_digits rest) (meets (offset_ranges rest) (Ok (Some (with_sign west (offset_size rest)), sign + offset_digits_length rest))) value.0)
+    ∙ sym (meets-all (offset_digits rest) (meets (offset_ranges rest) (Ok (Some (with_sign west (offset_size rest)), sign + offset_digits_size rest))) value.0)
 
 pub returns-in_err-hour-clause-answer : goal.returns-in_err-hour-clause-answer
 returns-in_err-hour-clause-answer c =
     let rest : List ℕ = drop c.args.place c.args.bytes.now in
     let p = err_from_is_err_and c.from_residual.result c.from_residual.ensures.1 in
     let refused = read c.args.bytes.now _ c.args.place _ c.eight_bytes.ensures.bytes c.in_err-hour.ensures.numbers in
-    let next : Result (Option ℤ × ℕ) ParseError = meets (offset_ranges rest) (Ok (Some (with_sign c.args.west (offset_size rest)), c.args.sign + offset_digits_length rest)) in
+    let next : Result (Option ℤ × ℕ) ParseError = meets (offset_ranges rest) (Ok (Some (with_sign c.args.west (offset_size rest)), c.args.sign + offset_digits_size rest)) in
     rw (p.1, p.2) (meets-next (offset_digits rest) _ _ next refused)
 
 pub returns-then-minute-gt59-clause-answer : goal.returns-then-minute-gt59-clause-answer

@@ -2,15 +2,15 @@ use Rattle.std.proofs.Common.{rules, ◌≡◌, ◌∙◌, arith, ℕ, Bool, tru
 use Rattle.std.specs.Ordering.{bool_cmp, ordering_then}
 use Rattle.std.proofs.lemmas.Bool.Decides.{nat_tests}
 use Rattle.std.proofs.lemmas.Int.{ints}
-use Rattle.speedate.specs.Duration.{duration_numbers, signed_length}
-use Rattle.speedate.specs.DurationNumbers.{DurationNumbers, IsDuration, duration_order, length_microseconds}
+use Rattle.speedate.specs.Duration.{duration_numbers, signed_amount}
+use Rattle.speedate.specs.DurationNumbers.{DurationNumbers, IsDuration, duration_order, amount_microseconds}
 use Rattle.speedate.proofs.DurationLemmas.{is_duration}
 use Rattle.speedate.proofs.duration.order.DurationOrd.cmp.Goals as goal
 
 -- days, seconds and microseconds are ordered as the length
 size-order : (first second : DurationNumbers) → IsDuration first → IsDuration second
     → ordering_then (nat_cmp first.day second.day) (ordering_then (nat_cmp first.second second.second) (nat_cmp first.microsecond second.microsecond))
-    ≡ nat_cmp (length_microseconds first) (length_microseconds second)
+    ≡ nat_cmp (amount_microseconds first) (amount_microseconds second)
 size-order first second one two = grind (arith, nat_tests, one.second, one.microsecond, two.second, two.microsecond)
 
 -- negative numbers are ordered the other way round
@@ -19,7 +19,7 @@ turned a b = grind (arith, ints, nat_tests)
 
 -- by the sign, and then by the numbers with it, is by the length with the sign, and then by the sign
 order-length : (p q : Bool) (first second : DurationNumbers) → first.positive ≡ p → second.positive ≡ q → IsDuration first → IsDuration second
-    → duration_order first second ≡ ordering_then (int_cmp (signed_length first) (signed_length second)) (bool_cmp first.positive second.positive)
+    → duration_order first second ≡ ordering_then (int_cmp (signed_amount first) (signed_amount second)) (bool_cmp first.positive second.positive)
 order-length true true first second is_first is_second one two = rw (is_first, is_second) (grind (arith, nat_tests, size-order first second one two))
 order-length false false first second is_first is_second one two =
     rw (
@@ -28,7 +28,7 @@ order-length false false first second is_first is_second one two =
       turned first.day second.day,
       turned first.second second.second,
       turned first.microsecond second.microsecond,
-      turned (length_microseconds first) (length_microseconds second),
+      turned (amount_microseconds first) (amount_microseconds second),
     ) (grind (arith, nat_tests, size-order second first two one))
 order-length true false first second is_first is_second one two = rw (is_first, is_second) (grind (arith, ints, nat_tests))
 order-length false true first second is_first is_second one two = rw (is_first, is_second) (grind (arith, ints, nat_tests))

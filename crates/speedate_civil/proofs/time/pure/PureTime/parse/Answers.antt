@@ -7,7 +7,7 @@ use Rattle.speedate_base.specs.declared.config.MicrosecondsPrecisionOverflowBeha
 use Rattle.speedate_base.specs.Ascii.{colon}
 use Rattle.speedate_base.specs.Digits.{two_digits_at, two_digit_value, eight_at, fit_length, fit_digits, neighbours}
 use Rattle.speedate_base.specs.Requirement.{result_map}
-use Rattle.speedate_civil.specs.Time.{Clock, at_hour, clock_answer, clock_front, clock_of}
+use Rattle.speedate_civil.specs.Time.{Clock, at_hour, clock_answer, clock_front, clock_parts}
 use Rattle.speedate_base.proofs.PatternLemmas.{fit_length-all}
 use Rattle.speedate_civil.proofs.time.pure.PureTime.parse.Goals as goal
 
@@ -60,4 +60,4 @@ returns-clause-answer c =
     let front = read text _ _ _ c.eight_bytes-front.ensures.bytes c.fitting-fits.ensures.count c.if-fits-lt5.false c.pairs.ensures.numbers in
     let is = ap (clock_front c.args.behavior) (sym (take_rest bytes place)) ∙ decided c.args.behavior text _ front c.if-text-lt5.false c.if-hour-gt23.false
     ∙ ap (result_map (at_hour (get_or c.pairs.result 0 0))) (sym c.in_ok-time.ensures.answer) in
-    ap Ok (renamed (get_or c.pairs.result 0 0) (clock_of c.in_ok-time.time) _ c.in_ok-time.ensures.minute) ∙ sym is
+    ap Ok (renamed (get_or c.pairs.result 0 0) (clock_parts c.in_ok-time.time) _ c.in_ok-time.ensures.minute) ∙ sym is
