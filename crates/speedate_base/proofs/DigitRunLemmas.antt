@@ -3,7 +3,7 @@ use Rattle.std.proofs.Common.{◌≡◌, ℕ, zero, suc, ◌+◌, ◌-◌, ◌*�
 use Rattle.std.specs.Char.{is_ascii_digit}
 use Rattle.std.specs.List.{prefix_len, list_all}
 use Rattle.std.proofs.lemmas.List.{take-append-drop, length-drop, get_or-drop, length-append, length-take-le, take_more, get_or_past}
-use Rattle.std.proofs.lemmas.List.Sums.{prefix_len_is, prefix_len-drop_yes, prefix_len-drop_no, prefix_len-drop_all, AllPass-from_list_all}
+use Rattle.std.proofs.lemmas.List.Sums.{prefix_len-drop_yes, prefix_len-drop_no, prefix_len-drop_all}
 use Rattle.std.proofs.lemmas.List.Folds.{list_all-append, prefix_len-append}
 use Rattle.std.proofs.lemmas.Bool.{and_from, cases_lt}
 use Rattle.std.proofs.lemmas.Bool.Decides.{nat_tests}
@@ -54,10 +54,6 @@ digits_value-next bytes place end from within =
     grind (arith, next, there, digits_value-front-more (drop place bytes) (end - place), get_or-drop place bytes (end - place) 0, length-drop place bytes)
 
 pub ruleset one_more_digit = (nat_tests, prefix_len-drop_yes, pow-succ', one_digit_value-le, digit-within, digits_value-front-more)
-
--- where no digit stands there is no run
-pub run-none : (text : List ℕ) (place : ℕ) → is_ascii_digit (get_or text place 0) ≡ false → run_length text place ≡ 0
-run-none text place other = search (rules, cases_lt, prefix_len-drop_no, prefix_len-drop_all)
 
 -- a run ends with the bytes if and only if all of them are digits
 pub run-whole : (bytes : List ℕ) → (prefix_len is_ascii_digit bytes == length bytes) ≡ list_all is_ascii_digit bytes

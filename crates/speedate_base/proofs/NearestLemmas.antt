@@ -87,10 +87,6 @@ quotient-whole up a n d some = grind (arith, add-mul-div_right n a some, add-mul
 pub halved-whole : (negative : Bool) (twice a : ℕ) → halved negative (twice + 2 * a) ≡ halved negative twice + a
 halved-whole negative twice a = search rules
 
--- a number that is a multiple of the divisor is divided
-pub quotient-multiple : (up : Bool) (n d : ℕ) → 0 < d → quotient up (n * d) d ≡ n
-quotient-multiple up n d some = grind (arith, add-mul-div_right 0 n some, add-mul-div_right (d - 1) n some, div-eq_of_lt)
-
 -- a fraction whose digits are whole numbers of what it is counted in is not rounded
 pub nearest-exact : (negative : Bool) (n d : ℕ) → 0 < d → nearest (with_sign negative (n * d)) d ≡ with_sign negative n
 nearest-exact negative n d some = grind (arith, ints, nat_tests)

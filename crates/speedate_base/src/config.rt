@@ -1,4 +1,4 @@
-//! Configurations: the unit of timestamps, how times are read, and which offset the values of
+//! Configurations: the unit of timestamps, how times are parsed, and which offset the values of
 //! timestamps get.
 
 ghost use Rattle.std.specs.Prelude.{◌≡◌, IsTrue, Ok};
@@ -56,7 +56,8 @@ pub enum IsoOrder {
     /// They may come in any order on their side of the `T`, and more than once, as in `P1D1Y`.
     #[default]
     Lax,
-    /// Each comes at most once: years, months, weeks, days, and after the `T` hours, minutes, seconds.
+    /// Each comes at most once, in this order: years, months, weeks, days, and after the `T` hours, minutes,
+    /// seconds.
     Strict,
 }
 
@@ -69,7 +70,7 @@ pub fn is_offset(offset: i32) -> bool
     offset.unsigned_abs() < SECONDS_PER_DAY
 }
 
-/// How dates are read: the unit of timestamps. The default infers it;
+/// How dates are parsed: the unit of timestamps. The default infers it;
 /// `DateConfig::builder().timestamp_unit(TimestampUnit::Second).build()` takes seconds.
 #[derive(Clone, Copy, Debug, PartialEq, Eq)]
 pub struct DateConfig {
@@ -151,7 +152,7 @@ impl Default for DateConfigBuilder {
     }
 }
 
-/// How times, date-times and durations are read: what is done with digits past the microsecond, which
+/// How times, date-times and durations are parsed: what is done with digits past the microsecond, which
 /// offset the value of a timestamp gets, and whether the components of a duration have to come in order.
 ///
 /// The default refuses such digits, attaches no offset, and takes any order;

@@ -1,4 +1,4 @@
-//! The faults: why a text or a number was refused.
+//! The errors: why a text or a number was refused.
 
 ghost use Rattle.std.specs.Prelude.{◌≡◌};
 
@@ -8,18 +8,18 @@ pub use config_error::ConfigError;
 use std::fmt;
 
 /// Why a text or a number was refused. Every refusal has exactly one of these, and `docs/GRAMMAR.md`
-/// has the texts with each.
+/// has an example of each.
 ///
 /// It is printed by its snake-case name, as `too_short` for `TooShort`: Display writes the name alone,
 /// whatever width and fill are asked for. There is no `Hash`; the name serves as a key, since no two
-/// faults have the same.
+/// errors have the same.
 #[derive(Clone, Copy, Debug, PartialEq, Eq)]
 pub enum ParseError {
     /// The text ends before what it must hold.
     TooShort,
     /// Bytes are left over after a whole value.
     ExtraCharacters,
-    /// No separator stands between date and time: `T`, `t`, a space or `_`; for the strict readers `T` or
+    /// No separator stands between date and time: `T`, `t`, a space or `_`; for the strict parsers `T` or
     /// `t`.
     InvalidCharDateTimeSep,
     /// A `-` is missing between year, month and day.
@@ -33,9 +33,9 @@ pub enum ParseError {
     InvalidCharMonth,
     /// The day is not two digits.
     InvalidCharDay,
-    /// The `:` between hour and minute is missing, or for the strict readers the second.
+    /// The `:` between hour and minute is missing, or for the strict parsers the second.
     InvalidCharTimeSep,
-    /// The hour is not two digits.
+    /// The hour is not two digits, or in the clock of a duration no digits.
     InvalidCharHour,
     /// The minute is not two digits.
     InvalidCharMinute,
@@ -43,20 +43,21 @@ pub enum ParseError {
     InvalidCharSecond,
     /// Kept for its name: no call returns it.
     InvalidCharSecondFraction,
-    /// What follows a time does not begin an offset, or for the strict readers one of RFC 3339.
+    /// What follows a time does not begin an offset; or for the strict parsers the decimal mark is a comma, or
+    /// the sign of the offset is U+2212.
     InvalidCharTzSign,
     /// The hour of an offset is not two digits.
     InvalidCharTzHour,
-    /// The minute of an offset is not two digits, or for the strict readers its `:` is missing.
+    /// The minute of an offset is not two digits, or for the strict parsers its `:` is missing.
     InvalidCharTzMinute,
     /// The minute of an offset is over 59.
     OutOfRangeTzMinute,
     /// An offset is 24 hours or more.
     OutOfRangeTz,
     /// An offset is missing: of a value that is to be moved to another one, or of a text for the strict
-    /// readers.
+    /// parsers.
     TzRequired,
-    /// The clock has no moment to tell: it stands before 1970.
+    /// The clock has no moment to tell, as one that stands before 1970.
     SystemTimeError,
     /// The month is not 1 to 12.
     OutOfRangeMonth,
@@ -68,7 +69,8 @@ pub enum ParseError {
     OutOfRangeMinute,
     /// The second is over 59.
     OutOfRangeSecond,
-    /// A fraction of a second has more than six digits, and the configuration refuses them.
+    /// A fraction of a second has more than six digits, and the configuration refuses them; or what follows the
+    /// hours in the clock of a duration has more than twelve bytes.
     SecondFractionTooLong,
     /// No digit follows the decimal mark after a second.
     SecondFractionMissing,
@@ -84,20 +86,21 @@ pub enum ParseError {
     DurationInvalidTimeUnit,
     /// A component before `T` has no designator of years, months, weeks or days.
     DurationInvalidDateUnit,
-    /// The days of a duration are not followed by `d`, `day` or `days`.
+    /// The days of a duration are not followed by `d`, `day` or `days`, or these not by a clock or the end.
     DurationInvalidDays,
     /// A number or a sum of a duration is over 4,294,967,295.
     DurationValueTooLarge,
-    /// The hours of a duration are too many.
+    /// The hours of a clock are over 2,400,000,000 or have more than ten digits, or are over 23 after days.
     DurationHourValueTooLarge,
     /// A duration has more than 999,999,999 days.
     DurationDaysTooLarge,
     /// A date lies before the year 0000: of a timestamp, at another offset, or after a duration.
     DateTooSmall,
     /// A date lies after the year 9999: of a timestamp or a moment, at another offset, after a duration,
-    /// or by its number.
+    /// or by its year.
     DateTooLarge,
-    /// A time of day, or a sum on the way to it, is too large.
+    /// A time of day, or a sum on the way to it, is too large; a microsecond is over 999,999; or a clock at
+    /// another offset shows another day.
     TimeTooLarge,
     /// A component of a duration is out of order, or repeated, and the configuration refuses that.
     DurationUnitOrder,
@@ -105,7 +108,7 @@ pub enum ParseError {
     MicrosecondFractionTooLong,
 }
 
-/// The name and the documentation text of a fault.
+/// The name and the documentation text of an error.
 macro_rules! rows {
     ($fault:expr; $($variant:ident $name:literal $documentation:literal)*) => {
         match $fault {
@@ -120,7 +123,7 @@ impl ParseError {
     ghost use Rattle.speedate_base.specs.Fault.{fault_documentation, fault_name};
     ghost use Rattle.speedate_base.specs.declared.faults.ParseError.{ParseError};
 
-    /// The snake-case name, of at most 29 bytes: `too_short` for `ParseError::TooShort`. No other fault
+    /// The snake-case name, of at most 29 bytes: `too_short` for `ParseError::TooShort`. No other error
     /// has it.
     pub fn name(&self) -> &'static str
         ensures name { result.now ≡ fault_name self.now }
@@ -131,7 +134,7 @@ impl ParseError {
         name
     }
 
-    /// The documentation text, of at most 63 bytes, which every fault has: `input is too short` for
+    /// The documentation text, of at most 63 bytes, which every error has: `input is too short` for
     /// `ParseError::TooShort`. It needs no trait in scope.
     pub fn get_documentation(&self) -> Option<&'static str>
         ensures text { option_map (λ text. text.now) result ≡ Some (fault_documentation self.now) }

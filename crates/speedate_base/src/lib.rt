@@ -1,8 +1,8 @@
-//! What the readers and printers of the library stand on: the faults, the configurations, whole
+//! What the parsers and printers of the library stand on: the errors, the configurations, whole
 //! numbers and decimals, digits and bytes at places of a text, the instants of timestamps, and the
 //! rounding of fractions.
 //!
-//! A crate that reads dates or times needs `speedate` alone, which gives the faults, the
+//! A crate that parses dates or times needs `speedate` alone, which gives the errors, the
 //! configurations and the numbers. Use this crate to parse or print other forms.
 #![tactic(auto)]
 

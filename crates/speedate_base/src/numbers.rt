@@ -1,6 +1,6 @@
 //! Whole numbers and decimals, and the digits that they are made of.
 
-ghost use Rattle.std.specs.Prelude.{◌≡◌, ◌^◌, ◌<◌, ◌≤◌, length, Some, None, if◌then◌else◌};
+ghost use Rattle.std.specs.Prelude.{◌≡◌, ◌^◌, ◌<◌, ◌≤◌, length, Some, None};
 ghost use Rattle.speedate_base.specs.Numbers.{has_minus, sign_size, with_sign, signed_answer, whole_number, point_place, decimal_answer, number_answer, number_value, JoinsToFloat};
 
 pub(crate) mod digits;
@@ -31,19 +31,16 @@ pub fn int_parse_bytes(bytes: &[u8]) -> Option<i64>
 {
     let (negative, start) = sign(bytes);
     let digits = &bytes[start..];
-    if digits.is_empty() {
-        return None;
-    }
     match spelled_number(digits) {
-        Ok(size) => signed(negative, size),
-        Err(_) => None,
+        Ok(size) if !digits.is_empty() => signed(negative, size),
+        _ => None,
     }
 }
 
 /// The number that a text is: `IntFloat::Int(12)` for `"12"`, the decimal of the digits `1` and `50`
 /// for `"-1.50"`, `IntFloat::Err` for `"1.5e3"`.
 ///
-/// A whole number is one that [`int_parse_str`] reads. A decimal is one optional `+` or `-`, digits,
+/// A whole number is one that [`int_parse_str`] parses. A decimal is one optional `+` or `-`, digits,
 /// one `.` and digits, with a digit on one side at least. There is no exponent and no float: a
 /// [`Decimal`] borrows its digits from the text, so it is exact at any length. Any other text, and a
 /// whole number that does not fit an `i64`, is `Err`.
@@ -64,14 +61,12 @@ pub fn float_parse_bytes(bytes: &[u8]) -> IntFloat<'_>
 {
     let (negative, start) = sign(bytes);
     let digits = &bytes[start..];
-    if digits.is_empty() {
-        return IntFloat::Err;
-    }
     match spelled_number(digits) {
-        Ok(size) => match signed(negative, size) {
+        Ok(size) if !digits.is_empty() => match signed(negative, size) {
             Some(number) => IntFloat::Int(number),
             None => IntFloat::Err,
         },
+        Ok(_) => IntFloat::Err,
         Err(count) => decimal(bytes, negative, start, start + count),
     }
 }

@@ -34,16 +34,13 @@ pub fn timestamp_to_seconds_micros(
 {
     match unit {
         TimestampUnit::Second => Ok(UnixTime::from_seconds(timestamp)),
-        TimestampUnit::Millisecond => Ok(UnixTime::from_milliseconds(timestamp)),
         TimestampUnit::Microsecond => Ok(UnixTime::from_microseconds(timestamp)),
-        TimestampUnit::Infer => {
-            if timestamp.unsigned_abs() <= INFERRED_SECONDS_MAX {
-                Ok(UnixTime::from_seconds(timestamp))
-            } else if timestamp == i64::MIN {
-                Err(ParseError::DateTooSmall)
-            } else {
-                Ok(UnixTime::from_milliseconds(timestamp))
-            }
+        TimestampUnit::Infer if timestamp.unsigned_abs() <= INFERRED_SECONDS_MAX => {
+            Ok(UnixTime::from_seconds(timestamp))
+        }
+        TimestampUnit::Infer if timestamp == i64::MIN => Err(ParseError::DateTooSmall),
+        TimestampUnit::Millisecond | TimestampUnit::Infer => {
+            Ok(UnixTime::from_milliseconds(timestamp))
         }
     }
 }

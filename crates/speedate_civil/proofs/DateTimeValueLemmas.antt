@@ -1,11 +1,11 @@
 -- What every `DateTime` is, and how large its seconds are.
-use Rattle.std.proofs.Common.{rules, ◌<◌, arith, Option, ℤ, pos, ◌-ℤ◌, ◌≤ℤ◌, unsigned_abs, unwrap_or}
+use Rattle.std.proofs.Common.{rules, ◌<◌, arith, Option, ℤ, pos, ◌≤ℤ◌, unsigned_abs, unwrap_or}
 use Rattle.std.specs.Option.{ForSome}
 use Rattle.std.proofs.lemmas.Int.{ints}
 use Rattle.speedate_base.specs.Offset.{IsOffset}
 use Rattle.speedate_base.specs.Timestamp.{seconds_per_day, first_second, last_second}
 use Rattle.speedate_civil.specs.declared.datetime.DateTime.{DateTime}
-use Rattle.speedate_civil.specs.DateTime.{DateAndTime, IsDateAndTime, local_second, utc_second, date_and_time}
+use Rattle.speedate_civil.specs.DateTime.{DateAndTime, IsDateAndTime, local_second, date_and_time}
 use Rattle.speedate_civil.proofs.DayNumberLemmas.{day_number-small}
 use Rattle.speedate_civil.proofs.DateValueLemmas.{is_date}
 use Rattle.speedate_civil.proofs.TimeValueLemmas.{is_time}
@@ -27,10 +27,3 @@ local_second-late value valid = omega (arith, ints)
 pub local_second-early : (value : DateAndTime) → IsDateAndTime value → local_second value ≤ℤ last_second
 local_second-early value valid = grind (arith, day_number-small)
 
--- two sizes add up
-difference-small : (first second : ℤ) → unsigned_abs first < 300000000000 → unsigned_abs second < seconds_per_day
-    → unsigned_abs (first -ℤ second) < 400000000000
-difference-small first second small little = omega (arith, ints)
-
-pub utc_second-small : (value : DateAndTime) → IsDateAndTime value → unsigned_abs (utc_second value) < 400000000000
-utc_second-small value valid = grind (arith, ints, local_second-small, difference-small)

@@ -1,6 +1,6 @@
 -- Laws of the order by instants: it is total, among values with offsets and among those without; without offsets it is the
 -- order of the texts; and if the offsets are equal it is that of what clocks show.
-use Rattle.std.proofs.Common.{◌≡◌, ℕ, ◌<◌, Bool, true, false, ◌&&◌, ◌∷◌, ◌==◌, ℤ, ◌-ℤ◌, Option, None, refl, is_some, nat_cmp, int_cmp, Ordering, rules, arith, ◌∙◌, ap, sym}
+use Rattle.std.proofs.Common.{◌≡◌, ℕ, ◌<◌, Bool, true, false, ◌&&◌, ◌∷◌, ◌==◌, ℤ, Option, None, refl, is_some, nat_cmp, Ordering, rules, arith, ◌∙◌, ap, sym}
 use Rattle.std.specs.Cmp.{IsTotalOrder, on_total}
 use Rattle.std.specs.Cmp.Lexicographic.{slice_cmp}
 use Rattle.std.specs.Ordering.{ordering_then, ordering_reverse, on}
@@ -17,10 +17,6 @@ use Rattle.speedate_civil.proofs.DateOrderLemmas.{date_order-day_number, date_te
 -- instants are ordered one after another
 pub instant_order-total : IsTotalOrder instant_order
 instant_order-total = search rules
-
--- two numbers are ordered as what is left of them
-pub left-order : (first second less : ℤ) → int_cmp (first -ℤ less) (second -ℤ less) ≡ int_cmp first second
-left-order first second less = search rules
 
 -- a clock's hours, minutes and seconds are ordered as its second of the day
 clock-order : (first second : TimeOfDay) → IsTime first → IsTime second → (next : Ordering)

@@ -3,6 +3,7 @@ use Rattle.std.specs.Prelude.{◌/◌, ℤ, pos, ◌+ℤ◌, ◌-ℤ◌, ◌*ℤ
 use Rattle.std.specs.Option.{unwrap_or}
 use Rattle.std.specs.Ordering.{is_le, int_cmp, nat_cmp, on, then_cmp}
 use Rattle.std.specs.declared.cmp.Ordering.{Ordering}
+use Rattle.speedate_base.specs.declared.config.date_time.DateTimeConfig.{DateTimeConfig}
 use Rattle.speedate_base.specs.declared.config.MicrosecondsPrecisionOverflowBehavior.{MicrosecondsPrecisionOverflowBehavior}
 use Rattle.speedate_base.specs.declared.config.TimestampUnit.{TimestampUnit}
 use Rattle.speedate_base.specs.declared.faults.ParseError.TheVariants as fault
@@ -149,6 +150,12 @@ date_time_number_answer unit behavior offset NoNumber = None
 abbrev pub date_time_or_timestamp : TimestampUnit → MicrosecondsPrecisionOverflowBehavior → Option ℤ → List ℕ → Result DateAndTime ParseError
 date_time_or_timestamp unit behavior offset text =
     or_number (date_time_number_answer unit behavior offset (number_answer text)) (date_time_answer behavior text)
+
+-- the same by a configuration
+abbrev pub date_time_by_config : DateTimeConfig → List ℕ → Result DateAndTime ParseError
+date_time_by_config config text =
+    let time = config.time_config in
+    date_time_or_timestamp config.timestamp_unit time.microseconds_precision_overflow_behavior time.unix_timestamp_offset text
 
 -- the moment of its numbers, as an instant
 abbrev pub new_moment_answer : ℕ → ℕ → Result Instant ParseError

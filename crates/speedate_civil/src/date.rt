@@ -1,6 +1,6 @@
 //! Dates of the Gregorian calendar, from 0000-01-01 to 9999-12-31.
 
-ghost use Rattle.std.specs.Prelude.{◌≡◌, ◌<◌, ◌≤◌, ◌↔◌, IfOk, Ok, OnOk, Some, length, if◌then◌else◌};
+ghost use Rattle.std.specs.Prelude.{◌≡◌, ◌<◌, ◌≤◌, ◌↔◌, IfOk, Ok, OnOk, Some, length};
 ghost use Rattle.std.specs.Int.{is_in_range, IsInRange};
 ghost use Rattle.speedate_civil.specs.Calendar.{month_length, is_leap_year};
 
@@ -20,7 +20,7 @@ const TEXT_LENGTH: usize = 10;
 
 /// A day of the Gregorian calendar, which is carried back to the year 0: 0000-01-01 to 9999-12-31.
 ///
-/// It is read by [`Date::parse_str`], or without timestamps by [`Date::parse_str_rfc3339`], and made
+/// It is parsed by [`Date::parse_str`], or without timestamps by [`Date::parse_str_rfc3339`], and made
 /// from numbers by [`Date::new`]. It is printed as `YYYY-MM-DD`, as `2020-02-29`: Display writes this
 /// text, whatever width and fill are asked for.
 ///
@@ -87,7 +87,7 @@ impl Date {
 
     /// The date of a year, a month and a day: 2020-02-29 for 2020, 2 and 29.
     ///
-    /// The faults, in the order in which they are looked for:
+    /// The errors, in the order in which they are looked for:
     ///
     /// - `DateTooLarge` if the year is over 9999;
     /// - `OutOfRangeMonth` if the month is not 1 to 12;
@@ -107,9 +107,9 @@ impl Date {
         Ok(Date { year, month, day })
     }
 
-    /// Reads a date from a text, and no timestamp: 29 February 2020 from `"2020-02-29"`.
+    /// Parses a date from a text, and no timestamp: 29 February 2020 from `"2020-02-29"`.
     ///
-    /// The form is RFC 3339's full-date, `YYYY-MM-DD`. The faults, in the order in which they are
+    /// The form is RFC 3339's full-date, `YYYY-MM-DD`. The errors, in the order in which they are
     /// looked for:
     ///
     /// - `TooShort` if the text has fewer than ten bytes;
@@ -124,8 +124,8 @@ impl Date {
         Self::parse_bytes_rfc3339(text.as_bytes())
     }
 
-    /// Reads a date from bytes, and no timestamp: 29 February 2020 from `b"2020-02-29"`. The bytes need
-    /// not be text. The form and the faults are those of [`Date::parse_str_rfc3339`].
+    /// Parses a date from bytes, and no timestamp: 29 February 2020 from `b"2020-02-29"`. The bytes need
+    /// not be text. The form and the errors are those of [`Date::parse_str_rfc3339`].
     pub fn parse_bytes_rfc3339(bytes: &[u8]) -> Result<Self, ParseError>
         ensures answer { result gives date_answer bytes.now }
         ensures no_number { OnOk result (number_answer bytes.now ≡ NoNumber) }
@@ -137,9 +137,9 @@ impl Date {
         Ok(date)
     }
 
-    /// Reads the date at the front of a text, whatever follows it, and returns how many bytes it takes,
+    /// Parses the date at the front of a text, whatever follows it, and returns how many bytes it takes,
     /// which is always ten: 22 November 2026 and 10 from `b"2026-11-22 opening balance"`. It reads no
-    /// timestamps. The faults are those of [`Date::parse_str_rfc3339`] except `ExtraCharacters`.
+    /// timestamps. The errors are those of [`Date::parse_str_rfc3339`] except `ExtraCharacters`.
     pub fn parse_front(bytes: &[u8]) -> Result<(Self, usize), ParseError>
         ensures answer { result gives_front date_front bytes.now }
         ensures within { IfOk result (λ front. front.1 ≤ length bytes.now) }

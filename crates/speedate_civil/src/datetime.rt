@@ -27,7 +27,7 @@ const TIME_PLACE: usize = 11;
 
 /// A date and a time of day, with an offset from UTC or without one.
 ///
-/// It is read by [`DateTime::parse_str`], or without timestamps by [`DateTime::parse_str_rfc3339`], and
+/// It is parsed by [`DateTime::parse_str`], or without timestamps by [`DateTime::parse_str_rfc3339`], and
 /// made from a [`Date`] and a [`Time`] by their fields: `DateTime { date, time }`. It is printed as
 /// `YYYY-MM-DDTHH:MM:SS`, with the fraction and the offset of its time:
 /// `2020-02-29T12:13:14.500000+01:30`. Display writes this text, whatever width and fill are asked for.
@@ -46,11 +46,11 @@ impl DateTime {
     ghost use Rattle.speedate_base.specs.Offset.{IsWholeMinutes};
     ghost use Rattle.speedate_civil.specs.DateTime.{date_and_time, ◌gives◌, ◌gives_front◌};
 
-    /// Reads a date-time from a text, and no timestamp: 12:13:14 on 29 February 2020 in UTC from
+    /// Parses a date-time from a text, and no timestamp: 12:13:14 on 29 February 2020 in UTC from
     /// `"2020-02-29T12:13:14Z"`.
     ///
     /// The form is RFC 3339's date-time, relaxed: a date, a separator, which is `T`, `t`, a space or
-    /// `_`, and a time. The faults, in the order in which they are looked for:
+    /// `_`, and a time. The errors, in the order in which they are looked for:
     ///
     /// - those of [`Date::parse_str_rfc3339`] except `ExtraCharacters`;
     /// - `InvalidCharDateTimeSep` if no separator follows the date;
@@ -63,8 +63,8 @@ impl DateTime {
         Self::parse_bytes_rfc3339(text.as_bytes())
     }
 
-    /// Reads a date-time from bytes, and no timestamp: 12:13 on 1 January 2020 from
-    /// `b"2020-01-01_12:13"`. The bytes need not be text. The form and the faults are those of
+    /// Parses a date-time from bytes, and no timestamp: 12:13 on 1 January 2020 from
+    /// `b"2020-01-01_12:13"`. The bytes need not be text. The form and the errors are those of
     /// [`DateTime::parse_str_rfc3339`].
     #[inline(always)]
     pub fn parse_bytes_rfc3339(bytes: &[u8]) -> Result<Self, ParseError>
@@ -75,7 +75,7 @@ impl DateTime {
         Self::parse_bytes_rfc3339_with_config(bytes, &TimeConfig::default())
     }
 
-    /// Reads a date-time from bytes, and no timestamp, by a configuration: 12:13:12.123456 on 1 January
+    /// Parses a date-time from bytes, and no timestamp, by a configuration: 12:13:12.123456 on 1 January
     /// 2020 from `b"2020-01-01T12:13:12.1234567"` with the behavior `Truncate`, which drops the digits
     /// of a second past the sixth. The bytes need not be text. The form is that of
     /// [`DateTime::parse_str_rfc3339`]. The offset of the configuration does not matter.
@@ -96,7 +96,7 @@ impl DateTime {
         Self::parse_whole(bytes, config.microseconds_precision_overflow_behavior)
     }
 
-    /// Reads a date-time from bytes that are a date-time of RFC 3339 5.6, and no timestamp: 12:13:14 on
+    /// Parses a date-time from bytes that are a date-time of RFC 3339 5.6, and no timestamp: 12:13:14 on
     /// 29 February 2020 in UTC from `b"2020-02-29T12:13:14Z"`. The bytes need not be text.
     ///
     /// It accepts the texts of RFC 3339 and no others, with the two exceptions of
@@ -105,8 +105,8 @@ impl DateTime {
     ///
     /// # Errors
     ///
-    /// A text that has a fault there has it here too. Of the others one is refused with
-    /// `InvalidCharDateTimeSep` if neither `T` nor `t` parts date and time, and then with the faults of
+    /// A text that has an error there has it here too. Of the others one is refused with
+    /// `InvalidCharDateTimeSep` if neither `T` nor `t` parts date and time, and then with the errors of
     /// `Time::parse_bytes_strict`.
     pub fn parse_bytes_strict(
         bytes: &[u8],
@@ -121,11 +121,11 @@ impl DateTime {
         Ok(value)
     }
 
-    /// Reads the date-time at the front of a text, whatever follows it, and returns how many bytes it
+    /// Parses the date-time at the front of a text, whatever follows it, and returns how many bytes it
     /// takes: 12:13:14.5 on 22 November 2026, an hour east of UTC, and 27, from
     /// `b"2026-11-22T12:13:14.5+01:00 GET /"`. It reads no timestamps.
     ///
-    /// It ends where [`Time::parse_front`] ends. The faults are those of [`Date::parse_front`], then
+    /// It ends where [`Time::parse_front`] ends. The errors are those of [`Date::parse_front`], then
     /// `InvalidCharDateTimeSep`, then those of [`Time::parse_front`].
     #[inline(always)]
     pub fn parse_front(bytes: &[u8], config: &TimeConfig) -> Result<(Self, usize), ParseError>
@@ -143,7 +143,7 @@ impl DateTime {
         Self::front(bytes, config.microseconds_precision_overflow_behavior)
     }
 
-    /// Reads the date-time that takes all the bytes.
+    /// Parses the date-time that takes all the bytes.
     #[inline(always)]
     fn parse_whole(
         bytes: &[u8],
@@ -160,7 +160,7 @@ impl DateTime {
         Ok(value)
     }
 
-    /// Reads the date-time at the front of a text, and how many bytes it takes, whatever follows it.
+    /// Parses the date-time at the front of a text, and how many bytes it takes, whatever follows it.
     #[inline(always)]
     fn front(
         bytes: &[u8],

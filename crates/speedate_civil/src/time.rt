@@ -22,7 +22,7 @@ pub(crate) use timezone::clock_shift;
 
 /// A time of day, to the microsecond, with an offset from UTC or without one.
 ///
-/// It is read by [`Time::parse_str`] and made from numbers by [`Time::new`]. It is printed as
+/// It is parsed by [`Time::parse_str`] and made from numbers by [`Time::new`]. It is printed as
 /// `HH:MM:SS`, with `.` and six digits if the microsecond is not 0, and with the offset if there is
 /// one: `12:13:14.500000+01:30`. Display writes this text, whatever width and fill are asked for.
 ///
@@ -63,7 +63,7 @@ impl Time {
     /// The time of an hour, a minute, a second, a microsecond, and an offset from UTC in seconds or
     /// none: 12:13:14.500000+01:00 for 12, 13, 14, 500,000 and `Some(3600)`.
     ///
-    /// The faults, in the order in which they are looked for:
+    /// The errors, in the order in which they are looked for:
     ///
     /// - `OutOfRangeHour` if the hour is over 23;
     /// - `OutOfRangeMinute` if the minute is over 59;
@@ -101,12 +101,12 @@ impl Time {
         time.with_timezone_offset(tz_offset)
     }
 
-    /// Reads a time from a text: 12:13:14 and a half, an hour east of UTC, from `"12:13:14.5+01:00"`.
+    /// Parses a time from a text: 12:13:14 and a half, an hour east of UTC, from `"12:13:14.5+01:00"`.
     ///
     /// The form is RFC 3339's full-time, `HH:MM:SS` with an optional fraction and an offset, relaxed:
     /// the second, the offset and the `:` of the offset may be left out, the decimal mark may be a
     /// comma, and the sign of the offset may be U+2212. It is narrower in two ways: a fraction has at
-    /// most six digits, and there is no second 60. The faults, in the order in which they are looked
+    /// most six digits, and there is no second 60. The errors, in the order in which they are looked
     /// for:
     ///
     /// - `TooShort` if the text has fewer than five bytes;
@@ -132,8 +132,8 @@ impl Time {
         Self::parse_bytes(text.as_bytes())
     }
 
-    /// Reads a time from bytes: 12:13:00 from `b"12:13"`. The bytes need not be text. The form and the
-    /// faults are those of [`Time::parse_str`].
+    /// Parses a time from bytes: 12:13:00 from `b"12:13"`. The bytes need not be text. The form and the
+    /// errors are those of [`Time::parse_str`].
     #[inline(always)]
     pub fn parse_bytes(bytes: &[u8]) -> Result<Self, ParseError>
         ensures answer { result gives time_answer behavior.Error bytes.now }
@@ -142,7 +142,7 @@ impl Time {
         Self::parse_whole(bytes, MicrosecondsPrecisionOverflowBehavior::Error)
     }
 
-    /// Reads a time from bytes, by a configuration: 12:13:12.123456 from `b"12:13:12.1234567"` with the
+    /// Parses a time from bytes, by a configuration: 12:13:12.123456 from `b"12:13:12.1234567"` with the
     /// behavior `Truncate`, which drops the digits of a second past the sixth. The bytes need not be
     /// text. The form is that of [`Time::parse_str`]. The offset of the configuration does not matter.
     ///
@@ -157,7 +157,7 @@ impl Time {
         Self::parse_whole(bytes, config.microseconds_precision_overflow_behavior)
     }
 
-    /// Reads a time from bytes that are a full-time of RFC 3339 5.6: 12:13:14 and a half, an hour east
+    /// Parses a time from bytes that are a full-time of RFC 3339 5.6: 12:13:14 and a half, an hour east
     /// of UTC, from `b"12:13:14.5+01:00"`. The bytes need not be text.
     ///
     /// It accepts the texts of RFC 3339 and no others, with two exceptions: a second 60 is refused, and
@@ -166,7 +166,7 @@ impl Time {
     ///
     /// # Errors
     ///
-    /// A text that has a fault there has it here too. Of the others these are refused, in this order:
+    /// A text that has an error there has it here too. Of the others these are refused, in this order:
     ///
     /// - with `InvalidCharTimeSep`, if there is no second;
     /// - with `InvalidCharTzSign`, if the decimal mark is a comma;
@@ -186,10 +186,10 @@ impl Time {
         Ok(time)
     }
 
-    /// Reads the time at the front of a text, whatever follows it, and returns how many bytes it takes:
+    /// Parses the time at the front of a text, whatever follows it, and returns how many bytes it takes:
     /// 12:13:14.5 an hour east of UTC, and 16, from `b"12:13:14.5+01:00 GET /"`.
     ///
-    /// A time that goes on has to go on without a fault: after a `:` that follows the minute with two
+    /// A time that goes on has to go on without an error: after a `:` that follows the minute with two
     /// digits, after a decimal mark that follows the second with a digit, after a sign that follows the
     /// clock with an offset; `Z` or `z` is an offset too. Any other byte after the clock, or none, ends
     /// a time without an offset.
@@ -213,7 +213,7 @@ impl Time {
         Self::front_at(bytes, 0, config.microseconds_precision_overflow_behavior)
     }
 
-    /// Reads the time that takes all the bytes.
+    /// Parses the time that takes all the bytes.
     #[inline(always)]
     fn parse_whole(
         bytes: &[u8],
@@ -229,7 +229,7 @@ impl Time {
         Ok(time)
     }
 
-    /// Reads the time that begins at `place`, and how many bytes it takes, whatever follows it.
+    /// Parses the time that begins at `place`, and how many bytes it takes, whatever follows it.
     #[inline(always)]
     pub(crate) fn front_at(
         bytes: &[u8],
@@ -281,42 +281,32 @@ impl Time {
     /// The time of the seconds and microseconds after midnight, without an offset: 10:00:06.5 for
     /// 36,005 seconds and 1,500,000 microseconds. Fails with `TimeTooLarge` if they are 86,400 seconds
     /// or more together.
-    pub fn from_timestamp(
-        timestamp_second: u32,
-        timestamp_microsecond: u32,
-    ) -> Result<Self, ParseError>
-        ensures answer { result gives timestamp_answer timestamp_second timestamp_microsecond None }
+    pub fn from_timestamp(second: u32, microsecond: u32) -> Result<Self, ParseError>
+        ensures answer { result gives timestamp_answer second microsecond None }
         ensures instant { IfOk result (λ time. microsecond_of_day (time_of_day time)
-            ≡ 1000000 * timestamp_second + timestamp_microsecond) }
+            ≡ 1000000 * second + microsecond) }
     {
-        Self::from_timestamp_with_config(
-            timestamp_second,
-            timestamp_microsecond,
-            &TimeConfig::default(),
-        )
+        Self::from_timestamp_with_config(second, microsecond, &TimeConfig::default())
     }
 
     /// The time of the seconds and microseconds after midnight, with the configured offset, which is
     /// attached and shifts nothing: 00:00:01Z for one second and the offset 0. Fails with
     /// `TimeTooLarge` if the seconds and microseconds are 86,400 seconds or more together.
     pub fn from_timestamp_with_config(
-        timestamp_second: u32,
-        timestamp_microsecond: u32,
+        second: u32,
+        microsecond: u32,
         config: &TimeConfig,
     ) -> Result<Self, ParseError>
-        ensures answer { result gives timestamp_answer timestamp_second timestamp_microsecond config.now.unix_timestamp_offset }
+        ensures answer { result gives timestamp_answer second microsecond config.now.unix_timestamp_offset }
         ensures instant { IfOk result (λ time. microsecond_of_day (time_of_day time)
-            ≡ 1000000 * timestamp_second + timestamp_microsecond) }
+            ≡ 1000000 * second + microsecond) }
     {
-        let second = u64::from(timestamp_second) + u64::from(timestamp_microsecond / 1_000_000);
-        if second >= u64::from(SECONDS_PER_DAY) {
+        let whole = u64::from(second) + u64::from(microsecond / 1_000_000);
+        if whole >= u64::from(SECONDS_PER_DAY) {
             return Err(ParseError::TimeTooLarge);
         }
-        Ok(Self::at_second(
-            second as u32,
-            timestamp_microsecond % 1_000_000,
-            config.unix_timestamp_offset,
-        ))
+        let offset = config.unix_timestamp_offset;
+        Ok(Self::at_second(whole as u32, microsecond % 1_000_000, offset))
     }
 
     /// The time at a second of the day and its microsecond, with the offset attached.

@@ -2,7 +2,6 @@
 //! chooses one of them.
 
 ghost use Rattle.std.specs.Prelude.{◌≡◌, Contains, Ok, Some};
-ghost use Rattle.std.specs.Str.{str_eq_ignore_ascii_case};
 ghost use Rattle.speedate_base.specs.Config.{◌chooses◌, unit_choices, unit_answer, behavior_choices, behavior_answer, order_choices, order_answer};
 
 use super::{IsoOrder, MicrosecondsPrecisionOverflowBehavior, TimestampUnit};
@@ -33,13 +32,13 @@ impl FromStr for TimestampUnit {
     /// `"ms"`, and the others for `"s"`, `"us"` and `"infer"`. Fails with `UnknownTimestampUnitString`
     /// for any other text.
     fn from_str(text: &str) -> Result<Self, ConfigError> {
-        if names(text, "s") {
+        if "s".eq_ignore_ascii_case(text) {
             Ok(TimestampUnit::Second)
-        } else if names(text, "ms") {
+        } else if "ms".eq_ignore_ascii_case(text) {
             Ok(TimestampUnit::Millisecond)
-        } else if names(text, "us") {
+        } else if "us".eq_ignore_ascii_case(text) {
             Ok(TimestampUnit::Microsecond)
-        } else if names(text, "infer") {
+        } else if "infer".eq_ignore_ascii_case(text) {
             Ok(TimestampUnit::Infer)
         } else {
             Err(ConfigError::UnknownTimestampUnitString)
@@ -70,9 +69,9 @@ impl FromStr for MicrosecondsPrecisionOverflowBehavior {
     /// `Error` for `"error"`. Fails with `UnknownMicrosecondsPrecisionOverflowBehaviorString` for any
     /// other text.
     fn from_str(text: &str) -> Result<Self, ConfigError> {
-        if names(text, "truncate") {
+        if "truncate".eq_ignore_ascii_case(text) {
             Ok(MicrosecondsPrecisionOverflowBehavior::Truncate)
-        } else if names(text, "error") {
+        } else if "error".eq_ignore_ascii_case(text) {
             Ok(MicrosecondsPrecisionOverflowBehavior::Error)
         } else {
             Err(ConfigError::UnknownMicrosecondsPrecisionOverflowBehaviorString)
@@ -97,19 +96,12 @@ impl IsoOrder {
     pub fn from_name(text: &str) -> Option<Self>
         ensures answer { result ≡ order_answer text.now }
     {
-        if names(text, "lax") {
+        if "lax".eq_ignore_ascii_case(text) {
             Some(IsoOrder::Lax)
-        } else if names(text, "strict") {
+        } else if "strict".eq_ignore_ascii_case(text) {
             Some(IsoOrder::Strict)
         } else {
             None
         }
     }
-}
-
-/// Whether a text is a name, in ASCII letters of any case.
-fn names(text: &str, name: &str) -> bool
-    ensures { result ≡ str_eq_ignore_ascii_case name.now text.now }
-{
-    name.eq_ignore_ascii_case(text)
 }

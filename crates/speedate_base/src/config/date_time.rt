@@ -6,7 +6,7 @@ ghost use Rattle.speedate_base.specs.Config.{choices, default_choices, unit_and_
 use super::{TimeConfig, TimestampUnit};
 use std::marker::Model;
 
-/// How date-times are read: the unit of timestamps, and a [`TimeConfig`] for the texts and for the
+/// How date-times are parsed: the unit of timestamps, and a [`TimeConfig`] for the texts and for the
 /// offset that the value of a timestamp gets. The default infers the unit, and has the default
 /// `TimeConfig`; `DateTimeConfig::builder().timestamp_unit(TimestampUnit::Second).build()` takes
 /// seconds.
@@ -14,7 +14,7 @@ use std::marker::Model;
 pub struct DateTimeConfig {
     /// The unit of timestamps.
     pub timestamp_unit: TimestampUnit,
-    /// How the texts of date-times are read, and which offset the value of a timestamp gets.
+    /// How the texts of date-times are parsed, and which offset the value of a timestamp gets.
     pub time_config: TimeConfig,
 }
 
@@ -75,7 +75,7 @@ impl DateTimeConfigBuilder {
         self
     }
 
-    /// Sets how the texts of date-times are read, and which offset the value of a timestamp gets: none
+    /// Sets how the texts of date-times are parsed, and which offset the value of a timestamp gets: none
     /// with `time_config(TimeConfig::default())`.
     pub fn time_config(mut self, config: TimeConfig) -> Self
         ensures choices { choices result ≡ unit_and_time self.timestamp_unit config }

@@ -1,4 +1,4 @@
-//! The faults of the texts by which configurations are chosen.
+//! The errors of the texts by which configurations are chosen.
 
 ghost use Rattle.std.specs.Prelude.{◌≡◌, Some, None};
 ghost use Rattle.speedate_base.specs.declared.faults.config_error.ConfigError.{ConfigError};
@@ -20,7 +20,7 @@ pub enum ConfigError {
 
 impl ConfigError {
     /// The snake-case name: `unknown_timestamp_unit_string` for
-    /// `ConfigError::UnknownTimestampUnitString`. No other fault has it.
+    /// `ConfigError::UnknownTimestampUnitString`. No other error has it.
     pub fn name(&self) -> &'static str
         ensures name { result.now ≡ config_error_name self.now }
         ensures distinct { (other : ConfigError) → result.now ≡ config_error_name other → self.now ≡ other }
@@ -33,7 +33,7 @@ impl ConfigError {
         }
     }
 
-    /// The documentation text: always `None`, since these faults have none.
+    /// The documentation text: always `None`, since these errors have none.
     pub fn get_documentation(&self) -> Option<&'static str>
         ensures none { result ≡ None }
     {

@@ -8,7 +8,7 @@ ghost use Rattle.speedate_base.specs.Digits.{is_decimal_mark, one_digit_value, t
 use super::lanes::{LANES, digits_in_front, eight_digits};
 use std::simd::prelude::*;
 
-/// A run of digits: how many they are, and the number that they spell. [`digit_run`] reads it.
+/// A run of digits: how many they are, and the number that they spell. [`digit_run`] returns it.
 #[derive(Clone, Copy, Debug)]
 pub struct DigitRun {
     /// How many digits.

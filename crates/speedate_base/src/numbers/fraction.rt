@@ -7,7 +7,7 @@ ghost use Rattle.speedate_base.specs.Digits.{run_length, run_digits, fraction_va
 ghost use Rattle.speedate_base.specs.Requirement.{◌implies◌};
 
 use super::digits::run_end;
-use super::lanes::{LANES, eight_bytes, fitting, pairs};
+use super::lanes::{LANES, digits_in_front, eight_bytes, pairs};
 use crate::config::MicrosecondsPrecisionOverflowBehavior;
 use std::simd::prelude::*;
 
@@ -32,22 +32,16 @@ impl Fraction {
         ensures small { result.microsecond ≤ 999999 }
     {
         let front = eight_bytes(bytes, place);
-        let count = fitting(front, u8x8::splat(b'0'));
-        if count == 0 {
-            return Fraction {
-                length: 0,
-                microsecond: 0,
-            };
-        }
-        let microsecond = six_places(front, count);
-        if count < LANES {
-            return Fraction {
-                length: count,
-                microsecond,
-            };
-        }
+        let (length, microsecond) = match digits_in_front(front) {
+            0 => (0, 0),
+            LANES => (
+                run_end(bytes, place + LANES) - place,
+                six_places(front, LANES),
+            ),
+            count => (count, six_places(front, count)),
+        };
         Fraction {
-            length: run_end(bytes, place + LANES) - place,
+            length,
             microsecond,
         }
     }

@@ -76,7 +76,7 @@ fn are_digits(bytes: &[u8]) -> bool
     bytes.iter().all(|byte| byte.is_ascii_digit())
 }
 
-/// What [`float_parse_str`](super::float_parse_str) reads: `Int(12)` from `"12"`.
+/// What [`float_parse_str`](super::float_parse_str) returns: `Int(12)` from `"12"`.
 #[derive(Clone, Copy, Debug)]
 pub enum IntFloat<'a> {
     /// A whole number.

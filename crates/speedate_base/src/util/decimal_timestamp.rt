@@ -1,6 +1,6 @@
 //! Decimal timestamps.
 
-ghost use Rattle.std.specs.Prelude.{◌≡◌, ◌<◌, ◌≤◌, ◌^◌, ◌==◌, ◌*◌, length, IsTrue, IfOk, nat_le, if◌then◌else◌};
+ghost use Rattle.std.specs.Prelude.{◌≡◌, ◌<◌, ◌≤◌, ◌^◌, ◌==◌, ◌*◌, length, IsTrue, IfOk, nat_le};
 ghost use Rattle.std.specs.Char.{is_ascii_digit};
 ghost use Rattle.std.specs.List.{list_all};
 ghost use Rattle.speedate_base.specs.Timestamp.{decimal_row, decimal_instant, unix_row, IsInYears, inferred_seconds_max, range_answer, unix_instant};
@@ -30,15 +30,9 @@ pub fn decimal_unit(decimal: Decimal<'_>, unit: TimestampUnit) -> UnixUnit
 {
     match unit {
         TimestampUnit::Second => SECOND,
-        TimestampUnit::Millisecond => MILLISECOND,
         TimestampUnit::Microsecond => MICROSECOND,
-        TimestampUnit::Infer => {
-            if is_inferred_seconds(decimal) {
-                SECOND
-            } else {
-                MILLISECOND
-            }
-        }
+        TimestampUnit::Infer if is_inferred_seconds(decimal) => SECOND,
+        TimestampUnit::Millisecond | TimestampUnit::Infer => MILLISECOND,
     }
 }
 

@@ -113,7 +113,7 @@ pub struct UnixUnit {
     pub microseconds: u64,
     /// How many digits after a point are whole microseconds: 3 for milliseconds.
     pub digits: usize,
-    /// The fault of a text with more digits than those: `MillisecondFractionTooLong` for milliseconds.
+    /// The error of a text with more digits than those: `MillisecondFractionTooLong` for milliseconds.
     pub too_long: ParseError,
     pub ghost few: { digits ≤ 6 },
     pub ghost small: { microseconds ≤ 1000000 },

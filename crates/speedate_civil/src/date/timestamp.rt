@@ -1,7 +1,6 @@
 //! Dates from timestamps, from texts that are a timestamp instead of a date, and from clocks.
 
-ghost use Rattle.std.specs.Prelude.{◌≡◌, ◌==◌, ◌&&◌, Err, IsTrue, Option, int_le};
-ghost use Rattle.speedate_base.specs.Requirement.{◌implies◌};
+ghost use Rattle.std.specs.Prelude.{◌≡◌, Err, IsTrue, Option, int_le};
 ghost use Rattle.speedate_base.specs.Timestamp.{first_second, last_second};
 ghost use Rattle.speedate_base.specs.declared.config.TimestampUnit.TheVariants as unit;
 ghost use Rattle.speedate_civil.specs.Date.{ymd, date_answer, day_at, second_at, date_timestamp_answer, date_or_timestamp, ◌gives◌};
@@ -17,7 +16,7 @@ use speedate_base::util::{FIRST_SECOND, SECONDS_PER_DAY, timestamp_to_seconds_mi
 use std::str::FromStr;
 
 impl Date {
-    /// Reads a date from a text, which may be a timestamp: 2020-02-29 from `"2020-02-29"`, and
+    /// Parses a date from a text, which may be a timestamp: 2020-02-29 from `"2020-02-29"`, and
     /// 2022-06-07 from `"1654560000"`.
     ///
     /// A text that is no date but a whole number is the timestamp of a midnight, in seconds if the
@@ -25,7 +24,7 @@ impl Date {
     ///
     /// # Errors
     ///
-    /// A timestamp has the faults of [`Date::from_timestamp`] for an exact date, any other text those
+    /// A timestamp has the errors of [`Date::from_timestamp`] for an exact date, any other text those
     /// of [`Date::parse_str_rfc3339`].
     pub fn parse_str(text: &str) -> Result<Self, ParseError>
         ensures answer { result gives date_or_timestamp unit.Infer text.now }
@@ -33,24 +32,24 @@ impl Date {
         Self::parse_bytes(text.as_bytes())
     }
 
-    /// Reads a date from bytes, which may be a timestamp: 1970-01-02 from `b"86400"`. The bytes need
-    /// not be text. The forms and the faults are those of [`Date::parse_str`].
+    /// Parses a date from bytes, which may be a timestamp: 1970-01-02 from `b"86400"`. The bytes need
+    /// not be text. The forms and the errors are those of [`Date::parse_str`].
     pub fn parse_bytes(bytes: &[u8]) -> Result<Self, ParseError>
         ensures answer { result gives date_or_timestamp unit.Infer bytes.now }
     {
         Self::parse_bytes_with_config(bytes, &DateConfig::default())
     }
 
-    /// Reads a date from a text, which may be a timestamp in the unit of the configuration: 2022-01-01
-    /// from `"1640995200"` in seconds. The faults are those of [`Date::parse_str`].
+    /// Parses a date from a text, which may be a timestamp in the unit of the configuration: 2022-01-01
+    /// from `"1640995200"` in seconds. The errors are those of [`Date::parse_str`].
     pub fn parse_str_with_config(text: &str, config: &DateConfig) -> Result<Self, ParseError>
         ensures answer { result gives date_or_timestamp config.now.timestamp_unit text.now }
     {
         Self::parse_bytes_with_config(text.as_bytes(), config)
     }
 
-    /// Reads a date from bytes, which may be a timestamp in the unit of the configuration: 1970-01-02
-    /// from `b"86400000"` in milliseconds. The bytes need not be text. The faults are those of
+    /// Parses a date from bytes, which may be a timestamp in the unit of the configuration: 1970-01-02
+    /// from `b"86400000"` in milliseconds. The bytes need not be text. The errors are those of
     /// [`Date::parse_str`].
     pub fn parse_bytes_with_config(bytes: &[u8], config: &DateConfig) -> Result<Self, ParseError>
         ensures answer { result gives date_or_timestamp config.now.timestamp_unit bytes.now }
@@ -61,7 +60,7 @@ impl Date {
         }
     }
 
-    /// Reads the timestamp that the bytes are, which are no date, by this fault.
+    /// Parses the timestamp that the bytes are, which are no date, by this error.
     fn parse_timestamp(
         bytes: &[u8],
         fault: ParseError,
@@ -83,7 +82,7 @@ impl Date {
     /// need not be exact.
     ///
     /// A timestamp counts from 1970-01-01T00:00:00, with 86,400 seconds in each day. The date is that
-    /// of the day in which it lies. The faults, in the order in which they are looked for:
+    /// of the day in which it lies. The errors, in the order in which they are looked for:
     ///
     /// - `DateTooSmall` if the unit of `i64::MIN` is to be inferred, or if the timestamp lies before
     ///   the year 0000;
@@ -100,7 +99,7 @@ impl Date {
         let time = timestamp_to_seconds_micros(timestamp, config.timestamp_unit)?;
         let within = time.in_years()?;
         let (date, second) = Self::at_second(within.second);
-        if !is_taken(require_exact, second, within.microsecond) {
+        if require_exact && (second != 0 || within.microsecond != 0) {
             return Err(ParseError::DateNotExact);
         }
         Ok(date)
@@ -128,7 +127,7 @@ impl Date {
     ghost use Rattle.speedate_civil.specs.DateTime.{today_answer};
 
     /// The date that a clock tells, at an offset in seconds: 2022-06-08 for a clock that tells second
-    /// 1,654,646,399, and 3,600. The clock and the faults are those of [`DateTime::now`].
+    /// 1,654,646,399, and 3,600. The clock and the errors are those of [`DateTime::now`].
     pub fn today<F: FnOnce() -> Option<Moment>>(
         clock: F,
         tz_offset: i32,
@@ -152,14 +151,7 @@ impl FromStr for Date {
     }
 }
 
-/// Whether an instant is taken for a date, by the second of its day and its microsecond.
-fn is_taken(require_exact: bool, second: u32, microsecond: u32) -> bool
-    ensures { result ≡ (require_exact implies ((second == 0) && (microsecond == 0))) }
-{
-    !require_exact || (second == 0 && microsecond == 0)
-}
-
-/// Whether a text that is refused as a date by this fault may be a whole number.
+/// Whether a text that is refused as a date by this error may be a whole number.
 pub(crate) fn may_be_number(fault: ParseError) -> bool
     ensures { result ≡ may_be_number fault }
 {

@@ -46,7 +46,7 @@ impl DateTime {
     /// The date-time of a moment, as a clock at an offset, in seconds, shows it:
     /// 2022-06-08T00:59:59+01:00 for second 1,654,646,399 and 3,600.
     ///
-    /// The faults, in the order in which they are looked for:
+    /// The errors, in the order in which they are looked for:
     ///
     /// - `DateTooLarge` if the moment lies after the year 9999 in UTC;
     /// - `OutOfRangeTz` if the offset is 24 hours or more;
@@ -69,9 +69,9 @@ impl DateTime {
 
     /// The date-time that a clock tells, at an offset in seconds: 1970-01-01T00:00:00Z for a clock that
     /// tells second 0, and 0. The library reads no clock itself: the first argument is called once, and
-    /// returns a [`Moment`], or `None` if it stands before 1970.
+    /// returns a [`Moment`], or `None` if it has none, as before 1970.
     ///
-    /// Fails with `SystemTimeError` if the clock has no moment to tell, and otherwise with the faults
+    /// Fails with `SystemTimeError` if the clock has no moment to tell, and otherwise with the errors
     /// of [`DateTime::now_at`].
     pub fn now<F: FnOnce() -> Option<Moment>>(clock: F, tz_offset: i32) -> Result<Self, ParseError>
         requires { F.pre clock }

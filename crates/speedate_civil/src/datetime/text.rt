@@ -7,7 +7,7 @@ ghost use Rattle.speedate_base.specs.declared.config.date_time.DateTimeConfig.{D
 ghost use Rattle.speedate_base.specs.Offset.{IsWholeMinutes};
 ghost use Rattle.speedate_base.specs.Requirement.{result_map};
 ghost use Rattle.speedate_civil.specs.declared.datetime.DateTime.{DateTime};
-ghost use Rattle.speedate_civil.specs.DateTime.{date_and_time, date_time_answer, date_time_front, date_time_text, date_time_or_timestamp};
+ghost use Rattle.speedate_civil.specs.DateTime.{date_and_time, date_time_answer, date_time_front, date_time_text, date_time_by_config};
 ghost use Rattle.speedate_civil.specs.Time.{is_after_time};
 
 use crate::datetime::DateTime;
@@ -31,17 +31,13 @@ impl DateTime {
         ensures reads_back { IsWholeMinutes self.now.time.tz_offset → (config : TimeConfig)
             → date_time_answer config.microseconds_precision_overflow_behavior result.bytes ≡ Ok (date_and_time self.now) }
         ensures reads_back_with_config { IsWholeMinutes self.now.time.tz_offset → (config : DateTimeConfig)
-            → date_time_or_timestamp config.timestamp_unit
-            config.time_config.microseconds_precision_overflow_behavior
-            config.time_config.unix_timestamp_offset result.bytes ≡ Ok (date_and_time self.now) }
+            → date_time_by_config config result.bytes ≡ Ok (date_and_time self.now) }
         ensures reads_front { IsWholeMinutes self.now.time.tz_offset → (config : TimeConfig) (rest : List ℕ)
             → IsTrue (is_after_time (date_and_time self.now).time rest)
             ↔ (date_time_front config.microseconds_precision_overflow_behavior (result.bytes ++ rest)
             ≡ Ok (date_and_time self.now, length result.bytes)) }
         ensures canonical { IsWholeMinutes self.now.time.tz_offset → (config : DateTimeConfig)
-            → result_map date_time_text (date_time_or_timestamp config.timestamp_unit
-            config.time_config.microseconds_precision_overflow_behavior
-            config.time_config.unix_timestamp_offset result.bytes) ≡ Ok result.bytes }
+            → result_map date_time_text (date_time_by_config config result.bytes) ≡ Ok result.bytes }
         ensures distinct { IsWholeMinutes self.now.time.tz_offset → (other : DateTime) → IsWholeMinutes other.time.tz_offset
             → (result.bytes ≡ date_time_text (date_and_time other)) ↔ (date_and_time self.now ≡ date_and_time other) }
     {

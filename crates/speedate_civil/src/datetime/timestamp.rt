@@ -8,7 +8,7 @@ ghost use Rattle.speedate_base.specs.Nearest.{IsNearest};
 ghost use Rattle.speedate_base.specs.Numbers.{decimal_scale, decimal_value};
 ghost use Rattle.speedate_base.specs.Offset.{IsOffset, IsWholeMinutes};
 ghost use Rattle.speedate_base.specs.Timestamp.{IsInYears, unix_instant, decimal_row, decimal_numerator, decimal_instant, unix_row};
-ghost use Rattle.speedate_civil.specs.DateTime.{local_second, utc_second, local_millisecond, utc_millisecond, local_microsecond, date_and_time, date_time_answer, IsShownAt, date_time_at, instant_date_time, date_time_timestamp_answer, meant_microsecond, date_time_or_timestamp, date_time_decimal_answer, date_time_decimal_text, ◌gives◌};
+ghost use Rattle.speedate_civil.specs.DateTime.{local_second, utc_second, local_millisecond, utc_millisecond, local_microsecond, date_and_time, date_time_answer, IsShownAt, date_time_at, instant_date_time, date_time_timestamp_answer, meant_microsecond, date_time_or_timestamp, date_time_by_config, date_time_decimal_answer, date_time_decimal_text, ◌gives◌};
 
 use crate::date::Date;
 use crate::date::timestamp::may_be_number;
@@ -23,12 +23,12 @@ use speedate_base::util::{
 use std::str::FromStr;
 
 impl DateTime {
-    /// Reads a date-time from a text, which may be a timestamp: 12:13:14 on 29 February 2020 from
+    /// Parses a date-time from a text, which may be a timestamp: 12:13:14 on 29 February 2020 from
     /// `"2020-02-29T12:13:14"`, and midnight on 7 June 2022 from `"1654560000"`.
     ///
     /// A text that is no date-time but a number, whole or decimal as `"1654560000.5"`, is a Unix
     /// timestamp: in seconds if the number without its sign is at most 20,000,000,000, otherwise in
-    /// milliseconds. The faults are:
+    /// milliseconds. The errors are:
     ///
     /// - of a whole number: those of [`DateTime::from_timestamp`];
     /// - of a decimal: `SecondFractionTooLong` if more than six digits follow the point of seconds, or
@@ -43,8 +43,8 @@ impl DateTime {
         Self::parse_bytes(text.as_bytes())
     }
 
-    /// Reads a date-time from bytes, which may be a timestamp: 1970-01-01T00:00:01 from `b"1"`. The
-    /// bytes need not be text. The forms and the faults are those of [`DateTime::parse_str`].
+    /// Parses a date-time from bytes, which may be a timestamp: 1970-01-01T00:00:01 from `b"1"`. The
+    /// bytes need not be text. The forms and the errors are those of [`DateTime::parse_str`].
     #[inline(always)]
     pub fn parse_bytes(bytes: &[u8]) -> Result<Self, ParseError>
         ensures answer { result gives date_time_or_timestamp unit.Infer behavior.Error None bytes.now }
@@ -53,7 +53,7 @@ impl DateTime {
         Self::parse_bytes_with_config(bytes, &DateTimeConfig::default())
     }
 
-    /// Reads a date-time from a text, which may be a timestamp, by a configuration:
+    /// Parses a date-time from a text, which may be a timestamp, by a configuration:
     /// 1970-01-01T00:00:01+01:00 from `"1"` with the offset 3,600.
     ///
     /// The configuration has the unit of timestamps, their offset, which is attached and shifts
@@ -61,21 +61,19 @@ impl DateTime {
     /// rounds a timestamp to the nearest microsecond. The offset and the unit do not matter to texts of
     /// a date-time.
     ///
-    /// The faults of a number are those of [`DateTime::parse_str`], but only the behavior `Error`
+    /// The errors of a number are those of [`DateTime::parse_str`], but only the behavior `Error`
     /// counts digits, and in microseconds a digit after the point is `MicrosecondFractionTooLong`. The
-    /// faults of any other text are those of [`DateTime::parse_bytes_rfc3339_with_config`].
+    /// errors of any other text are those of [`DateTime::parse_bytes_rfc3339_with_config`].
     #[inline(always)]
     pub fn parse_str_with_config(text: &str, config: &DateTimeConfig) -> Result<Self, ParseError>
-        ensures answer { result gives date_time_or_timestamp config.now.timestamp_unit
-            config.now.time_config.microseconds_precision_overflow_behavior
-            config.now.time_config.unix_timestamp_offset text.now }
+        ensures answer { result gives date_time_by_config config.now text.now }
         ensures minutes { IsWholeMinutes config.now.time_config.unix_timestamp_offset
             → IfOk result (λ value. IsWholeMinutes value.time.tz_offset) }
     {
         Self::parse_bytes_with_config(text.as_bytes(), config)
     }
 
-    /// Reads a date-time from bytes, which may be a timestamp, by a configuration:
+    /// Parses a date-time from bytes, which may be a timestamp, by a configuration:
     /// 1970-01-01T00:00:00.001000 from `b"1"` in milliseconds. The bytes need not be text. The rest is
     /// as for [`DateTime::parse_str_with_config`].
     #[inline(always)]
@@ -83,9 +81,7 @@ impl DateTime {
         bytes: &[u8],
         config: &DateTimeConfig,
     ) -> Result<Self, ParseError>
-        ensures answer { result gives date_time_or_timestamp config.now.timestamp_unit
-            config.now.time_config.microseconds_precision_overflow_behavior
-            config.now.time_config.unix_timestamp_offset bytes.now }
+        ensures answer { result gives date_time_by_config config.now bytes.now }
         ensures minutes { IsWholeMinutes config.now.time_config.unix_timestamp_offset
             → IfOk result (λ value. IsWholeMinutes value.time.tz_offset) }
     {
@@ -95,7 +91,7 @@ impl DateTime {
         }
     }
 
-    /// Reads the timestamp that the bytes are, which are no date-time, by this fault.
+    /// Parses the timestamp that the bytes are, which are no date-time, by this error.
     fn parse_timestamp(
         bytes: &[u8],
         fault: ParseError,
@@ -103,9 +99,7 @@ impl DateTime {
     ) -> Result<Self, ParseError>
         requires { date_time_answer
             config.now.time_config.microseconds_precision_overflow_behavior bytes.now ≡ Err fault }
-        ensures answer { result gives date_time_or_timestamp config.now.timestamp_unit
-            config.now.time_config.microseconds_precision_overflow_behavior
-            config.now.time_config.unix_timestamp_offset bytes.now }
+        ensures answer { result gives date_time_by_config config.now bytes.now }
         ensures minutes { IsWholeMinutes config.now.time_config.unix_timestamp_offset
             → IfOk result (λ value. IsWholeMinutes value.time.tz_offset) }
     {
@@ -120,25 +114,21 @@ impl DateTime {
     }
 
     /// The date-time of a Unix timestamp, whose unit is inferred, and additional microseconds, without
-    /// an offset: 1970-01-01T00:00:00.667444 for -1 and 1,667,444 microseconds. The faults are those of
+    /// an offset: 1970-01-01T00:00:00.667444 for -1 and 1,667,444 microseconds. The errors are those of
     /// [`DateTime::from_timestamp_with_config`].
-    pub fn from_timestamp(timestamp: i64, timestamp_microsecond: u32) -> Result<Self, ParseError>
-        ensures answer { result gives date_time_timestamp_answer unit.Infer None timestamp_microsecond timestamp }
+    pub fn from_timestamp(timestamp: i64, microseconds: u32) -> Result<Self, ParseError>
+        ensures answer { result gives date_time_timestamp_answer unit.Infer None microseconds timestamp }
         ensures instant { IfOk result (λ value. local_microsecond (date_and_time value)
-            ≡ meant_microsecond unit.Infer timestamp_microsecond timestamp) }
+            ≡ meant_microsecond unit.Infer microseconds timestamp) }
     {
-        Self::from_timestamp_with_config(
-            timestamp,
-            timestamp_microsecond,
-            &DateTimeConfig::default(),
-        )
+        Self::from_timestamp_with_config(timestamp, microseconds, &DateTimeConfig::default())
     }
 
     /// The date-time of a Unix timestamp, in the unit of the configuration, and additional
     /// microseconds, with the configured offset: 1970-01-01T00:00:01.000002+01:00 for one second, two
     /// microseconds and the offset 3,600. The offset is attached, and shifts nothing.
     ///
-    /// A timestamp counts from 1970-01-01T00:00:00, with 86,400 seconds in each day. The faults, in the
+    /// A timestamp counts from 1970-01-01T00:00:00, with 86,400 seconds in each day. The errors, in the
     /// order in which they are looked for:
     ///
     /// - `DateTooSmall` if the unit of `i64::MIN` is to be inferred;
@@ -149,18 +139,18 @@ impl DateTime {
     #[inline(always)]
     pub fn from_timestamp_with_config(
         timestamp: i64,
-        timestamp_microsecond: u32,
+        microseconds: u32,
         config: &DateTimeConfig,
     ) -> Result<Self, ParseError>
         ensures answer { result gives date_time_timestamp_answer config.now.timestamp_unit
-            config.now.time_config.unix_timestamp_offset timestamp_microsecond timestamp }
+            config.now.time_config.unix_timestamp_offset microseconds timestamp }
         ensures instant { IfOk result (λ value. local_microsecond (date_and_time value)
-            ≡ meant_microsecond config.now.timestamp_unit timestamp_microsecond timestamp) }
+            ≡ meant_microsecond config.now.timestamp_unit microseconds timestamp) }
         ensures minutes { IsWholeMinutes config.now.time_config.unix_timestamp_offset
             → IfOk result (λ value. IsWholeMinutes value.time.tz_offset) }
     {
         let time = timestamp_to_seconds_micros(timestamp, config.timestamp_unit)?;
-        let later = time.later(timestamp_microsecond)?;
+        let later = time.later(microseconds)?;
         instant_date_time(later, config.time_config.unix_timestamp_offset)
     }
 

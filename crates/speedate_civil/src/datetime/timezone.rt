@@ -22,7 +22,7 @@ impl DateTime {
     /// The date-time at the same instant, as a clock at another offset, in seconds, shows it:
     /// 2020-01-02T00:30:00+01:00 for 2020-01-01T23:30:00Z and 3,600.
     ///
-    /// The faults, in the order in which they are looked for:
+    /// The errors, in the order in which they are looked for:
     ///
     /// - `OutOfRangeTz` if the offset is 24 hours or more;
     /// - `TzRequired` if the date-time has no offset;

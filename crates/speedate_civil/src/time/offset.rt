@@ -43,7 +43,7 @@ pub(crate) fn read_offset(bytes: &[u8], place: usize) -> Result<(Option<i32>, us
     Ok((None, 0))
 }
 
-/// The fault of a text that goes on after a time with this offset, or after one without.
+/// The error of a text that goes on after a time with this offset, or after one without.
 #[inline(always)]
 pub(crate) fn end_fault(offset: Option<i32>) -> ParseError
     ensures fault { result ≡ end_fault offset }

@@ -12,7 +12,7 @@ use speedate_base::numbers::{
 use std::simd::prelude::*;
 
 /// A clock within a longer text: its time of day, without an offset, and how many bytes it takes.
-/// [`PureTime::parse`] reads it.
+/// [`PureTime::parse`] returns it.
 #[derive(Clone, Copy, Debug)]
 pub struct PureTime {
     /// The hour, 0 to 23.
@@ -49,10 +49,10 @@ impl PureTime {
     ghost use Rattle.speedate_civil.specs.Reader.{second_there};
     ghost use Rattle.speedate_civil.specs.Time.{clock_answer, clock_front, minute_front, clock_parts, has_decimal_mark, time_of_day, clock_with_offset};
 
-    /// Reads the clock that begins at `place`, whatever follows it: 12:13:14 and a half, in ten bytes,
+    /// Parses the clock that begins at `place`, whatever follows it: 12:13:14 and a half, in ten bytes,
     /// from `b"P12:13:14.5Z"` at place 1.
     ///
-    /// The faults are those of
+    /// The errors are those of
     /// [`Time::parse_bytes_with_config`](crate::time::Time::parse_bytes_with_config) up to
     /// `SecondFractionTooLong`, which only the behavior `Error` gives.
     #[inline(always)]
@@ -96,10 +96,10 @@ impl PureTime {
         })
     }
 
-    /// Reads a clock from its minute on, which begins at `place`, whatever follows it; its hour is 0.
+    /// Parses a clock from its minute on, which begins at `place`, whatever follows it; its hour is 0.
     /// It is 13 minutes and 14 seconds, in five bytes, from `b"12:13:14"` at place 3.
     ///
-    /// The faults are `InvalidCharMinute`, if two digits do not begin there, and then those of
+    /// The errors are `InvalidCharMinute`, if two digits do not begin there, and then those of
     /// [`PureTime::parse`] from `OutOfRangeMinute` on.
     #[inline(always)]
     pub fn parse_from_minute(

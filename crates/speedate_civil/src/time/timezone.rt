@@ -1,6 +1,6 @@
 //! Times of day at other offsets.
 
-ghost use Rattle.std.specs.Prelude.{◌≡◌, ◌*◌, ◌<◌, ◌&&◌, ◌-ℤ◌, IfOk, Ok, Some, pos, int_le, int_lt, unsigned_abs};
+ghost use Rattle.std.specs.Prelude.{◌≡◌, ◌*◌, ◌<◌, ◌-ℤ◌, IfOk, Ok, Some, pos, unsigned_abs};
 ghost use Rattle.speedate_base.specs.Timestamp.{seconds_per_day};
 ghost use Rattle.std.specs.Option.{ForSome, unwrap_or};
 ghost use Rattle.speedate_base.specs.Offset.{IsOffset};
@@ -34,7 +34,7 @@ impl Time {
     /// The time at the same instant, as a clock at another offset, in seconds, shows it:
     /// 16:00:00.567000+01:00 for 15:00:00.567000Z and 3,600.
     ///
-    /// The faults, in the order in which they are looked for:
+    /// The errors, in the order in which they are looked for:
     ///
     /// - `OutOfRangeTz` if the offset is 24 hours or more;
     /// - `TzRequired` if the time has no offset;
@@ -47,7 +47,7 @@ impl Time {
     {
         let shift = clock_shift(self.tz_offset, tz_offset)?;
         let second = self.total_seconds() as i32 + shift;
-        if !is_second_of_day(second) {
+        if second < 0 || second >= SECONDS_PER_DAY as i32 {
             return Err(ParseError::TimeTooLarge);
         }
         Ok(Self::at_second(second as u32, self.microsecond, Some(tz_offset)))
@@ -66,24 +66,7 @@ pub(crate) fn clock_shift(old: Option<i32>, offset: i32) -> Result<i32, ParseErr
         return Err(ParseError::OutOfRangeTz);
     }
     match old {
-        Some(old) => Ok(difference(offset, old)),
+        Some(old) => Ok(offset - old),
         None => Err(ParseError::TzRequired),
     }
-}
-
-/// How much larger one offset is than another.
-fn difference(offset: i32, old: i32) -> i32
-    requires offset { IsOffset offset }
-    requires old { IsOffset old }
-    ensures value { result ≡ offset -ℤ old }
-    ensures range { unsigned_abs result < 2 * seconds_per_day }
-{
-    offset - old
-}
-
-/// Whether a second counted from midnight lies on that day.
-fn is_second_of_day(second: i32) -> bool
-    ensures { result ≡ (int_le (pos 0) second && int_lt second (pos seconds_per_day)) }
-{
-    0 <= second && second < SECONDS_PER_DAY as i32
 }
