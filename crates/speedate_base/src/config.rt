@@ -72,7 +72,7 @@ pub fn is_offset(offset: i32) -> bool
 
 /// How dates are parsed: the unit of timestamps. The default infers it;
 /// `DateConfig::builder().timestamp_unit(TimestampUnit::Second).build()` takes seconds.
-#[derive(Clone, Copy, Debug, PartialEq, Eq)]
+#[derive(Clone, Copy, Debug, PartialEq, Eq, Default)]
 pub struct DateConfig {
     /// The unit of timestamps.
     pub timestamp_unit: TimestampUnit,
@@ -87,19 +87,8 @@ impl DateConfig {
     }
 }
 
-impl Default for DateConfig {
-    ghost is_default = { λ config. config.timestamp_unit ≡ unit.Infer };
-
-    /// The unit of timestamps is inferred.
-    fn default() -> Self {
-        DateConfig {
-            timestamp_unit: TimestampUnit::default(),
-        }
-    }
-}
-
 /// Builds a [`DateConfig`] from the unit that is set, or the default one.
-#[derive(Clone, Copy, Debug)]
+#[derive(Clone, Copy, Debug, Default)]
 pub struct DateConfigBuilder {
     config: DateConfig,
 }
@@ -120,9 +109,7 @@ impl DateConfigBuilder {
     pub fn new() -> Self
         ensures default { result.timestamp_unit ≡ unit.Infer }
     {
-        DateConfigBuilder {
-            config: DateConfig::default(),
-        }
+        Self::default()
     }
 
     /// Sets the unit of timestamps: with `timestamp_unit(TimestampUnit::Millisecond)`, `86400000` is
@@ -140,15 +127,6 @@ impl DateConfigBuilder {
         ensures built { result ≡ self }
     {
         self.config
-    }
-}
-
-impl Default for DateConfigBuilder {
-    ghost is_default = { λ config. config.timestamp_unit ≡ unit.Infer };
-
-    /// A builder of the default configuration.
-    fn default() -> Self {
-        Self::new()
     }
 }
 
@@ -198,7 +176,7 @@ impl Default for TimeConfig {
 }
 
 /// Builds a [`TimeConfig`] from the values that are set, and defaults for the others.
-#[derive(Clone, Copy, Debug)]
+#[derive(Clone, Copy, Debug, Default)]
 pub struct TimeConfigBuilder {
     config: TimeConfig,
 }
@@ -221,9 +199,7 @@ impl TimeConfigBuilder {
     pub fn new() -> Self
         ensures default { time_choices result ≡ default_choices }
     {
-        TimeConfigBuilder {
-            config: TimeConfig::default(),
-        }
+        Self::default()
     }
 
     /// Sets what is done with digits past the microsecond: with `Truncate`, `12:13:12.1234567` is
@@ -275,16 +251,5 @@ impl TimeConfigBuilder {
         ensures built { result ≡ self }
     {
         self.config
-    }
-}
-
-impl Default for TimeConfigBuilder {
-    ghost use Rattle.speedate_base.specs.Config.{default_choices, time_choices};
-
-    ghost is_default = { λ config. time_choices config ≡ default_choices };
-
-    /// A builder of the default configuration.
-    fn default() -> Self {
-        Self::new()
     }
 }

@@ -10,7 +10,7 @@ use std::marker::Model;
 /// offset that the value of a timestamp gets. The default infers the unit, and has the default
 /// `TimeConfig`; `DateTimeConfig::builder().timestamp_unit(TimestampUnit::Second).build()` takes
 /// seconds.
-#[derive(Clone, Copy, Debug, PartialEq, Eq)]
+#[derive(Clone, Copy, Debug, PartialEq, Eq, Default)]
 pub struct DateTimeConfig {
     /// The unit of timestamps.
     pub timestamp_unit: TimestampUnit,
@@ -27,20 +27,8 @@ impl DateTimeConfig {
     }
 }
 
-impl Default for DateTimeConfig {
-    ghost is_default = { λ config. choices config ≡ default_choices };
-
-    /// The unit of timestamps is inferred, and the `TimeConfig` is the default one.
-    fn default() -> Self {
-        DateTimeConfig {
-            timestamp_unit: TimestampUnit::default(),
-            time_config: TimeConfig::default(),
-        }
-    }
-}
-
 /// Builds a [`DateTimeConfig`] from the values that are set, and defaults for the others.
-#[derive(Clone, Copy, Debug)]
+#[derive(Clone, Copy, Debug, Default)]
 pub struct DateTimeConfigBuilder {
     config: DateTimeConfig,
 }
@@ -61,9 +49,7 @@ impl DateTimeConfigBuilder {
     pub fn new() -> Self
         ensures default { choices result ≡ default_choices }
     {
-        DateTimeConfigBuilder {
-            config: DateTimeConfig::default(),
-        }
+        Self::default()
     }
 
     /// Sets the unit of timestamps: with `timestamp_unit(TimestampUnit::Millisecond)`, `1` is
@@ -90,14 +76,5 @@ impl DateTimeConfigBuilder {
         ensures built { result ≡ self }
     {
         self.config
-    }
-}
-
-impl Default for DateTimeConfigBuilder {
-    ghost is_default = { λ config. choices config ≡ default_choices };
-
-    /// A builder of the default configuration.
-    fn default() -> Self {
-        Self::new()
     }
 }
