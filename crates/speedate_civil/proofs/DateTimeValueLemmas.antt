@@ -26,4 +26,3 @@ local_second-late value valid = omega (arith, ints)
 
 pub local_second-early : (value : DateAndTime) → IsDateAndTime value → local_second value ≤ℤ last_second
 local_second-early value valid = grind (arith, day_number-small)
-

@@ -161,16 +161,27 @@ impl Date {
         ensures date { option_map ymd result ≡ next_date (ymd self.now) }
         ensures number { IfSome result (λ next. day_number (ymd next) ≡ day_number (ymd self.now) + 1) }
     {
-        let (year, month, day) = if self.day < month_length(self.year, self.month) {
-            (self.year, self.month, self.day + 1)
+        if self.day < month_length(self.year, self.month) {
+            Some(Date {
+                year: self.year,
+                month: self.month,
+                day: self.day + 1,
+            })
         } else if self.month < 12 {
-            (self.year, self.month + 1, 1)
+            Some(Date {
+                year: self.year,
+                month: self.month + 1,
+                day: 1,
+            })
         } else if self.year < 9999 {
-            (self.year + 1, 1, 1)
+            Some(Date {
+                year: self.year + 1,
+                month: 1,
+                day: 1,
+            })
         } else {
-            return None;
-        };
-        Some(Date { year, month, day })
+            None
+        }
     }
 
     /// The date a number of days later, or earlier if it is negative: 2020-03-01 for 2020-02-28 and

@@ -66,7 +66,17 @@ pub(crate) fn clock_shift(old: Option<i32>, offset: i32) -> Result<i32, ParseErr
         return Err(ParseError::OutOfRangeTz);
     }
     match old {
-        Some(old) => Ok(offset - old),
+        Some(old) => Ok(difference(offset, old)),
         None => Err(ParseError::TzRequired),
     }
+}
+
+/// How much larger one offset is than another.
+fn difference(offset: i32, old: i32) -> i32
+    requires offset { IsOffset offset }
+    requires old { IsOffset old }
+    ensures value { result ≡ offset -ℤ old }
+    ensures range { unsigned_abs result < 2 * seconds_per_day }
+{
+    offset - old
 }
