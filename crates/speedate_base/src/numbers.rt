@@ -31,9 +31,12 @@ pub fn int_parse_bytes(bytes: &[u8]) -> Option<i64>
 {
     let (negative, start) = sign(bytes);
     let digits = &bytes[start..];
+    if digits.is_empty() {
+        return None;
+    }
     match spelled_number(digits) {
-        Ok(size) if !digits.is_empty() => signed(negative, size),
-        _ => None,
+        Ok(size) => signed(negative, size),
+        Err(_) => None,
     }
 }
 

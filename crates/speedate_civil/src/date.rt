@@ -126,6 +126,7 @@ impl Date {
 
     /// Parses a date from bytes, and no timestamp: 29 February 2020 from `b"2020-02-29"`. The bytes need
     /// not be text. The form and the errors are those of [`Date::parse_str_rfc3339`].
+    #[inline]
     pub fn parse_bytes_rfc3339(bytes: &[u8]) -> Result<Self, ParseError>
         ensures answer { result gives date_answer bytes.now }
         ensures no_number { OnOk result (number_answer bytes.now ≡ NoNumber) }
@@ -140,7 +141,7 @@ impl Date {
     /// Parses the date at the front of a text, whatever follows it, and returns how many bytes it takes,
     /// which is always ten: 22 November 2026 and 10 from `b"2026-11-22 opening balance"`. It reads no
     /// timestamps. The errors are those of [`Date::parse_str_rfc3339`] except `ExtraCharacters`.
-    #[inline(always)]
+    #[inline]
     pub fn parse_front(bytes: &[u8]) -> Result<(Self, usize), ParseError>
         ensures answer { result gives_front date_front bytes.now }
         ensures within { IfOk result (λ front. front.1 ≤ length bytes.now) }
