@@ -22,7 +22,7 @@ use Rattle.speedate_base.proofs.RequirementLemmas.{meets-all}
 use Rattle.speedate_base.proofs.TextLemmas.{text-distinct}
 use Rattle.speedate.specs.Duration.{iso_from, iso_form, unsigned_answer, duration_answer, counted_text, kept_digit, without_last_zeros, short_fraction_text, seconds_text, hours_text, days_text, start_text, rest_text, is_whole_days, duration_text}
 use Rattle.speedate.proofs.DurationAnswerLemmas.{iso_from-item, iso_from-end}
-use Rattle.speedate.proofs.IsoItemLemmas.{item_at-amount}
+use Rattle.speedate.proofs.IsoItemLemmas.{item_at-component}
 use Rattle.speedate_base.specs.declared.faults.ParseError.{ParseError}
 use Rattle.speedate.specs.IsoOrder.{IsLaxOrRefused}
 use Rattle.speedate.proofs.InOrderLemmas.{duration-both}
@@ -83,11 +83,11 @@ at next is_time some day second =
     record { order = order.Strict; next_units = next; is_time = is_time; fraction = false; some = some; day = day; second = second; microsecond = 0 }
 
 -- a number, its fraction and its unit lead to the sums with that number of the unit
-amount-leads : (sums : Sums) (unit : DurationUnit) (number : ℕ) (fraction rest : List ℕ) → unit_in (units sums.is_time) unit.designator ≡ Some unit
+component-leads : (sums : Sums) (unit : DurationUnit) (number : ℕ) (fraction rest : List ℕ) → unit_in (units sums.is_time) unit.designator ≡ Some unit
     → is_some (unit_in sums.next_units unit.designator) ≡ true → sums.fraction ≡ false → IsFraction fraction → number ≤ 4294967295
     → (with_number unit number fraction sums).day ≤ 4294967295 → (with_number unit number fraction sums).second ≤ 4294967295
     → iso_from sums (decimal number ++ fraction ++ unit.designator ∷ [] ++ rest) ≡ iso_from (with_number unit number fraction sums) rest
-amount-leads sums unit number fraction rest found comes whole is few few_days few_seconds =
+component-leads sums unit number fraction rest found comes whole is few few_days few_seconds =
     let component : ComponentText = record { number = decimal number; fraction = fraction; designator = unit.designator } in
     let small : number < 2 ^ 64 = omega (arith, few) in
     let spelled = digits_value-decimal digits_model number small in
@@ -99,7 +99,7 @@ amount-leads sums unit number fraction rest found comes whole is few few_days fe
     let is_item : IsItem (Component component) = (digits_decimal digits_model number small, is) in
     let all : AllHold (item_table sums (Component component)) =
     (digits, (le-leb _ 4294967295 fits, (ap not whole, (ap is_some found, (comes, (ap are_counted sum ∙ counted, tt)))))) in
-    iso_from-item sums (Component component) rest (item_at-amount sums.is_time component rest is_item digits (ap is_some found))
+    iso_from-item sums (Component component) rest (item_at-component sums.is_time component rest is_item digits (ap is_some found))
     ∙ meets-all (item_table sums (Component component)) _ all ∙ ap (λ (sums : Sums). iso_from sums rest) sum
 
 -- a number and its unit, or nothing for none, lead to the sums with that number of the unit
@@ -120,7 +120,7 @@ counted-leads next is_time some false unit number day second rest other found co
     let seconds : after.second ≡ second + number * unit.second = omega (arith, no-seconds unit) in
     let microseconds : after.microsecond ≡ 0 = omega (arith, no-microseconds unit) in
     ap (λ (digits : List ℕ). iso_from sums (digits ++ unit.designator ∷ [] ++ rest)) (sym (append-nil (decimal number)))
-    ∙ amount-leads sums unit number [] rest found comes refl tt few (omega (arith, days, few_days)) (omega (arith, seconds, few_seconds))
+    ∙ component-leads sums unit number [] rest found comes refl tt few (omega (arith, days, few_days)) (omega (arith, seconds, few_seconds))
     ∙ (λ i. iso_from (record after { day = days i; second = seconds i; microsecond = microseconds i }) rest)
 
 -- a fraction of a second that is printed is its microseconds
@@ -147,7 +147,7 @@ seconds-end next some number microsecond day second comes few small few_days few
     let seconds : after.second ≡ second + number = omega (arith, means.1) in
     let microseconds : after.microsecond ≡ microsecond = omega (arith, means.2) in
     ap (iso_from sums) (sym (append-nil (decimal number ++ fraction ++ capital_s ∷ [])))
-    ∙ amount-leads sums (unit capital_s 0 1) number fraction [] refl comes refl means.0 few (omega (arith, days, few_days)) (omega (arith, seconds, few_seconds))
+    ∙ component-leads sums (unit capital_s 0 1) number fraction [] refl comes refl means.0 few (omega (arith, days, few_days)) (omega (arith, seconds, few_seconds))
     ∙ iso_from-end after [] refl ∙ (λ i. Ok (record { day = days i; second = seconds i; microsecond = microseconds i }))
 
 -- and where nothing is printed for none
@@ -177,13 +177,13 @@ hours-some : (second microsecond : ℕ) (some : Bool) → ((second == 0) && (mic
     → (if (second % 60 == 0) && (microsecond == 0) then (if second / 60 % 60 == 0 then (if second / 3600 == 0 then some else true) else true) else true) ≡ true
 hours-some second microsecond some other = grind (arith, nat_tests)
 
--- the length of a duration
-abbrev length_of : DurationNumbers → UnsignedDuration
-length_of numbers = record { day = numbers.day; second = numbers.second; microsecond = numbers.microsecond }
+-- the amount of a duration
+abbrev amount_of : DurationNumbers → UnsignedDuration
+amount_of numbers = record { day = numbers.day; second = numbers.second; microsecond = numbers.microsecond }
 
 -- hours, minutes and seconds are read as the end of a text
 hours-read : (numbers : DurationNumbers) (some : Bool) → IsDuration numbers → is_whole_days numbers ≡ false
-    → iso_from (at (units true) true some numbers.day 0) (hours_text numbers) ≡ Ok (length_of numbers)
+    → iso_from (at (units true) true some numbers.day 0) (hours_text numbers) ≡ Ok (amount_of numbers)
 hours-read numbers some valid other =
     let hour = numbers.second / 3600 in
     let minute = numbers.second / 60 % 60 in
@@ -210,7 +210,7 @@ whole-read next day false few = iso_from-end (at next false true day 0) [] refl
 
 -- so is what follows the days
 rest-read : (next : List DurationUnit) (numbers : DurationNumbers) (whole none : Bool) → IsDuration numbers → is_whole_days numbers ≡ whole
-    → iso_from (at next false (not none) numbers.day 0) (if whole then (if none then codes "T0S" else []) else capital_t ∷ hours_text numbers) ≡ Ok (length_of numbers)
+    → iso_from (at next false (not none) numbers.day 0) (if whole then (if none then codes "T0S" else []) else capital_t ∷ hours_text numbers) ≡ Ok (amount_of numbers)
 rest-read next numbers true none valid whole =
     let tests = and_parts (numbers.second == 0) (numbers.microsecond == 0) whole in
     whole-read next numbers.day none (omega (arith, valid.day))
@@ -218,7 +218,7 @@ rest-read next numbers true none valid whole =
 rest-read next numbers false none valid other =
     iso_from-item (at next false (not none) numbers.day 0) TimeDesignator (hours_text numbers) refl ∙ hours-read numbers (not none) valid other
 
-text-read : (numbers : DurationNumbers) → IsDuration numbers → iso_form order.Strict (days_text numbers ++ rest_text numbers) ≡ Ok (length_of numbers)
+text-read : (numbers : DurationNumbers) → IsDuration numbers → iso_form order.Strict (days_text numbers ++ rest_text numbers) ≡ Ok (amount_of numbers)
 text-read numbers valid =
     let year = numbers.day / 365 in
     let day = numbers.day % 365 in
