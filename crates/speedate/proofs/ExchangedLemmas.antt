@@ -1,7 +1,6 @@
 -- In the lax order the answer to a text of a duration does not depend on the order of two neighbouring components of one side.
-use Rattle.std.proofs.Common.{rules, arith, ap, sym, ◌∙◌, append_assoc, ◌≡◌, ℕ, ◌≤◌, Bool, true, false, not, ◌&&◌, ◌||◌, List, [], ◌∷◌, ◌++◌, nat_le, if◌then◌else◌, Option, Result, Err, refl, is_some, flat_map}
+use Rattle.std.proofs.Common.{rules, arith, ap, sym, ◌∙◌, append_assoc, ◌≡◌, ℕ, ◌≤◌, Bool, not, ◌&&◌, List, [], ◌∷◌, ◌++◌, nat_le, if◌then◌else◌, Option, Result, Err, refl, flat_map}
 use Rattle.std.proofs.lemmas.Int.{ints}
-use Rattle.std.proofs.lemmas.Bool.{or_from}
 use Rattle.std.proofs.lemmas.Bool.Decides.{nat_tests}
 use Rattle.speedate_base.specs.declared.config.IsoOrder.{IsoOrder}
 use Rattle.speedate_base.specs.declared.config.IsoOrder.TheVariants as order
@@ -13,8 +12,8 @@ use Rattle.speedate_base.specs.Requirement.{meets, result_and_then}
 use Rattle.speedate.specs.Duration.{iso_from, duration_answer}
 use Rattle.speedate.proofs.DurationAnswerLemmas.{iso_from-item, duration_answer-iso}
 use Rattle.speedate.specs.DurationNumbers.{DurationNumbers, UnsignedDuration, signed_form}
-use Rattle.speedate.specs.IsoOrder.{is_fractional, IsWhole, AreWhole, IsPlain, AreExchanged}
-use Rattle.speedate.specs.IsoForm.{DurationUnit, units, unit_in, ComponentText, Item, Component, item_text, item_at, item_table, Sums, no_sums, with_component, with_item, with_items}
+use Rattle.speedate.specs.IsoOrder.{IsWhole, AreWhole, IsPlain, AreExchanged}
+use Rattle.speedate.specs.IsoForm.{DurationUnit, units, ComponentText, Item, Component, item_text, item_at, item_table, Sums, no_sums, with_component, with_item, with_items}
 use Rattle.speedate.proofs.IsoItemLemmas.{item_at-component}
 
 abbrev Answer : Type 0
@@ -35,10 +34,6 @@ component-free unit component sums free = search (rules)
 item-free : (item : Item) (sums : Sums) → IsFree sums → IsFree (with_item item sums)
 item-free item sums free = search (rules, component-free)
 
--- so after sums of the lax order each unit of the side may come
-free-comes : (sums : Sums) (designator : ℕ) → IsFree sums → is_some (unit_in (units sums.is_time) designator) ≡ true → is_some (unit_in sums.next_units designator) ≡ true
-free-comes sums designator free has = ap (λ (next : List DurationUnit). is_some (unit_in next designator)) free.1 ∙ has
-
 -- whether its number and the sums with it are counted in 32 bits
 abbrev fits : Sums → ComponentText → Bool
 fits sums component =
@@ -55,33 +50,10 @@ plain-table : {A : Type 0} (sums : Sums) (component : ComponentText) (next : Res
     → meets (item_table sums (Component component)) next ≡ (if fits sums component then next else Err fault.DurationValueTooLarge)
 plain-table sums component next free plain = search rules
 
--- a component leaves the side as it is
-amount-side : (unit : Option DurationUnit) (component : ComponentText) (sums : Sums) → (with_component unit component sums).is_time ≡ sums.is_time
-amount-side unit component sums = search (rules)
-
--- without a fraction it brings none
-amount-fraction : (unit : Option DurationUnit) (component : ComponentText) (sums : Sums) → is_fractional component ≡ false → sums.fraction ≡ false
-    → (with_component unit component sums).fraction ≡ false
-amount-fraction unit component sums none whole = search (rules, or_from)
-
--- and it takes nothing from the sums
+-- a component takes nothing from the sums
 component-grows : (unit : Option DurationUnit) (component : ComponentText) (sums : Sums)
     → (sums.day ≤ (with_component unit component sums).day) × (sums.second ≤ (with_component unit component sums).second)
 component-grows unit component sums = search (rules)
-
--- how sums of two components are exchanged, field by field
-or-swap : (a b c : Bool) → (a || b || c) ≡ (a || c || b)
-or-swap a b c = grind (arith, nat_tests)
-
--- whatever their units are
-amounts-swap : (one two : Option DurationUnit) (first second : ComponentText) (sums : Sums) → IsFree sums
-    → with_component two second (with_component one first sums) ≡ with_component one first (with_component two second sums)
-amounts-swap one two first second sums free = search (rules)
-
--- the unit of the second does not depend on the first
-with_number-next : (first second : ComponentText) (sums : Sums) → with_item (Component second) (with_item (Component first) sums)
-    ≡ with_component (unit_in (units sums.is_time) second.designator) second (with_component (unit_in (units sums.is_time) first.designator) first sums)
-with_number-next first second sums = search rules
 
 -- so the sums of two components do not depend on their order
 sums-exchanged : (first second : ComponentText) (sums : Sums) → IsFree sums

@@ -8,19 +8,16 @@ use Rattle.std.proofs.lemmas.Bool.Decides.{nat_tests}
 use Rattle.std.proofs.lemmas.Fmt.{digits_decimal, digits_value-decimal, decimal_nonempty, decimal_digit}
 use Rattle.std.proofs.lemmas.List.{append-nil}
 use Rattle.std.proofs.lemmas.Str.Parse.{IsDigitsTest, IsNumeralModel, numerals_by_weight}
-use Rattle.std.proofs.Math.Nat.{pow-succ', div-eq_of_lt}
 use Rattle.speedate_base.specs.declared.config.IsoOrder.{IsoOrder}
 use Rattle.speedate_base.specs.declared.config.IsoOrder.TheVariants as order
 use Rattle.speedate_base.specs.declared.config.MicrosecondsPrecisionOverflowBehavior.{MicrosecondsPrecisionOverflowBehavior}
 use Rattle.speedate_base.specs.declared.config.MicrosecondsPrecisionOverflowBehavior.TheVariants as behavior
 use Rattle.speedate_base.specs.Ascii.{full_stop, capital_d, capital_h, capital_m, capital_s, capital_t, capital_y}
 use Rattle.speedate_base.specs.Digits.{six_digit_text, digits_value}
-use Rattle.speedate_base.proofs.DigitRunLemmas.{digits_value-lt}
-use Rattle.speedate_base.proofs.NearestLemmas.{nearest-exact, scale-some}
 use Rattle.speedate_base.specs.Requirement.{AllHold, result_and_then}
 use Rattle.speedate_base.proofs.RequirementLemmas.{meets-all}
 use Rattle.speedate_base.proofs.TextLemmas.{text-distinct}
-use Rattle.speedate.specs.Duration.{iso_from, iso_form, unsigned_answer, duration_answer, counted_text, kept_digit, without_last_zeros, short_fraction_text, seconds_text, hours_text, days_text, start_text, rest_text, is_whole_days, duration_text}
+use Rattle.speedate.specs.Duration.{iso_from, iso_form, unsigned_answer, duration_answer, counted_text, without_last_zeros, short_fraction_text, seconds_text, hours_text, days_text, start_text, rest_text, is_whole_days, duration_text}
 use Rattle.speedate.proofs.DurationAnswerLemmas.{iso_from-item, iso_from-end}
 use Rattle.speedate.proofs.IsoItemLemmas.{item_at-component}
 use Rattle.speedate_base.specs.declared.faults.ParseError.{ParseError}
@@ -40,42 +37,12 @@ digits_test = search rules
 digits_model : IsNumeralModel AreDigits digits_value
 digits_model = numerals_by_weight AreDigits digits_test digits_value (record { empty = refl; more = λ c cs range. refl })
 
--- zeros at the end of a fraction's digits do not change its worth
-kept-worth : (digit : ℕ) (kept digits : List ℕ) → digits_value kept * 10 ^ length digits ≡ digits_value digits * 10 ^ length kept
-    → digits_value (kept_digit digit kept) * 10 ^ length (digit ∷ digits) ≡ digits_value (digit ∷ digits) * 10 ^ length (kept_digit digit kept)
-kept-worth digit [] digits same = grind (arith, nat_tests, same, pow-succ' 10 (length digits))
-kept-worth digit (next ∷ kept) digits same =
-    rw (pow-succ' 10 (length (next ∷ kept)), pow-succ' 10 (length digits)) (grind (arith, same))
-
-without-worth : (digits : List ℕ)
-    → digits_value (without_last_zeros digits) * 10 ^ length digits ≡ digits_value digits * 10 ^ length (without_last_zeros digits)
-without-worth [] = refl
-without-worth (digit ∷ digits) = kept-worth digit (without_last_zeros digits) digits (without-worth digits)
-
--- what stays of digits is digits
-kept-digits : (digit : ℕ) (kept : List ℕ) → is_ascii_digit digit ≡ true → AreDigits kept → AreDigits (kept_digit digit kept)
-kept-digits digit kept one all = search (rules, and_from)
-
-without-digits : (digits : List ℕ) → AreDigits digits → AreDigits (without_last_zeros digits)
-without-digits [] all = refl
-without-digits (digit ∷ digits) all =
-    let tests = and_parts (is_ascii_digit digit) _ all in
-    kept-digits digit (without_last_zeros digits) tests.0 (without-digits digits tests.1)
-
 -- no fraction is no seconds and no microseconds
 no-seconds : (unit : DurationUnit) → fraction_seconds unit [] ≡ 0
 no-seconds unit = omega arith
 
 no-microseconds : (unit : DurationUnit) → fraction_microseconds unit [] ≡ 0
 no-microseconds unit = search rules
-
--- digits that are a number of millionths, as a fraction of a second
-second-seconds : (digits : List ℕ) → AreDigits digits → fraction_seconds (unit capital_s 0 1) digits ≡ 0
-second-seconds digits all = search (rules, div-eq_of_lt, digits_value-lt)
-
-second-microseconds : (digits : List ℕ) (microsecond : ℕ) → AreDigits digits
-    → digits_value digits * 1000000 ≡ microsecond * 10 ^ length digits → fraction_microseconds (unit capital_s 0 1) digits ≡ microsecond
-second-microseconds digits microsecond all same = search (rules, nearest-exact, scale-some, second-seconds)
 
 -- sums in the order of the standard, with no fraction so far
 abbrev at : List DurationUnit → Bool → Bool → ℕ → ℕ → Sums
