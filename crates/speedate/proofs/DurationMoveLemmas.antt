@@ -1,7 +1,6 @@
 -- The duration between two values, and the value a duration after another: amounts with their sign, and the instants and dates
 -- that they lead to.
-use Rattle.std.proofs.Common.{rules, arith, ◌∙◌, ap, sym, ◌≡◌, ℕ, ◌+◌, ◌*◌, ◌<◌, ◌≤◌, Bool, true, not, ◌||◌, ◌==◌, nat_le, ℤ, pos, neg_ℤ, ◌+ℤ◌, ◌-ℤ◌, ◌*ℤ◌, ◌≤ℤ◌, Option, Result, Ok, Err, IfOk, unsigned_abs, refl, [], ◌∷◌, if◌then◌else◌, ok_or, unwrap_or, int_cmp}
-use Rattle.std.proofs.lemmas.Bool.Decides.{nat_tests}
+use Rattle.std.proofs.Common.{rules, arith, ◌∙◌, ap, sym, ◌≡◌, ℕ, ◌<◌, ◌≤◌, Bool, true, not, ◌||◌, ◌==◌, ℤ, pos, neg_ℤ, ◌+ℤ◌, ◌-ℤ◌, ◌*ℤ◌, ◌≤ℤ◌, Option, Result, Ok, Err, IfOk, unsigned_abs, refl, [], ◌∷◌, if◌then◌else◌, ok_or, unwrap_or, int_cmp}
 use Rattle.std.proofs.lemmas.Int.{ints}
 use Rattle.std.proofs.lemmas.Result.{IfOk-weaker}
 use Rattle.speedate_base.specs.declared.faults.ParseError.{ParseError}
@@ -15,7 +14,7 @@ use Rattle.speedate_civil.proofs.DateTimeTimestampLemmas.{instant_date_time-loca
 use Rattle.speedate_civil.proofs.DateTimeValueLemmas.{is_date_and_time, offset-small, local_second-late, local_second-early}
 use Rattle.speedate.proofs.DurationLemmas.{of_amount-only}
 use Rattle.speedate.specs.Duration.{signed_amount, duration_of_amount, amount_answer, with_positive_zero, duration_between, date_time_after, negated, date_after_days, is_whole_days}
-use Rattle.speedate.specs.DurationNumbers.{DurationNumbers, IsDuration, amount_seconds, amount_microseconds, of_amount, signed_day, signed_seconds, signed_microsecond}
+use Rattle.speedate.specs.DurationNumbers.{DurationNumbers, IsDuration, of_amount, signed_day, signed_seconds, signed_microsecond}
 use Rattle.speedate_base.specs.declared.faults.ParseError.TheVariants as fault
 use Rattle.speedate_base.specs.Requirement.{◌else_fault◌}
 use Rattle.speedate_base.proofs.RequirementLemmas.{meets-all}
@@ -26,13 +25,9 @@ use Rattle.speedate_civil.proofs.DateNumberedLemmas.{date_numbered-is}
 use Rattle.speedate_civil.proofs.DateValueLemmas.{is_day}
 
 -- seconds and microseconds with one sign, joined
-signs-joined : (negative : Bool) (seconds microseconds : ℕ)
-    → with_sign negative (seconds * 1000000 + microseconds) ≡ pos 1000000 *ℤ with_sign negative seconds +ℤ with_sign negative microseconds
-signs-joined negative seconds microseconds = search (rules)
-
 pub signed_amount-joined : (numbers : DurationNumbers)
     → signed_amount numbers ≡ pos 1000000 *ℤ signed_seconds numbers +ℤ signed_microsecond numbers
-signed_amount-joined numbers = signs-joined (not numbers.positive) (amount_seconds numbers) numbers.microsecond
+signed_amount-joined numbers = search rules
 
 -- the numbers of an amount have it
 pub signed_amount-kept : (amount : ℤ) → signed_amount (duration_of_amount amount) ≡ amount
@@ -44,15 +39,10 @@ signed-kept positive size = search (rules)
 
 -- a duration comes back from its amount, but positive zero for negative zero
 amount-back : (numbers : DurationNumbers) → IsDuration numbers → duration_of_amount (signed_amount numbers) ≡ with_positive_zero numbers
-amount-back numbers valid =
-    let positive = numbers.positive || (amount_microseconds numbers == 0) in
-    signed-kept numbers.positive (amount_microseconds numbers)
-    ∙ ap (λ (found : DurationNumbers). record found { positive = positive }) (of_amount-only numbers valid)
+amount-back numbers valid = search (rules, signed-kept, of_amount-only)
 
 pub amount_answer-back : (numbers : DurationNumbers) → IsDuration numbers → amount_answer (signed_amount numbers) ≡ Ok (with_positive_zero numbers)
-amount_answer-back numbers valid =
-    let few : nat_le numbers.day 999999999 ≡ true = grind (arith, nat_tests, valid.day) in
-    rw (amount-back numbers valid, few) refl
+amount_answer-back numbers valid = search (rules, amount-back)
 
 -- what lies so much later, and what lies so much earlier
 pub between-later : (earlier later amount : ℤ) → amount ≡ later -ℤ earlier → later ≡ earlier +ℤ amount

@@ -186,4 +186,4 @@ answer-items behavior text numbers iso same =
 -- the answer in the order that is asked for
 pub duration_answer-in_order : (asked : IsoOrder) (behavior : MicrosecondsPrecisionOverflowBehavior) (text : List ℕ) (answer : Result DurationNumbers ParseError)
     → answer ≡ duration_answer asked behavior text → IsAnswerInOrder asked behavior text answer
-duration_answer-in_order asked behavior text answer same = rw same (search (rules, duration-both, answer-items, answer-strict, answer-no_iso))
+duration_answer-in_order asked behavior text answer same = search (rules, duration-both, answer-items, answer-strict, answer-no_iso)

@@ -20,8 +20,7 @@ use Rattle.speedate.specs.Reader.{item_front, unit_place}
 
 -- the designator of a unit is no digit and no decimal mark
 unit-designator : (is_time : Bool) (designator : ℕ) → is_some (unit_in (units is_time) designator) ≡ true → (is_ascii_digit designator ≡ false) × (is_decimal_mark designator ≡ false)
-unit-designator true designator has = (grind (arith, nat_tests, has), grind (arith, nat_tests, has))
-unit-designator false designator has = (grind (arith, nat_tests, has), grind (arith, nat_tests, has))
+unit-designator is_time designator has = search rules
 
 -- no digit is a decimal mark
 mark-no_digit : (byte : ℕ) → is_decimal_mark byte ≡ true → is_ascii_digit byte ≡ false
