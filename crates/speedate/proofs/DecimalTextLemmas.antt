@@ -1,5 +1,5 @@
 -- A number in digits, from the last two to the first.
-use Rattle.std.proofs.Common.{rules, arith, ap, ◌∙◌, append_assoc, length-append, ◌≡◌, ℕ, ◌/◌, ◌%◌, ◌^◌, ◌<◌, ◌≤◌, List, [], ◌∷◌, ◌++◌, decimal}
+use Rattle.std.proofs.Common.{rules, append_assoc, length-append, ◌≡◌, ℕ, ◌/◌, ◌%◌, ◌^◌, ◌<◌, ◌≤◌, List, [], ◌∷◌, ◌++◌, decimal}
 use Rattle.std.proofs.lemmas.Fmt.{decimal_digit, decimal_step}
 use Rattle.std.proofs.lemmas.Str.{encode_ascii}
 use Rattle.speedate_base.specs.Digits.{two_digit_text}

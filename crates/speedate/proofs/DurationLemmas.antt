@@ -4,7 +4,7 @@ use Rattle.speedate.specs.DurationNumbers.{DurationNumbers, IsDuration, amount_m
 use Rattle.speedate.specs.declared.duration.Duration.{Duration}
 use Rattle.speedate.specs.Duration.{duration_numbers}
 
--- numbers in their ranges are those of their length
+-- numbers in their ranges are those of their amount
 pub of_amount-only : (numbers : DurationNumbers) → IsDuration numbers → of_amount numbers.positive (amount_microseconds numbers) ≡ numbers
 of_amount-only numbers valid = search rules
 

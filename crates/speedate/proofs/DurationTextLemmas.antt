@@ -4,15 +4,7 @@ use Rattle.std.proofs.lemmas.List.{length-append}
 use Rattle.std.proofs.lemmas.Fmt.{length-decimal-le}
 use Rattle.std.proofs.lemmas.Str.{encode_ascii}
 use Rattle.speedate_base.specs.Ascii.{capital_d, capital_h, capital_m, capital_y}
-use Rattle.speedate.specs.Duration.{counted_text, kept_digit, without_last_zeros, short_fraction_text, start_text}
-
--- what stays is no more than there was
-kept-length : (digit : ℕ) (rest : List ℕ) → length (kept_digit digit rest) ≤ suc (length rest)
-kept-length digit rest = search (rules)
-
-without-length : (digits : List ℕ) → length (without_last_zeros digits) ≤ length digits
-without-length [] = omega arith
-without-length (digit ∷ digits) = omega (arith, kept-length digit (without_last_zeros digits), without-length digits)
+use Rattle.speedate.specs.Duration.{counted_text, short_fraction_text, start_text}
 
 -- a number and its unit
 chosen-length : (none : Bool) (text : List ℕ) (most : ℕ) → length text ≤ most → length (if none then [] else text) ≤ most

@@ -1,7 +1,6 @@
 -- In the lax order the answer to a text of a duration does not depend on the order of two neighbouring components of one side.
-use Rattle.std.proofs.Common.{rules, arith, ap, sym, ◌∙◌, append_assoc, ◌≡◌, ℕ, ◌≤◌, Bool, true, false, not, ◌&&◌, ◌||◌, List, [], ◌∷◌, ◌++◌, nat_le, if◌then◌else◌, Option, Result, Err, refl, is_some, flat_map}
+use Rattle.std.proofs.Common.{rules, arith, ap, sym, ◌∙◌, append_assoc, ◌≡◌, ℕ, ◌≤◌, Bool, not, ◌&&◌, List, [], ◌∷◌, ◌++◌, nat_le, if◌then◌else◌, Option, Result, Err, refl, flat_map}
 use Rattle.std.proofs.lemmas.Int.{ints}
-use Rattle.std.proofs.lemmas.Bool.{or_from}
 use Rattle.std.proofs.lemmas.Bool.Decides.{nat_tests}
 use Rattle.speedate_base.specs.declared.config.IsoOrder.{IsoOrder}
 use Rattle.speedate_base.specs.declared.config.IsoOrder.TheVariants as order
@@ -12,32 +11,28 @@ use Rattle.speedate_base.specs.Digits.{digits_value}
 use Rattle.speedate_base.specs.Requirement.{meets, result_and_then}
 use Rattle.speedate.specs.Duration.{iso_from, duration_answer}
 use Rattle.speedate.proofs.DurationAnswerLemmas.{iso_from-item, duration_answer-iso}
-use Rattle.speedate.specs.DurationNumbers.{UnsignedDuration, signed_form}
-use Rattle.speedate.specs.IsoOrder.{is_fractional, IsWhole, AreWhole, IsPlain, AreExchanged}
-use Rattle.speedate.specs.IsoForm.{DurationUnit, units, unit_in, ComponentText, Item, Component, item_text, item_at, item_table, Sums, no_sums, with_component, with_item, with_items}
-use Rattle.speedate.proofs.IsoItemLemmas.{item_at-amount}
+use Rattle.speedate.specs.DurationNumbers.{DurationNumbers, UnsignedDuration, signed_form}
+use Rattle.speedate.specs.IsoOrder.{IsWhole, AreWhole, IsPlain, AreExchanged}
+use Rattle.speedate.specs.IsoForm.{DurationUnit, units, ComponentText, Item, Component, item_text, item_at, item_table, Sums, no_sums, with_component, with_item, with_items}
+use Rattle.speedate.proofs.IsoItemLemmas.{item_at-component}
 
 abbrev Answer : Type 0
 Answer = Result UnsignedDuration ParseError
 
 -- what is one item by its bytes is read as it, whatever follows
 item_at-whole : (sums : Sums) (item : Item) (rest : List ℕ) → IsWhole sums item → item_at (item_text item ++ rest) ≡ item
-item_at-whole sums item rest whole = search (rules, item_at-amount)
+item_at-whole sums item rest whole = search (rules, item_at-component)
 
 -- sums after which any unit may come
 abbrev IsFree : Sums → Type 0
 IsFree sums = (sums.order ≡ order.Lax) × (sums.next_units ≡ units sums.is_time)
 
 -- in the lax order those after an item are such sums again
-amount-free : (unit : Option DurationUnit) (component : ComponentText) (sums : Sums) → IsFree sums → IsFree (with_component unit component sums)
-amount-free unit component sums free = search (rules)
+component-free : (unit : Option DurationUnit) (component : ComponentText) (sums : Sums) → IsFree sums → IsFree (with_component unit component sums)
+component-free unit component sums free = search (rules)
 
 item-free : (item : Item) (sums : Sums) → IsFree sums → IsFree (with_item item sums)
-item-free item sums free = search (rules, amount-free)
-
--- so after sums of the lax order each unit of the side may come
-free-comes : (sums : Sums) (designator : ℕ) → IsFree sums → is_some (unit_in (units sums.is_time) designator) ≡ true → is_some (unit_in sums.next_units designator) ≡ true
-free-comes sums designator free has = ap (λ (next : List DurationUnit). is_some (unit_in next designator)) free.1 ∙ has
+item-free item sums free = search (rules, component-free)
 
 -- whether its number and the sums with it are counted in 32 bits
 abbrev fits : Sums → ComponentText → Bool
@@ -55,38 +50,15 @@ plain-table : {A : Type 0} (sums : Sums) (component : ComponentText) (next : Res
     → meets (item_table sums (Component component)) next ≡ (if fits sums component then next else Err fault.DurationValueTooLarge)
 plain-table sums component next free plain = search rules
 
--- a component leaves the side as it is
-amount-side : (unit : Option DurationUnit) (component : ComponentText) (sums : Sums) → (with_component unit component sums).is_time ≡ sums.is_time
-amount-side unit component sums = search (rules)
-
--- without a fraction it brings none
-amount-fraction : (unit : Option DurationUnit) (component : ComponentText) (sums : Sums) → is_fractional component ≡ false → sums.fraction ≡ false
-    → (with_component unit component sums).fraction ≡ false
-amount-fraction unit component sums none whole = search (rules, or_from)
-
--- and it takes nothing from the sums
-amount-grows : (unit : Option DurationUnit) (component : ComponentText) (sums : Sums)
+-- a component takes nothing from the sums
+component-grows : (unit : Option DurationUnit) (component : ComponentText) (sums : Sums)
     → (sums.day ≤ (with_component unit component sums).day) × (sums.second ≤ (with_component unit component sums).second)
-amount-grows unit component sums = search (rules)
-
--- how sums of two components are exchanged, field by field
-or-swap : (a b c : Bool) → (a || b || c) ≡ (a || c || b)
-or-swap a b c = grind (arith, nat_tests)
-
--- whatever their units are
-amounts-swap : (one two : Option DurationUnit) (first second : ComponentText) (sums : Sums) → IsFree sums
-    → with_component two second (with_component one first sums) ≡ with_component one first (with_component two second sums)
-amounts-swap one two first second sums free = search (rules)
-
--- the unit of the second does not depend on the first
-with_number-next : (first second : ComponentText) (sums : Sums) → with_item (Component second) (with_item (Component first) sums)
-    ≡ with_component (unit_in (units sums.is_time) second.designator) second (with_component (unit_in (units sums.is_time) first.designator) first sums)
-with_number-next first second sums = search rules
+component-grows unit component sums = search (rules)
 
 -- so the sums of two components do not depend on their order
-amounts-exchanged : (first second : ComponentText) (sums : Sums) → IsFree sums
+sums-exchanged : (first second : ComponentText) (sums : Sums) → IsFree sums
     → with_item (Component second) (with_item (Component first) sums) ≡ with_item (Component first) (with_item (Component second) sums)
-amounts-exchanged first second sums free = search rules
+sums-exchanged first second sums free = search rules
 
 -- a component after another one can still be refused for its size alone
 plain-next : (sums : Sums) (first second : ComponentText) → IsPlain sums first → IsPlain sums second → IsPlain (with_item (Component first) sums) second
@@ -95,7 +67,7 @@ plain-next sums first second one two = search rules
 -- where both fit in one order, they fit in the other
 fits-exchanged : (sums : Sums) (first second : ComponentText) → IsFree sums
     → (fits sums first && fits (with_item (Component first) sums) second) ≡ (fits sums second && fits (with_item (Component second) sums) first)
-fits-exchanged sums first second free = grind (arith, ints, nat_tests, amounts-exchanged, amount-grows)
+fits-exchanged sums first second free = grind (arith, ints, nat_tests, sums-exchanged, component-grows)
 
 -- the answer to two components and what follows: that after them where both fit
 pair-answer : (sums : Sums) (first second : ComponentText) (rest : List ℕ) → IsFree sums → IsPlain sums first → IsPlain sums second
@@ -116,7 +88,7 @@ pair-answer sums first second rest free one two =
 pair-exchanged : (sums : Sums) (first second : ComponentText) (rest : List ℕ) → IsFree sums → IsPlain sums first → IsPlain sums second
     → iso_from sums (item_text (Component first) ++ (item_text (Component second) ++ rest))
     ≡ iso_from sums (item_text (Component second) ++ (item_text (Component first) ++ rest))
-pair-exchanged sums first second rest free one two = search (rules, pair-answer, fits-exchanged, amounts-exchanged)
+pair-exchanged sums first second rest free one two = search (rules, pair-answer, fits-exchanged, sums-exchanged)
 
 -- nor where they stand after items, whether these are refused or not
 after-exchanged : (sums : Sums) (items : List Item) (first second : ComponentText) (rest : List ℕ) → IsFree sums → AreWhole sums items
@@ -132,9 +104,9 @@ after-exchanged sums (item ∷ items) first second rest free whole one two =
     ∙ sym (read (item_text (Component second) ++ (item_text (Component first) ++ rest)))
 
 -- texts that differ only in that order have the same answer
-pub duration_answer-exchanged : (asked : IsoOrder) (behavior : MicrosecondsPrecisionOverflowBehavior) (one two : List ℕ)
-    → asked ≡ order.Lax → AreExchanged one two → duration_answer asked behavior one ≡ duration_answer asked behavior two
-duration_answer-exchanged asked behavior one two lax are =
+pub duration_answer-exchanged : (asked : IsoOrder) (behavior : MicrosecondsPrecisionOverflowBehavior) (one two : List ℕ) (answer : Result DurationNumbers ParseError)
+    → answer ≡ duration_answer asked behavior one → asked ≡ order.Lax → AreExchanged one two → answer ≡ duration_answer asked behavior two
+duration_answer-exchanged asked behavior one two answer is lax are =
     let items = flat_map item_text are.items in
     let first = item_text (Component are.first) in
     let second = item_text (Component are.second) in
@@ -142,7 +114,7 @@ duration_answer-exchanged asked behavior one two lax are =
     let exchanged : List ℕ = items ++ (second ++ (first ++ are.rest)) in
     let same = after-exchanged (no_sums order.Lax) are.items are.first are.second are.rest (refl, refl) are.are_whole are.is_plain_first are.is_plain_second in
     let read = λ (text : List ℕ). duration_answer order.Lax behavior text in
-    rw lax
+    is ∙ rw lax
     (ap read are.is_one ∙ duration_answer-iso order.Lax behavior are.negative are.sign body are.is_sign
     ∙ ap (result_and_then (signed_form (not are.negative))) same
     ∙ sym (ap read are.is_two ∙ duration_answer-iso order.Lax behavior are.negative are.sign exchanged are.is_sign))

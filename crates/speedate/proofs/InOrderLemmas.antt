@@ -39,15 +39,10 @@ component-lax unit component sums = search (rules)
 item-lax : (item : Item) (sums : Sums) → as_lax (with_item item sums) ≡ with_item item (as_lax sums)
 item-lax item sums = search (rules, component-lax)
 
--- a row that both tables have, and the two rows of the designator, of which the lax one passes both or the first refuses
+-- a row that both tables have
 row-both : (test : Bool) (fault : ParseError) (lax answer : Answer) → IsLaxOrRefused lax answer
     → IsLaxOrRefused (if test then lax else Err fault) (if test then answer else Err fault)
 row-both test fault lax answer both = search (rules)
-
-rows-unit : (has comes : Bool) (unknown : ParseError) (lax answer : Answer) → IsLaxOrRefused lax answer
-    → IsLaxOrRefused (if has then (if has then lax else Err fault.DurationUnitOrder) else Err unknown)
-    (if has then (if comes then answer else Err fault.DurationUnitOrder) else Err unknown)
-rows-unit has comes unknown lax answer both = search (rules)
 
 -- so the table of an item lets both through, refuses both alike, or refuses for the order
 table-both : (sums : Sums) (item : Item) (lax answer : Answer) → IsLaxOrRefused lax answer
@@ -160,11 +155,7 @@ answer-no_iso asked behavior text other = rw other refl
 first-byte : (text : List ℕ) → (slice_index text 0 == capital_p) ≡ true → text ≡ capital_p ∷ drop 1 text
 first-byte text is = search (rules, false≢true, eqb-true)
 
--- one that is read has nothing after its good items, and a component among them
-some-read : (positive some : Bool) (sums : Sums) (numbers : DurationNumbers)
-    → Ok numbers ≡ result_and_then (signed_form positive) (if some then Ok (sums_amount sums) else Err fault.TooShort) → some ≡ true
-some-read positive some sums numbers same = search (rules)
-
+-- what is read has nothing after its good items, and a component among them
 ends-read : (positive : Bool) (sums : Sums) (rest : List ℕ) (form : Answer) (numbers : DurationNumbers) → Ends sums rest form
     → Ok numbers ≡ result_and_then (signed_form positive) form → (rest ≡ []) × (sums.some ≡ true)
 ends-read positive sums rest form numbers ends same = search (rules)
@@ -193,6 +184,6 @@ answer-items behavior text numbers iso same =
     (from.0, is_made)
 
 -- the answer in the order that is asked for
-pub duration_answer-in_order : (asked : IsoOrder) (behavior : MicrosecondsPrecisionOverflowBehavior) (text : List ℕ)
-    → IsAnswerInOrder asked behavior text (duration_answer asked behavior text)
-duration_answer-in_order asked behavior text = search (rules, duration-both, answer-items, answer-strict, answer-no_iso)
+pub duration_answer-in_order : (asked : IsoOrder) (behavior : MicrosecondsPrecisionOverflowBehavior) (text : List ℕ) (answer : Result DurationNumbers ParseError)
+    → answer ≡ duration_answer asked behavior text → IsAnswerInOrder asked behavior text answer
+duration_answer-in_order asked behavior text answer same = search (rules, duration-both, answer-items, answer-strict, answer-no_iso)

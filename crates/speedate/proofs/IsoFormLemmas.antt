@@ -11,7 +11,7 @@ use Rattle.speedate_base.specs.Numbers.{has_minus, sign_size}
 use Rattle.speedate_base.specs.Requirement.{meets, AllHold, result_and_then}
 use Rattle.speedate_base.proofs.RequirementLemmas.{meets-all, meets-next, meets-value}
 use Rattle.speedate.specs.Duration.{iso_after, iso_form, form_answer, unsigned_answer, duration_answer, IsGrammarAnswer}
-use Rattle.speedate.specs.DurationNumbers.{UnsignedDuration, signed_form}
+use Rattle.speedate.specs.DurationNumbers.{DurationNumbers, UnsignedDuration, signed_form}
 use Rattle.speedate.specs.IsoForm.{Item, item_text, IsItem, item_at, Sums, no_sums, with_item, with_items, item_table, AreGood, sums_amount, Ends, IsAnswerFrom}
 use Rattle.speedate.proofs.IsoItemLemmas.{item_at-text, item-front}
 
@@ -67,9 +67,9 @@ answer-with sums item text answer is all from =
 from-step : (sums : Sums) (byte : ℕ) (rest : List ℕ) (met : Answer) (next : Answer) → meets (item_table sums (item_at (byte ∷ rest))) (Ok (sums_amount sums)) ≡ met
     → IsAnswerFrom (with_item (item_at (byte ∷ rest)) sums) (drop (length (item_text (item_at (byte ∷ rest))) - 1) rest) next
     → IsAnswerFrom sums (byte ∷ rest) (meets (item_table sums (item_at (byte ∷ rest))) next)
-from-step sums byte rest (Ok length) next met from =
+from-step sums byte rest (Ok amount) next met from =
     let item = item_at (byte ∷ rest) in
-    let all = (meets-value (item_table sums item) (sums_amount sums) length met).0 in
+    let all = (meets-value (item_table sums item) (sums_amount sums) amount met).0 in
     let front = item-front sums byte rest all in
     subst (λ (text : List ℕ). IsAnswerFrom sums text (meets (item_table sums item) next)) (sym front.1)
     (subst (IsAnswerFrom sums _) (sym (meets-all (item_table sums item) next all)) (answer-with sums item _ next front.0 all from))
@@ -97,15 +97,15 @@ form-only order text true form first second one two = answer-only (no_sums order
 form-only order text false form first second one two = one ∙ sym two
 
 -- so the grammar allows the answer to a text of a duration, and no other
-pub duration_answer-grammar : (order : IsoOrder) (behavior : MicrosecondsPrecisionOverflowBehavior) (text : List ℕ)
-    → IsGrammarAnswer order behavior text (duration_answer order behavior text)
+pub duration_answer-grammar : (order : IsoOrder) (behavior : MicrosecondsPrecisionOverflowBehavior) (text : List ℕ) (answer : Result DurationNumbers ParseError)
+    → answer ≡ duration_answer order behavior text → IsGrammarAnswer order behavior text answer
 unfolding unsigned_answer
-duration_answer-grammar order behavior text =
+duration_answer-grammar order behavior text answer same =
     let rest = drop (sign_size text) text in
     let iso = slice_index rest 0 == capital_p in
     let is = form-is order behavior rest iso in
     record {
-      is_allowed = (unsigned_answer order behavior rest, is, refl);
+      is_allowed = (unsigned_answer order behavior rest, is, same);
       is_only = λ other there. there.2
-          ∙ ap (result_and_then (signed_form (not (has_minus text)))) (form-only order (drop 1 rest) iso (form_answer behavior rest) there.0 _ there.1 is);
+          ∙ ap (result_and_then (signed_form (not (has_minus text)))) (form-only order (drop 1 rest) iso (form_answer behavior rest) there.0 _ there.1 is) ∙ sym same;
     }

@@ -20,8 +20,7 @@ use Rattle.speedate.specs.Reader.{item_front, unit_place}
 
 -- the designator of a unit is no digit and no decimal mark
 unit-designator : (is_time : Bool) (designator : ℕ) → is_some (unit_in (units is_time) designator) ≡ true → (is_ascii_digit designator ≡ false) × (is_decimal_mark designator ≡ false)
-unit-designator true designator has = (grind (arith, nat_tests, has), grind (arith, nat_tests, has))
-unit-designator false designator has = (grind (arith, nat_tests, has), grind (arith, nat_tests, has))
+unit-designator is_time designator has = search rules
 
 -- no digit is a decimal mark
 mark-no_digit : (byte : ℕ) → is_decimal_mark byte ≡ true → is_ascii_digit byte ≡ false
@@ -54,17 +53,17 @@ component_at-text : (component : ComponentText) (rest : List ℕ) → IsItem (Co
 component_at-text component rest is digit point = search (rules, number-end, take-append_seam, drop-append_seam, fraction-end, get_or-append_seam)
 
 -- its text is its parts before what follows
-amount-joined : (component : ComponentText) (rest : List ℕ) → item_text (Component component) ++ rest ≡ component.number ++ (component.fraction ++ component.designator ∷ rest)
-amount-joined component rest = simp append_assoc
+component-joined : (component : ComponentText) (rest : List ℕ) → item_text (Component component) ++ rest ≡ component.number ++ (component.fraction ++ component.designator ∷ rest)
+component-joined component rest = simp append_assoc
 
 -- so what begins with a number and ends with the designator of a unit is one item, whatever follows
-pub item_at-amount : (is_time : Bool) (component : ComponentText) (rest : List ℕ) → IsItem (Component component) → nat_lt 0 (length component.number) ≡ true
+pub item_at-component : (is_time : Bool) (component : ComponentText) (rest : List ℕ) → IsItem (Component component) → nat_lt 0 (length component.number) ≡ true
     → is_some (unit_in (units is_time) component.designator) ≡ true → item_at (item_text (Component component) ++ rest) ≡ Component component
-item_at-amount is_time component rest is some has = search (rules, unit-designator, amount-joined, number-no_designator, component_at-text)
+item_at-component is_time component rest is some has = search (rules, unit-designator, component-joined, number-no_designator, component_at-text)
 
 -- and a good item is read back from its text
 pub item_at-text : (sums : Sums) (item : Item) (rest : List ℕ) → IsItem item → AllHold (item_table sums item) → item_at (item_text item ++ rest) ≡ item
-item_at-text sums item rest is all = search (rules, item_at-amount)
+item_at-text sums item rest is all = search (rules, item_at-component)
 
 -- after a decimal mark stand digits
 digits-after : (text : List ℕ) (has_mark : Bool) → list_all is_ascii_digit (drop 1 (take (if has_mark then 1 + run_length text 1 else 0) text)) ≡ true
@@ -139,7 +138,7 @@ short-front sums next text number end designator few unit read some small there 
     let long : length (take count text) ≡ count = length-take-le count text (prefix_len-le-length is_ascii_digit text) in
     let digits : nat_lt 0 (length (take count text)) ≡ true = grind (arith, nat_tests, some, parts.1, long) in
     let item = ap item_at (parted text count 0 within ∙ ap (λ (byte : ℕ). (take count text ++ [] ++ byte ∷ []) ++ drop (count + 0 + 1) text) (sym first))
-    ∙ item_at-amount sums.is_time component (drop (count + 0 + 1) text) (run-digits text, tt) digits has in
+    ∙ item_at-component sums.is_time component (drop (count + 0 + 1) text) (run-digits text, tt) digits has in
     let same : with_item (Component component) sums ≡ next = ap (λ (unit : Option DurationUnit). with_component unit component sums) (sym is)
     ∙ ap (λ (n : ℕ). with_number unit n [] sums) (sym parts.0) ∙ sym added in
     let all : AllHold (item_table sums (Component component)) =

@@ -8,21 +8,18 @@ use Rattle.std.proofs.lemmas.Bool.Decides.{nat_tests}
 use Rattle.std.proofs.lemmas.Fmt.{digits_decimal, digits_value-decimal, decimal_nonempty, decimal_digit}
 use Rattle.std.proofs.lemmas.List.{append-nil}
 use Rattle.std.proofs.lemmas.Str.Parse.{IsDigitsTest, IsNumeralModel, numerals_by_weight}
-use Rattle.std.proofs.Math.Nat.{pow-succ', div-eq_of_lt}
 use Rattle.speedate_base.specs.declared.config.IsoOrder.{IsoOrder}
 use Rattle.speedate_base.specs.declared.config.IsoOrder.TheVariants as order
 use Rattle.speedate_base.specs.declared.config.MicrosecondsPrecisionOverflowBehavior.{MicrosecondsPrecisionOverflowBehavior}
 use Rattle.speedate_base.specs.declared.config.MicrosecondsPrecisionOverflowBehavior.TheVariants as behavior
 use Rattle.speedate_base.specs.Ascii.{full_stop, capital_d, capital_h, capital_m, capital_s, capital_t, capital_y}
 use Rattle.speedate_base.specs.Digits.{six_digit_text, digits_value}
-use Rattle.speedate_base.proofs.DigitRunLemmas.{digits_value-lt}
-use Rattle.speedate_base.proofs.NearestLemmas.{nearest-exact, scale-some}
 use Rattle.speedate_base.specs.Requirement.{AllHold, result_and_then}
 use Rattle.speedate_base.proofs.RequirementLemmas.{meets-all}
 use Rattle.speedate_base.proofs.TextLemmas.{text-distinct}
-use Rattle.speedate.specs.Duration.{iso_from, iso_form, unsigned_answer, duration_answer, counted_text, kept_digit, without_last_zeros, short_fraction_text, seconds_text, hours_text, days_text, start_text, rest_text, is_whole_days, duration_text}
+use Rattle.speedate.specs.Duration.{iso_from, iso_form, unsigned_answer, duration_answer, counted_text, without_last_zeros, short_fraction_text, seconds_text, hours_text, days_text, start_text, rest_text, is_whole_days, duration_text}
 use Rattle.speedate.proofs.DurationAnswerLemmas.{iso_from-item, iso_from-end}
-use Rattle.speedate.proofs.IsoItemLemmas.{item_at-amount}
+use Rattle.speedate.proofs.IsoItemLemmas.{item_at-component}
 use Rattle.speedate_base.specs.declared.faults.ParseError.{ParseError}
 use Rattle.speedate.specs.IsoOrder.{IsLaxOrRefused}
 use Rattle.speedate.proofs.InOrderLemmas.{duration-both}
@@ -40,28 +37,6 @@ digits_test = search rules
 digits_model : IsNumeralModel AreDigits digits_value
 digits_model = numerals_by_weight AreDigits digits_test digits_value (record { empty = refl; more = λ c cs range. refl })
 
--- zeros at the end of a fraction's digits do not change its worth
-kept-worth : (digit : ℕ) (kept digits : List ℕ) → digits_value kept * 10 ^ length digits ≡ digits_value digits * 10 ^ length kept
-    → digits_value (kept_digit digit kept) * 10 ^ length (digit ∷ digits) ≡ digits_value (digit ∷ digits) * 10 ^ length (kept_digit digit kept)
-kept-worth digit [] digits same = grind (arith, nat_tests, same, pow-succ' 10 (length digits))
-kept-worth digit (next ∷ kept) digits same =
-    rw (pow-succ' 10 (length (next ∷ kept)), pow-succ' 10 (length digits)) (grind (arith, same))
-
-without-worth : (digits : List ℕ)
-    → digits_value (without_last_zeros digits) * 10 ^ length digits ≡ digits_value digits * 10 ^ length (without_last_zeros digits)
-without-worth [] = refl
-without-worth (digit ∷ digits) = kept-worth digit (without_last_zeros digits) digits (without-worth digits)
-
--- what stays of digits is digits
-kept-digits : (digit : ℕ) (kept : List ℕ) → is_ascii_digit digit ≡ true → AreDigits kept → AreDigits (kept_digit digit kept)
-kept-digits digit kept one all = search (rules, and_from)
-
-without-digits : (digits : List ℕ) → AreDigits digits → AreDigits (without_last_zeros digits)
-without-digits [] all = refl
-without-digits (digit ∷ digits) all =
-    let tests = and_parts (is_ascii_digit digit) _ all in
-    kept-digits digit (without_last_zeros digits) tests.0 (without-digits digits tests.1)
-
 -- no fraction is no seconds and no microseconds
 no-seconds : (unit : DurationUnit) → fraction_seconds unit [] ≡ 0
 no-seconds unit = omega arith
@@ -69,25 +44,17 @@ no-seconds unit = omega arith
 no-microseconds : (unit : DurationUnit) → fraction_microseconds unit [] ≡ 0
 no-microseconds unit = search rules
 
--- digits that are a number of millionths, as a fraction of a second
-second-seconds : (digits : List ℕ) → AreDigits digits → fraction_seconds (unit capital_s 0 1) digits ≡ 0
-second-seconds digits all = search (rules, div-eq_of_lt, digits_value-lt)
-
-second-microseconds : (digits : List ℕ) (microsecond : ℕ) → AreDigits digits
-    → digits_value digits * 1000000 ≡ microsecond * 10 ^ length digits → fraction_microseconds (unit capital_s 0 1) digits ≡ microsecond
-second-microseconds digits microsecond all same = search (rules, nearest-exact, scale-some, second-seconds)
-
 -- sums in the order of the standard, with no fraction so far
 abbrev at : List DurationUnit → Bool → Bool → ℕ → ℕ → Sums
 at next is_time some day second =
     record { order = order.Strict; next_units = next; is_time = is_time; fraction = false; some = some; day = day; second = second; microsecond = 0 }
 
 -- a number, its fraction and its unit lead to the sums with that number of the unit
-amount-leads : (sums : Sums) (unit : DurationUnit) (number : ℕ) (fraction rest : List ℕ) → unit_in (units sums.is_time) unit.designator ≡ Some unit
+component-leads : (sums : Sums) (unit : DurationUnit) (number : ℕ) (fraction rest : List ℕ) → unit_in (units sums.is_time) unit.designator ≡ Some unit
     → is_some (unit_in sums.next_units unit.designator) ≡ true → sums.fraction ≡ false → IsFraction fraction → number ≤ 4294967295
     → (with_number unit number fraction sums).day ≤ 4294967295 → (with_number unit number fraction sums).second ≤ 4294967295
     → iso_from sums (decimal number ++ fraction ++ unit.designator ∷ [] ++ rest) ≡ iso_from (with_number unit number fraction sums) rest
-amount-leads sums unit number fraction rest found comes whole is few few_days few_seconds =
+component-leads sums unit number fraction rest found comes whole is few few_days few_seconds =
     let component : ComponentText = record { number = decimal number; fraction = fraction; designator = unit.designator } in
     let small : number < 2 ^ 64 = omega (arith, few) in
     let spelled = digits_value-decimal digits_model number small in
@@ -99,7 +66,7 @@ amount-leads sums unit number fraction rest found comes whole is few few_days fe
     let is_item : IsItem (Component component) = (digits_decimal digits_model number small, is) in
     let all : AllHold (item_table sums (Component component)) =
     (digits, (le-leb _ 4294967295 fits, (ap not whole, (ap is_some found, (comes, (ap are_counted sum ∙ counted, tt)))))) in
-    iso_from-item sums (Component component) rest (item_at-amount sums.is_time component rest is_item digits (ap is_some found))
+    iso_from-item sums (Component component) rest (item_at-component sums.is_time component rest is_item digits (ap is_some found))
     ∙ meets-all (item_table sums (Component component)) _ all ∙ ap (λ (sums : Sums). iso_from sums rest) sum
 
 -- a number and its unit, or nothing for none, lead to the sums with that number of the unit
@@ -120,7 +87,7 @@ counted-leads next is_time some false unit number day second rest other found co
     let seconds : after.second ≡ second + number * unit.second = omega (arith, no-seconds unit) in
     let microseconds : after.microsecond ≡ 0 = omega (arith, no-microseconds unit) in
     ap (λ (digits : List ℕ). iso_from sums (digits ++ unit.designator ∷ [] ++ rest)) (sym (append-nil (decimal number)))
-    ∙ amount-leads sums unit number [] rest found comes refl tt few (omega (arith, days, few_days)) (omega (arith, seconds, few_seconds))
+    ∙ component-leads sums unit number [] rest found comes refl tt few (omega (arith, days, few_days)) (omega (arith, seconds, few_seconds))
     ∙ (λ i. iso_from (record after { day = days i; second = seconds i; microsecond = microseconds i }) rest)
 
 -- a fraction of a second that is printed is its microseconds
@@ -147,7 +114,7 @@ seconds-end next some number microsecond day second comes few small few_days few
     let seconds : after.second ≡ second + number = omega (arith, means.1) in
     let microseconds : after.microsecond ≡ microsecond = omega (arith, means.2) in
     ap (iso_from sums) (sym (append-nil (decimal number ++ fraction ++ capital_s ∷ [])))
-    ∙ amount-leads sums (unit capital_s 0 1) number fraction [] refl comes refl means.0 few (omega (arith, days, few_days)) (omega (arith, seconds, few_seconds))
+    ∙ component-leads sums (unit capital_s 0 1) number fraction [] refl comes refl means.0 few (omega (arith, days, few_days)) (omega (arith, seconds, few_seconds))
     ∙ iso_from-end after [] refl ∙ (λ i. Ok (record { day = days i; second = seconds i; microsecond = microseconds i }))
 
 -- and where nothing is printed for none
@@ -177,13 +144,13 @@ hours-some : (second microsecond : ℕ) (some : Bool) → ((second == 0) && (mic
     → (if (second % 60 == 0) && (microsecond == 0) then (if second / 60 % 60 == 0 then (if second / 3600 == 0 then some else true) else true) else true) ≡ true
 hours-some second microsecond some other = grind (arith, nat_tests)
 
--- the length of a duration
-abbrev length_of : DurationNumbers → UnsignedDuration
-length_of numbers = record { day = numbers.day; second = numbers.second; microsecond = numbers.microsecond }
+-- the amount of a duration
+abbrev amount_of : DurationNumbers → UnsignedDuration
+amount_of numbers = record { day = numbers.day; second = numbers.second; microsecond = numbers.microsecond }
 
 -- hours, minutes and seconds are read as the end of a text
 hours-read : (numbers : DurationNumbers) (some : Bool) → IsDuration numbers → is_whole_days numbers ≡ false
-    → iso_from (at (units true) true some numbers.day 0) (hours_text numbers) ≡ Ok (length_of numbers)
+    → iso_from (at (units true) true some numbers.day 0) (hours_text numbers) ≡ Ok (amount_of numbers)
 hours-read numbers some valid other =
     let hour = numbers.second / 3600 in
     let minute = numbers.second / 60 % 60 in
@@ -210,7 +177,7 @@ whole-read next day false few = iso_from-end (at next false true day 0) [] refl
 
 -- so is what follows the days
 rest-read : (next : List DurationUnit) (numbers : DurationNumbers) (whole none : Bool) → IsDuration numbers → is_whole_days numbers ≡ whole
-    → iso_from (at next false (not none) numbers.day 0) (if whole then (if none then codes "T0S" else []) else capital_t ∷ hours_text numbers) ≡ Ok (length_of numbers)
+    → iso_from (at next false (not none) numbers.day 0) (if whole then (if none then codes "T0S" else []) else capital_t ∷ hours_text numbers) ≡ Ok (amount_of numbers)
 rest-read next numbers true none valid whole =
     let tests = and_parts (numbers.second == 0) (numbers.microsecond == 0) whole in
     whole-read next numbers.day none (omega (arith, valid.day))
@@ -218,7 +185,7 @@ rest-read next numbers true none valid whole =
 rest-read next numbers false none valid other =
     iso_from-item (at next false (not none) numbers.day 0) TimeDesignator (hours_text numbers) refl ∙ hours-read numbers (not none) valid other
 
-text-read : (numbers : DurationNumbers) → IsDuration numbers → iso_form order.Strict (days_text numbers ++ rest_text numbers) ≡ Ok (length_of numbers)
+text-read : (numbers : DurationNumbers) → IsDuration numbers → iso_form order.Strict (days_text numbers ++ rest_text numbers) ≡ Ok (amount_of numbers)
 text-read numbers valid =
     let year = numbers.day / 365 in
     let day = numbers.day % 365 in

@@ -18,7 +18,7 @@ use Rattle.speedate.specs.declared.duration.Duration.{Duration}
 use Rattle.speedate.specs.declared.duration.unsigned.UnsignedDuration.{UnsignedDuration as StructUnsignedDuration}
 use Rattle.speedate.specs.ClockForm.{clock_form}
 use Rattle.speedate.specs.DayForm.{is_day_letter, day_form}
-use Rattle.speedate.specs.DurationNumbers.{DurationNumbers, UnsignedDuration, signed_form, amount_microseconds, of_amount}
+use Rattle.speedate.specs.DurationNumbers.{DurationNumbers, UnsignedDuration, signed_form, signed_day, amount_microseconds, of_amount}
 use Rattle.speedate.specs.IsoForm.{Sums, no_sums, item_text, item_at, item_table, with_item, sums_amount, IsAnswerFrom}
 
 -- the numbers of a duration
@@ -35,9 +35,9 @@ infix 15 ◌gives◌
 abbrev pub ◌gives◌ : Result Duration ParseError → Result DurationNumbers ParseError → Type 0
 result gives answer = result_map duration_numbers result ≡ answer
 
--- those of a length without its sign
+-- those of a duration without its sign
 abbrev pub unsigned_numbers : StructUnsignedDuration → UnsignedDuration
-unsigned_numbers length = record { day = length.day; second = length.second; microsecond = length.microsecond }
+unsigned_numbers duration = record { day = duration.day; second = duration.second; microsecond = duration.microsecond }
 
 -- The answer to a text of a duration, as a function, which reads the items of an ISO 8601 duration from the left, and as a
 -- relation. Which form a text has is the library's own rule.
@@ -54,7 +54,7 @@ iso_after (suc skipped) sums (byte ∷ rest) = iso_after skipped sums rest
 abbrev pub iso_from : Sums → List ℕ → Result UnsignedDuration ParseError
 iso_from sums text = iso_after 0 sums text
 
--- the length that a text says after its `P`, or the text's fault
+-- the amount that a text says after its `P`, or the text's fault
 abbrev pub iso_form : IsoOrder → List ℕ → Result UnsignedDuration ParseError
 iso_form order text = iso_from (no_sums order) text
 
@@ -62,7 +62,7 @@ iso_form order text = iso_from (no_sums order) text
 abbrev pub has_days : List ℕ → Bool
 has_days text = nat_lt (length text) 5 || list_any is_day_letter text
 
--- the length that a text says as days or as a clock, or the text's fault
+-- the amount that a text says as days or as a clock, or the text's fault
 unfoldable pub form_answer : MicrosecondsPrecisionOverflowBehavior → List ℕ → Result UnsignedDuration ParseError
 form_answer behavior text =
     if length text == 0 then Err fault.TooShort
@@ -92,7 +92,7 @@ pub record IsGrammarAnswer (order : IsoOrder) (behavior : MicrosecondsPrecisionO
   pub is_only : (other : Result DurationNumbers ParseError) → IsDurationAnswer order behavior text other → other ≡ answer
 
 -- The text of a duration (ISO 8601, duration): years of 365 days, days, hours, minutes and seconds, each if it is not 0.
--- Departs from it: a sign may come first, and the years and days are fixed lengths.
+-- Departs from it: a sign may come first, and the years and days are fixed amounts.
 
 -- a number and its designator, or nothing for 0
 abbrev pub counted_text : ℕ → ℕ → List ℕ
@@ -146,19 +146,19 @@ duration_text numbers = start_text numbers.positive ++ days_text numbers ++ rest
 
 -- The duration between two values, and the value a duration after another, by microseconds of any size.
 
--- the length of a duration in microseconds, with its sign
+-- the amount of a duration in microseconds, with its sign
 abbrev pub signed_amount : DurationNumbers → ℤ
 signed_amount numbers = with_sign (not numbers.positive) (amount_microseconds numbers)
 
 -- the duration of a number of microseconds; zero is positive
 abbrev pub duration_of_amount : ℤ → DurationNumbers
-duration_of_amount (pos length) = of_amount true length
+duration_of_amount (pos amount) = of_amount true amount
 duration_of_amount (negsuc below) = of_amount false (suc below)
 
 -- the same, or the fault of one that has too many days
 abbrev pub amount_answer : ℤ → Result DurationNumbers ParseError
-amount_answer length =
-    let duration = duration_of_amount length in
+amount_answer amount =
+    let duration = duration_of_amount amount in
     meets ((nat_le duration.day 999999999 else_fault fault.DurationDaysTooLarge) ∷ []) (Ok duration)
 
 -- a duration with the other sign
@@ -176,7 +176,7 @@ duration_between earlier later = duration_of_amount (utc_microsecond later -ℤ 
 -- the date-time a number of microseconds after another, at its offset, or the fault of a date that is outside the years 0000 to
 -- 9999 there
 abbrev pub date_time_after : ℤ → DateAndTime → Result DateAndTime ParseError
-date_time_after length start = instant_date_time start.time.offset (instant_at (local_microsecond start +ℤ length))
+date_time_after amount start = instant_date_time start.time.offset (instant_at (local_microsecond start +ℤ amount))
 
 -- the duration from one date to another, in whole days; zero is positive
 abbrev pub duration_between_dates : Ymd → Ymd → DurationNumbers
@@ -184,13 +184,9 @@ duration_between_dates earlier later =
     let days = days_between earlier later in
     record { positive = int_le (pos 0) days; day = unsigned_abs days; second = 0; microsecond = 0 }
 
--- the days of a duration with its sign
-abbrev pub signed_days : DurationNumbers → ℤ
-signed_days numbers = with_sign (not numbers.positive) numbers.day
-
 -- the date a duration after another, or the fault: of a duration which is not whole days, or of a date outside the years 0000
 -- to 9999, which is after them if the duration is positive
 abbrev pub date_after_days : DurationNumbers → Ymd → Result Ymd ParseError
 date_after_days numbers start =
     meets ((is_whole_days numbers else_fault fault.DateNotExact) ∷ [])
-    (ok_or (date_added (signed_days numbers) start) (if numbers.positive then fault.DateTooLarge else fault.DateTooSmall))
+    (ok_or (date_added (signed_day numbers) start) (if numbers.positive then fault.DateTooLarge else fault.DateTooSmall))

@@ -1,4 +1,4 @@
--- The numbers of a duration, its length, and the numbers that have a length.
+-- The numbers of a duration, its amount, and the numbers that have an amount.
 use Rattle.std.specs.Prelude.{ℕ, ◌+◌, ◌*◌, ◌/◌, ◌%◌, ◌<◌, ◌≤◌, Bool, true, false, not, ◌&&◌, ◌≡◌, refl, nat_eq, nat_le, List, [], ◌∷◌, ℤ, Result, Ok}
 use Rattle.std.proofs.Common.{arith}
 use Rattle.std.proofs.lemmas.Bool.Decides.{nat_tests}
@@ -20,7 +20,7 @@ pub record DurationNumbers : Type 0 where
   pub second : ℕ
   pub microsecond : ℕ
 
--- a length of time without a sign: days, seconds and microseconds, of any size
+-- a duration without its sign: days, seconds and microseconds of any size
 pub record UnsignedDuration : Type 0 where
   pub day : ℕ
   pub second : ℕ
@@ -32,20 +32,20 @@ pub record IsDuration (numbers : DurationNumbers) : Type 0 where
   pub second : numbers.second < seconds_per_day
   pub microsecond : numbers.microsecond < 1000000
 
--- its length in seconds, and in microseconds, without its sign
+-- its amount in seconds, and in microseconds, without its sign
 abbrev pub amount_seconds : DurationNumbers → ℕ
 amount_seconds numbers = numbers.day * seconds_per_day + numbers.second
 
 abbrev pub amount_microseconds : DurationNumbers → ℕ
 amount_microseconds numbers = amount_seconds numbers * 1000000 + numbers.microsecond
 
--- the numbers that have this length in microseconds: seconds and microseconds in their ranges, and days of any size
+-- the numbers that have this amount in microseconds: seconds and microseconds in their ranges, and days of any size
 abbrev pub of_amount : Bool → ℕ → DurationNumbers
-of_amount positive length = record {
+of_amount positive amount = record {
   positive = positive;
-  day = length / 1000000 / seconds_per_day;
-  second = length / 1000000 % seconds_per_day;
-  microsecond = length % 1000000;
+  day = amount / 1000000 / seconds_per_day;
+  second = amount / 1000000 % seconds_per_day;
+  microsecond = amount % 1000000;
 }
 
 -- the seconds with the whole seconds of the microseconds, and the days with the whole days of those
@@ -64,20 +64,20 @@ normal_table numbers =
     ∷ (nat_le (carried_day numbers) 999999999 else_fault fault.DurationDaysTooLarge)
     ∷ []
 
--- the normal form: the numbers in their ranges that have the same length, or the fault
+-- the normal form: the numbers in their ranges that have the same amount, or the fault
 abbrev pub normal_form : DurationNumbers → Result DurationNumbers ParseError
 normal_form numbers = meets (normal_table numbers) (Ok (of_amount numbers.positive (amount_microseconds numbers)))
 
--- the normal form of a length with a sign
+-- the normal form of an amount with a sign
 abbrev pub signed_form : Bool → UnsignedDuration → Result DurationNumbers ParseError
-signed_form positive length =
-    normal_form (record { positive = positive; day = length.day; second = length.second; microsecond = length.microsecond })
+signed_form positive amount =
+    normal_form (record { positive = positive; day = amount.day; second = amount.second; microsecond = amount.microsecond })
 
--- the length in whole seconds with the sign
+-- the amount in whole seconds with the sign
 abbrev pub signed_seconds : DurationNumbers → ℤ
 signed_seconds numbers = with_sign (not numbers.positive) (amount_seconds numbers)
 
--- the length in milliseconds with the sign, cut toward zero
+-- the amount in milliseconds with the sign, cut toward zero
 abbrev pub signed_milliseconds : DurationNumbers → ℤ
 signed_milliseconds numbers = with_sign (not numbers.positive) (1000 * amount_seconds numbers + numbers.microsecond / 1000)
 
@@ -93,7 +93,7 @@ abbrev pub signed_second : DurationNumbers → ℤ
 signed_second numbers = with_sign (not numbers.positive) numbers.second
 
 -- the order of durations: negative before positive, then by the days, the seconds and the microseconds with the sign. So the
--- negative one of no length comes before the positive one
+-- negative one of no amount comes before the positive one
 abbrev pub duration_order : DurationNumbers → DurationNumbers → Ordering
 duration_order =
     then_cmp (on (λ numbers. numbers.positive) bool_cmp)

@@ -174,7 +174,7 @@ abbrev pub AreGood : Sums → List Item → Type 0
 AreGood sums [] = Unit {0}
 AreGood sums (item ∷ items) = IsItem item × AllHold (item_table sums item) × AreGood (with_item item sums) items
 
--- the length that they are
+-- the amount that they are
 abbrev pub sums_amount : Sums → UnsignedDuration
 sums_amount sums = record { day = sums.day; second = sums.second; microsecond = sums.microsecond }
 

@@ -2,7 +2,7 @@
 
 ghost use Rattle.std.specs.Prelude.{◌≡◌, ℕ, ◌<◌, ◌≤◌, IfOk, List, unsigned_abs};
 ghost use Rattle.speedate_base.specs.Requirement.{result_map};
-ghost use Rattle.speedate.specs.DurationNumbers.{amount_seconds, amount_microseconds, normal_form, signed_form, signed_seconds, signed_microsecond, signed_milliseconds};
+ghost use Rattle.speedate.specs.DurationNumbers.{amount_seconds, amount_microseconds, normal_form, signed_seconds, signed_microsecond, signed_milliseconds};
 
 mod arithmetic;
 mod clock;
@@ -12,7 +12,7 @@ mod order;
 mod text;
 mod unsigned;
 
-use speedate_base::config::{IsoOrder, MicrosecondsPrecisionOverflowBehavior, TimeConfig};
+use speedate_base::config::TimeConfig;
 use speedate_base::faults::ParseError;
 use speedate_base::numbers::{sign, with_sign};
 use speedate_base::util::SECONDS_PER_DAY;
@@ -22,10 +22,10 @@ use unsigned::UnsignedDuration;
 /// How many days the longest duration has.
 const DAYS_MAX: u32 = 999_999_999;
 
-/// A length of time with a sign: days of 86,400 seconds, seconds of a day, and microseconds of a
+/// An amount of time with a sign: days of 86,400 seconds, seconds of a day, and microseconds of a
 /// second. Zero has a sign too: `PT0S` and `-PT0S` are different durations.
 ///
-/// It is read by [`Duration::parse_str`] and made from numbers of any size by [`Duration::new`]. It is
+/// It is parsed by [`Duration::parse_str`] and made from numbers of any size by [`Duration::new`]. It is
 /// printed in the format of ISO 8601, as `-P1Y2DT3H4M5.06S`: Display writes this text, whatever width
 /// and fill are asked for.
 ///
@@ -53,22 +53,36 @@ pub struct Duration {
 impl Duration {
     ghost use Rattle.speedate_base.specs.declared.config.IsoOrder.TheVariants as order;
     ghost use Rattle.speedate_base.specs.declared.config.MicrosecondsPrecisionOverflowBehavior.TheVariants as behavior;
-    ghost use Rattle.speedate.specs.Duration.{duration_numbers, unsigned_numbers, ◌gives◌, duration_answer, IsGrammarAnswer};
+    ghost use Rattle.speedate.specs.Duration.{duration_numbers, ◌gives◌, duration_answer, IsGrammarAnswer};
     ghost use Rattle.speedate.specs.IsoOrder.{AreExchanged, IsAnswerInOrder};
 
-    /// The duration of days, seconds and microseconds of any size, with the same length: 2 days, 101
+    /// The duration of days, seconds and microseconds of any size, with the same amount: 2 days, 101
     /// seconds and 123 microseconds for 1 day, 86,500 seconds and 1,000,123 microseconds.
     ///
     /// Whole seconds of the microseconds are carried into the seconds, then whole days of the seconds
-    /// into the days. The faults, in the order in which they are looked for:
+    /// into the days.
+    ///
+    /// # Errors
+    ///
+    /// In the order in which they are looked for:
     ///
     /// - `DurationValueTooLarge` if the seconds, or then the days, exceed 4,294,967,295;
     /// - `DurationDaysTooLarge` if the days exceed 999,999,999.
+    #[inline(always)]
     pub fn new(positive: bool, day: u32, second: u32, microsecond: u32) -> Result<Self, ParseError>
         ensures answer { result gives normal_form (record { positive = positive; day = day; second = second; microsecond = microsecond }) }
         ensures length { IfOk result (λ duration. amount_microseconds (duration_numbers duration)
             ≡ amount_microseconds (record { positive = positive; day = day; second = second; microsecond = microsecond })) }
     {
+        // Most numbers are in their ranges, and need no division.
+        if day <= DAYS_MAX && second < SECONDS_PER_DAY && microsecond < 1_000_000 {
+            return Ok(Duration {
+                positive,
+                day,
+                second,
+                microsecond,
+            });
+        }
         let second = second
             .checked_add(microsecond / 1_000_000)
             .ok_or(ParseError::DurationValueTooLarge)?;
@@ -86,25 +100,25 @@ impl Duration {
         })
     }
 
-    /// Reads a duration from a text: a day, an hour and 42 seconds from `"1 day, 1:00:42"`.
+    /// Parses a duration from a text: a day, an hour and 42 seconds from `"1 day, 1:00:42"`.
     ///
     /// One `+` or `-` may come first. What follows has one of three forms, chosen in this order, and is
     /// brought into the ranges of the fields last:
     ///
     /// - **ISO 8601**, if it begins with `P`, as `P1Y2DT3H4M5.5S`: components in any order on their
     ///   side of the `T`. A year has 365 days and a month 30. The last component may have a fraction of
-    ///   any length, which is taken to its nearest microsecond.
+    ///   any length, which is rounded to its nearest microsecond.
     /// - **Days**, if it has a `d` or `D` anywhere, or fewer than five bytes, as `2 days, 10:20`; a
     ///   clock may follow, after a comma, a space, both or neither. The form is this library's own.
-    /// - **A clock** otherwise, as `24:01:03.5`, which says how long a clock has run since 0. The form
-    ///   is this library's own.
+    /// - **A clock** otherwise, as `24:01:03.5`: up to 2,400,000,000 hours, and after a `:` the minute,
+    ///   second and fraction of a time, without an offset. The form is this library's own.
     ///
     /// # Errors
     ///
     /// `TooShort` if nothing follows the sign; then those of the form, in each list in the order in
     /// which they are looked for; last those of [`Duration::new`].
     ///
-    /// Of an ISO 8601 duration the first item, from the left, that has a fault gives it:
+    /// Of an ISO 8601 duration the first item, from the left, that has an error gives it:
     ///
     /// - `DurationTRepeated` for a second `T`;
     /// - `DurationInvalidNumber` if a component does not begin with a digit;
@@ -121,7 +135,7 @@ impl Duration {
     /// - `DurationValueTooLarge` if the number exceeds 4,294,967,295;
     /// - `DurationInvalidDays` if no `d` or `D` follows, after at most one space, or if an `a` or `A`
     ///   follows that and does not begin `ay` or `AY`;
-    /// - `TooShort` if the clock after it has fewer than five bytes, then the faults of a clock;
+    /// - `TooShort` if the clock after it has fewer than five bytes, then the errors of a clock;
     /// - `DurationHourValueTooLarge` if that clock has 24 hours or more.
     ///
     /// Of a clock:
@@ -142,20 +156,16 @@ impl Duration {
         Self::parse_bytes(text.as_bytes())
     }
 
-    /// Reads a duration from bytes: a negative second from `b"-00:00:01"`. The bytes need not be text.
-    /// The forms and the faults are those of [`Duration::parse_str`].
+    /// Parses a duration from bytes: a negative second from `b"-00:00:01"`. The bytes need not be text.
+    /// The forms and the errors are those of [`Duration::parse_str`].
     #[inline(always)]
     pub fn parse_bytes(bytes: &[u8]) -> Result<Self, ParseError>
         ensures answer { result gives duration_answer order.Lax behavior.Error bytes.now }
     {
-        Self::parse(
-            bytes,
-            IsoOrder::Lax,
-            MicrosecondsPrecisionOverflowBehavior::Error,
-        )
+        Self::parse_bytes_with_config(bytes, &TimeConfig::default())
     }
 
-    /// Reads a duration from bytes, by a configuration: a second and 123,456 microseconds from
+    /// Parses a duration from bytes, by a configuration: a second and 123,456 microseconds from
     /// `b"00:00:01.1234567"` with the behavior `Truncate`. The bytes need not be text. The offset
     /// does not matter.
     ///
@@ -165,7 +175,7 @@ impl Duration {
     ///
     /// With the order `Strict` each component of an ISO 8601 duration comes at most once, in the order
     /// `Y`, `M`, `W`, `D`, and after the `T` `H`, `M`, `S`. What `Strict` accepts has the same value
-    /// with `Lax`; days and clocks are read alike with both.
+    /// with `Lax`; days and clocks are parsed alike with both.
     ///
     /// With the order `Lax` two neighbouring components on one side of the `T`, with no decimal mark in
     /// them or before them, can change places: `b"P1DT2H3M"` and `b"P1DT3M2H"` have the same answer.
@@ -174,7 +184,7 @@ impl Duration {
     ///
     /// Those of [`Duration::parse_str`], but with `Truncate` there is no `SecondFractionTooLong`. With
     /// `Strict` a component out of order, or repeated, as in `b"P1D1Y"`, is `DurationUnitOrder`, which
-    /// is looked for after the fault of a byte that is no designator of its side, and before that of
+    /// is looked for after the error of a byte that is no designator of its side, and before that of
     /// sums that are too large.
     #[inline(always)]
     pub fn parse_bytes_with_config(bytes: &[u8], config: &TimeConfig) -> Result<Self, ParseError>
@@ -184,46 +194,16 @@ impl Duration {
         ensures exchanged { (other : List ℕ) → config.now.iso_order ≡ order.Lax → AreExchanged bytes.now other
             → result gives duration_answer config.now.iso_order config.now.microseconds_precision_overflow_behavior other }
     {
-        Self::parse(
-            bytes,
+        let (negative, size) = sign(bytes);
+        let amount = UnsignedDuration::parse(
+            &bytes[size..],
             config.iso_order,
             config.microseconds_precision_overflow_behavior,
-        )
+        )?;
+        Self::new(!negative, amount.day, amount.second, amount.microsecond)
     }
 
-    /// Reads a duration, with or without a sign.
-    #[tactic(auto, using(std::proofs::lemmas::List::take_rest))]
-    #[inline(always)]
-    fn parse(
-        bytes: &[u8],
-        order: IsoOrder,
-        behavior: MicrosecondsPrecisionOverflowBehavior,
-    ) -> Result<Self, ParseError>
-        ensures answer { result gives duration_answer order behavior bytes.now }
-    {
-        let (negative, length) = sign(bytes);
-        let size = UnsignedDuration::parse(&bytes[length..], order, behavior)?;
-        Self::signed(!negative, size)
-    }
-
-    /// Puts the sign on a length, and brings it into its normal form.
-    #[inline(always)]
-    fn signed(positive: bool, size: UnsignedDuration) -> Result<Self, ParseError>
-        ensures answer { result gives signed_form positive (unsigned_numbers size) }
-    {
-        // Most lengths are in their normal form as they are read.
-        if size.day <= DAYS_MAX && size.second < SECONDS_PER_DAY && size.microsecond < 1_000_000 {
-            return Ok(Duration {
-                positive,
-                day: size.day,
-                second: size.second,
-                microsecond: size.microsecond,
-            });
-        }
-        Self::new(positive, size.day, size.second, size.microsecond)
-    }
-
-    /// The length in whole seconds, with the sign, cut toward zero: -86,401 for `-P1DT1.5S`.
+    /// The duration in whole seconds, with the sign, cut toward zero: -86,401 for `-P1DT1.5S`.
     pub fn signed_total_seconds(&self) -> i64
         ensures second { result ≡ signed_seconds (duration_numbers self.now) }
         ensures small { unsigned_abs result < 86400000000000 }
@@ -231,7 +211,7 @@ impl Duration {
         with_sign(!self.positive, self.seconds())
     }
 
-    /// The length in whole milliseconds, with the sign, cut toward zero: -1,001 for `-PT1.0019S`.
+    /// The duration in whole milliseconds, with the sign, cut toward zero: -1,001 for `-PT1.0019S`.
     pub fn signed_total_ms(&self) -> i64
         ensures millisecond { result ≡ signed_milliseconds (duration_numbers self.now) }
     {
@@ -239,8 +219,8 @@ impl Duration {
         with_sign(!self.positive, milliseconds)
     }
 
-    /// The microseconds of the second, with the sign: -1,000 for `-PT1.001S`. They are what
-    /// [`Duration::signed_total_seconds`] leaves.
+    /// The microseconds that [`Duration::signed_total_seconds`] cuts off, with the sign: -1,000 for
+    /// `-PT1.001S`.
     pub fn signed_microseconds(&self) -> i32
         ensures microsecond { result ≡ signed_microsecond (duration_numbers self.now) }
         ensures small { unsigned_abs result < 1000000 }
@@ -253,7 +233,7 @@ impl Duration {
         }
     }
 
-    /// The length in whole seconds, without the sign.
+    /// The duration in whole seconds, without the sign.
     fn seconds(&self) -> u64
         ensures seconds { result ≡ amount_seconds (duration_numbers self.now) }
     {
@@ -271,9 +251,7 @@ impl FromStr for Duration {
     ghost from_str_gives = { λ text result. result gives duration_answer order.Lax behavior.Error text };
 
     /// The answer of [`Duration::parse_str`]: `"PT90M".parse()` gives an hour and a half.
-    fn from_str(text: &str) -> Result<Self, ParseError>
-        ensures answer { result gives duration_answer order.Lax behavior.Error text.now }
-    {
+    fn from_str(text: &str) -> Result<Self, ParseError> {
         Self::parse_str(text)
     }
 }

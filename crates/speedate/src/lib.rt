@@ -1,4 +1,4 @@
-//! Dates, times of day, date-times, durations and numbers, read from bytes; all but the numbers are
+//! Dates, times of day, date-times, durations and numbers, parsed from bytes; all but the numbers are
 //! printed, each value as exactly one text. A port of the Rust crate `speedate` 0.18.0.
 //!
 //! ```
@@ -6,7 +6,7 @@
 //! let text = date.to_text();                          // text.as_str() is "2020-02-29"
 //! let refused = Date::parse_str("2021-02-29");        // Err(ParseError::OutOfRangeDay)
 //! let value = DateTime::parse_str("1654646404")?;     // 2022-06-08T00:00:04
-//! let length = Duration::parse_str("PT90M")?;         // an hour and a half, printed as PT1H30M
+//! let duration = Duration::parse_str("PT90M")?;       // an hour and a half, printed as PT1H30M
 //! ```
 //!
 //! Nothing is allocated, and no clock is read: [`DateTime::now`] and [`Date::today`] take the clock as
@@ -20,11 +20,11 @@
 //! - [`Duration`]: days, seconds and microseconds with a sign, the duration between two values, and the
 //!   value a duration after another.
 //! - [`Decimal`], [`IntFloat`], [`int_parse_bytes`] and [`float_parse_bytes`]: numbers as texts.
-//! - [`DateConfig`], [`TimeConfig`], [`DateTimeConfig`] and their builders: how texts are read.
-//! - [`ParseError`], [`ConfigError`]: the faults. A text that is refused has exactly one, and each has
+//! - [`DateConfig`], [`TimeConfig`], [`DateTimeConfig`] and their builders: how texts are parsed.
+//! - [`ParseError`], [`ConfigError`]: the errors. A text that is refused has exactly one, and each has
 //!   a name, such as `out_of_range_day`.
 //!
-//! # Readers and configurations
+//! # Parsers and configurations
 //!
 //! `parse_str` and `parse_bytes` have the default configuration; `text.parse()` is `parse_str`.
 //! These take a configuration:
@@ -37,14 +37,14 @@
 //! - a [`DateTimeConfig`]: `parse_str_with_config`, `parse_bytes_with_config`,
 //!   `from_timestamp_with_config` and `from_decimal_with_config` of [`DateTime`].
 //!
-//! A number in place of a date or a date-time is a Unix timestamp: seconds, milliseconds or
-//! microseconds since 1970-01-01T00:00:00 in UTC, and by default seconds up to 20,000,000,000,
-//! otherwise milliseconds. The readers with `rfc3339` in their names, `parse_bytes_strict` and
-//! `parse_front` read no timestamps.
+//! A whole number in place of a date or a date-time, or a decimal in place of a date-time, is a Unix
+//! timestamp: seconds, milliseconds or microseconds since 1970-01-01T00:00:00 in UTC, and by default
+//! seconds if it is at most 20,000,000,000 without its sign, otherwise milliseconds. The calls with
+//! `rfc3339` in their names, `parse_bytes_strict` and `parse_front` parse no timestamps.
 //!
 //! # Documents
 //!
-//! `docs/GRAMMAR.md` has the texts and the faults, as tables; `docs/CALLING.md` the first check,
+//! `docs/GRAMMAR.md` has the texts and the errors, as tables; `docs/CALLING.md` the first check,
 //! which call does what, and callers; `docs/DIFFERENCES.md` what differs from the Rust crate. Some of its calls
 //! have another name here: `to_string` is `to_text`, `from_float_with_config` is
 //! [`DateTime::from_decimal_with_config`], and `<` of times and date-times is `cmp_instant`.

@@ -1,12 +1,13 @@
 //! The duration between two values, and the value a duration after another or before it.
 
-ghost use Rattle.std.specs.Prelude.{◌≡◌, ◌<◌, ◌≤◌, ◌+ℤ◌, ◌-ℤ◌, ◌*ℤ◌, IfOk, Ok, pos, neg_ℤ, unsigned_abs};
+ghost use Rattle.std.specs.Prelude.{◌≡◌, ◌<◌, ◌≤◌, ◌+ℤ◌, ◌-ℤ◌, IfOk, Ok, neg_ℤ, unsigned_abs};
 ghost use Rattle.std.specs.Ordering.{int_cmp};
 ghost use Rattle.speedate_base.specs.Timestamp.{instant_at, unix_instant};
 ghost use Rattle.speedate_civil.specs.DateTime.{local_microsecond, utc_microsecond, date_and_time};
 ghost use Rattle.speedate_civil.specs.Calendar.{days_between};
 ghost use Rattle.speedate.specs.declared.duration.Duration.{Duration};
-ghost use Rattle.speedate.specs.Duration.{duration_numbers, signed_amount, duration_of_amount, amount_answer, negated, with_positive_zero, duration_between, date_time_after, duration_between_dates, signed_days, date_after_days};
+ghost use Rattle.speedate.specs.Duration.{duration_numbers, signed_amount, duration_of_amount, amount_answer, negated, with_positive_zero, duration_between, date_time_after, duration_between_dates, date_after_days};
+ghost use Rattle.speedate.specs.DurationNumbers.{signed_day};
 
 use super::{DAYS_MAX, Duration};
 use speedate_base::faults::ParseError;
@@ -18,10 +19,10 @@ impl Duration {
     ghost use Rattle.speedate_base.specs.Requirement.{result_map};
     ghost use Rattle.speedate_civil.specs.DateTime.{◌gives◌};
 
-    /// The duration from one date-time to another, by their instants in UTC: an hour from
-    /// 2020-01-01T12:00:00Z to 2020-01-01T12:00:00-01:00. It is negative where `later` is the earlier
-    /// one, and has at most 3,652,426 days. A date-time without an offset is taken to be in UTC. If the
-    /// offsets are equal, [`Duration::after`] leads from the one exactly to the other.
+    /// The duration from `earlier` to `later`, by their instants in UTC: an hour from
+    /// 2020-01-01T12:00:00Z to 2020-01-01T12:00:00-01:00. It is negative if `later` is before `earlier`,
+    /// and has at most 3,652,426 days. A date-time without an offset is taken to be in UTC. If the
+    /// offsets are equal, [`Duration::after`] leads from `earlier` exactly to `later`.
     pub fn between(earlier: &DateTime, later: &DateTime) -> Duration
         ensures answer { duration_numbers result ≡ duration_between (date_and_time earlier.now) (date_and_time later.now) }
         ensures length { signed_amount (duration_numbers result)
@@ -35,14 +36,14 @@ impl Duration {
         Self::of_microseconds(utc_microsecond(later) - utc_microsecond(earlier))
     }
 
-    /// The date-time this long after another, or before it where the duration is negative, at the same
+    /// The date-time this long after `start`, or before it if the duration is negative, at the same
     /// offset: 2020-03-01T00:30:00+01:00 for an hour and 2020-02-29T23:30:00+01:00.
     /// [`Duration::before`] leads back.
     ///
     /// # Errors
     ///
-    /// `DateTooSmall` where the date that a clock at the offset shows is before the year 0000,
-    /// `DateTooLarge` where it is after the year 9999.
+    /// `DateTooSmall` if the date that a clock at the offset shows is before the year 0000,
+    /// `DateTooLarge` if it is after the year 9999.
     #[inline(always)]
     pub fn after(&self, start: &DateTime) -> Result<DateTime, ParseError>
         ensures answer { result gives date_time_after (signed_amount (duration_numbers self.now)) (date_and_time start.now) }
@@ -60,7 +61,7 @@ impl Duration {
         instant_date_time(self.end(start), start.time.tz_offset)
     }
 
-    /// The date-time this long before another, or after it where the duration is negative, at the same
+    /// The date-time this long before `start`, or after it if the duration is negative, at the same
     /// offset: 2020-02-29T23:30:00+01:00 for an hour and 2020-03-01T00:30:00+01:00. [`Duration::after`]
     /// leads back.
     ///
@@ -97,8 +98,8 @@ impl Duration {
         }
     }
 
-    /// The length in microseconds, with the sign: -1,500,000 for -PT1.5S, and 0 for PT0S and -PT0S.
-    /// [`Duration::from_signed_microseconds`] leads back, to PT0S of both.
+    /// The duration in microseconds, with the sign: -1,500,000 for -PT1.5S, and 0 for PT0S and -PT0S.
+    /// [`Duration::from_signed_microseconds`] leads back, from 0 to PT0S.
     pub fn signed_total_microseconds(&self) -> i128
         ensures microsecond { result ≡ signed_amount (duration_numbers self.now) }
         ensures leads_back { amount_answer result ≡ Ok (with_positive_zero (duration_numbers self.now)) }
@@ -106,8 +107,8 @@ impl Duration {
         1_000_000 * i128::from(self.signed_total_seconds()) + i128::from(self.signed_microseconds())
     }
 
-    /// The duration of a length in microseconds, with the sign: -PT1.5S for -1,500,000, and PT0S for 0.
-    /// Sums and multiples of lengths are exact: the longest duration has fewer than 2^77 microseconds.
+    /// The duration of a number of microseconds with a sign: -PT1.5S for -1,500,000, and PT0S for 0. An
+    /// `i128` has room for sums and multiples: the longest duration has fewer than 2^67 microseconds.
     ///
     /// # Errors
     ///
@@ -131,13 +132,13 @@ impl Duration {
     }
 
     /// The duration of a number of microseconds.
-    fn of_microseconds(length: i64) -> Duration
-        ensures numbers { duration_numbers result ≡ duration_of_amount length }
+    fn of_microseconds(amount: i64) -> Duration
+        ensures numbers { duration_numbers result ≡ duration_of_amount amount }
     {
-        let size = length.unsigned_abs();
+        let size = amount.unsigned_abs();
         let (seconds, per_day) = (size / 1_000_000, u64::from(SECONDS_PER_DAY));
         Duration {
-            positive: length >= 0,
+            positive: amount >= 0,
             day: (seconds / per_day) as u32,
             second: (seconds % per_day) as u32,
             microsecond: (size % 1_000_000) as u32,
@@ -159,8 +160,8 @@ impl Duration {
 impl Duration {
     ghost use Rattle.speedate_civil.specs.Date.{ymd, ◌gives◌};
 
-    /// The duration from one date to another, whole days: two days from 2020-02-28 to 2020-03-01. It is
-    /// negative where `later` is the earlier one.
+    /// The duration from `earlier` to `later`, in whole days: two days from 2020-02-28 to 2020-03-01. It
+    /// is negative if `later` is before `earlier`.
     pub fn between_dates(earlier: &Date, later: &Date) -> Duration
         ensures answer { duration_numbers result ≡ duration_between_dates (ymd earlier.now) (ymd later.now) }
         ensures leads_back { date_after_days (duration_numbers result) (ymd earlier.now) ≡ Ok (ymd later.now) }
@@ -174,17 +175,16 @@ impl Duration {
         }
     }
 
-    /// The date this many days after another, or before it where the duration is negative: 2020-03-01 for
+    /// The date this many days after `start`, or before it if the duration is negative: 2020-03-01 for
     /// two days and 2020-02-28. [`Duration::before_date`] leads back.
     ///
-    /// The faults, in the order in which they are looked for:
+    /// # Errors
     ///
-    /// - `DateNotExact` where the duration is not whole days;
-    /// - `DateTooSmall` where the date is before the year 0000, `DateTooLarge` where it is after the year
-    ///   9999.
+    /// `DateNotExact` if the duration is not whole days, then `DateTooSmall` if the date is before the
+    /// year 0000, or `DateTooLarge` if it is after the year 9999.
     pub fn after_date(&self, start: &Date) -> Result<Date, ParseError>
         ensures answer { result gives date_after_days (duration_numbers self.now) (ymd start.now) }
-        ensures days { IfOk result (λ end. days_between (ymd start.now) (ymd end) ≡ signed_days (duration_numbers self.now)) }
+        ensures days { IfOk result (λ end. days_between (ymd start.now) (ymd end) ≡ signed_day (duration_numbers self.now)) }
         ensures leads_back { IfOk result (λ end. date_after_days (negated (duration_numbers self.now)) (ymd end) ≡ Ok (ymd start.now)) }
     {
         if self.second != 0 || self.microsecond != 0 {
@@ -199,7 +199,7 @@ impl Duration {
         start.checked_add_days(days).ok_or(fault)
     }
 
-    /// The date this many days before another, or after it where the duration is negative: 2020-02-28
+    /// The date this many days before `start`, or after it if the duration is negative: 2020-02-28
     /// for two days and 2020-03-01. [`Duration::after_date`] leads back.
     ///
     /// # Errors
@@ -207,7 +207,7 @@ impl Duration {
     /// Those of [`Duration::after_date`].
     pub fn before_date(&self, start: &Date) -> Result<Date, ParseError>
         ensures answer { result gives date_after_days (negated (duration_numbers self.now)) (ymd start.now) }
-        ensures days { IfOk result (λ end. days_between (ymd end) (ymd start.now) ≡ signed_days (duration_numbers self.now)) }
+        ensures days { IfOk result (λ end. days_between (ymd end) (ymd start.now) ≡ signed_day (duration_numbers self.now)) }
         ensures leads_back { IfOk result (λ end. date_after_days (duration_numbers self.now) (ymd end) ≡ Ok (ymd start.now)) }
     {
         self.negated().after_date(start)

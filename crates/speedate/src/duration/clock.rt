@@ -4,7 +4,7 @@ ghost use Rattle.std.specs.Prelude.{◌≡◌, ◌+◌, ◌-◌, ◌^◌, ◌<�
 ghost use Rattle.speedate_base.specs.Ascii.{colon};
 ghost use Rattle.speedate_base.specs.Digits.{run_length, run_value};
 ghost use Rattle.speedate_base.specs.Requirement.{meets, result_map};
-ghost use Rattle.speedate.specs.ClockForm.{colon_place, from_minute, has_hours, hours_table, after_hours, clock_form};
+ghost use Rattle.speedate.specs.ClockForm.{colon_place, has_hours, hours_table, after_hours, clock_form};
 
 use super::unsigned::UnsignedDuration;
 use speedate_base::config::MicrosecondsPrecisionOverflowBehavior;
@@ -24,7 +24,7 @@ const REST_LENGTH_MAX: usize = 12;
 impl UnsignedDuration {
     ghost use Rattle.speedate.specs.Duration.{unsigned_numbers};
 
-    /// Reads a duration as a clock shows it, whose hours are the digits at its front: a day, an hour
+    /// Parses a duration as a clock shows it, whose hours are the digits at its front: a day, an hour
     /// and three seconds from `b"25:00:03"`.
     #[tactic(auto, unfolding(crate::specs::ClockForm::clock_form))]
     #[inline(always)]
@@ -41,7 +41,7 @@ impl UnsignedDuration {
         Self::after_hours(&bytes[end + 1..], hours.value, behavior)
     }
 
-    /// Reads what follows the hours of a clock, from its minute on: all of `rest`.
+    /// Parses what follows the hours of a clock, from its minute on: all of `rest`.
     #[inline(always)]
     fn after_hours(
         rest: &[u8],
@@ -100,7 +100,7 @@ fn has_hours(bytes: &[u8], end: usize) -> bool
     byte_at(bytes, end) == b':' && end <= HOURS_LENGTH_MAX
 }
 
-/// The fault of a clock that does not begin with hours and a `:`.
+/// The error of a clock that does not begin with hours and a `:`.
 fn hours_fault(bytes: &[u8]) -> ParseError
     requires long { 5 ≤ length bytes.now }
     requires other { has_hours bytes.now ≡ false }

@@ -1,6 +1,6 @@
 //! The form of a duration that begins with days.
 
-ghost use Rattle.std.specs.Prelude.{◌≡◌, ◌-◌, ◌^◌, ◌≤◌, length, min, codes, ◌∷◌, [], Some, None, IfSome, IfOk, if◌then◌else◌};
+ghost use Rattle.std.specs.Prelude.{◌≡◌, ◌-◌, ◌^◌, ◌≤◌, length, min, Some, None, IfSome, IfOk, if◌then◌else◌};
 ghost use Rattle.speedate_base.specs.Requirement.{result_map};
 ghost use Rattle.speedate_base.specs.Digits.{run_length, run_value};
 ghost use Rattle.speedate.specs.DayForm.{size_of_one, day_endings, gaps, has_whole_ending, is_day_letter, days_front, after_days, day_form};
@@ -13,7 +13,7 @@ use speedate_base::numbers::{DigitRun, byte_at, digit_run};
 impl UnsignedDuration {
     ghost use Rattle.speedate.specs.Duration.{unsigned_numbers};
 
-    /// Reads a duration whose days, the digits at its front, come first: a day and ten hours from
+    /// Parses a duration whose days, the digits at its front, come first: a day and ten hours from
     /// `b"1 day, 10:00"`.
     #[tactic(auto, unfolding(crate::specs::DayForm::day_form))]
     #[inline(always)]
@@ -30,7 +30,7 @@ impl UnsignedDuration {
         Self::after_days(&bytes[size..], days, behavior)
     }
 
-    /// Reads what follows the days, nothing or a clock of fewer than 24 hours, and joins the two.
+    /// Parses what follows the days, nothing or a clock of fewer than 24 hours, and joins the two.
     #[tactic(auto, unfolding(crate::specs::DayForm::after_days))]
     #[inline(always)]
     fn after_days(
@@ -40,20 +40,18 @@ impl UnsignedDuration {
     ) -> Result<Self, ParseError>
         ensures answer { result_map unsigned_numbers result ≡ after_days behavior days rest.now }
     {
-        let (second, microsecond) = if rest.is_empty() {
-            (0, 0)
-        } else {
-            let clock = Self::from_clock(rest, digit_run(rest), behavior)?;
-            if clock.day != 0 {
-                return Err(ParseError::DurationHourValueTooLarge);
-            }
-            (clock.second, clock.microsecond)
-        };
-        Ok(UnsignedDuration {
-            day: days,
-            second,
-            microsecond,
-        })
+        if rest.is_empty() {
+            return Ok(UnsignedDuration {
+                day: days,
+                second: 0,
+                microsecond: 0,
+            });
+        }
+        let clock = Self::from_clock(rest, digit_run(rest), behavior)?;
+        if clock.day != 0 {
+            return Err(ParseError::DurationHourValueTooLarge);
+        }
+        Ok(UnsignedDuration { day: days, ..clock })
     }
 }
 
@@ -72,7 +70,7 @@ fn days_at_front(bytes: &[u8], days: DigitRun) -> Result<(u32, usize), ParseErro
     if days.value > u64::from(u32::MAX) {
         return Err(ParseError::DurationValueTooLarge);
     }
-    let letter = days.length + space_size(&bytes[days.length..]);
+    let letter = days.length + usize::from(bytes[days.length..].starts_with(b" "));
     if !is_day_letter(byte_at(bytes, letter)) {
         return Err(ParseError::DurationInvalidDays);
     }
@@ -88,18 +86,6 @@ pub(super) fn is_day_letter(byte: u8) -> bool
     ensures { result ≡ is_day_letter byte }
 {
     byte == b'd' || byte == b'D'
-}
-
-/// How many bytes the space has that a text begins with: 0 if it begins with none.
-#[inline(always)]
-fn space_size(text: &[u8]) -> usize
-    ensures size { result ≡ size_of_one (codes " " ∷ []) text.now }
-    ensures within { result ≤ length text.now }
-{
-    match text {
-        [b' ', ..] => 1,
-        _ => 0,
-    }
 }
 
 /// How many bytes the rest of a word has that a text begins with, `ays`, `ay`, `AYS` or `AY`: those of the

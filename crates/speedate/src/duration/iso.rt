@@ -1,19 +1,18 @@
 //! The form of a duration that ISO 8601 has.
 
-ghost use Rattle.std.specs.Prelude.{◌≡◌, ◌+◌, ◌-◌, ◌*◌, ◌^◌, ◌<◌, ◌≤◌, ◌&&◌, nat_le, nat_lt, min, length, take, drop, slice_index, IsTrue, Bool, true, false, Ok, Err, IfOk, IfErr, IfSome, [], if◌then◌else◌};
+ghost use Rattle.std.specs.Prelude.{◌≡◌, ◌+◌, ◌-◌, ◌*◌, ◌<◌, ◌≤◌, length, take, drop, IsTrue, true, false, Ok, Err, IfOk, IfSome, [], if◌then◌else◌};
 ghost use Rattle.std.specs.Char.{is_ascii_digit};
 ghost use Rattle.std.specs.List.{list_all};
-ghost use Rattle.speedate_base.specs.Digits.{run_length, run_value, digits_value, fraction_value, is_decimal_mark};
-ghost use Rattle.std.specs.Option.{ForSome, option_map, is_some};
+ghost use Rattle.speedate_base.specs.Digits.{fraction_value, is_decimal_mark};
+ghost use Rattle.std.specs.Option.{option_map, is_some};
 ghost use Rattle.speedate_base.specs.declared.faults.ParseError.TheVariants as fault;
-ghost use Rattle.speedate_base.specs.Ascii.{capital_t};
 ghost use Rattle.speedate_base.specs.Requirement.{result_map, with_size};
-ghost use Rattle.speedate.specs.IsoForm.{Component, TimeDesignator, units, unit_in, fraction_size, unit_seconds, next_units_after, fraction_seconds, fraction_microseconds, component_at, item_at, are_counted, with_number, with_item, item_table, sums_amount, no_sums};
+ghost use Rattle.speedate.specs.IsoForm.{Component, TimeDesignator, units, unit_in, fraction_size, unit_seconds, next_units_after, fraction_seconds, fraction_microseconds, component_at, item_at, are_counted, with_number, with_item, sums_amount};
 
 use super::unsigned::UnsignedDuration;
 use speedate_base::config::IsoOrder;
 use speedate_base::faults::ParseError;
-use speedate_base::numbers::{DigitRun, Fraction, byte_at, digit_run, few_digits, is_decimal_mark};
+use speedate_base::numbers::{Fraction, byte_at, digit_run, few_digits, is_decimal_mark};
 use speedate_base::util::{SECONDS_PER_DAY, twice_microseconds};
 
 /// How many digits of a fraction of a second are whole microseconds.
@@ -132,10 +131,10 @@ impl Sums {
     ghost use Rattle.speedate.specs.Duration.{unsigned_numbers, iso_from, iso_form};
     ghost use Rattle.speedate.specs.Reader.{unit_parts, IsUnitOf, sums_parts, item_front};
 
-    /// Reads all items of a duration, and adds them up.
+    /// Parses all items of a duration, and adds them up.
     ///
     /// Most texts are whole numbers of few digits with their designators, a `T`, and such components
-    /// again. These are read straight on, and what is left is read item by item.
+    /// again. These are parsed straight on, and what is left is parsed item by item.
     #[inline(always)]
     pub(super) fn read(body: &[u8], order: IsoOrder) -> Result<UnsignedDuration, ParseError>
         ensures answer { result_map unsigned_numbers result ≡ iso_form order body.now }
@@ -181,9 +180,9 @@ impl Sums {
     {
         let mut sums = self;
         let mut size = 0;
-        while let Some((next, length)) = sums.with_short_component(&text[size..]) {
+        while let Some((next, added)) = sums.with_short_component(&text[size..]) {
             sums = next;
-            size += length;
+            size += added;
         }
         (sums, size)
     }
@@ -253,21 +252,17 @@ impl Sums {
         ensures sums { IfSome result (λ sums. sums_parts sums ≡ with_number (unit_parts unit.now) number [] (sums_parts self)) }
         ensures counted { is_some result ≡ are_counted (with_number (unit_parts unit.now) number [] (sums_parts self)) }
     {
-        Some(Sums {
-            order: self.order,
-            passed: self.passed_by(unit),
-            is_time: self.is_time,
-            fraction: false,
-            some: true,
-            day: self.day.checked_add(number * unit.day)?,
-            second: self.second.checked_add(number * unit.second)?,
-            microsecond: self.microsecond,
-        })
+        let mut sums = self;
+        sums.passed = self.passed_by(unit);
+        sums.some = true;
+        sums.day = self.day.checked_add(number * unit.day)?;
+        sums.second = self.second.checked_add(number * unit.second)?;
+        Some(sums)
     }
 
-    /// The length that all items add up to, if a component is among them.
+    /// The amount that all items add up to, if a component is among them.
     #[inline(always)]
-    fn length(self) -> Result<UnsignedDuration, ParseError>
+    fn amount(self) -> Result<UnsignedDuration, ParseError>
         ensures answer { result_map unsigned_numbers result ≡ (if self.some then Ok (sums_amount (sums_parts self)) else Err fault.TooShort) }
     {
         if !self.some {
@@ -280,7 +275,7 @@ impl Sums {
         })
     }
 
-    /// Reads the items of a text one by one, with all that may be wrong in them, and adds them.
+    /// Parses the items of a text one by one, with all that may be wrong in them, and adds them.
     #[inline(always)]
     fn with_items(self, text: &[u8]) -> Result<UnsignedDuration, ParseError>
         ensures answer { result_map unsigned_numbers result ≡ iso_from (sums_parts self) text.now }
@@ -292,7 +287,7 @@ impl Sums {
             sums = next;
             rest = &rest[size..];
         }
-        sums.length()
+        sums.amount()
     }
 
     /// The sums with the item that begins a text, and how many bytes it has.
@@ -337,9 +332,8 @@ impl Sums {
         } else {
             ParseError::DurationInvalidDateUnit
         };
-        let unit = DurationUnit::of_designator(byte_at(rest, size), self.is_time).ok_or(
-            unit_fault,
-        )?;
+        let designator = byte_at(rest, size);
+        let unit = DurationUnit::of_designator(designator, self.is_time).ok_or(unit_fault)?;
         if !self.takes(&unit) {
             return Err(ParseError::DurationUnitOrder);
         }

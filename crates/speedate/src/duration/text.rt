@@ -3,7 +3,7 @@
 ghost use Rattle.std.specs.Prelude.{◌≡◌, ◌≢◌, ◌+◌, ◌++◌, ◌<◌, ◌≤◌, ◌↔◌, length, Some, Result, Ok};
 ghost use Rattle.std.specs.Fmt.{decimal};
 ghost use Rattle.arrayvec.specs.ArrayString.{array_string_len};
-ghost use Rattle.speedate_base.specs.Digits.{two_digit_text, six_digit_text};
+ghost use Rattle.speedate_base.specs.Digits.{two_digit_text};
 ghost use Rattle.speedate.specs.Duration.{counted_text, without_last_zeros, short_fraction_text, seconds_text, rest_text, duration_text};
 
 use super::Duration;
@@ -88,20 +88,10 @@ fn push_fraction<const LENGTH: usize>(microsecond: u32, text: &mut ArrayString<L
     requires room { array_string_len text.old + 7 ≤ LENGTH }
     ensures text { text.new.bytes ≡ text.old.bytes ++ short_fraction_text microsecond }
 {
-    if microsecond != 0 {
-        text.push('.');
-        push_places(microsecond, text);
+    if microsecond == 0 {
+        return;
     }
-}
-
-/// Appends the digits of a microsecond without the zeros at their end: `12` for 120,000.
-#[inline(always)]
-fn push_places<const LENGTH: usize>(microsecond: u32, text: &mut ArrayString<LENGTH>)
-    requires some { microsecond ≢ 0 }
-    requires small { microsecond ≤ 999999 }
-    requires room { array_string_len text.old + 6 ≤ LENGTH }
-    ensures text { text.new.bytes ≡ text.old.bytes ++ without_last_zeros (six_digit_text microsecond) }
-{
+    text.push('.');
     let first = (microsecond / 10_000) as u8;
     let second = (microsecond / 100 % 100) as u8;
     let third = (microsecond % 100) as u8;
@@ -161,7 +151,7 @@ impl Duration {
     /// fraction of a second has no zeros at its end. Zero is `PT0S` or `-PT0S`. The text is not
     /// allocated; `.as_str()` is the text.
     ///
-    /// Every configuration reads it back as the duration. No other duration has the same text.
+    /// Every configuration parses it as the duration. No other duration has the same text.
     pub fn to_text(&self) -> ArrayString<TEXT_MAX>
         ensures text { result.bytes ≡ duration_text (duration_numbers self.now) }
         ensures reads_back { (config : TimeConfig)

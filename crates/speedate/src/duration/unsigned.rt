@@ -14,7 +14,7 @@ use speedate_base::config::{IsoOrder, MicrosecondsPrecisionOverflowBehavior};
 use speedate_base::faults::ParseError;
 use speedate_base::numbers::{DigitRun, byte_at, digit_run};
 
-/// A length of time as a text says it: days, seconds and microseconds, of any size.
+/// An amount of time as a text says it: days, seconds and microseconds of any size.
 #[derive(Clone, Copy)]
 pub(super) struct UnsignedDuration {
     pub(super) day: u32,
@@ -23,7 +23,7 @@ pub(super) struct UnsignedDuration {
 }
 
 impl UnsignedDuration {
-    /// Reads a duration whose sign was read, in the form that its text has.
+    /// Parses a duration after its sign, in the form that its text has.
     #[tactic(auto, unfolding(crate::specs::Duration::unsigned_answer))]
     #[inline(always)]
     pub(super) fn parse(
@@ -39,7 +39,7 @@ impl UnsignedDuration {
         Self::days_or_clock(bytes, behavior)
     }
 
-    /// Reads a duration of days, or one that a clock shows.
+    /// Parses a duration of days, or one that a clock shows.
     #[tactic(auto, unfolding(crate::specs::Duration::form_answer))]
     #[inline(always)]
     fn days_or_clock(
@@ -65,7 +65,7 @@ impl UnsignedDuration {
         Self::refused_clock(bytes, number, behavior)
     }
 
-    /// Reads a clock again that has a fault.
+    /// Parses a refused clock again, for its error.
     #[inline(never)]
     fn refused_clock(
         bytes: &[u8],

@@ -21,10 +21,10 @@ returns-clause-between c =
 
 pub returns-clause-order : goal.returns-clause-order
 returns-clause-order c other =
-    let length = signed_amount (duration_numbers c.args.self.now) in
+    let amount = signed_amount (duration_numbers c.args.self.now) in
     let next = signed_amount (duration_numbers other) in
     IfOk-weaker c.instant_date_time.result _ _
-    (λ end same. ends-order (date_and_time c.args.start.now) (date_and_time end) length next length next refl same) (returns-clause-ends c)
+    (λ end same. ends-order (date_and_time c.args.start.now) (date_and_time end) amount next amount next refl same) (returns-clause-ends c)
 
 pub returns-clause-leads_back : goal.returns-clause-leads_back
 returns-clause-leads_back c =

@@ -25,4 +25,4 @@ loop-rest-preserved c =
 pub returns : goal.returns
 returns c =
     let none : length c.loop-rest.rest.now ≡ 0 = grind (arith, nat_tests, c.loop-rest-test.false, c.is_empty.ensures) in
-    record { answer = c.length.ensures.answer ∙ sym (iso_from-end (sums_parts c.loop-rest.sums) c.loop-rest.rest.now none) ∙ c.loop-rest.invariant }
+    record { answer = c.amount.ensures.answer ∙ sym (iso_from-end (sums_parts c.loop-rest.sums) c.loop-rest.rest.now none) ∙ c.loop-rest.invariant }

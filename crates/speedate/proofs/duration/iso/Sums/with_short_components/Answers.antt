@@ -17,6 +17,6 @@ loop-next-preserved c =
     let within = ap length taken ∙ length-drop size text in
     let some : 0 < length rest = omega (arith, c.in-Some.ensures.some, c.in-Some.ensures.within, within, length-drop size text) in
     let item = c.in-Some.ensures.item ∙ ap (λ (text : List ℕ). item_front sums (item_at text)) taken in (
-      ap (iso_from next) (sym (drop-drop c.in-Some.length size text)) ∙ iso_from-front sums rest (Ok (next, c.in-Some.length)) some item ∙ c.loop-next.invariant.0,
+      ap (iso_from next) (sym (drop-drop c.in-Some.added size text)) ∙ iso_from-front sums rest (Ok (next, c.in-Some.added)) some item ∙ c.loop-next.invariant.0,
       omega (arith, c.in-Some.ensures.within, within, c.loop-next.invariant.1),
     )
