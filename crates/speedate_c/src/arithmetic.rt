@@ -8,10 +8,9 @@ ghost use Rattle.speedate_c.specs.Date.{date_of, shown_date};
 ghost use Rattle.speedate_c.specs.DateTime.{date_time_of, shown_date_time};
 ghost use Rattle.speedate_c.specs.Duration.{duration_of, shown_duration};
 
-use crate::code::SUCCESS;
 use crate::date::{SpeedateDate, write_date};
 use crate::datetime::{SpeedateDateTime, write_date_time};
-use crate::duration::SpeedateDuration;
+use crate::duration::{SpeedateDuration, write_duration};
 use speedate::Duration;
 
 /// The duration from one date-time to another, by their instants in UTC, as [`Duration::between`]
@@ -28,8 +27,7 @@ pub extern "C" fn speedate_duration_between(
 {
     let earlier = value_or_return!(earlier);
     let later = value_or_return!(later);
-    *out = SpeedateDuration::from_value(&Duration::between(&earlier, &later));
-    SUCCESS
+    write_duration(Ok(Duration::between(&earlier, &later)), out)
 }
 
 /// The date-time a duration after another, or before it where the duration is negative, as
@@ -82,8 +80,7 @@ pub extern "C" fn speedate_duration_between_dates(
 {
     let earlier = value_or_return!(earlier);
     let later = value_or_return!(later);
-    *out = SpeedateDuration::from_value(&Duration::between_dates(&earlier, &later));
-    SUCCESS
+    write_duration(Ok(Duration::between_dates(&earlier, &later)), out)
 }
 
 /// The date this many days after another, or before it where the duration is negative, as
@@ -131,7 +128,5 @@ pub extern "C" fn speedate_duration_negate(
     ensures answer { (result, out.new) ≡ with_value (duration_of duration) (value_out_of_range, out.old)
         (λ duration. after_value (shown_duration (negated duration))) }
 {
-    let duration = value_or_return!(duration);
-    *out = SpeedateDuration::from_value(&duration.negated());
-    SUCCESS
+    write_of!(duration => *out = SpeedateDuration::from_value(&duration.negated()))
 }

@@ -1,7 +1,7 @@
 //! The codes that calls answer, and their names.
 
 ghost use Rattle.std.specs.Option.{option_map};
-ghost use Rattle.std.specs.Prelude.{◌≡◌, ◌≤◌, IfSome, Some, length, pos, slice_get};
+ghost use Rattle.std.specs.Prelude.{◌≡◌, ◌≤◌, IfSome, Some, length, slice_get};
 ghost use Rattle.speedate_c.specs.Code.{code_row, fault_code, fault_of, order_number, refusal_row};
 
 use speedate::ParseError;

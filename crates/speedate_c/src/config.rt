@@ -44,15 +44,13 @@ impl SpeedateConfig {
     pub(crate) fn to_config(self) -> Option<DateTimeConfig>
         ensures choices { option_map choices result ≡ choices_of self }
     {
+        let offset = offset(self.has_timestamp_offset, self.timestamp_offset);
         Some(DateTimeConfig {
             timestamp_unit: unit(self.timestamp_unit)?,
             time_config: TimeConfig {
                 microseconds_precision_overflow_behavior: behavior(self.overflow_behavior)?,
                 iso_order: order(self.iso_order)?,
-                unix_timestamp_offset: offset(
-                    self.has_timestamp_offset,
-                    self.timestamp_offset,
-                ).ok()?,
+                unix_timestamp_offset: offset.ok()?,
             },
         })
     }

@@ -161,10 +161,7 @@ pub extern "C" fn speedate_date_compare(
         (λ first. with_value (date_of second) (value_out_of_range, out.old)
         (λ second. after_value (order_number (date_order first second)))) }
 {
-    let first = value_or_return!(first);
-    let second = value_or_return!(second);
-    *out = order_number(first.cmp(&second));
-    SUCCESS
+    write_of!(first, second => *out = order_number(first.cmp(&second)))
 }
 
 /// The date of a timestamp in the unit of the configuration, as [`Date::from_timestamp`] gives it:
@@ -199,9 +196,7 @@ pub extern "C" fn speedate_date_timestamp(date: SpeedateDate, out: &mut i64) -> 
     ensures answer { (result, out.new) ≡ with_value (date_of date) (value_out_of_range, out.old)
         (λ date. after_value (midnight_second date)) }
 {
-    let date = value_or_return!(date);
-    *out = date.timestamp();
-    SUCCESS
+    write_of!(date => *out = date.timestamp())
 }
 
 /// The millisecond at which a date begins, as [`Date::timestamp_ms`] gives it: 86,400,000 for
@@ -211,9 +206,7 @@ pub extern "C" fn speedate_date_timestamp_ms(date: SpeedateDate, out: &mut i64) 
     ensures answer { (result, out.new) ≡ with_value (date_of date) (value_out_of_range, out.old)
         (λ date. after_value (midnight_millisecond date)) }
 {
-    let date = value_or_return!(date);
-    *out = date.timestamp_ms();
-    SUCCESS
+    write_of!(date => *out = date.timestamp_ms())
 }
 
 /// The number of days from 0000-01-01 to a date, as [`Date::day_number`] gives it: 737,790 for
@@ -223,9 +216,7 @@ pub extern "C" fn speedate_date_day_number(date: SpeedateDate, out: &mut u32) ->
     ensures answer { (result, out.new) ≡ with_value (date_of date) (value_out_of_range, out.old)
         (λ date. after_value (day_number date)) }
 {
-    let date = value_or_return!(date);
-    *out = date.day_number();
-    SUCCESS
+    write_of!(date => *out = date.day_number())
 }
 
 /// The date of a day number, as [`Date::from_day_number`] gives it: 0000-02-29 for 59.
@@ -243,9 +234,7 @@ pub extern "C" fn speedate_date_ordinal_day(date: SpeedateDate, out: &mut u16) -
     ensures answer { (result, out.new) ≡ with_value (date_of date) (value_out_of_range, out.old)
         (λ date. after_value (ordinal_day date)) }
 {
-    let date = value_or_return!(date);
-    *out = date.ordinal_day();
-    SUCCESS
+    write_of!(date => *out = date.ordinal_day())
 }
 
 /// The date that many days later, or earlier for a negative number, as [`Date::checked_add_days`]
@@ -276,8 +265,5 @@ pub extern "C" fn speedate_date_days_since(
         (λ date. with_value (date_of earlier) (value_out_of_range, out.old)
         (λ earlier. after_value (days_between earlier date))) }
 {
-    let date = value_or_return!(date);
-    let earlier = value_or_return!(earlier);
-    *out = date.days_since(&earlier);
-    SUCCESS
+    write_of!(date, earlier => *out = date.days_since(&earlier))
 }

@@ -172,10 +172,7 @@ pub extern "C" fn speedate_datetime_compare(
         (λ first. with_value (date_time_of second) (value_out_of_range, out.old)
         (λ second. after_value (order_number (date_time_instant_order first second)))) }
 {
-    let first = value_or_return!(first);
-    let second = value_or_return!(second);
-    *out = order_number(first.cmp_instant(&second));
-    SUCCESS
+    write_of!(first, second => *out = order_number(first.cmp_instant(&second)))
 }
 
 /// The date-time of a timestamp, in the unit of the configuration, and further microseconds later,
@@ -207,9 +204,7 @@ pub extern "C" fn speedate_datetime_timestamp(value: SpeedateDateTime, out: &mut
     ensures answer { (result, out.new) ≡ with_value (date_time_of value) (value_out_of_range, out.old)
         (λ value. after_value (local_second value)) }
 {
-    let value = value_or_return!(value);
-    *out = value.timestamp();
-    SUCCESS
+    write_of!(value => *out = value.timestamp())
 }
 
 /// The millisecond since 1970-01-01T00:00:00 that a clock at the offset shows, as
@@ -219,9 +214,7 @@ pub extern "C" fn speedate_datetime_timestamp_ms(value: SpeedateDateTime, out: &
     ensures answer { (result, out.new) ≡ with_value (date_time_of value) (value_out_of_range, out.old)
         (λ value. after_value (local_millisecond value)) }
 {
-    let value = value_or_return!(value);
-    *out = value.timestamp_ms();
-    SUCCESS
+    write_of!(value => *out = value.timestamp_ms())
 }
 
 /// The second since 1970-01-01T00:00:00 in UTC, as [`DateTime::timestamp_tz`] gives it: 82,800 for
@@ -231,9 +224,7 @@ pub extern "C" fn speedate_datetime_timestamp_tz(value: SpeedateDateTime, out: &
     ensures answer { (result, out.new) ≡ with_value (date_time_of value) (value_out_of_range, out.old)
         (λ value. after_value (utc_second value)) }
 {
-    let value = value_or_return!(value);
-    *out = value.timestamp_tz();
-    SUCCESS
+    write_of!(value => *out = value.timestamp_tz())
 }
 
 /// The millisecond since 1970-01-01T00:00:00 in UTC, as [`DateTime::timestamp_tz_ms`] gives it:
@@ -243,9 +234,7 @@ pub extern "C" fn speedate_datetime_timestamp_tz_ms(value: SpeedateDateTime, out
     ensures answer { (result, out.new) ≡ with_value (date_time_of value) (value_out_of_range, out.old)
         (λ value. after_value (utc_millisecond value)) }
 {
-    let value = value_or_return!(value);
-    *out = value.timestamp_tz_ms();
-    SUCCESS
+    write_of!(value => *out = value.timestamp_tz_ms())
 }
 
 /// The date-time at the same instant, as a clock at another offset shows it, as

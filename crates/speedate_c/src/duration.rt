@@ -40,10 +40,7 @@ impl SpeedateDuration {
         if self.day > 999_999_999 {
             return Err(ParseError::DurationDaysTooLarge);
         }
-        if self.second >= 86_400 {
-            return Err(ParseError::DurationValueTooLarge);
-        }
-        if self.microsecond >= 1_000_000 {
+        if self.second >= 86_400 || self.microsecond >= 1_000_000 {
             return Err(ParseError::DurationValueTooLarge);
         }
         Ok(Duration {
@@ -69,7 +66,10 @@ impl SpeedateDuration {
 }
 
 /// Writes the duration of an answer, and gives the code.
-fn write_duration(answer: Result<Duration, ParseError>, out: &mut SpeedateDuration) -> i32
+pub(crate) fn write_duration(
+    answer: Result<Duration, ParseError>,
+    out: &mut SpeedateDuration,
+) -> i32
     ensures after { (result, out.new) ≡ after_answer shown_duration out.old (result_map duration_numbers answer) }
 {
     let duration = answer_or_return!(answer);
@@ -116,8 +116,8 @@ pub extern "C" fn speedate_duration_normalize(
     write_duration(answer, out)
 }
 
-/// Whether the numbers are those of a duration: `SUCCESS`, `DurationDaysTooLarge` where it has more
-/// than 999,999,999 days, `DurationValueTooLarge` for another number that is out of range.
+/// Whether the numbers are those of a duration: `SUCCESS`, or the fault of the first number that is
+/// out of range, `DurationDaysTooLarge` for the days and `DurationValueTooLarge` for any other.
 #[unsafe(no_mangle)]
 pub extern "C" fn speedate_duration_check(duration: SpeedateDuration) -> i32
     ensures answer { result ≡ answer_code (duration_of duration) }
@@ -154,10 +154,7 @@ pub extern "C" fn speedate_duration_compare(
         (λ first. with_value (duration_of second) (value_out_of_range, out.old)
         (λ second. after_value (order_number (duration_order first second)))) }
 {
-    let first = value_or_return!(first);
-    let second = value_or_return!(second);
-    *out = order_number(first.cmp(&second));
-    SUCCESS
+    write_of!(first, second => *out = order_number(first.cmp(&second)))
 }
 
 /// The whole seconds with the sign, as [`Duration::signed_total_seconds`] gives them: -86,401 for a
@@ -170,9 +167,7 @@ pub extern "C" fn speedate_duration_signed_total_seconds(
     ensures answer { (result, out.new) ≡ with_value (duration_of duration) (value_out_of_range, out.old)
         (λ duration. after_value (signed_seconds duration)) }
 {
-    let duration = value_or_return!(duration);
-    *out = duration.signed_total_seconds();
-    SUCCESS
+    write_of!(duration => *out = duration.signed_total_seconds())
 }
 
 /// The milliseconds with the sign, cut toward zero, as [`Duration::signed_total_ms`] gives them:
@@ -185,9 +180,7 @@ pub extern "C" fn speedate_duration_signed_total_ms(
     ensures answer { (result, out.new) ≡ with_value (duration_of duration) (value_out_of_range, out.old)
         (λ duration. after_value (signed_milliseconds duration)) }
 {
-    let duration = value_or_return!(duration);
-    *out = duration.signed_total_ms();
-    SUCCESS
+    write_of!(duration => *out = duration.signed_total_ms())
 }
 
 /// The microseconds of a second with the sign, as [`Duration::signed_microseconds`] gives them:
@@ -200,7 +193,5 @@ pub extern "C" fn speedate_duration_signed_microseconds(
     ensures answer { (result, out.new) ≡ with_value (duration_of duration) (value_out_of_range, out.old)
         (λ duration. after_value (signed_microsecond duration)) }
 {
-    let duration = value_or_return!(duration);
-    *out = duration.signed_microseconds();
-    SUCCESS
+    write_of!(duration => *out = duration.signed_microseconds())
 }

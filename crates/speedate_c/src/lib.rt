@@ -34,6 +34,15 @@ macro_rules! answer_or_return {
     };
 }
 
+/// Writes what is computed of the values of structs of the caller's, and gives the code.
+macro_rules! write_of {
+    ($($value:ident),+ => *$out:ident = $written:expr) => {{
+        $(let $value = value_or_return!($value);)+
+        *$out = $written;
+        $crate::code::SUCCESS
+    }};
+}
+
 mod arithmetic;
 mod code;
 mod config;

@@ -39,14 +39,7 @@ impl SpeedateTime {
         ensures answer { result gives time_of self.now }
     {
         let clock = Time::new(self.hour, self.minute, self.second, self.microsecond, None)?;
-        let tz_offset = offset(self.has_offset, self.offset)?;
-        Ok(Time {
-            hour: clock.hour,
-            minute: clock.minute,
-            second: clock.second,
-            microsecond: clock.microsecond,
-            tz_offset,
-        })
+        clock.with_timezone_offset(offset(self.has_offset, self.offset)?)
     }
 
     /// The numbers of a time.
@@ -105,10 +98,8 @@ fn parse_configured(text: &[u8], config: SpeedateConfig, out: &mut SpeedateTime)
         (λ config. after_answer shown_time out.old (time_answer config.behavior text.now)) }
 {
     let config = config_or_return!(config);
-    write_time(
-        Time::parse_bytes_with_config(text, &config.time_config),
-        out,
-    )
+    let time = Time::parse_bytes_with_config(text, &config.time_config);
+    write_time(time, out)
 }
 
 /// Reads a time from a text of RFC 3339, as [`Time::parse_bytes_strict`] does by the behavior of a
@@ -187,10 +178,7 @@ pub extern "C" fn speedate_time_compare(
         (λ first. with_value (time_of second) (value_out_of_range, out.old)
         (λ second. after_value (order_number (time_instant_order first second)))) }
 {
-    let first = value_or_return!(first);
-    let second = value_or_return!(second);
-    *out = order_number(first.cmp_instant(&second));
-    SUCCESS
+    write_of!(first, second => *out = order_number(first.cmp_instant(&second)))
 }
 
 /// The time of the seconds and microseconds after midnight, with the offset of the configuration,
@@ -218,9 +206,7 @@ pub extern "C" fn speedate_time_total_seconds(time: SpeedateTime, out: &mut u32)
     ensures answer { (result, out.new) ≡ with_value (time_of time) (value_out_of_range, out.old)
         (λ time. after_value (second_of_day time)) }
 {
-    let time = value_or_return!(time);
-    *out = time.total_seconds();
-    SUCCESS
+    write_of!(time => *out = time.total_seconds())
 }
 
 /// The milliseconds since midnight, rounded down, as [`Time::total_ms`] gives them: 43,994,500 for
@@ -230,9 +216,7 @@ pub extern "C" fn speedate_time_total_ms(time: SpeedateTime, out: &mut u32) -> i
     ensures answer { (result, out.new) ≡ with_value (time_of time) (value_out_of_range, out.old)
         (λ time. after_value (millisecond_of_day time)) }
 {
-    let time = value_or_return!(time);
-    *out = time.total_ms();
-    SUCCESS
+    write_of!(time => *out = time.total_ms())
 }
 
 /// The time at the same instant, as a clock at another offset shows it, as [`Time::in_timezone`]

@@ -277,13 +277,12 @@ fn strict_texts(rt: HostRuntime) {
 fn timestamps(rt: HostRuntime) {
     for row in TIMESTAMPS.lines() {
         let [unit, timestamp, microsecond, want, ..] = words(row);
-        let config = DateTimeConfig::builder()
-            .timestamp_unit(value(&rt, unit))
-            .build();
+        let unit = value(&rt, unit);
+        let config = DateTimeConfig::builder().timestamp_unit(unit).build();
         let (timestamp, microsecond) = (value(&rt, timestamp), value(&rt, microsecond));
         let read = DateTime::from_timestamp_with_config(timestamp, microsecond, &config);
         expect(&rt, read, want, row);
-        if unit == "infer" {
+        if config == DateTimeConfig::default() {
             let read = DateTime::from_timestamp(timestamp, microsecond);
             expect(&rt, read, want, row);
         }
@@ -293,8 +292,8 @@ fn timestamps(rt: HostRuntime) {
 #[test]
 fn counted(rt: HostRuntime) {
     for row in COUNTED.lines() {
-        let [text, second, millisecond, utc_second, utc_millisecond] = words(row);
-        let shown = DateTime::parse_str(text).ok().expect(&rt, row);
+        let [text, second, millisecond, utc_second, utc_millisecond, ..] = words(row);
+        let shown: DateTime = value(&rt, text);
         same(&rt, shown.timestamp(), value(&rt, second), row);
         same(&rt, shown.timestamp_ms(), value(&rt, millisecond), row);
         same(&rt, shown.timestamp_tz(), value(&rt, utc_second), row);
@@ -307,8 +306,7 @@ fn counted(rt: HostRuntime) {
 fn offsets(rt: HostRuntime) {
     for row in OFFSETS.lines() {
         let [time, offset, shown, moved, ..] = words(row);
-        let time = DateTime::parse_str(time).ok().expect(&rt, row);
-        let offset = value(&rt, offset);
+        let (time, offset): (DateTime, i32) = (value(&rt, time), value(&rt, offset));
         expect(&rt, time.with_timezone_offset(Some(offset)), shown, row);
         expect(&rt, time.in_timezone(offset), moved, row);
     }

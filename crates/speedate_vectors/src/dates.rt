@@ -119,9 +119,8 @@ fn texts(rt: HostRuntime) {
 fn numbers(rt: HostRuntime) {
     for row in NUMBERS.lines() {
         let (unit, text, want) = quoted(&rt, row);
-        let config = DateConfig::builder()
-            .timestamp_unit(value(&rt, unit))
-            .build();
+        let unit = value(&rt, unit);
+        let config = DateConfig::builder().timestamp_unit(unit).build();
         expect(&rt, Date::parse_str_with_config(&text, &config), want, row);
         let read = Date::parse_bytes_with_config(text.as_bytes(), &config);
         expect(&rt, read, want, row);
@@ -144,9 +143,8 @@ fn fronts(rt: HostRuntime) {
 fn timestamps(rt: HostRuntime) {
     for row in TIMESTAMPS.lines() {
         let [unit, exact, timestamp, want, ..] = words(row);
-        let config = DateConfig::builder()
-            .timestamp_unit(value(&rt, unit))
-            .build();
+        let unit = value(&rt, unit);
+        let config = DateConfig::builder().timestamp_unit(unit).build();
         let answer = Date::from_timestamp(value(&rt, timestamp), exact == "exact", &config);
         expect(&rt, answer, want, row);
     }
@@ -164,8 +162,8 @@ fn parts(rt: HostRuntime) {
 #[test]
 fn days(rt: HostRuntime) {
     for row in DAYS.lines() {
-        let [number, text, ordinal, second, next] = words(row);
-        let date = Date::parse_str(text).ok().expect(&rt, row);
+        let [number, text, ordinal, second, next, ..] = words(row);
+        let date: Date = value(&rt, text);
         let (number, second): (u32, i64) = (value(&rt, number), value(&rt, second));
         same(&rt, date.day_number(), number, row);
         expect_or_none(&rt, Date::from_day_number(number), text, row);
@@ -182,8 +180,7 @@ fn days(rt: HostRuntime) {
 fn days_added(rt: HostRuntime) {
     for row in ADDED.lines() {
         let [date, days, want, ..] = words(row);
-        let date = Date::parse_str(date).ok().expect(&rt, row);
-        let days: i32 = value(&rt, days);
+        let (date, days): (Date, i32) = (value(&rt, date), value(&rt, days));
         let later = date.checked_add_days(days);
         expect_or_none(&rt, later, want, row);
         if let Some(later) = later {

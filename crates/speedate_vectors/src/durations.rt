@@ -1,7 +1,7 @@
 //! Durations from texts and numbers, their totals, and what lies a duration apart.
 
 use crate::rows::{expect, quoted, same, time_config, value, words};
-use speedate::{Date, DateTime, Duration};
+use speedate::Duration;
 
 /// Texts, and the answer of each reader.
 const TEXTS: &str = "\
@@ -199,7 +199,7 @@ fn configured_texts(rt: HostRuntime) {
 #[test]
 fn parts(rt: HostRuntime) {
     for row in PARTS.lines() {
-        let [sign, day, second, microsecond, want] = words(row);
+        let [sign, day, second, microsecond, want, ..] = words(row);
         let (day, second) = (value(&rt, day), value(&rt, second));
         let made = Duration::new(sign == "+", day, second, value(&rt, microsecond));
         expect(&rt, made, want, row);
@@ -209,8 +209,8 @@ fn parts(rt: HostRuntime) {
 #[test]
 fn totals(rt: HostRuntime) {
     for row in TOTALS.lines() {
-        let [text, second, part, millisecond, microsecond] = words(row);
-        let length = Duration::parse_str(text).ok().expect(&rt, row);
+        let [text, second, part, millisecond, microsecond, ..] = words(row);
+        let length: Duration = value(&rt, text);
         same(&rt, length.signed_total_seconds(), value(&rt, second), row);
         same(&rt, length.signed_microseconds(), value(&rt, part), row);
         same(&rt, length.signed_total_ms(), value(&rt, millisecond), row);
@@ -232,15 +232,13 @@ fn lengths(rt: HostRuntime) {
 fn between(rt: HostRuntime) {
     for row in BETWEEN.lines() {
         let [start, end, want, ..] = words(row);
-        let start = DateTime::parse_str(start).ok().expect(&rt, row);
-        let end = DateTime::parse_str(end).ok().expect(&rt, row);
-        expect(&rt, Ok(Duration::between(&start, &end)), want, row);
+        let length = Duration::between(&value(&rt, start), &value(&rt, end));
+        expect(&rt, Ok(length), want, row);
     }
     for row in BETWEEN_DATES.lines() {
         let [start, end, want, ..] = words(row);
-        let start = Date::parse_str(start).ok().expect(&rt, row);
-        let end = Date::parse_str(end).ok().expect(&rt, row);
-        expect(&rt, Ok(Duration::between_dates(&start, &end)), want, row);
+        let length = Duration::between_dates(&value(&rt, start), &value(&rt, end));
+        expect(&rt, Ok(length), want, row);
     }
 }
 
@@ -248,15 +246,13 @@ fn between(rt: HostRuntime) {
 fn after(rt: HostRuntime) {
     for row in AFTER.lines() {
         let [start, length, want, ..] = words(row);
-        let start = DateTime::parse_str(start).ok().expect(&rt, row);
-        let length = Duration::parse_str(length).ok().expect(&rt, row);
+        let (start, length): (_, Duration) = (value(&rt, start), value(&rt, length));
         expect(&rt, length.after(&start), want, row);
         expect(&rt, length.negated().before(&start), want, row);
     }
     for row in AFTER_DATE.lines() {
         let [start, length, want, ..] = words(row);
-        let start = Date::parse_str(start).ok().expect(&rt, row);
-        let length = Duration::parse_str(length).ok().expect(&rt, row);
+        let (start, length): (_, Duration) = (value(&rt, start), value(&rt, length));
         expect(&rt, length.after_date(&start), want, row);
         expect(&rt, length.negated().before_date(&start), want, row);
     }

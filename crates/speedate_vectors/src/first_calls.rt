@@ -92,10 +92,8 @@ fn time(rt: HostRuntime) -> Result<(), ParseError> {
     assert_eq!(rt; order, Ordering::Less);
 
     let time = Time::new(12, 13, 14, 500_000, None)?;
-    assert_eq!(rt;
-        (time.total_seconds(), time.total_ms()),
-        (43_994, 43_994_500)
-    );
+    let totals = (time.total_seconds(), time.total_ms());
+    assert_eq!(rt; totals, (43_994, 43_994_500));
 
     Ok(())
 }
@@ -116,10 +114,8 @@ fn date_time(rt: HostRuntime) -> Result<(), ParseError> {
 
     let config = TimeConfig::default();
     let (value, size) = DateTime::parse_front(b"2026-11-22T12:13:14Z GET /", &config)?;
-    assert_eq!(rt;
-        (value.to_text().as_str(), size),
-        ("2026-11-22T12:13:14Z", 20)
-    );
+    let text = value.to_text();
+    assert_eq!(rt; (text.as_str(), size), ("2026-11-22T12:13:14Z", 20));
 
     let behavior = MicrosecondsPrecisionOverflowBehavior::Truncate;
     let value = DateTime::parse_bytes_strict(b"2020-02-29T12:13:14.1234567Z", behavior)?;
@@ -146,6 +142,9 @@ fn date_time(rt: HostRuntime) -> Result<(), ParseError> {
     let earlier = DateTime::parse_str("2022-01-02T01:00:00+03:00")?;
     let later = DateTime::parse_str("2022-01-01T23:00:00Z")?;
     assert_eq!(rt; earlier.cmp_instant(&later), Ordering::Less);
+    let mut values = [later, earlier];
+    let sorted = values.sort_by(rt.alloc(), |one, two| one.cmp_instant(two));
+    assert!(rt; sorted.is_ok() && values == [earlier, later]);
 
     let moment = Moment::new(1_654_646_399, 0)?;
     let value = DateTime::now(|| Some(moment), 3_600)?;
@@ -164,10 +163,8 @@ fn duration(rt: HostRuntime) -> Result<(), ParseError> {
     assert_eq!(rt; refused, Err(ParseError::DurationInvalidDays));
 
     let length = Duration::new(true, 1, 86_500, 1_000_123)?;
-    assert_eq!(rt;
-        (length.day, length.second, length.microsecond),
-        (2, 101, 123)
-    );
+    let numbers = (length.day, length.second, length.microsecond);
+    assert_eq!(rt; numbers, (2, 101, 123));
 
     let length = Duration::parse_bytes(b"-00:00:01")?;
     assert_eq!(rt; (length.positive, length.second), (false, 1));
@@ -177,21 +174,17 @@ fn duration(rt: HostRuntime) -> Result<(), ParseError> {
     assert_eq!(rt; refused, Err(ParseError::DurationUnitOrder));
 
     let start = DateTime::parse_str("2020-02-29T23:30:00+01:00")?;
-    let end = Duration::parse_str("PT1H")?.after(&start)?;
+    let length = Duration::parse_str("PT1H")?;
+    let end = length.after(&start)?;
     assert_eq!(rt; end.to_text().as_str(), "2020-03-01T00:30:00+01:00");
-    assert_eq!(rt; Duration::parse_str("PT1H")?.before(&end)?, start);
-    assert_eq!(rt;
-        Duration::between(&start, &end),
-        Duration::parse_str("PT1H")?
-    );
+    assert_eq!(rt; length.before(&end)?, start);
+    assert_eq!(rt; Duration::between(&start, &end), length);
 
     let start = Date::parse_str("2020-02-28")?;
-    let end = Duration::parse_str("P2D")?.after_date(&start)?;
+    let length = Duration::parse_str("P2D")?;
+    let end = length.after_date(&start)?;
     assert_eq!(rt; end.to_text().as_str(), "2020-03-01");
-    assert_eq!(rt;
-        Duration::between_dates(&start, &end),
-        Duration::parse_str("P2D")?
-    );
+    assert_eq!(rt; Duration::between_dates(&start, &end), length);
 
     let length = Duration::parse_str("-P1DT1.5S")?;
     assert_eq!(rt; length.signed_total_seconds(), -86_401);

@@ -1,6 +1,6 @@
 //! Fractions of 0 to 40 digits, compared with a loop over their digits.
 
-use crate::rows::{date_time_config, joined, same};
+use crate::rows::{date_time_config, same};
 use speedate::{DateTime, Duration};
 use std::alloc::{AllocError, Global};
 use std::process::Abort;
@@ -41,7 +41,7 @@ fn microseconds(second: i64, microsecond: i64) -> i64 {
 /// The microseconds of the timestamp that `front` and the digits are, with this unit and behavior.
 fn timestamp<R: AllocGlobal + Abort>(rt: &R, front: &str, digits: &str, unit: &str) -> i64 {
     let config = date_time_config(rt, unit);
-    let text = joined(rt.alloc(), front, digits, 1, "");
+    let text = format!(in rt.alloc(); "{front}{digits}");
     let text = text.ok().expect(rt, front);
     let read = DateTime::parse_str_with_config(&text, &config).ok();
     let read = read.expect(rt, "a date-time");
@@ -50,7 +50,7 @@ fn timestamp<R: AllocGlobal + Abort>(rt: &R, front: &str, digits: &str, unit: &s
 
 /// The microseconds of the duration that `front`, the digits and `S` are.
 fn duration<R: AllocGlobal + Abort>(rt: &R, front: &str, digits: &str) -> i64 {
-    let text = joined(rt.alloc(), front, digits, 1, "S");
+    let text = format!(in rt.alloc(); "{front}{digits}S");
     let text = text.ok().expect(rt, front);
     let read = Duration::parse_str(&text).ok().expect(rt, "a duration");
     let microsecond = i64::from(read.signed_microseconds());

@@ -1,8 +1,10 @@
 //! The orders of dates, of times and date-times by instant, and of durations.
 
-use crate::rows::{same, words};
+use crate::rows::{same, value, words};
 use speedate::{Date, DateTime, Duration, ParseError, Time};
 use std::cmp::Ordering;
+use std::process::Abort;
+use std::str::FromStr;
 
 const DATES: &str = "\
 0000-12-31  <  0001-01-01
@@ -36,24 +38,30 @@ fn sign(order: Ordering) -> &'static str {
     }
 }
 
+/// The values of each row are to be in its order.
+fn expect_orders<T: FromStr + Ord + Copy, R: Abort>(rt: &R, rows: &str)
+where
+    T::Err: Drop,
+{
+    for row in rows.lines() {
+        let [one, order, two, ..] = words(row);
+        let (one, two): (T, T) = (value(rt, one), value(rt, two));
+        same(rt, sign(one.cmp(&two)), order, row);
+        same(rt, one < two, order == "<", row);
+        same(rt, one == two, order == "=", row);
+    }
+}
+
 #[test]
 fn dates(rt: HostRuntime) {
-    for row in DATES.lines() {
-        let [one, order, two, ..] = words(row);
-        let one = Date::parse_str(one).ok().expect(&rt, row);
-        let two = Date::parse_str(two).ok().expect(&rt, row);
-        same(&rt, sign(one.cmp(&two)), order, row);
-        same(&rt, one < two, order == "<", row);
-        same(&rt, one == two, order == "=", row);
-    }
+    expect_orders::<Date, _>(&rt, DATES);
 }
 
 #[test]
 fn times(rt: HostRuntime) {
     for row in TIMES.lines() {
         let [one, order, two, ..] = words(row);
-        let one = Time::parse_str(one).ok().expect(&rt, row);
-        let two = Time::parse_str(two).ok().expect(&rt, row);
+        let (one, two): (Time, Time) = (value(&rt, one), value(&rt, two));
         same(&rt, sign(one.cmp_instant(&two)), order, row);
         // without offsets they sort as their texts
         if one.tz_offset.is_none() && two.tz_offset.is_none() {
@@ -67,8 +75,7 @@ fn times(rt: HostRuntime) {
 fn date_times(rt: HostRuntime) {
     for row in DATE_TIMES.lines() {
         let [one, order, two, ..] = words(row);
-        let one = DateTime::parse_str(one).ok().expect(&rt, row);
-        let two = DateTime::parse_str(two).ok().expect(&rt, row);
+        let (one, two): (DateTime, DateTime) = (value(&rt, one), value(&rt, two));
         same(&rt, sign(one.cmp_instant(&two)), order, row);
     }
 }
@@ -78,13 +85,6 @@ fn durations(rt: HostRuntime) -> Result<(), ParseError> {
     let longer = Duration::new(false, 4, 0, 0)?;
     let shorter = Duration::new(false, 3, 0, 0)?;
     same(&rt, sign(longer.cmp(&shorter)), "<", "four days back");
-    for row in DURATIONS.lines() {
-        let [one, order, two, ..] = words(row);
-        let one = Duration::parse_str(one).ok().expect(&rt, row);
-        let two = Duration::parse_str(two).ok().expect(&rt, row);
-        same(&rt, sign(one.cmp(&two)), order, row);
-        same(&rt, one < two, order == "<", row);
-        same(&rt, one == two, order == "=", row);
-    }
+    expect_orders::<Duration, _>(&rt, DURATIONS);
     Ok(())
 }

@@ -2,7 +2,6 @@
 //! text in quotes, the answer to it last. `<9*5000>` in quotes stands for 5,000 times `9`.
 
 use speedate::{Date, DateTime, DateTimeConfig, Duration, IsoOrder, ParseError, Time, TimeConfig};
-use std::alloc::{AllocError, Global};
 use std::fmt::{Debug, Display};
 use std::process::Abort;
 use std::str::FromStr;
@@ -14,31 +13,16 @@ pub fn quoted<'a, R: AllocGlobal + Abort>(rt: &R, row: &'a str) -> (&'a str, Str
     let (front, rest) = text.split_once('<').unwrap_or((text, ">"));
     let (run, back) = rest.split_once('>').expect(rt, row);
     let (repeated, count) = run.split_once('*').unwrap_or(("", "0"));
-    let text = joined(rt.alloc(), front, repeated, value(rt, count), back);
+    let run = repeated.repeat(rt.alloc(), value(rt, count));
+    let run = run.ok().expect(rt, row);
+    let text = format!(in rt.alloc(); "{front}{run}{back}");
     let text = text.ok().expect(rt, row);
     (before.trim_end(), text, after.trim_start())
 }
 
-/// `front`, the repeated text `count` times, and `back`.
-pub fn joined(
-    alloc: Global,
-    front: &str,
-    repeated: &str,
-    count: u32,
-    back: &str,
-) -> Result<String, AllocError> {
-    let mut text = String::new(alloc);
-    text.push_str(front)?;
-    for _ in 0..count {
-        text.push_str(repeated)?;
-    }
-    text.push_str(back)?;
-    Ok(text)
-}
-
-/// The first five words of a row, and no text for those that it lacks.
-pub fn words(row: &str) -> [&str; 5] {
-    let mut words = [""; 5];
+/// The first six words of a row, and no text for those that it lacks.
+pub fn words(row: &str) -> [&str; 6] {
+    let mut words = [""; 6];
     for (place, word) in row.split_whitespace().enumerate() {
         if place < words.len() {
             words[place] = word;

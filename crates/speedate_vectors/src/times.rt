@@ -190,7 +190,7 @@ fn strict_texts(rt: HostRuntime) {
 #[test]
 fn timestamps(rt: HostRuntime) {
     for row in TIMESTAMPS.lines() {
-        let [_, offset, second, microsecond, want] = words(row);
+        let [_, offset, second, microsecond, want, ..] = words(row);
         let config = time_config(&rt, row);
         let (second, microsecond) = (value(&rt, second), value(&rt, microsecond));
         let read = Time::from_timestamp_with_config(second, microsecond, &config);
@@ -204,8 +204,7 @@ fn timestamps(rt: HostRuntime) {
 #[test]
 fn parts(rt: HostRuntime) {
     for row in PARTS.lines() {
-        let (want, numbers) = row.split_once(' ').expect(&rt, row);
-        let [hour, minute, second, microsecond, word] = words(numbers);
+        let [want, hour, minute, second, microsecond, word] = words(row);
         let (hour, minute, second) = (value(&rt, hour), value(&rt, minute), value(&rt, second));
         let (microsecond, offset) = (value(&rt, microsecond), offset(&rt, word));
         let answer = Time::new(hour, minute, second, microsecond, offset);
@@ -217,7 +216,7 @@ fn parts(rt: HostRuntime) {
 fn since_midnight(rt: HostRuntime) {
     for row in SINCE_MIDNIGHT.lines() {
         let [time, second, millisecond, ..] = words(row);
-        let time = Time::parse_str(time).ok().expect(&rt, row);
+        let time: Time = value(&rt, time);
         same(&rt, time.total_seconds(), value(&rt, second), row);
         same(&rt, time.total_ms(), value(&rt, millisecond), row);
     }
@@ -227,8 +226,7 @@ fn since_midnight(rt: HostRuntime) {
 fn offsets(rt: HostRuntime) {
     for row in OFFSETS.lines() {
         let [time, offset, shown, moved, ..] = words(row);
-        let time = Time::parse_str(time).ok().expect(&rt, row);
-        let offset = value(&rt, offset);
+        let (time, offset): (Time, i32) = (value(&rt, time), value(&rt, offset));
         expect(&rt, time.with_timezone_offset(Some(offset)), shown, row);
         expect(&rt, time.in_timezone(offset), moved, row);
     }
