@@ -2,7 +2,7 @@
 
 ghost use Rattle.std.specs.Prelude.{◌≡◌, ℕ, ◌<◌, ◌≤◌, IfOk, List, unsigned_abs};
 ghost use Rattle.speedate_base.specs.Requirement.{result_map};
-ghost use Rattle.speedate.specs.DurationNumbers.{amount_seconds, amount_microseconds, normal_form, signed_seconds, signed_microsecond, signed_milliseconds};
+ghost use Rattle.speedate.specs.DurationNumbers.{amount_seconds, amount_microseconds, normal_form, signed_form, signed_seconds, signed_microsecond, signed_milliseconds};
 
 mod arithmetic;
 mod clock;
@@ -53,7 +53,7 @@ pub struct Duration {
 impl Duration {
     ghost use Rattle.speedate_base.specs.declared.config.IsoOrder.TheVariants as order;
     ghost use Rattle.speedate_base.specs.declared.config.MicrosecondsPrecisionOverflowBehavior.TheVariants as behavior;
-    ghost use Rattle.speedate.specs.Duration.{duration_numbers, ◌gives◌, duration_answer, IsGrammarAnswer};
+    ghost use Rattle.speedate.specs.Duration.{duration_numbers, unsigned_numbers, ◌gives◌, duration_answer, IsGrammarAnswer};
     ghost use Rattle.speedate.specs.IsoOrder.{AreExchanged, IsAnswerInOrder};
 
     /// The duration of days, seconds and microseconds of any size, with the same amount: 2 days, 101
@@ -68,21 +68,11 @@ impl Duration {
     ///
     /// - `DurationValueTooLarge` if the seconds, or then the days, exceed 4,294,967,295;
     /// - `DurationDaysTooLarge` if the days exceed 999,999,999.
-    #[inline(always)]
     pub fn new(positive: bool, day: u32, second: u32, microsecond: u32) -> Result<Self, ParseError>
         ensures answer { result gives normal_form (record { positive = positive; day = day; second = second; microsecond = microsecond }) }
         ensures length { IfOk result (λ duration. amount_microseconds (duration_numbers duration)
             ≡ amount_microseconds (record { positive = positive; day = day; second = second; microsecond = microsecond })) }
     {
-        // Most numbers are in their ranges, and need no division.
-        if day <= DAYS_MAX && second < SECONDS_PER_DAY && microsecond < 1_000_000 {
-            return Ok(Duration {
-                positive,
-                day,
-                second,
-                microsecond,
-            });
-        }
         let second = second
             .checked_add(microsecond / 1_000_000)
             .ok_or(ParseError::DurationValueTooLarge)?;
@@ -200,7 +190,27 @@ impl Duration {
             config.iso_order,
             config.microseconds_precision_overflow_behavior,
         )?;
-        Self::new(!negative, amount.day, amount.second, amount.microsecond)
+        Self::signed(!negative, amount)
+    }
+
+    /// Puts the sign on an amount, and brings it into its normal form.
+    #[inline(always)]
+    fn signed(positive: bool, amount: UnsignedDuration) -> Result<Self, ParseError>
+        ensures answer { result gives signed_form positive (unsigned_numbers amount) }
+    {
+        // Most amounts are in their normal form as they are parsed.
+        if amount.day <= DAYS_MAX
+            && amount.second < SECONDS_PER_DAY
+            && amount.microsecond < 1_000_000
+        {
+            return Ok(Duration {
+                positive,
+                day: amount.day,
+                second: amount.second,
+                microsecond: amount.microsecond,
+            });
+        }
+        Self::new(positive, amount.day, amount.second, amount.microsecond)
     }
 
     /// The duration in whole seconds, with the sign, cut toward zero: -86,401 for `-P1DT1.5S`.
