@@ -12,7 +12,7 @@ mod order;
 mod text;
 mod unsigned;
 
-use speedate_base::config::TimeConfig;
+use speedate_base::config::{IsoOrder, MicrosecondsPrecisionOverflowBehavior, TimeConfig};
 use speedate_base::faults::ParseError;
 use speedate_base::numbers::{sign, with_sign};
 use speedate_base::util::SECONDS_PER_DAY;
@@ -152,7 +152,11 @@ impl Duration {
     pub fn parse_bytes(bytes: &[u8]) -> Result<Self, ParseError>
         ensures answer { result gives duration_answer order.Lax behavior.Error bytes.now }
     {
-        Self::parse_bytes_with_config(bytes, &TimeConfig::default())
+        Self::parse(
+            bytes,
+            IsoOrder::Lax,
+            MicrosecondsPrecisionOverflowBehavior::Error,
+        )
     }
 
     /// Parses a duration from bytes, by a configuration: a second and 123,456 microseconds from
@@ -184,12 +188,26 @@ impl Duration {
         ensures exchanged { (other : List ℕ) → config.now.iso_order ≡ order.Lax → AreExchanged bytes.now other
             → result gives duration_answer config.now.iso_order config.now.microseconds_precision_overflow_behavior other }
     {
-        let (negative, size) = sign(bytes);
-        let amount = UnsignedDuration::parse(
-            &bytes[size..],
+        Self::parse(
+            bytes,
             config.iso_order,
             config.microseconds_precision_overflow_behavior,
-        )?;
+        )
+    }
+
+    /// Parses a duration, with or without a sign. What it goes by are values: constants that come in a
+    /// configuration are not seen to be constants.
+    #[tactic(auto, using(std::proofs::lemmas::List::take_rest))]
+    #[inline(always)]
+    fn parse(
+        bytes: &[u8],
+        order: IsoOrder,
+        behavior: MicrosecondsPrecisionOverflowBehavior,
+    ) -> Result<Self, ParseError>
+        ensures answer { result gives duration_answer order behavior bytes.now }
+    {
+        let (negative, size) = sign(bytes);
+        let amount = UnsignedDuration::parse(&bytes[size..], order, behavior)?;
         Self::signed(!negative, amount)
     }
 
