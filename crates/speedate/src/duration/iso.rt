@@ -149,42 +149,35 @@ impl Sums {
             second: 0,
             microsecond: 0,
         };
-        let (days, size) = none.with_short_components(body);
-        let rest = &body[size..];
-        let (sums, size) = days.with_short_time(rest);
-        sums.with_items(&rest[size..])
+        let (days, rest) = none.with_short_components(body);
+        let (sums, rest) = days.with_short_time(rest);
+        sums.with_items(rest)
     }
 
-    /// The sums with the short components after a `T`, if a first one begins a text, and how many bytes they
-    /// have.
+    /// The sums with the short components after a `T`, if a first one begins a text, and what follows them.
     #[inline(always)]
-    fn with_short_time(self, text: &[u8]) -> (Self, usize)
-        ensures answer { iso_from (sums_parts result.0) (drop result.1 text.now) ≡ iso_from (sums_parts self) text.now }
-        ensures within { result.1 ≤ length text.now }
+    fn with_short_time(self, text: &[u8]) -> (Self, &[u8])
+        ensures answer { iso_from (sums_parts result.0) result.1.now ≡ iso_from (sums_parts self) text.now }
     {
         match text {
-            [b'T', rest @ ..] if !self.is_time => {
-                let (sums, size) = self.begin_time().with_short_components(rest);
-                (sums, 1 + size)
-            }
-            _ => (self, 0),
+            [b'T', rest @ ..] if !self.is_time => self.begin_time().with_short_components(rest),
+            _ => (self, text),
         }
     }
 
-    /// The sums with the short components that begin a text, as many as there are, and how many bytes they
-    /// have.
+    /// The sums with the short components that begin a text, as many as there are, and what follows them:
+    /// their size would be counted in each step of the loop.
     #[inline(always)]
-    fn with_short_components(self, text: &[u8]) -> (Self, usize)
-        ensures answer { iso_from (sums_parts result.0) (drop result.1 text.now) ≡ iso_from (sums_parts self) text.now }
-        ensures within { result.1 ≤ length text.now }
+    fn with_short_components(self, text: &[u8]) -> (Self, &[u8])
+        ensures answer { iso_from (sums_parts result.0) result.1.now ≡ iso_from (sums_parts self) text.now }
     {
         let mut sums = self;
-        let mut size = 0;
-        while let Some((next, added)) = sums.with_short_component(&text[size..]) {
+        let mut rest = text;
+        while let Some((next, size)) = sums.with_short_component(rest) {
             sums = next;
-            size += added;
+            rest = &rest[size..];
         }
-        (sums, size)
+        (sums, rest)
     }
 
     /// The sums with the component that begins a text, and how many bytes it has, if it is a whole
