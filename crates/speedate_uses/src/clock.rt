@@ -3,8 +3,7 @@
 ghost use Rattle.std.specs.Prelude.{◌≡◌, ◌/◌, ◌%◌, Option};
 ghost use Rattle.std.specs.Time.{system_time_nanos};
 ghost use Rattle.speedate.specs.declared.Moment.{Moment};
-ghost use Rattle.speedate.specs.DateTime.{date_and_time, now_answer, ◌gives◌};
-ghost use Rattle.speedate.specs.Requirement.{result_map};
+ghost use Rattle.speedate.specs.DateTime.{now_answer, ◌gives◌};
 
 use speedate::{DateTime, Moment, ParseError};
 use std::time::{Clock, SystemTime};

@@ -1,8 +1,7 @@
 //! A store: a value that is kept as its text.
 
-ghost use Rattle.std.specs.Prelude.{◌≡◌, Ok};
+ghost use Rattle.std.specs.Prelude.{Ok};
 ghost use Rattle.speedate.specs.Offset.{IsWholeMinutes};
-ghost use Rattle.speedate.specs.Requirement.{result_map};
 ghost use Rattle.speedate.specs.Time.{time_of_day, ◌gives◌};
 
 use speedate::{ParseError, Time, TimeConfig};

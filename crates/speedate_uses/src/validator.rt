@@ -4,7 +4,6 @@ ghost use Rattle.std.specs.Prelude.{◌≡◌, Err, MatchResult, Ok};
 ghost use Rattle.speedate.specs.declared.ParseError.{ParseError};
 ghost use Rattle.speedate.specs.DateTime.{date_and_time, ◌gives◌};
 ghost use Rattle.speedate.specs.Fault.{fault_documentation, fault_name};
-ghost use Rattle.speedate.specs.Requirement.{result_map};
 ghost use Rattle.speedate.specs.Standard.{strict_date_time_answer};
 
 use speedate::{DateTime, MicrosecondsPrecisionOverflowBehavior, ParseError};
@@ -42,10 +41,8 @@ pub fn date_time_field<'a>(field: &'a str, text: &str) -> Result<DateTime, Field
 pub fn schema_date_time(text: &str) -> Result<DateTime, ParseError>
     ensures answer { result gives strict_date_time_answer MicrosecondsPrecisionOverflowBehavior.Truncate text.now }
 {
-    DateTime::parse_bytes_strict(
-        text.as_bytes(),
-        MicrosecondsPrecisionOverflowBehavior::Truncate,
-    )
+    let behavior = MicrosecondsPrecisionOverflowBehavior::Truncate;
+    DateTime::parse_bytes_strict(text.as_bytes(), behavior)
 }
 
 #[cfg(test)]

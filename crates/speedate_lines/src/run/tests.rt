@@ -5,7 +5,7 @@ mod failures;
 use super::{RunError, run};
 use crate::ends::{Sink, Source, same};
 use crate::watched::Watched;
-use std::alloc::{AllocError, Global};
+use std::alloc::AllocError;
 use std::process::Abort;
 
 /// Inputs in quotes, and the answers to their lines. `|` stands for a line feed, `~` for the byte ff,

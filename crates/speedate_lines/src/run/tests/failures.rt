@@ -79,11 +79,8 @@ fn expect_write<R: AllocGlobal + Abort>(
     same(rt, ended.result, Err(RunError::Write), &row);
     same(rt, ended.failed, (false, true), &row);
     same(rt, calls, (call.saturating_add(1), 0), &row);
-    let all = if ended.source.rest.is_empty() {
-        OUTPUT
-    } else {
-        due(read(&ended))
-    };
+    let (whole, complete) = (ended.source.rest.is_empty(), due(read(&ended)));
+    let all = if whole { OUTPUT } else { complete };
     let sure = due(read(&ended).saturating_sub(ended.source.latest));
     let written = ended.sink.taken.as_slice();
     let holds = (all.starts_with(written), written.starts_with(sure));
@@ -147,13 +144,8 @@ fn the_end_of_the_input_is_the_first_read_that_gives_nothing(rt: HostRuntime) {
             same(&rt, found, (Ok(()), calls), &(step, call));
             let before = INPUT.get(..read(&ended)).unwrap_or(INPUT);
             let written = ended.sink.taken.as_slice();
-            expect(
-                &rt,
-                before,
-                (step, usize::MAX),
-                written,
-                "a part of the input",
-            );
+            let steps = (step, usize::MAX);
+            expect(&rt, before, steps, written, "a part of the input");
         }
     }
 }
