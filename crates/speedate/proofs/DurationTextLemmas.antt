@@ -1,5 +1,5 @@
 -- What is printed of a duration is short.
-use Rattle.std.proofs.Common.{rules, arith, lit<, ℕ, suc, ◌+◌, ◌/◌, ◌%◌, ◌^◌, ◌<◌, ◌≤◌, Bool, List, [], ◌∷◌, length, if◌then◌else◌, decimal}
+use Rattle.std.proofs.Common.{rules, arith, lit<, ℕ, ◌+◌, ◌/◌, ◌%◌, ◌^◌, ◌<◌, ◌≤◌, Bool, List, [], length, if◌then◌else◌, decimal}
 use Rattle.std.proofs.lemmas.List.{length-append}
 use Rattle.std.proofs.lemmas.Fmt.{length-decimal-le}
 use Rattle.std.proofs.lemmas.Str.{encode_ascii}

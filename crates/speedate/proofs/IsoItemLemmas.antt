@@ -1,22 +1,20 @@
 -- Items of ISO 8601 durations and the texts that begin with them, and the places of their units.
-use Rattle.std.proofs.Common.{rules, arith, ap, ap₂, sym, ◌∙◌, append_assoc, ◌≡◌, ℕ, suc, ◌+◌, ◌-◌, ◌<◌, ◌≤◌, Bool, true, false, not, List, [], ◌∷◌, ◌++◌, length, take, drop, slice_index, nat_lt, ◌==◌, if◌then◌else◌, Option, Some, None, Result, Ok, refl, zero, nat_le, is_some}
+use Rattle.std.proofs.Common.{rules, arith, ap, sym, ◌∙◌, append_assoc, ◌≡◌, ℕ, suc, ◌+◌, ◌-◌, ◌<◌, ◌≤◌, Bool, true, false, List, [], ◌∷◌, ◌++◌, length, take, drop, slice_index, nat_lt, ◌==◌, if◌then◌else◌, refl, zero, nat_le, is_some}
 use Rattle.std.proofs.lemmas.Int.{ints}
 use Rattle.std.specs.Char.{is_ascii_digit}
 use Rattle.std.specs.List.{list_all, prefix_len}
 use Rattle.std.proofs.Math.Seq.{take-append_seam, drop-append_seam, get_or-append_seam, drop-nil}
 use Rattle.std.proofs.lemmas.Bool.{and_parts, eqb-true, false≢true, le-leb}
 use Rattle.std.proofs.lemmas.Bool.Decides.{nat_tests}
-use Rattle.std.proofs.lemmas.List.{drop-take, drop-drop, drop_more, take-append-drop, get_or_past, get_or-drop, length-append, length-take-le}
+use Rattle.std.proofs.lemmas.List.{drop-take, drop-drop, drop_more, take-append-drop, get_or_past, length-append, length-take-le}
 use Rattle.std.proofs.lemmas.List.Sums.{prefix_len-le-length}
-use Rattle.speedate_base.specs.declared.faults.ParseError.{ParseError}
 use Rattle.speedate_base.specs.Ascii.{capital_t}
-use Rattle.speedate_base.specs.Digits.{run_length, run_value, is_decimal_mark}
+use Rattle.speedate_base.specs.Digits.{run_length, is_decimal_mark}
 use Rattle.speedate_base.proofs.DigitRunLemmas.{run_length-append}
 use Rattle.speedate_base.proofs.NumberLemmas.{run-digits}
 use Rattle.speedate_base.specs.Requirement.{AllHold}
-use Rattle.speedate_base.proofs.RequirementLemmas.{meets-all}
-use Rattle.speedate.specs.IsoForm.{DurationUnit, units, unit_in, ComponentText, Item, TimeDesignator, Component, item_text, IsFraction, IsItem, fraction_size, component_at, item_at, Sums, with_number, with_component, with_item, item_table, are_counted}
-use Rattle.speedate.specs.Reader.{item_front, unit_place}
+use Rattle.speedate.specs.IsoForm.{DurationUnit, units, unit_in, ComponentText, Item, TimeDesignator, Component, item_text, IsFraction, IsItem, fraction_size, component_at, item_at, Sums, item_table}
+use Rattle.speedate.specs.Reader.{unit_place}
 
 -- the designator of a unit is no digit and no decimal mark
 unit-designator : (is_time : Bool) (designator : ℕ) → is_some (unit_in (units is_time) designator) ≡ true → (is_ascii_digit designator ≡ false) × (is_decimal_mark designator ≡ false)
@@ -116,36 +114,6 @@ front-of sums byte rest false same hold =
 
 pub item-front : (sums : Sums) (byte : ℕ) (rest : List ℕ) → IsFront sums byte rest (item_at (byte ∷ rest))
 item-front sums byte rest = front-of sums byte rest (byte == capital_t) refl
-
--- a number of few digits, as it was read
-few-parts : (number value end count : ℕ) (few : Bool)
-    → ◌≡◌ {A = Option (ℕ × ℕ)} (Some (number, end)) (if few then Some (value, count) else None) → (number ≡ value) × (end ≡ count)
-few-parts number value end count few same = search (rules)
-
--- with the designator of a unit after it, it is a component, which adds that number of the unit
-pub short-front : (sums next : Sums) (text : List ℕ) (number end designator : ℕ) (few : Bool) (unit : DurationUnit)
-    → ◌≡◌ {A = Option (ℕ × ℕ)} (Some (number, end)) (if few then Some (run_value text 0, run_length text 0) else None) → 0 < end → number ≤ 4294967295 → designator ≡ slice_index text end
-    → sums.fraction ≡ false → Some unit ≡ unit_in (units sums.is_time) designator → is_some (unit_in sums.next_units designator) ≡ true
-    → next ≡ with_number unit number [] sums → are_counted (with_number unit number [] sums) ≡ true
-    → ◌≡◌ {A = Result (Sums × ℕ) ParseError} (Ok (next, end + 1)) (item_front sums (item_at text))
-short-front sums next text number end designator few unit read some small there none is comes added counted =
-    let parts = few-parts number (run_value text 0) end (run_length text 0) few read in
-    let count = run_length text 0 in
-    let component : ComponentText = record { number = take count text; fraction = []; designator = designator } in
-    let first : designator ≡ slice_index (drop count text) 0 = there ∙ ap (slice_index text) (omega (arith, parts.1)) ∙ sym (get_or-drop count text 0 0) in
-    let has = ap is_some (sym is) in
-    let within = designator-within sums.is_time (drop count text) 0 (ap (λ (byte : ℕ). is_some (unit_in (units sums.is_time) byte)) (sym first) ∙ has) in
-    let long : length (take count text) ≡ count = length-take-le count text (prefix_len-le-length is_ascii_digit text) in
-    let digits : nat_lt 0 (length (take count text)) ≡ true = grind (arith, nat_tests, some, parts.1, long) in
-    let item = ap item_at (parted text count 0 within ∙ ap (λ (byte : ℕ). (take count text ++ [] ++ byte ∷ []) ++ drop (count + 0 + 1) text) (sym first))
-    ∙ item_at-component sums.is_time component (drop (count + 0 + 1) text) (run-digits text, tt) digits has in
-    let same : with_item (Component component) sums ≡ next = ap (λ (unit : Option DurationUnit). with_component unit component sums) (sym is)
-    ∙ ap (λ (n : ℕ). with_number unit n [] sums) (sym parts.0) ∙ sym added in
-    let all : AllHold (item_table sums (Component component)) =
-    (digits, (grind (arith, nat_tests, small, parts.0), (ap not none, (has, (comes, (ap are_counted (same ∙ added) ∙ counted, tt)))))) in
-    let sized : length (item_text (Component component)) ≡ end + 1 =
-    omega (arith, parts.1, long, length-append (take count text ++ []) (designator ∷ []), length-append (take count text) []) in
-    sym (ap (item_front sums) item ∙ meets-all (item_table sums (Component component)) _ all ∙ ap₂ (λ (sums : Sums) (size : ℕ). Ok (sums, size)) same sized)
 
 -- a unit is among those from a place on if and only if its own place is none before that
 pub unit-from : (is_time : Bool) (passed designator : ℕ) → is_some (unit_in (units is_time) designator) ≡ true

@@ -92,8 +92,8 @@ signed_day numbers = with_sign (not numbers.positive) numbers.day
 abbrev pub signed_second : DurationNumbers → ℤ
 signed_second numbers = with_sign (not numbers.positive) numbers.second
 
--- the order of durations: negative before positive, then by the days, the seconds and the microseconds with the sign. So the
--- negative one of no amount comes before the positive one
+-- the order of durations: negative before positive, then by the days, the seconds and the microseconds with the sign; so
+-- negative zero comes before positive zero
 abbrev pub duration_order : DurationNumbers → DurationNumbers → Ordering
 duration_order =
     then_cmp (on (λ numbers. numbers.positive) bool_cmp)

@@ -97,7 +97,7 @@ impl Duration {
     ///
     /// - **ISO 8601**, if it begins with `P`, as `P1Y2DT3H4M5.5S`: components in any order on their
     ///   side of the `T`. A year has 365 days and a month 30. The last component may have a fraction of
-    ///   any length, which is rounded to its nearest microsecond.
+    ///   any length, which is rounded to the nearest microsecond.
     /// - **Days**, if it has a `d` or `D` anywhere, or fewer than five bytes, as `2 days, 10:20`; a
     ///   clock may follow, after a comma, a space, both or neither. The form is this library's own.
     /// - **A clock** otherwise, as `24:01:03.5`: up to 2,400,000,000 hours, and after a `:` the minute,

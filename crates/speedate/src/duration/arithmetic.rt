@@ -205,6 +205,7 @@ impl Duration {
     /// # Errors
     ///
     /// Those of [`Duration::after_date`].
+    #[tactic(auto, using(crate::proofs::DurationMoveLemmas::turned))]
     pub fn before_date(&self, start: &Date) -> Result<Date, ParseError>
         ensures answer { result gives date_after_days (negated (duration_numbers self.now)) (ymd start.now) }
         ensures days { IfOk result (λ end. days_between (ymd end) (ymd start.now) ≡ signed_day (duration_numbers self.now)) }

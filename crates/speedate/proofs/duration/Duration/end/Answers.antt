@@ -5,9 +5,6 @@ use Rattle.speedate.specs.Duration.{duration_numbers}
 use Rattle.speedate.proofs.DurationMoveLemmas.{signed_amount-joined}
 use Rattle.speedate.proofs.duration.Duration.end.Goals as goal
 
-pub carried-requires : goal.carried-requires
-carried-requires c = omega (arith, ints, c.timestamp.ensures.small, c.signed_total_seconds.ensures.small)
-
 pub returns : goal.returns
 returns c =
     record { instant = c.carried.ensures.instant ∙ ap instant_at (omega (arith, ints, signed_amount-joined (duration_numbers c.args.self.now))) }
