@@ -30,9 +30,9 @@ pub extern "C" fn speedate_duration_between(
     write_duration(Ok(Duration::between(&earlier, &later)), out)
 }
 
-/// The date-time a duration after another, or before it where the duration is negative, as
+/// The date-time a duration after another, or before it if the duration is negative, as
 /// [`Duration::after`] gives it: 2020-03-01T00:30:00+01:00 for an hour and
-/// 2020-02-29T23:30:00+01:00. `VALUE_OUT_OF_RANGE` comes before the faults of that call.
+/// 2020-02-29T23:30:00+01:00. `VALUE_OUT_OF_RANGE` comes before the errors of that call.
 #[unsafe(no_mangle)]
 pub extern "C" fn speedate_duration_after(
     duration: SpeedateDuration,
@@ -48,9 +48,9 @@ pub extern "C" fn speedate_duration_after(
     write_date_time(duration.after(&start), out)
 }
 
-/// The date-time this long before another, or after it where the duration is negative, as
+/// The date-time this long before another, or after it if the duration is negative, as
 /// [`Duration::before`] gives it: 2020-02-29T23:30:00+01:00 for an hour and
-/// 2020-03-01T00:30:00+01:00. `VALUE_OUT_OF_RANGE` comes before the faults of that call.
+/// 2020-03-01T00:30:00+01:00. `VALUE_OUT_OF_RANGE` comes before the errors of that call.
 #[unsafe(no_mangle)]
 pub extern "C" fn speedate_duration_before(
     duration: SpeedateDuration,
@@ -83,9 +83,9 @@ pub extern "C" fn speedate_duration_between_dates(
     write_duration(Ok(Duration::between_dates(&earlier, &later)), out)
 }
 
-/// The date this many days after another, or before it where the duration is negative, as
+/// The date this many days after another, or before it if the duration is negative, as
 /// [`Duration::after_date`] gives it: 2020-03-01 for two days and 2020-02-28. `VALUE_OUT_OF_RANGE`
-/// comes before the faults of that call.
+/// comes before the errors of that call.
 #[unsafe(no_mangle)]
 pub extern "C" fn speedate_duration_after_date(
     duration: SpeedateDuration,
@@ -101,9 +101,9 @@ pub extern "C" fn speedate_duration_after_date(
     write_date(duration.after_date(&start), out)
 }
 
-/// The date this many days before another, or after it where the duration is negative, as
+/// The date this many days before another, or after it if the duration is negative, as
 /// [`Duration::before_date`] gives it: 2020-02-28 for two days and 2020-03-01. `VALUE_OUT_OF_RANGE`
-/// comes before the faults of that call.
+/// comes before the errors of that call.
 #[unsafe(no_mangle)]
 pub extern "C" fn speedate_duration_before_date(
     duration: SpeedateDuration,

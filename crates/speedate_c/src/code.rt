@@ -22,14 +22,14 @@ pub(crate) const BUFFER_TOO_SMALL: i32 = 103;
 /// The years 0000 to 9999 have no such date.
 pub(crate) const NO_SUCH_DATE: i32 = 104;
 
-/// A list of faults by their names.
+/// A list of errors by their names.
 macro_rules! faults {
     ($($name:ident)*) => {
         [$(ParseError::$name),*]
     };
 }
 
-/// The faults in the order of their numbers.
+/// The errors in the order of their numbers.
 const FAULTS: [ParseError; 42] = faults! {
     TooShort ExtraCharacters InvalidCharDateTimeSep InvalidCharDateSep DateNotExact
     InvalidCharYear InvalidCharMonth InvalidCharDay
@@ -44,7 +44,7 @@ const FAULTS: [ParseError; 42] = faults! {
     DateTooSmall DateTooLarge TimeTooLarge DurationUnitOrder MicrosecondFractionTooLong
 };
 
-/// The code of a fault, its place in the enum, counted from 1: 1 for `TooShort`.
+/// The code of an error, its place in the enum, counted from 1: 1 for `TooShort`.
 pub(crate) fn fault_code(fault: ParseError) -> i32
     ensures code { result ≡ fault_code fault }
     ensures reads_back { fault_of result ≡ Some fault }
@@ -52,7 +52,7 @@ pub(crate) fn fault_code(fault: ParseError) -> i32
     i32::from(fault as u8) + 1
 }
 
-/// The fault of a code.
+/// The error of a code.
 fn fault_of(code: i32) -> Option<ParseError>
     ensures fault { result ≡ fault_of code }
 {
@@ -62,7 +62,7 @@ fn fault_of(code: i32) -> Option<ParseError>
     fault_at(&FAULTS, (code.unsigned_abs() - 1) as usize)
 }
 
-/// The fault at a place of a list.
+/// The error at a place of a list.
 fn fault_at(faults: &[ParseError], place: usize) -> Option<ParseError>
     ensures fault { result ≡ slice_get faults.now place }
 {
@@ -80,7 +80,7 @@ pub(crate) fn code_row(code: i32) -> Option<(&'static str, &'static str)>
     }
 }
 
-/// The name and the documentation text of a code that is no fault.
+/// The name and the documentation text of a code that is no error.
 fn refusal_row(code: i32) -> Option<(&'static str, &'static str)>
     ensures row { option_map (λ row. (row.0.now, row.1.now)) result ≡ refusal_row code }
     ensures short { IfSome result (λ row. (length row.0.now ≤ 63) × (length row.1.now ≤ 63)) }

@@ -40,7 +40,7 @@ impl SpeedateConfig {
             && self.iso_order == 0
     }
 
-    /// The configuration, where each number has a value.
+    /// The configuration, if each number has a value.
     pub(crate) fn to_config(self) -> Option<DateTimeConfig>
         ensures choices { option_map choices result ≡ choices_of self }
     {
@@ -102,8 +102,8 @@ pub(crate) fn flag(number: u8) -> Option<bool>
     }
 }
 
-/// An offset by its flag and its seconds: none where the flag is 0, whatever the seconds.
-/// `OutOfRangeTz` where the flag is neither 0 nor 1, or the offset is of 24 hours or more.
+/// An offset by its flag and its seconds: none if the flag is 0, whatever the seconds.
+/// `OutOfRangeTz` if the flag is neither 0 nor 1, or the offset is of 24 hours or more.
 pub(crate) fn offset(flag: u8, seconds: i32) -> Result<Option<i32>, ParseError>
     ensures answer { result ≡ offset_answer flag seconds }
     ensures range { IfOk result (λ offset. ForSome offset IsOffset) }

@@ -28,7 +28,7 @@ pub struct SpeedateDate {
 }
 
 impl SpeedateDate {
-    /// The date of the numbers, or the fault of the first that is out of range.
+    /// The date of the numbers, or the error of the first that is out of range.
     pub(crate) fn to_value(&self) -> Result<Date, ParseError>
         ensures answer { result gives date_of self.now }
     {
@@ -78,10 +78,10 @@ fn print_date(date: &Date, buffer: &mut [u8], text_length: &mut usize) -> i32
     write_text(date.to_text().as_str(), buffer, text_length)
 }
 
-/// Reads a date from a text, or from a timestamp that stands there instead, in the unit of the
+/// Parses a date from a text, or from a timestamp that stands there instead, in the unit of the
 /// configuration, as [`Date::parse_bytes_with_config`] does: 2020-02-29 from `2020-02-29`.
 ///
-/// The faults are those of that call; `CONFIG_OUT_OF_RANGE` comes first.
+/// The errors are those of that call; `CONFIG_OUT_OF_RANGE` comes first.
 #[unsafe(no_mangle)]
 pub extern "C" fn speedate_date_parse(
     text: &[u8],
@@ -98,7 +98,7 @@ pub extern "C" fn speedate_date_parse(
     write_date(Date::parse_bytes_with_config(text, &config), out)
 }
 
-/// Reads a date from a text, and no timestamp, as [`Date::parse_bytes_rfc3339`] does: 2020-02-29
+/// Parses a date from a text, and no timestamp, as [`Date::parse_bytes_rfc3339`] does: 2020-02-29
 /// from `2020-02-29`.
 #[unsafe(no_mangle)]
 pub extern "C" fn speedate_date_parse_rfc3339(text: &[u8], out: &mut SpeedateDate) -> i32
@@ -107,7 +107,7 @@ pub extern "C" fn speedate_date_parse_rfc3339(text: &[u8], out: &mut SpeedateDat
     write_date(Date::parse_bytes_rfc3339(text), out)
 }
 
-/// Reads the date at the front of a text, and writes how many bytes it takes, as
+/// Parses the date at the front of a text, and writes how many bytes it takes, as
 /// [`Date::parse_front`] does: 2020-02-29, and 10, from `2020-02-29 opening balance`.
 #[unsafe(no_mangle)]
 pub extern "C" fn speedate_date_parse_front(
@@ -123,7 +123,7 @@ pub extern "C" fn speedate_date_parse_front(
     SUCCESS
 }
 
-/// Whether the numbers are those of a date, as [`Date::new`] tells: `SUCCESS`, or the fault of the
+/// Whether the numbers are those of a date, as [`Date::new`] tells: `SUCCESS`, or the error of the
 /// first number that is out of range, `OutOfRangeDay` for 2021-02-29.
 #[unsafe(no_mangle)]
 pub extern "C" fn speedate_date_check(date: SpeedateDate) -> i32
@@ -149,7 +149,7 @@ pub extern "C" fn speedate_date_to_text(
     print_date(&date, buffer, text_length)
 }
 
-/// Compares two dates, as [`Date::cmp`] does: -1 where the first is the earlier one, 0 where they
+/// Compares two dates, as [`Date::cmp`] does: -1 if the first is the earlier one, 0 if they
 /// are equal, otherwise 1.
 #[unsafe(no_mangle)]
 pub extern "C" fn speedate_date_compare(
@@ -168,7 +168,7 @@ pub extern "C" fn speedate_date_compare(
 /// 1970-01-02 for 86,400 seconds. Where `require_exact` is 1 the timestamp has to be a midnight.
 ///
 /// `CONFIG_OUT_OF_RANGE` comes before `VALUE_OUT_OF_RANGE`, which is that of `require_exact`, and
-/// before the faults of that call.
+/// before the errors of that call.
 #[unsafe(no_mangle)]
 pub extern "C" fn speedate_date_from_timestamp(
     timestamp: i64,
@@ -220,7 +220,7 @@ pub extern "C" fn speedate_date_day_number(date: SpeedateDate, out: &mut u32) ->
 }
 
 /// The date of a day number, as [`Date::from_day_number`] gives it: 0000-02-29 for 59.
-/// `NO_SUCH_DATE` where the number is over 3,652,424.
+/// `NO_SUCH_DATE` if the number is over 3,652,424.
 #[unsafe(no_mangle)]
 pub extern "C" fn speedate_date_from_day_number(number: u32, out: &mut SpeedateDate) -> i32
     ensures answer { (result, out.new) ≡ after_optional_date shown_date out.old (date_numbered number) }
@@ -238,7 +238,7 @@ pub extern "C" fn speedate_date_ordinal_day(date: SpeedateDate, out: &mut u16) -
 }
 
 /// The date that many days later, or earlier for a negative number, as [`Date::checked_add_days`]
-/// gives it: 2020-03-01 for 2020-02-28 and 2. `NO_SUCH_DATE` where that is before 0000-01-01 or
+/// gives it: 2020-03-01 for 2020-02-28 and 2. `NO_SUCH_DATE` if that is before 0000-01-01 or
 /// after 9999-12-31.
 #[unsafe(no_mangle)]
 pub extern "C" fn speedate_date_add_days(
@@ -254,7 +254,7 @@ pub extern "C" fn speedate_date_add_days(
 }
 
 /// The days from an earlier date to a date, as [`Date::days_since`] gives them: 2 for 2020-03-01
-/// and the earlier 2020-02-28. They are negative where `earlier` is the later one.
+/// and the earlier 2020-02-28. They are negative if `earlier` is the later one.
 #[unsafe(no_mangle)]
 pub extern "C" fn speedate_date_days_since(
     date: SpeedateDate,

@@ -27,7 +27,7 @@ pub struct SpeedateDateTime {
 }
 
 impl SpeedateDateTime {
-    /// The date-time of the numbers, or the fault of one that is out of range: the date is looked
+    /// The date-time of the numbers, or the error of one that is out of range: the date is looked
     /// at first.
     pub(crate) fn to_value(&self) -> Result<DateTime, ParseError>
         ensures answer { result gives date_time_of self.now }
@@ -61,11 +61,11 @@ pub(crate) fn write_date_time(
     SUCCESS
 }
 
-/// Reads a date-time from a text, or from a timestamp that stands there instead, as
+/// Parses a date-time from a text, or from a timestamp that stands there instead, as
 /// [`DateTime::parse_bytes_with_config`] does: 12:13:14 on 29 February 2020 from
 /// `2020-02-29T12:13:14`.
 ///
-/// The faults are those of that call; `CONFIG_OUT_OF_RANGE` comes first.
+/// The errors are those of that call; `CONFIG_OUT_OF_RANGE` comes first.
 #[unsafe(no_mangle)]
 pub extern "C" fn speedate_datetime_parse(
     text: &[u8],
@@ -80,7 +80,7 @@ pub extern "C" fn speedate_datetime_parse(
     write_date_time(DateTime::parse_bytes_with_config(text, &config), out)
 }
 
-/// Reads a date-time from a text, and no timestamp, as
+/// Parses a date-time from a text, and no timestamp, as
 /// [`DateTime::parse_bytes_rfc3339_with_config`] does: 12:13 on 1 January 2020 from
 /// `2020-01-01_12:13`. `CONFIG_OUT_OF_RANGE` comes first.
 #[unsafe(no_mangle)]
@@ -97,7 +97,7 @@ pub extern "C" fn speedate_datetime_parse_rfc3339(
     write_date_time(answer, out)
 }
 
-/// Reads a date-time from a text of RFC 3339, and no timestamp, as [`DateTime::parse_bytes_strict`]
+/// Parses a date-time from a text of RFC 3339, and no timestamp, as [`DateTime::parse_bytes_strict`]
 /// does by the behavior of a configuration: 12:13:14 on 29 February 2020 in UTC from
 /// `2020-02-29T12:13:14Z`. `CONFIG_OUT_OF_RANGE` comes first.
 #[unsafe(no_mangle)]
@@ -114,7 +114,7 @@ pub extern "C" fn speedate_datetime_parse_strict(
     write_date_time(DateTime::parse_bytes_strict(text, behavior), out)
 }
 
-/// Reads the date-time at the front of a text, and writes how many bytes it takes, as
+/// Parses the date-time at the front of a text, and writes how many bytes it takes, as
 /// [`DateTime::parse_front`] does: 12:13:14Z on 22 November 2026, and 20, from
 /// `2026-11-22T12:13:14Z GET /`. `CONFIG_OUT_OF_RANGE` comes first.
 #[unsafe(no_mangle)]
@@ -134,7 +134,7 @@ pub extern "C" fn speedate_datetime_parse_front(
     SUCCESS
 }
 
-/// Whether the numbers are those of a date-time: `SUCCESS`, or the fault of a number that is out of
+/// Whether the numbers are those of a date-time: `SUCCESS`, or the error of a number that is out of
 /// range. The date is looked at first.
 #[unsafe(no_mangle)]
 pub extern "C" fn speedate_datetime_check(value: SpeedateDateTime) -> i32
@@ -160,8 +160,8 @@ pub extern "C" fn speedate_datetime_to_text(
     write_text(value.to_text().as_str(), buffer, text_length)
 }
 
-/// Compares two date-times by their instants, as [`DateTime::cmp_instant`] does: -1 where the first
-/// is the earlier one, 0 where they are the same instant, otherwise 1.
+/// Compares two date-times by their instants, as [`DateTime::cmp_instant`] does: -1 if the first
+/// is the earlier one, 0 if they are the same instant, otherwise 1.
 #[unsafe(no_mangle)]
 pub extern "C" fn speedate_datetime_compare(
     first: SpeedateDateTime,
@@ -180,7 +180,7 @@ pub extern "C" fn speedate_datetime_compare(
 /// 1970-01-01T00:00:01.000002 for 1 second and 2 microseconds. The offset is attached and shifts
 /// nothing.
 ///
-/// The faults are those of that call; `CONFIG_OUT_OF_RANGE` comes first.
+/// The errors are those of that call; `CONFIG_OUT_OF_RANGE` comes first.
 #[unsafe(no_mangle)]
 pub extern "C" fn speedate_datetime_from_timestamp(
     timestamp: i64,
@@ -241,7 +241,7 @@ pub extern "C" fn speedate_datetime_timestamp_tz_ms(value: SpeedateDateTime, out
 /// [`DateTime::in_timezone`] gives it: 2020-01-02T00:30:00+01:00 for 2020-01-01T23:30:00Z and
 /// 3,600.
 ///
-/// `VALUE_OUT_OF_RANGE` is that of the date-time; the faults of that call follow, with
+/// `VALUE_OUT_OF_RANGE` is that of the date-time; the errors of that call follow, with
 /// `OutOfRangeTz` for an offset of 24 hours or more.
 #[unsafe(no_mangle)]
 pub extern "C" fn speedate_datetime_in_timezone(

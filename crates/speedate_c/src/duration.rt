@@ -29,7 +29,7 @@ pub struct SpeedateDuration {
 }
 
 impl SpeedateDuration {
-    /// The duration of the numbers, or the fault of the first that is out of range.
+    /// The duration of the numbers, or the error of the first that is out of range.
     pub(crate) fn to_value(&self) -> Result<Duration, ParseError>
         ensures answer { result gives duration_of self.now }
         ensures ranges { IsOk result ↔ ((self.now.negative ≤ 1) × IsDuration (numbers_of self.now)) }
@@ -77,10 +77,10 @@ pub(crate) fn write_duration(
     SUCCESS
 }
 
-/// Reads a duration from a text under a configuration, as [`Duration::parse_bytes_with_config`]
+/// Parses a duration from a text under a configuration, as [`Duration::parse_bytes_with_config`]
 /// does: an hour and a half from `PT90M`.
 ///
-/// The faults are those of that call; `CONFIG_OUT_OF_RANGE` comes first.
+/// The errors are those of that call; `CONFIG_OUT_OF_RANGE` comes first.
 #[unsafe(no_mangle)]
 pub extern "C" fn speedate_duration_parse(
     text: &[u8],
@@ -99,7 +99,7 @@ pub extern "C" fn speedate_duration_parse(
 /// as [`Duration::new`] gives it: 2 days, 101 seconds and 123 microseconds for 1 day, 86,500
 /// seconds and 1,000,123 microseconds.
 ///
-/// `VALUE_OUT_OF_RANGE` where `negative` is neither 0 nor 1; then the faults of that call.
+/// `VALUE_OUT_OF_RANGE` if `negative` is neither 0 nor 1; then the errors of that call.
 #[unsafe(no_mangle)]
 pub extern "C" fn speedate_duration_normalize(
     numbers: SpeedateDuration,
@@ -116,7 +116,7 @@ pub extern "C" fn speedate_duration_normalize(
     write_duration(answer, out)
 }
 
-/// Whether the numbers are those of a duration: `SUCCESS`, or the fault of the first number that is
+/// Whether the numbers are those of a duration: `SUCCESS`, or the error of the first number that is
 /// out of range, `DurationDaysTooLarge` for the days and `DurationValueTooLarge` for any other.
 #[unsafe(no_mangle)]
 pub extern "C" fn speedate_duration_check(duration: SpeedateDuration) -> i32
@@ -142,8 +142,8 @@ pub extern "C" fn speedate_duration_to_text(
     write_text(duration.to_text().as_str(), buffer, text_length)
 }
 
-/// Compares two durations, as [`Duration::cmp`] does: -1 where the first is the smaller one, 0
-/// where they are equal, otherwise 1.
+/// Compares two durations, as [`Duration::cmp`] does: -1 if the first is the smaller one, 0
+/// if they are equal, otherwise 1.
 #[unsafe(no_mangle)]
 pub extern "C" fn speedate_duration_compare(
     first: SpeedateDuration,

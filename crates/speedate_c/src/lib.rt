@@ -24,7 +24,7 @@ macro_rules! config_or_return {
     };
 }
 
-/// The value of an answer. The call ends with the code of the fault if there is none.
+/// The value of an answer. The call ends with the code of the error if there is none.
 macro_rules! answer_or_return {
     ($answer:expr) => {
         match $answer {

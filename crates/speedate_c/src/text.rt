@@ -33,7 +33,7 @@ fn fill(text: &str, buffer: &mut [u8])
 
 /// Prints the name of a code: `too_short` for 1.
 ///
-/// `VALUE_OUT_OF_RANGE` for 0 and for a number that is no code, `BUFFER_TOO_SMALL` where the buffer
+/// `VALUE_OUT_OF_RANGE` for 0 and for a number that is no code, `BUFFER_TOO_SMALL` if the buffer
 /// has no room for the name and a zero byte.
 #[unsafe(no_mangle)]
 pub extern "C" fn speedate_code_name(code: i32, buffer: &mut [u8], text_length: &mut usize) -> i32

@@ -29,12 +29,12 @@ pub struct SpeedateTime {
     pub has_offset: u8,
     /// The microsecond, 0 to 999,999.
     pub microsecond: u32,
-    /// The offset from UTC in seconds, less than 24 hours; 0 where there is none.
+    /// The offset from UTC in seconds, less than 24 hours; 0 if there is none.
     pub offset: i32,
 }
 
 impl SpeedateTime {
-    /// The time of the numbers, or the fault of one that is out of range.
+    /// The time of the numbers, or the error of one that is out of range.
     pub(crate) fn to_value(&self) -> Result<Time, ParseError>
         ensures answer { result gives time_of self.now }
     {
@@ -71,10 +71,10 @@ fn write_time(answer: Result<Time, ParseError>, out: &mut SpeedateTime) -> i32
     SUCCESS
 }
 
-/// Reads a time from a text under a configuration, as [`Time::parse_bytes_with_config`] does:
+/// Parses a time from a text under a configuration, as [`Time::parse_bytes_with_config`] does:
 /// 12:13:14.5, an hour east of UTC, from `12:13:14.5+01:00`.
 ///
-/// The faults are those of that call; `CONFIG_OUT_OF_RANGE` comes first.
+/// The errors are those of that call; `CONFIG_OUT_OF_RANGE` comes first.
 #[unsafe(no_mangle)]
 pub extern "C" fn speedate_time_parse(
     text: &[u8],
@@ -90,7 +90,7 @@ pub extern "C" fn speedate_time_parse(
     parse_configured(text, config, out)
 }
 
-/// Reads a time under a configuration that is not the default.
+/// Parses a time under a configuration that is not the default.
 #[cold]
 #[inline(never)]
 fn parse_configured(text: &[u8], config: SpeedateConfig, out: &mut SpeedateTime) -> i32
@@ -102,10 +102,10 @@ fn parse_configured(text: &[u8], config: SpeedateConfig, out: &mut SpeedateTime)
     write_time(time, out)
 }
 
-/// Reads a time from a text of RFC 3339, as [`Time::parse_bytes_strict`] does by the behavior of a
+/// Parses a time from a text of RFC 3339, as [`Time::parse_bytes_strict`] does by the behavior of a
 /// configuration: 12:13:14.5, an hour east of UTC, from `12:13:14.5+01:00`.
 ///
-/// The faults are those of that call; `CONFIG_OUT_OF_RANGE` comes first.
+/// The errors are those of that call; `CONFIG_OUT_OF_RANGE` comes first.
 #[unsafe(no_mangle)]
 pub extern "C" fn speedate_time_parse_strict(
     text: &[u8],
@@ -120,7 +120,7 @@ pub extern "C" fn speedate_time_parse_strict(
     write_time(Time::parse_bytes_strict(text, behavior), out)
 }
 
-/// Reads the time at the front of a text, and writes how many bytes it takes, as
+/// Parses the time at the front of a text, and writes how many bytes it takes, as
 /// [`Time::parse_front`] does: 12:13:14Z, and 9, from `12:13:14Z GET /`. `CONFIG_OUT_OF_RANGE`
 /// comes first.
 #[unsafe(no_mangle)]
@@ -140,7 +140,7 @@ pub extern "C" fn speedate_time_parse_front(
     SUCCESS
 }
 
-/// Whether the numbers are those of a time, as [`Time::new`] tells: `SUCCESS`, or the fault of the
+/// Whether the numbers are those of a time, as [`Time::new`] tells: `SUCCESS`, or the error of the
 /// first number that is out of range. `OutOfRangeTz`, for the offset or its flag, comes last.
 #[unsafe(no_mangle)]
 pub extern "C" fn speedate_time_check(time: SpeedateTime) -> i32
@@ -166,8 +166,8 @@ pub extern "C" fn speedate_time_to_text(
     write_text(time.to_text().as_str(), buffer, text_length)
 }
 
-/// Compares two times by their instants, as [`Time::cmp_instant`] does: -1 where the first is the
-/// earlier one, 0 where they are the same instant, otherwise 1.
+/// Compares two times by their instants, as [`Time::cmp_instant`] does: -1 if the first is the
+/// earlier one, 0 if they are the same instant, otherwise 1.
 #[unsafe(no_mangle)]
 pub extern "C" fn speedate_time_compare(
     first: SpeedateTime,
@@ -184,7 +184,7 @@ pub extern "C" fn speedate_time_compare(
 /// The time of the seconds and microseconds after midnight, with the offset of the configuration,
 /// as [`Time::from_timestamp_with_config`] gives it: 10:00:06.5 for 36,005 and 1,500,000.
 ///
-/// The faults are those of that call; `CONFIG_OUT_OF_RANGE` comes first.
+/// The errors are those of that call; `CONFIG_OUT_OF_RANGE` comes first.
 #[unsafe(no_mangle)]
 pub extern "C" fn speedate_time_from_timestamp(
     second: u32,
@@ -222,7 +222,7 @@ pub extern "C" fn speedate_time_total_ms(time: SpeedateTime, out: &mut u32) -> i
 /// The time at the same instant, as a clock at another offset shows it, as [`Time::in_timezone`]
 /// gives it: 16:00:00+01:00 for 15:00:00Z and 3,600.
 ///
-/// `VALUE_OUT_OF_RANGE` is that of the time; the faults of that call follow, with `OutOfRangeTz`
+/// `VALUE_OUT_OF_RANGE` is that of the time; the errors of that call follow, with `OutOfRangeTz`
 /// for an offset of 24 hours or more.
 #[unsafe(no_mangle)]
 pub extern "C" fn speedate_time_in_timezone(

@@ -36,7 +36,7 @@ pub enum RunError {
 /// input `date 2020-02-29` the output is `ok 2020-02-29` and a line feed.
 ///
 /// - `date TEXT`, `time TEXT`, `datetime TEXT` and `duration TEXT` are answered by `ok` and the
-///   canonical text of the value, or by `err` and the name of the fault.
+///   canonical text of the value, or by `err` and the name of the error.
 /// - `duration-strict TEXT` is answered in the same way; the components have to come in order.
 /// - A line of more than 4,096 bytes is answered by `err line_too_long`.
 /// - Any other line is answered by `err unknown_kind`.

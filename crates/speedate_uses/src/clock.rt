@@ -8,7 +8,7 @@ ghost use Rattle.speedate.specs.DateTime.{now_answer, ◌gives◌};
 use speedate::{DateTime, Moment, ParseError};
 use std::time::{Clock, SystemTime};
 
-/// The date-time that the machine's clock tells, as a clock at an offset, in seconds, shows it. The faults
+/// The date-time that the machine's clock tells, as a clock at an offset, in seconds, shows it. The errors
 /// are those of [`DateTime::now`], `SystemTimeError` too where the clock cannot be read.
 pub fn local_time(clock: &impl Clock, tz_offset: i32) -> Result<DateTime, ParseError>
     ensures told { (told : Option Moment) × (result gives now_answer tz_offset told) }

@@ -35,7 +35,7 @@ pub fn are_in_order(lines: &[&[u8]]) -> bool
 pub struct Entry {
     /// The day of the entry.
     pub date: Date,
-    /// The amount, negative where it was paid.
+    /// The amount, negative if it was paid.
     pub cents: i64,
 }
 

@@ -1,4 +1,4 @@
-//! A validator of JSON Schema's format `date-time`: the fault of a field, by its name and in words.
+//! A validator of JSON Schema's format `date-time`: the error of a field, by its name and in words.
 
 ghost use Rattle.std.specs.Prelude.{◌≡◌, Err, MatchResult, Ok};
 ghost use Rattle.speedate.specs.declared.ParseError.{ParseError};
@@ -13,7 +13,7 @@ use speedate::{DateTime, MicrosecondsPrecisionOverflowBehavior, ParseError};
 pub struct FieldFault<'a> {
     /// The name of the field, as `due`.
     pub field: &'a str,
-    /// The name of the fault, as `too_short`.
+    /// The name of the error, as `too_short`.
     pub fault: &'static str,
     /// What it says, as `input is too short`.
     pub text: &'static str,
@@ -36,7 +36,7 @@ pub fn date_time_field<'a>(field: &'a str, text: &str) -> Result<DateTime, Field
     }
 }
 
-/// The date-time that a text of JSON Schema's format `date-time` is, or the fault of a text that is none:
+/// The date-time that a text of JSON Schema's format `date-time` is, or the error of a text that is none:
 /// digits past the microsecond are dropped.
 pub fn schema_date_time(text: &str) -> Result<DateTime, ParseError>
     ensures answer { result gives strict_date_time_answer MicrosecondsPrecisionOverflowBehavior.Truncate text.now }

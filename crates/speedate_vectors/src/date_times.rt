@@ -119,7 +119,7 @@ s      error  '-0.0000004'          1970-01-01T00:00:00
 ms     error  '-125.5'              1969-12-31T23:59:59.874500
 us     error  '1.0'                 1970-01-01T00:00:00.000001";
 
-/// Texts, and the date-time at their front with its bytes, or the fault.
+/// Texts, and the date-time at their front with its bytes, or the error.
 const FRONTS: &str = "\
 '2026-11-22T12:13:14.5+01:00 GET /'  2026-11-22T12:13:14.500000+01:00 27
 '2026-11-22_12:13_x'                 2026-11-22T12:13:00 16

@@ -45,7 +45,7 @@ infer  '9223372036854775808'  invalid_char_date_sep
 infer  '+'                    too_short
 ms     '1640995200'           date_not_exact";
 
-/// Texts, and the date at their front with its bytes, or the fault.
+/// Texts, and the date at their front with its bytes, or the error.
 const FRONTS: &str = "\
 '2026-11-22 opening balance'  2026-11-22 10
 '2026-11-223'                 2026-11-22 10

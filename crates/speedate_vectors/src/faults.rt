@@ -1,4 +1,4 @@
-//! The faults by name, and their documentation texts.
+//! The errors by name, and their documentation texts.
 
 use crate::rows::same;
 use crate::shown::expect_shown;
@@ -7,7 +7,7 @@ use speedate::ConfigError::{
 };
 use speedate::ParseError::{self, *};
 
-/// All faults, in the order of their rows.
+/// All errors, in the order of their rows.
 const FAULTS: [[ParseError; 2]; 21] = [
     [TooShort, ExtraCharacters],
     [InvalidCharDateTimeSep, InvalidCharDateSep],

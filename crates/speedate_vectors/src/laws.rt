@@ -22,7 +22,7 @@ use std::alloc::AllocError;
 /// A value of each type that is compared or cloned.
 #[derive(Clone, Drop)]
 pub struct Each<'a> {
-    /// The faults.
+    /// The errors.
     pub faults: (ParseError, ConfigError),
     /// The choices.
     pub choices: (
@@ -49,7 +49,7 @@ pub fn clone_each<'a>(each: &Each<'a>) -> Result<Each<'a>, AllocError>
     each.clone()
 }
 
-/// Whether the faults are equal, and the choices: false for two variants.
+/// Whether the errors are equal, and the choices: false for two variants.
 pub fn same_choices(first: &Each<'_>, second: &Each<'_>) -> (bool, bool, bool, bool, bool)
     ensures fault { IsTrue result.0 ↔ (first.now.faults.0 ≡ second.now.faults.0) }
     ensures config_error { IsTrue result.1 ↔ (first.now.faults.1 ≡ second.now.faults.1) }

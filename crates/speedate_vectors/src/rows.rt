@@ -106,7 +106,7 @@ impl HasText for Duration {
     }
 }
 
-/// The answer to a row is to be the value that is printed so, or the fault of that name.
+/// The answer to a row is to be the value that is printed so, or the error of that name.
 pub fn expect<T: HasText, R: Abort>(rt: &R, answer: Result<T, ParseError>, want: &str, row: &str) {
     match answer {
         Ok(value) => value.expect_text(rt, want, row),
@@ -122,7 +122,7 @@ pub fn expect_or_none<T: HasText, R: Abort>(rt: &R, found: Option<T>, want: &str
     }
 }
 
-/// The answer to a row is to be the value that is printed so and that many bytes, or the fault of that name.
+/// The answer to a row is to be the value that is printed so and that many bytes, or the error of that name.
 pub fn expect_front<T: HasText, R: Abort>(
     rt: &R,
     answer: Result<(T, usize), ParseError>,

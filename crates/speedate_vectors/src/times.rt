@@ -39,7 +39,7 @@ truncate  -  '12:13:12.1234567'        12:13:12.123456
 truncate  -  '12:13:12.9999999'        12:13:12.999999
 truncate  -  '12:13:12.1234567x'       invalid_char_tz_sign";
 
-/// A behavior, a text, and the time at its front with its bytes, or the fault.
+/// A behavior, a text, and the time at its front with its bytes, or the error.
 const FRONTS: &str = "\
 error     '12:13.5'                  12:13:00 5
 error     '12:13-0130 x'             12:13:00-01:30 10
