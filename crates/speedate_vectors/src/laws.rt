@@ -2,6 +2,7 @@
 //! are about, and a clause of its contract is a law. A derived `clone` asks each field for its own.
 
 ghost use Rattle.std.specs.Prelude.{◌≡◌, ◌<◌, ◌↔◌, IsTrue, Ok};
+ghost use Rattle.speedate.specs.Config.{choices, default_choices, time_choices};
 ghost use Rattle.speedate.specs.Date.{ymd};
 ghost use Rattle.speedate.specs.DateTime.{date_and_time};
 ghost use Rattle.speedate.specs.Calendar.{day_number};
@@ -144,6 +145,19 @@ pub fn defaults() -> (
     ensures behavior { result.0 ≡ MicrosecondsPrecisionOverflowBehavior.Error }
     ensures unit { result.1 ≡ TimestampUnit.Infer }
     ensures order { result.2 ≡ IsoOrder.Lax }
+{
+    Default::default()
+}
+
+/// The default configurations, and those of their builders: each choice is its default.
+pub fn default_configs() -> (
+    (DateConfig, DateConfigBuilder),
+    (TimeConfig, TimeConfigBuilder),
+    (DateTimeConfig, DateTimeConfigBuilder),
+)
+    ensures date { (result.0.0.timestamp_unit ≡ TimestampUnit.Infer) × (result.0.1.timestamp_unit ≡ TimestampUnit.Infer) }
+    ensures time { (time_choices result.1.0 ≡ default_choices) × (time_choices result.1.1 ≡ default_choices) }
+    ensures date_time { (choices result.2.0 ≡ default_choices) × (choices result.2.1 ≡ default_choices) }
 {
     Default::default()
 }
