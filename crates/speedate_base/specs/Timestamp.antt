@@ -60,6 +60,10 @@ instant_at microsecond = record {
   microsecond = unsigned_abs (int_rem_euclid microsecond (pos 1000000));
 }
 
+-- the second since 1970-01-01T00:00:00 in which a timestamp lies
+abbrev pub timestamp_second : TimestampUnit → ℤ → ℤ
+timestamp_second unit timestamp = (instant_at (timestamp_microsecond unit timestamp)).second
+
 -- a timestamp has a unit: one is inferred only if the timestamp without its sign is below 2^63, which `i64::MIN` is not
 abbrev pub has_unit : TimestampUnit → ℤ → Bool
 has_unit unit.Infer timestamp = nat_lt (unsigned_abs timestamp) (2 ^ 63)

@@ -10,9 +10,8 @@ use std::fmt;
 /// Why a text or a number was refused. Every refusal has exactly one of these, and `docs/GRAMMAR.md`
 /// has an example of each.
 ///
-/// It is printed by its snake-case name, as `too_short` for `TooShort`: Display writes the name alone,
-/// whatever width and fill are asked for. There is no `Hash`; the name serves as a key, since no two
-/// errors have the same.
+/// It is printed by its snake-case name, as `too_short` for `TooShort`. There is no `Hash`; the name
+/// serves as a key, since no two errors have the same.
 #[derive(Clone, Copy, Debug, PartialEq, Eq)]
 pub enum ParseError {
     /// The text ends before what it must hold.
@@ -205,10 +204,8 @@ impl fmt::Display for ParseError {
 
     ghost output = { λ fault. Some (fault_name fault) };
 
-    ghost styled_output = { λ fault _. Some (fault_name fault) };
-
     fn fmt<W: fmt::Write>(&self, f: &mut fmt::Formatter<W>) -> fmt::Result {
-        f.write_str(self.name())
+        f.pad(self.name())
     }
 }
 

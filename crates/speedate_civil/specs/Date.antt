@@ -78,9 +78,14 @@ date_text date =
 
 -- Dates from timestamps (Unix time), and from texts that are a timestamp instead.
 
--- the number of the day on which a second since 1970-01-01T00:00:00 lies
+-- the day number of a second since 1970-01-01T00:00:00: the whole days since then, rounded down, and those before it;
+-- it is negative before the year 0
+abbrev pub day_number_at : ℤ → ℤ
+day_number_at second = int_div_euclid second (pos seconds_per_day) +ℤ pos epoch_day
+
+-- the same from the year 0 on
 abbrev pub day_at : ℤ → ℕ
-day_at second = unsigned_abs (int_div_euclid second (pos seconds_per_day) +ℤ pos epoch_day)
+day_at second = unsigned_abs (day_number_at second)
 
 -- the second of that day
 abbrev pub second_at : ℤ → ℕ

@@ -295,20 +295,21 @@ impl Time {
     /// attached and shifts nothing: 00:00:01Z for one second and the offset 0. Fails with
     /// `TimeTooLarge` if the seconds and microseconds are 86,400 seconds or more together.
     pub fn from_timestamp_with_config(
-        second: u32,
-        microsecond: u32,
+        timestamp_second: u32,
+        timestamp_microsecond: u32,
         config: &TimeConfig,
     ) -> Result<Self, ParseError>
-        ensures answer { result gives timestamp_answer second microsecond config.now.unix_timestamp_offset }
+        ensures answer { result gives timestamp_answer timestamp_second timestamp_microsecond config.now.unix_timestamp_offset }
         ensures instant { IfOk result (λ time. microsecond_of_day (time_of_day time)
-            ≡ 1000000 * second + microsecond) }
+            ≡ 1000000 * timestamp_second + timestamp_microsecond) }
     {
-        let whole = u64::from(second) + u64::from(microsecond / 1_000_000);
-        if whole >= u64::from(SECONDS_PER_DAY) {
+        let second = u64::from(timestamp_second) + u64::from(timestamp_microsecond / 1_000_000);
+        if second >= u64::from(SECONDS_PER_DAY) {
             return Err(ParseError::TimeTooLarge);
         }
+        let microsecond = timestamp_microsecond % 1_000_000;
         let offset = config.unix_timestamp_offset;
-        Ok(Self::at_second(whole as u32, microsecond % 1_000_000, offset))
+        Ok(Self::at_second(second as u32, microsecond, offset))
     }
 
     /// The time at a second of the day and its microsecond, with the offset attached.

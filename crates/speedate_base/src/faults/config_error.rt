@@ -9,7 +9,7 @@ use std::fmt;
 /// Why the text of a choice was refused. Every refusal has exactly one of these.
 ///
 /// It is printed by its snake-case name, as `unknown_timestamp_unit_string` for
-/// `UnknownTimestampUnitString`: Display writes the name alone, whatever width and fill are asked for.
+/// `UnknownTimestampUnitString`.
 #[derive(Clone, Copy, Debug, PartialEq, Eq)]
 pub enum ConfigError {
     /// The text names no behavior for digits past the microsecond.
@@ -44,10 +44,8 @@ impl ConfigError {
 impl fmt::Display for ConfigError {
     ghost output = { λ fault. Some (config_error_name fault) };
 
-    ghost styled_output = { λ fault _. Some (config_error_name fault) };
-
     fn fmt<W: fmt::Write>(&self, f: &mut fmt::Formatter<W>) -> fmt::Result {
-        f.write_str(self.name())
+        f.pad(self.name())
     }
 }
 

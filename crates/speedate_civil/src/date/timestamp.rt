@@ -1,10 +1,10 @@
 //! Dates from timestamps, from texts that are a timestamp instead of a date, and from clocks.
 
-ghost use Rattle.std.specs.Prelude.{◌≡◌, Err, IsTrue, Option, int_le};
-ghost use Rattle.speedate_base.specs.Timestamp.{first_second, last_second};
+ghost use Rattle.std.specs.Prelude.{◌≡◌, Err, IfOk, IsTrue, Option, int_le, pos};
+ghost use Rattle.speedate_base.specs.Timestamp.{first_second, last_second, timestamp_second};
 ghost use Rattle.speedate_base.specs.declared.config.TimestampUnit.TheVariants as unit;
-ghost use Rattle.speedate_civil.specs.Date.{ymd, date_answer, day_at, second_at, date_timestamp_answer, date_or_timestamp, ◌gives◌};
-ghost use Rattle.speedate_civil.specs.Calendar.{date_after};
+ghost use Rattle.speedate_civil.specs.Date.{ymd, date_answer, day_at, day_number_at, second_at, date_timestamp_answer, date_or_timestamp, ◌gives◌};
+ghost use Rattle.speedate_civil.specs.Calendar.{date_after, day_number};
 ghost use Rattle.speedate_civil.specs.Reader.{may_be_number};
 
 use super::Date;
@@ -95,6 +95,7 @@ impl Date {
         config: &DateConfig,
     ) -> Result<Self, ParseError>
         ensures answer { result gives date_timestamp_answer config.now.timestamp_unit require_exact timestamp }
+        ensures day { IfOk result (λ date. pos (day_number (ymd date)) ≡ day_number_at (timestamp_second config.now.timestamp_unit timestamp)) }
     {
         let time = timestamp_to_seconds_micros(timestamp, config.timestamp_unit)?;
         let within = time.in_years()?;
@@ -111,6 +112,7 @@ impl Date {
         requires after { IsTrue (int_le first_second second) }
         requires before { IsTrue (int_le second last_second) }
         ensures date { ymd result.0 ≡ date_after (day_at second) }
+        ensures day { pos (day_number (ymd result.0)) ≡ day_number_at second }
         ensures second { result.1 ≡ second_at second }
     {
         let seconds = (second - FIRST_SECOND) as u64;

@@ -139,18 +139,18 @@ impl DateTime {
     #[inline(always)]
     pub fn from_timestamp_with_config(
         timestamp: i64,
-        microseconds: u32,
+        timestamp_microsecond: u32,
         config: &DateTimeConfig,
     ) -> Result<Self, ParseError>
         ensures answer { result gives date_time_timestamp_answer config.now.timestamp_unit
-            config.now.time_config.unix_timestamp_offset microseconds timestamp }
+            config.now.time_config.unix_timestamp_offset timestamp_microsecond timestamp }
         ensures instant { IfOk result (λ value. local_microsecond (date_and_time value)
-            ≡ meant_microsecond config.now.timestamp_unit microseconds timestamp) }
+            ≡ meant_microsecond config.now.timestamp_unit timestamp_microsecond timestamp) }
         ensures minutes { IsWholeMinutes config.now.time_config.unix_timestamp_offset
             → IfOk result (λ value. IsWholeMinutes value.time.tz_offset) }
     {
         let time = timestamp_to_seconds_micros(timestamp, config.timestamp_unit)?;
-        let later = time.later(microseconds)?;
+        let later = time.later(timestamp_microsecond)?;
         instant_date_time(later, config.time_config.unix_timestamp_offset)
     }
 
