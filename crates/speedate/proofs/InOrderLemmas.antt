@@ -124,26 +124,31 @@ items-strict next sums (Component component ∷ items) good =
 items-lax : (sums : Sums) (items : List Item) → AreGood sums items → iso_from sums (flat_map item_text items) ≡ lax_end (with_items items sums)
 items-lax sums items good =
     let text = flat_map item_text items in
-    answer-only sums text _ _ (iso_after-is 0 sums text) (items, [], sym (append-nil text), good, refl)
+    answer-only sums text _ _ (iso_after-is 0 sums text) (items, [], record { is_text = sym (append-nil text); are_good = good; ends = refl })
 
 chosen : (positive in_order : Bool) (lax : Answer)
     → result_and_then (signed_form positive) (if in_order then lax else Err fault.DurationUnitOrder)
     ≡ (if in_order then result_and_then (signed_form positive) lax else Err fault.DurationUnitOrder)
 chosen positive in_order lax = search (rules)
 
--- so a text of good items is refused for its order if and only if they are not in order, and otherwise has the lax answer
+-- so a text of good items has what they add up to, with its sign
+pub answer-made : (behavior : MicrosecondsPrecisionOverflowBehavior) (text : List ℕ) (items : List Item) → (is : IsMadeOf text items)
+    → duration_answer order.Lax behavior text ≡ result_and_then (signed_form (not is.negative)) (lax_end (with_items items (no_sums order.Lax)))
+answer-made behavior text items is =
+    ap (duration_answer order.Lax behavior) is.is_text ∙ duration_answer-iso order.Lax behavior is.negative is.sign (flat_map item_text items) is.is_sign
+    ∙ ap (result_and_then (signed_form (not is.negative))) (items-lax (no_sums order.Lax) items is.are_good)
+
+-- and is refused for its order if and only if they are not in order, and otherwise has the lax answer
 answer-strict : (asked : IsoOrder) (behavior : MicrosecondsPrecisionOverflowBehavior) (text : List ℕ) (items : List Item)
     → asked ≡ order.Strict → IsMadeOf text items
     → duration_answer asked behavior text ≡ (if are_in_order (units false) items then duration_answer order.Lax behavior text else Err fault.DurationUnitOrder)
 answer-strict asked behavior text items strict is =
     let in_order = are_in_order (units false) items in
-    let body = flat_map item_text items in
-    let step = result_and_then (signed_form (not is.negative)) in
-    let read = λ (order : IsoOrder). ap (duration_answer order behavior) is.is_text ∙ duration_answer-iso order behavior is.negative is.sign body is.is_sign in
-    let lax = read order.Lax ∙ ap step (items-lax (no_sums order.Lax) items is.are_good) in
-    ap (λ (asked : IsoOrder). duration_answer asked behavior text) strict ∙ read order.Strict ∙ ap step (items-strict (units false) (no_sums order.Lax) items is.are_good)
+    let read = λ (order : IsoOrder). ap (duration_answer order behavior) is.is_text ∙ duration_answer-iso order behavior is.negative is.sign (flat_map item_text items) is.is_sign in
+    ap (λ (asked : IsoOrder). duration_answer asked behavior text) strict ∙ read order.Strict
+    ∙ ap (result_and_then (signed_form (not is.negative))) (items-strict (units false) (no_sums order.Lax) items is.are_good)
     ∙ chosen (not is.negative) in_order (lax_end (with_items items (no_sums order.Lax)))
-    ∙ ap (λ (lax : Result DurationNumbers ParseError). if in_order then lax else Err fault.DurationUnitOrder) (sym lax)
+    ∙ ap (λ (lax : Result DurationNumbers ParseError). if in_order then lax else Err fault.DurationUnitOrder) (sym (answer-made behavior text items is))
 
 -- a clock and days are not asked for an order
 answer-no_iso : (asked : IsoOrder) (behavior : MicrosecondsPrecisionOverflowBehavior) (text : List ℕ) → is_iso text ≡ false
@@ -171,13 +176,13 @@ answer-items behavior text numbers iso same =
     let begins : text ≡ sign ++ capital_p ∷ body = sym (take-append-drop (sign_size text) text) ∙ ap (λ (rest : List ℕ). sign ++ rest) (first-byte rest iso) in
     let read = sym same ∙ ap (duration_answer order.Lax behavior) begins ∙ duration_answer-iso order.Lax behavior (has_minus text) sign body is_sign in
     let from = iso_after-is 0 (no_sums order.Lax) body in
-    let ended = ends-read (not (has_minus text)) (with_items from.0 (no_sums order.Lax)) from.1 (iso_form order.Lax body) numbers from.4 read in
-    let is_body = from.2 ∙ ap (λ (end : List ℕ). flat_map item_text from.0 ++ end) ended.0 ∙ append-nil (flat_map item_text from.0) in
+    let ended = ends-read (not (has_minus text)) (with_items from.0 (no_sums order.Lax)) from.1 (iso_form order.Lax body) numbers from.2.ends read in
+    let is_body = from.2.is_text ∙ ap (λ (end : List ℕ). flat_map item_text from.0 ++ end) ended.0 ∙ append-nil (flat_map item_text from.0) in
     let is_made : IsMadeOf text from.0 = record {
       negative = has_minus text;
       sign = sign;
       is_sign = is_sign;
-      are_good = from.3;
+      are_good = from.2.are_good;
       some = ended.1;
       is_text = begins ∙ ap (λ (body : List ℕ). sign ++ capital_p ∷ body) is_body;
     } in

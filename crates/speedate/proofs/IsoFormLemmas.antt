@@ -12,7 +12,7 @@ use Rattle.speedate_base.specs.Requirement.{meets, AllHold, result_and_then}
 use Rattle.speedate_base.proofs.RequirementLemmas.{meets-all, meets-next, meets-value}
 use Rattle.speedate.specs.Duration.{iso_after, iso_form, form_answer, unsigned_answer, duration_answer, IsGrammarAnswer}
 use Rattle.speedate.specs.DurationNumbers.{DurationNumbers, UnsignedDuration, signed_form}
-use Rattle.speedate.specs.IsoForm.{Item, item_text, IsItem, item_at, Sums, no_sums, with_item, with_items, item_table, AreGood, sums_amount, Ends, IsAnswerFrom}
+use Rattle.speedate.specs.IsoForm.{Item, item_text, IsItem, item_at, Sums, no_sums, with_item, with_items, item_table, AreGood, sums_amount, Ends, IsEndedFront, IsAnswerFrom}
 use Rattle.speedate.proofs.IsoItemLemmas.{item_at-text, item-front}
 
 abbrev Answer : Type 0
@@ -33,35 +33,40 @@ end-no_front : (sums : Sums) (text : List ℕ) (answer : Answer) (item : Item) (
 end-no_front sums text answer item items rest ends same good = search (rules, append_assoc, item_at-text, ends-no_item)
 
 -- a text has one front of good items that an end follows
-pub front-only : (sums : Sums) (items others : List Item) (rest other : List ℕ) (first second : Answer)
+front-same : (sums : Sums) (items others : List Item) (rest other : List ℕ) (first second : Answer)
     → flat_map item_text items ++ rest ≡ flat_map item_text others ++ other → AreGood sums items → AreGood sums others
     → Ends (with_items items sums) rest first → Ends (with_items others sums) other second → (items ≡ others) × (rest ≡ other)
-front-only sums [] [] rest other first second same good goods one two = (refl, same)
-front-only sums [] (item ∷ others) rest other first second same good goods one two = absurd (end-no_front sums rest first item others other one same goods)
-front-only sums (item ∷ items) [] rest other first second same good goods one two =
+front-same sums [] [] rest other first second same good goods one two = (refl, same)
+front-same sums [] (item ∷ others) rest other first second same good goods one two = absurd (end-no_front sums rest first item others other one same goods)
+front-same sums (item ∷ items) [] rest other first second same good goods one two =
     absurd (end-no_front sums other second item items rest two (sym same) good)
-front-only sums (item ∷ items) (next ∷ others) rest other first second same good goods one two =
+front-same sums (item ∷ items) (next ∷ others) rest other first second same good goods one two =
     let later = flat_map item_text items ++ rest in
     let others_after = flat_map item_text others ++ other in
     let joined = sym (append_assoc (item_text item) (flat_map item_text items) rest) ∙ same ∙ append_assoc (item_text next) (flat_map item_text others) other in
     let is : next ≡ item = sym (item_at-text sums next others_after goods.0 goods.1) ∙ sym (ap item_at joined) ∙ item_at-text sums item later good.0 good.1 in
     let left = append_cancel_left (item_text item) later others_after (joined ∙ ap (λ (item : Item). item_text item ++ others_after) is) in
-    let after = front-only (with_item item sums) items others rest other first second left good.2
+    let after = front-same (with_item item sums) items others rest other first second left good.2
     (subst (λ (item : Item). AreGood (with_item item sums) others) is goods.2) one
     (subst (λ (item : Item). Ends (with_items others (with_item item sums)) other second) is two) in
     (ap₂ (λ (item : Item) (items : List Item). item ∷ items) (sym is) after.0, after.1)
 
+pub front-only : (sums : Sums) (text : List ℕ) (items others : List Item) (rest other : List ℕ) (first second : Answer)
+    → IsEndedFront sums text items rest first → IsEndedFront sums text others other second → (items ≡ others) × (rest ≡ other)
+front-only sums text items others rest other first second one two =
+    front-same sums items others rest other first second (sym one.is_text ∙ two.is_text) one.are_good two.are_good one.ends two.ends
+
 -- so it has one answer
 pub answer-only : (sums : Sums) (text : List ℕ) (first second : Answer)
     → IsAnswerFrom sums text first → IsAnswerFrom sums text second → first ≡ second
-answer-only sums text first second one two = search (rules, front-only, ends-only)
+answer-only sums text first second one two = search (rules, front-same, ends-only)
 
 -- a good item before a text leaves the text's answer
 answer-with : (sums : Sums) (item : Item) (text : List ℕ) (answer : Answer) → IsItem item → AllHold (item_table sums item)
     → IsAnswerFrom (with_item item sums) text answer → IsAnswerFrom sums (item_text item ++ text) answer
 answer-with sums item text answer is all from =
-    let joined = ap (λ (text : List ℕ). item_text item ++ text) from.2 ∙ sym (append_assoc (item_text item) (flat_map item_text from.0) from.1) in
-    (item ∷ from.0, from.1, joined, (is, all, from.3), from.4)
+    let joined = ap (λ (text : List ℕ). item_text item ++ text) from.2.is_text ∙ sym (append_assoc (item_text item) (flat_map item_text from.0) from.1) in
+    (item ∷ from.0, from.1, record { is_text = joined; are_good = (is, all, from.2.are_good); ends = from.2.ends })
 
 -- and what follows a text's first item leads to the answer of the text, if the item meets its table; otherwise its fault is the answer
 from-step : (sums : Sums) (byte : ℕ) (rest : List ℕ) (met : Answer) (next : Answer) → meets (item_table sums (item_at (byte ∷ rest))) (Ok (sums_amount sums)) ≡ met
@@ -74,12 +79,12 @@ from-step sums byte rest (Ok amount) next met from =
     subst (λ (text : List ℕ). IsAnswerFrom sums text (meets (item_table sums item) next)) (sym front.1)
     (subst (IsAnswerFrom sums _) (sym (meets-all (item_table sums item) next all)) (answer-with sums item _ next front.0 all from))
 from-step sums byte rest (Err fault) next met from =
-    ([], byte ∷ rest, refl, tt, (fault, met, sym (meets-next (item_table sums (item_at (byte ∷ rest))) (sums_amount sums) (Err fault) next (sym met))))
+    ([], byte ∷ rest, record { is_text = refl; are_good = tt; ends = (fault, met, sym (meets-next (item_table sums (item_at (byte ∷ rest))) (sums_amount sums) (Err fault) next (sym met))) })
 
 -- so every text has an answer, which the function gives
 pub iso_after-is : (skipped : ℕ) (sums : Sums) (text : List ℕ) → IsAnswerFrom sums (drop skipped text) (iso_after skipped sums text)
 unfolding iso_after
-iso_after-is skipped sums [] = rw (drop-nil {A = ℕ} skipped) ([], [], refl, tt, refl)
+iso_after-is skipped sums [] = rw (drop-nil {A = ℕ} skipped) ([], [], record { is_text = refl; are_good = tt; ends = refl })
 iso_after-is zero sums (byte ∷ rest) =
     let item = item_at (byte ∷ rest) in
     from-step sums byte rest _ _ refl (iso_after-is (length (item_text item) - 1) (with_item item sums) rest)
@@ -108,4 +113,5 @@ duration_answer-grammar order behavior text answer same =
       is_allowed = (unsigned_answer order behavior rest, is, same);
       is_only = λ other there. there.2
           ∙ ap (result_and_then (signed_form (not (has_minus text)))) (form-only order (drop 1 rest) iso (form_answer behavior rest) there.0 _ there.1 is) ∙ sym same;
+      is_only_front = front-only (no_sums order) (drop 1 rest);
     }

@@ -4,7 +4,9 @@ mod DurationLemmas
 mod DurationMoveLemmas
 pub mod DurationTextLemmas
 mod ExchangedLemmas
+mod FractionLemmas
 mod InOrderLemmas
+mod IsoAmountLemmas
 mod IsoFormLemmas
 mod IsoItemLemmas
 mod IsoTextLemmas

@@ -19,7 +19,7 @@ use Rattle.speedate.specs.declared.duration.unsigned.UnsignedDuration.{UnsignedD
 use Rattle.speedate.specs.ClockForm.{clock_form}
 use Rattle.speedate.specs.DayForm.{is_day_letter, day_form}
 use Rattle.speedate.specs.DurationNumbers.{DurationNumbers, UnsignedDuration, signed_form, signed_day, amount_microseconds, of_amount}
-use Rattle.speedate.specs.IsoForm.{Sums, no_sums, item_text, item_at, item_table, with_item, sums_amount, IsAnswerFrom}
+use Rattle.speedate.specs.IsoForm.{Item, Sums, no_sums, item_text, item_at, item_table, with_item, sums_amount, IsEndedFront, IsAnswerFrom}
 
 -- the numbers of a duration
 abbrev pub duration_numbers : Duration → DurationNumbers
@@ -78,18 +78,26 @@ abbrev pub duration_answer : IsoOrder → MicrosecondsPrecisionOverflowBehavior 
 duration_answer order behavior text =
     result_and_then (signed_form (not (has_minus text))) (unsigned_answer order behavior (drop (sign_size text) text))
 
+-- what follows the sign and the `P` of an ISO 8601 duration
+abbrev pub iso_body : List ℕ → List ℕ
+iso_body text = drop 1 (drop (sign_size text) text)
+
 -- the same as a relation: after the sign and a `P` a text is good items and an end
 abbrev pub IsDurationAnswer : IsoOrder → MicrosecondsPrecisionOverflowBehavior → List ℕ → Result DurationNumbers ParseError → Type 0
 IsDurationAnswer order behavior text answer =
     let rest = drop (sign_size text) text in
     (form : Result UnsignedDuration ParseError)
-    × MatchBool (slice_index rest 0 == capital_p) (IsAnswerFrom (no_sums order) (drop 1 rest) form) (form ≡ form_answer behavior rest)
+    × MatchBool (slice_index rest 0 == capital_p) (IsAnswerFrom (no_sums order) (iso_body text) form) (form ≡ form_answer behavior rest)
     × (answer ≡ result_and_then (signed_form (not (has_minus text))) form)
 
--- an answer is the grammar's: the relation allows it, and allows no other
+-- an answer is the grammar's: the relation allows it, and allows no other; and of an ISO 8601 duration only one front of good
+-- items is followed by an end, whatever is answered there
 pub record IsGrammarAnswer (order : IsoOrder) (behavior : MicrosecondsPrecisionOverflowBehavior) (text : List ℕ) (answer : Result DurationNumbers ParseError) : Type 0 where
   pub is_allowed : IsDurationAnswer order behavior text answer
   pub is_only : (other : Result DurationNumbers ParseError) → IsDurationAnswer order behavior text other → other ≡ answer
+  pub is_only_front : (items others : List Item) (rest other : List ℕ) (first second : Result UnsignedDuration ParseError)
+      → IsEndedFront (no_sums order) (iso_body text) items rest first → IsEndedFront (no_sums order) (iso_body text) others other second
+      → (items ≡ others) × (rest ≡ other)
 
 -- The text of a duration (ISO 8601, duration): years of 365 days, days, hours, minutes and seconds, each if it is not 0.
 -- Departs from it: a sign may come first, and the years and days are fixed amounts.

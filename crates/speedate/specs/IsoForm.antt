@@ -184,7 +184,12 @@ Ends sums [] answer = answer ≡ (if sums.some then Ok (sums_amount sums) else E
 Ends sums (byte ∷ rest) answer =
     (fault : ParseError) × (meets (item_table sums (item_at (byte ∷ rest))) (Ok (sums_amount sums)) ≡ Err fault) × (answer ≡ Err fault)
 
--- the answer to a text after items: it is good items and an end
+-- a text after items is a front of good items, and a rest at which they end with an answer
+pub record IsEndedFront (sums : Sums) (text : List ℕ) (items : List Item) (rest : List ℕ) (answer : Result UnsignedDuration ParseError) : Type 0 where
+  pub is_text : text ≡ flat_map item_text items ++ rest
+  pub are_good : AreGood sums items
+  pub ends : Ends (with_items items sums) rest answer
+
+-- the answer to a text after items: that at the end of a front
 abbrev pub IsAnswerFrom : Sums → List ℕ → Result UnsignedDuration ParseError → Type 0
-IsAnswerFrom sums text answer =
-    (items : List Item) × (rest : List ℕ) × (text ≡ flat_map item_text items ++ rest) × AreGood sums items × Ends (with_items items sums) rest answer
+IsAnswerFrom sums text answer = (items : List Item) × (rest : List ℕ) × IsEndedFront sums text items rest answer

@@ -54,7 +54,9 @@ impl Duration {
     ghost use Rattle.speedate_base.specs.declared.config.IsoOrder.TheVariants as order;
     ghost use Rattle.speedate_base.specs.declared.config.MicrosecondsPrecisionOverflowBehavior.TheVariants as behavior;
     ghost use Rattle.speedate.specs.Duration.{duration_numbers, unsigned_numbers, ◌gives◌, duration_answer, IsGrammarAnswer};
-    ghost use Rattle.speedate.specs.IsoOrder.{AreExchanged, IsAnswerInOrder};
+    ghost use Rattle.speedate.specs.IsoAmount.{IsAmountOf};
+    ghost use Rattle.speedate.specs.IsoForm.{Item};
+    ghost use Rattle.speedate.specs.IsoOrder.{AreExchanged, IsAnswerInOrder, IsMadeOf};
 
     /// The duration of days, seconds and microseconds of any size, with the same amount: 2 days, 101
     /// seconds and 123 microseconds for 1 day, 86,500 seconds and 1,000,123 microseconds.
@@ -185,6 +187,8 @@ impl Duration {
         ensures answer { result gives duration_answer config.now.iso_order config.now.microseconds_precision_overflow_behavior bytes.now }
         ensures grammar { IsGrammarAnswer config.now.iso_order config.now.microseconds_precision_overflow_behavior bytes.now (result_map duration_numbers result) }
         ensures order { IsAnswerInOrder config.now.iso_order config.now.microseconds_precision_overflow_behavior bytes.now (result_map duration_numbers result) }
+        ensures amount { IfOk result (λ value. (items : List Item) → IsMadeOf bytes.now items
+            → IsAmountOf bytes.now items (duration_numbers value)) }
         ensures exchanged { (other : List ℕ) → config.now.iso_order ≡ order.Lax → AreExchanged bytes.now other
             → result gives duration_answer config.now.iso_order config.now.microseconds_precision_overflow_behavior other }
     {

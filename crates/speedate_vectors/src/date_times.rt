@@ -1,7 +1,7 @@
 //! Date-times from texts, timestamps and clocks, their timestamps, and other offsets.
 
 use crate::rows::{
-    date_time_config, expect, expect_front, quoted, same, time_config, value, words,
+    date_time_config, expect, expect_front, parsed, quoted, same, time_config, value, words,
 };
 use speedate::{Date, DateTime, DateTimeConfig, IntFloat, Moment, ParseError, float_parse_str};
 
@@ -293,7 +293,7 @@ fn timestamps(rt: HostRuntime) {
 fn counted(rt: HostRuntime) {
     for row in COUNTED.lines() {
         let [text, second, millisecond, utc_second, utc_millisecond, ..] = words(row);
-        let shown: DateTime = value(&rt, text);
+        let shown: DateTime = parsed(&rt, text);
         same(&rt, shown.timestamp(), value(&rt, second), row);
         same(&rt, shown.timestamp_ms(), value(&rt, millisecond), row);
         same(&rt, shown.timestamp_tz(), value(&rt, utc_second), row);
@@ -306,7 +306,7 @@ fn counted(rt: HostRuntime) {
 fn offsets(rt: HostRuntime) {
     for row in OFFSETS.lines() {
         let [time, offset, shown, moved, ..] = words(row);
-        let (time, offset): (DateTime, i32) = (value(&rt, time), value(&rt, offset));
+        let (time, offset): (DateTime, i32) = (parsed(&rt, time), value(&rt, offset));
         expect(&rt, time.with_timezone_offset(Some(offset)), shown, row);
         expect(&rt, time.in_timezone(offset), moved, row);
     }

@@ -1,6 +1,6 @@
 //! Dates from texts, numbers and timestamps, and days counted.
 
-use crate::rows::{expect, expect_front, expect_or_none, quoted, same, value, words};
+use crate::rows::{expect, expect_front, expect_or_none, parsed, quoted, same, value, words};
 use speedate::{Date, DateConfig, is_leap_year, month_length};
 
 /// Texts that are no numbers, and the answer of each reader.
@@ -163,7 +163,7 @@ fn parts(rt: HostRuntime) {
 fn days(rt: HostRuntime) {
     for row in DAYS.lines() {
         let [number, text, ordinal, second, next, ..] = words(row);
-        let date: Date = value(&rt, text);
+        let date: Date = parsed(&rt, text);
         let (number, second): (u32, i64) = (value(&rt, number), value(&rt, second));
         same(&rt, date.day_number(), number, row);
         expect_or_none(&rt, Date::from_day_number(number), text, row);
@@ -180,7 +180,7 @@ fn days(rt: HostRuntime) {
 fn days_added(rt: HostRuntime) {
     for row in ADDED.lines() {
         let [date, days, want, ..] = words(row);
-        let (date, days): (Date, i32) = (value(&rt, date), value(&rt, days));
+        let (date, days): (Date, i32) = (parsed(&rt, date), value(&rt, days));
         let later = date.checked_add_days(days);
         expect_or_none(&rt, later, want, row);
         if let Some(later) = later {

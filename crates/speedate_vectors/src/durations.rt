@@ -1,6 +1,6 @@
 //! Durations from texts and numbers, their totals, and what lies a duration apart.
 
-use crate::rows::{expect, quoted, same, time_config, value, words};
+use crate::rows::{expect, parsed, quoted, same, time_config, value, words};
 use speedate::Duration;
 
 /// Texts, and the answer of each reader.
@@ -210,7 +210,7 @@ fn parts(rt: HostRuntime) {
 fn totals(rt: HostRuntime) {
     for row in TOTALS.lines() {
         let [text, second, part, millisecond, microsecond, ..] = words(row);
-        let length: Duration = value(&rt, text);
+        let length: Duration = parsed(&rt, text);
         same(&rt, length.signed_total_seconds(), value(&rt, second), row);
         same(&rt, length.signed_microseconds(), value(&rt, part), row);
         same(&rt, length.signed_total_ms(), value(&rt, millisecond), row);
@@ -232,12 +232,12 @@ fn lengths(rt: HostRuntime) {
 fn between(rt: HostRuntime) {
     for row in BETWEEN.lines() {
         let [start, end, want, ..] = words(row);
-        let length = Duration::between(&value(&rt, start), &value(&rt, end));
+        let length = Duration::between(&parsed(&rt, start), &parsed(&rt, end));
         expect(&rt, Ok(length), want, row);
     }
     for row in BETWEEN_DATES.lines() {
         let [start, end, want, ..] = words(row);
-        let length = Duration::between_dates(&value(&rt, start), &value(&rt, end));
+        let length = Duration::between_dates(&parsed(&rt, start), &parsed(&rt, end));
         expect(&rt, Ok(length), want, row);
     }
 }
@@ -246,13 +246,13 @@ fn between(rt: HostRuntime) {
 fn after(rt: HostRuntime) {
     for row in AFTER.lines() {
         let [start, length, want, ..] = words(row);
-        let (start, length): (_, Duration) = (value(&rt, start), value(&rt, length));
+        let (start, length): (_, Duration) = (parsed(&rt, start), parsed(&rt, length));
         expect(&rt, length.after(&start), want, row);
         expect(&rt, length.negated().before(&start), want, row);
     }
     for row in AFTER_DATE.lines() {
         let [start, length, want, ..] = words(row);
-        let (start, length): (_, Duration) = (value(&rt, start), value(&rt, length));
+        let (start, length): (_, Duration) = (parsed(&rt, start), parsed(&rt, length));
         expect(&rt, length.after_date(&start), want, row);
         expect(&rt, length.negated().before_date(&start), want, row);
     }

@@ -1,7 +1,7 @@
 //! The errors by name, and their documentation texts.
 
 use crate::rows::same;
-use crate::shown::expect_shown;
+use crate::shown::expect_written;
 use speedate::ConfigError::{
     UnknownMicrosecondsPrecisionOverflowBehaviorString, UnknownTimestampUnitString,
 };
@@ -85,7 +85,7 @@ fn of_texts_that_are_read(rt: HostRuntime) {
         same(&rt, fault.name(), name, row);
         let documentation = Some(documentation.trim_start());
         same(&rt, fault.get_documentation(), documentation, row);
-        expect_shown(&rt, fault, name);
+        expect_written(&rt, fault, name);
     }
 }
 
@@ -93,9 +93,9 @@ fn of_texts_that_are_read(rt: HostRuntime) {
 fn of_choices(rt: HostRuntime) {
     let fault = UnknownTimestampUnitString;
     same(&rt, fault.get_documentation(), None, fault);
-    expect_shown(&rt, &fault, "unknown_timestamp_unit_string");
+    expect_written(&rt, &fault, "unknown_timestamp_unit_string");
     let fault = UnknownMicrosecondsPrecisionOverflowBehaviorString;
     same(&rt, fault.get_documentation(), None, fault);
     let name = "unknown_microseconds_precision_overflow_behavior_string";
-    expect_shown(&rt, &fault, name);
+    expect_written(&rt, &fault, name);
 }

@@ -1,10 +1,9 @@
 //! The orders of dates, of times and date-times by instant, and of durations.
 
-use crate::rows::{same, value, words};
+use crate::rows::{HasText, parsed, same, words};
 use speedate::{Date, DateTime, Duration, ParseError, Time};
 use std::cmp::Ordering;
 use std::process::Abort;
-use std::str::FromStr;
 
 const DATES: &str = "\
 0000-12-31  <  0001-01-01
@@ -39,13 +38,10 @@ fn sign(order: Ordering) -> &'static str {
 }
 
 /// The values of each row are to be in its order.
-fn expect_orders<T: FromStr + Ord + Copy, R: Abort>(rt: &R, rows: &str)
-where
-    T::Err: Drop,
-{
+fn expect_orders<T: HasText + Ord, R: Abort>(rt: &R, rows: &str) {
     for row in rows.lines() {
         let [one, order, two, ..] = words(row);
-        let (one, two): (T, T) = (value(rt, one), value(rt, two));
+        let (one, two): (T, T) = (parsed(rt, one), parsed(rt, two));
         same(rt, sign(one.cmp(&two)), order, row);
         same(rt, one < two, order == "<", row);
         same(rt, one == two, order == "=", row);
@@ -61,7 +57,7 @@ fn dates(rt: HostRuntime) {
 fn times(rt: HostRuntime) {
     for row in TIMES.lines() {
         let [one, order, two, ..] = words(row);
-        let (one, two): (Time, Time) = (value(&rt, one), value(&rt, two));
+        let (one, two): (Time, Time) = (parsed(&rt, one), parsed(&rt, two));
         same(&rt, sign(one.cmp_instant(&two)), order, row);
         // without offsets they sort as their texts
         if one.tz_offset.is_none() && two.tz_offset.is_none() {
@@ -75,7 +71,7 @@ fn times(rt: HostRuntime) {
 fn date_times(rt: HostRuntime) {
     for row in DATE_TIMES.lines() {
         let [one, order, two, ..] = words(row);
-        let (one, two): (DateTime, DateTime) = (value(&rt, one), value(&rt, two));
+        let (one, two): (DateTime, DateTime) = (parsed(&rt, one), parsed(&rt, two));
         same(&rt, sign(one.cmp_instant(&two)), order, row);
     }
 }

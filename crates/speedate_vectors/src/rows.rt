@@ -31,12 +31,17 @@ pub fn words(row: &str) -> [&str; 6] {
     words
 }
 
-/// The value that a word is, which is to be one.
+/// The number that a word is, or the choice of its name, which is to be one.
 pub fn value<T: FromStr, R: Abort>(rt: &R, word: &str) -> T
 where
     T::Err: Drop,
 {
-    word.parse().ok().expect(rt, word)
+    T::from_str(word).ok().expect(rt, word)
+}
+
+/// The value that a text is, by the `parse_str` of its type, which is to be one.
+pub fn parsed<T: HasText, R: Abort>(rt: &R, text: &str) -> T {
+    T::parse(text).ok().expect(rt, text)
 }
 
 /// An offset in seconds, and none for `-` and for no word.
@@ -76,31 +81,52 @@ pub fn same<T: PartialEq + Debug + Copy, W: Display + Copy, R: Abort>(
     assert_eq!(rt; found, want, "{row}");
 }
 
-/// A value that is printed as one text.
+/// A value that a text is, and that is printed as one.
 pub trait HasText: Copy {
+    /// The answer of `parse_str`.
+    fn parse(text: &str) -> Result<Self, ParseError>
+    where
+        Self: Sized;
+
     /// The text that `to_text` gives is to be the one that the row wants.
     fn expect_text<R: Abort>(&self, rt: &R, want: &str, row: &str);
 }
 
 impl HasText for Date {
+    fn parse(text: &str) -> Result<Self, ParseError> {
+        Self::parse_str(text)
+    }
+
     fn expect_text<R: Abort>(&self, rt: &R, want: &str, row: &str) {
         same(rt, self.to_text().as_str(), want, row);
     }
 }
 
 impl HasText for Time {
+    fn parse(text: &str) -> Result<Self, ParseError> {
+        Self::parse_str(text)
+    }
+
     fn expect_text<R: Abort>(&self, rt: &R, want: &str, row: &str) {
         same(rt, self.to_text().as_str(), want, row);
     }
 }
 
 impl HasText for DateTime {
+    fn parse(text: &str) -> Result<Self, ParseError> {
+        Self::parse_str(text)
+    }
+
     fn expect_text<R: Abort>(&self, rt: &R, want: &str, row: &str) {
         same(rt, self.to_text().as_str(), want, row);
     }
 }
 
 impl HasText for Duration {
+    fn parse(text: &str) -> Result<Self, ParseError> {
+        Self::parse_str(text)
+    }
+
     fn expect_text<R: Abort>(&self, rt: &R, want: &str, row: &str) {
         same(rt, self.to_text().as_str(), want, row);
     }

@@ -1,6 +1,6 @@
 //! What Display writes, the same in every form, and the sizes of printed texts.
 
-use crate::rows::{same, value, words};
+use crate::rows::{parsed, same, words};
 use arrayvec::ArrayString;
 use speedate::{Date, DateTime, Duration, ParseError, Time};
 use std::fmt::{Display, Write};
@@ -19,17 +19,21 @@ duration   -PT0S
 duration   P364DT1H0.1205S
 duration   -P2739725Y1DT0.000001S";
 
-/// A value is to be written as the text, whatever precision, sign, width, fill or form is asked for, and
-/// not where there is no room.
-pub fn expect_shown<T: Display, R: AllocGlobal + Abort>(rt: &R, value: &T, want: &str) {
-    let shown = format!(in rt.alloc();
-        "{value} {value:.3} {value:+} {value:08} {value:#} {value:*>40}"
-    );
+/// What `{}` writes is to be the text, and an error where there is no room.
+pub fn expect_written<T: Display, R: AllocGlobal + Abort>(rt: &R, value: &T, want: &str) {
+    let written = format!(in rt.alloc(); "{value}");
+    same(rt, written.ok().expect(rt, want).as_str(), want, want);
+    let mut none = ArrayString::<0>::new();
+    assert!(rt; write!(none, "{value}").is_err(), "{want}");
+}
+
+/// A value is to be written as the text, whatever precision, sign, width, fill or form is asked for.
+fn expect_shown<T: Display, R: AllocGlobal + Abort>(rt: &R, value: &T, want: &str) {
+    expect_written(rt, value, want);
+    let shown = format!(in rt.alloc(); "{value:.3} {value:+} {value:08} {value:#} {value:*>40}");
     for text in shown.ok().expect(rt, want).split(' ') {
         same(rt, text, want, want);
     }
-    let mut none = ArrayString::<0>::new();
-    assert!(rt; write!(none, "{value}").is_err(), "{want}");
 }
 
 #[test]
@@ -37,10 +41,10 @@ fn texts(rt: HostRuntime) {
     for row in TEXTS.lines() {
         let [kind, text, ..] = words(row);
         match kind {
-            "date" => expect_shown(&rt, &value::<Date, _>(&rt, text), text),
-            "time" => expect_shown(&rt, &value::<Time, _>(&rt, text), text),
-            "date-time" => expect_shown(&rt, &value::<DateTime, _>(&rt, text), text),
-            _ => expect_shown(&rt, &value::<Duration, _>(&rt, text), text),
+            "date" => expect_shown(&rt, &parsed::<Date, _>(&rt, text), text),
+            "time" => expect_shown(&rt, &parsed::<Time, _>(&rt, text), text),
+            "date-time" => expect_shown(&rt, &parsed::<DateTime, _>(&rt, text), text),
+            _ => expect_shown(&rt, &parsed::<Duration, _>(&rt, text), text),
         }
     }
 }

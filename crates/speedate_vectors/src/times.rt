@@ -1,6 +1,6 @@
 //! Times of day from texts, numbers and timestamps, what has gone by since midnight, and other offsets.
 
-use crate::rows::{expect, expect_front, offset, quoted, same, time_config, value, words};
+use crate::rows::{expect, expect_front, offset, parsed, quoted, same, time_config, value, words};
 use speedate::{Time, TimeConfig};
 
 /// A behavior, an offset for timestamps, a text, and the answer.
@@ -216,7 +216,7 @@ fn parts(rt: HostRuntime) {
 fn since_midnight(rt: HostRuntime) {
     for row in SINCE_MIDNIGHT.lines() {
         let [time, second, millisecond, ..] = words(row);
-        let time: Time = value(&rt, time);
+        let time: Time = parsed(&rt, time);
         same(&rt, time.total_seconds(), value(&rt, second), row);
         same(&rt, time.total_ms(), value(&rt, millisecond), row);
     }
@@ -226,7 +226,7 @@ fn since_midnight(rt: HostRuntime) {
 fn offsets(rt: HostRuntime) {
     for row in OFFSETS.lines() {
         let [time, offset, shown, moved, ..] = words(row);
-        let (time, offset): (Time, i32) = (value(&rt, time), value(&rt, offset));
+        let (time, offset): (Time, i32) = (parsed(&rt, time), value(&rt, offset));
         expect(&rt, time.with_timezone_offset(Some(offset)), shown, row);
         expect(&rt, time.in_timezone(offset), moved, row);
     }

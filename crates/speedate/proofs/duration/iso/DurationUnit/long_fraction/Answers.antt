@@ -1,16 +1,10 @@
-use Rattle.std.proofs.Common.{◌≡◌, ◌∙◌, sym, ap, ap₂, lit<, arith, ℕ, ◌+◌, ◌-◌, ◌*◌, ◌/◌, ◌^◌, length, unsigned_abs, false}
-use Rattle.std.proofs.Math.Nat.{div-div-eq-div-mul, mul-div-mul_right}
+use Rattle.std.proofs.Common.{◌∙◌, sym, ap, ap₂, ℕ, ◌+◌, ◌-◌, ◌*◌, ◌/◌, ◌^◌, length, unsigned_abs, false}
 use Rattle.speedate_base.specs.Digits.{digits_value}
 use Rattle.speedate_base.proofs.NearestLemmas.{nearest-halved, scale-some}
 use Rattle.speedate.specs.IsoForm.{unit_seconds}
 use Rattle.speedate.specs.Reader.{unit_parts}
+use Rattle.speedate.proofs.FractionLemmas.{whole-seconds}
 use Rattle.speedate.proofs.duration.iso.DurationUnit.long_fraction.Goals as goal
-
--- the whole seconds of twice the microseconds of a fraction
-whole-seconds : (value second scale : ℕ) → 2 * (value * (1000000 * second)) / scale / 2000000 ≡ value * second / scale
-whole-seconds value second scale =
-    div-div-eq-div-mul (2 * (value * (1000000 * second))) scale 2000000 ∙ ap (λ (n : ℕ). n / (scale * 2000000)) (grind arith)
-    ∙ mul-div-mul_right (value * second) scale (lit< tt)
 
 pub returns-clause-second : goal.returns-clause-second
 returns-clause-second c =
