@@ -1,6 +1,7 @@
 //! Durations: days, seconds and microseconds, with a sign.
 
 ghost use Rattle.std.specs.Prelude.{◌≡◌, ℕ, ◌<◌, ◌≤◌, IfOk, List, unsigned_abs};
+ghost use Rattle.speedate_base.specs.Config.{time_choices};
 ghost use Rattle.speedate_base.specs.Requirement.{result_map};
 ghost use Rattle.speedate.specs.DurationNumbers.{amount_seconds, amount_microseconds, normal_form, signed_form, signed_seconds, signed_microsecond, signed_milliseconds};
 
@@ -71,9 +72,19 @@ impl Duration {
     /// - `DurationValueTooLarge` if the seconds, or then the days, exceed 4,294,967,295;
     /// - `DurationDaysTooLarge` if the days exceed 999,999,999.
     pub fn new(positive: bool, day: u32, second: u32, microsecond: u32) -> Result<Self, ParseError>
-        ensures answer { result gives normal_form (record { positive = positive; day = day; second = second; microsecond = microsecond }) }
+        ensures answer { result gives normal_form (record {
+          positive = positive;
+          day = day;
+          second = second;
+          microsecond = microsecond;
+        }) }
         ensures length { IfOk result (λ duration. amount_microseconds (duration_numbers duration)
-            ≡ amount_microseconds (record { positive = positive; day = day; second = second; microsecond = microsecond })) }
+            ≡ amount_microseconds (record {
+              positive = positive;
+              day = day;
+              second = second;
+              microsecond = microsecond;
+            })) }
     {
         let second = second
             .checked_add(microsecond / 1_000_000)
@@ -184,13 +195,18 @@ impl Duration {
     /// sums that are too large.
     #[inline(always)]
     pub fn parse_bytes_with_config(bytes: &[u8], config: &TimeConfig) -> Result<Self, ParseError>
-        ensures answer { result gives duration_answer config.now.iso_order config.now.microseconds_precision_overflow_behavior bytes.now }
-        ensures grammar { IsGrammarAnswer config.now.iso_order config.now.microseconds_precision_overflow_behavior bytes.now (result_map duration_numbers result) }
-        ensures order { IsAnswerInOrder config.now.iso_order config.now.microseconds_precision_overflow_behavior bytes.now (result_map duration_numbers result) }
+        ensures answer { result gives duration_answer (time_choices config.now).order
+            (time_choices config.now).behavior bytes.now }
+        ensures grammar { IsGrammarAnswer (time_choices config.now).order
+            (time_choices config.now).behavior bytes.now (result_map duration_numbers result) }
+        ensures order { IsAnswerInOrder (time_choices config.now).order
+            (time_choices config.now).behavior bytes.now (result_map duration_numbers result) }
         ensures amount { IfOk result (λ value. (items : List Item) → IsMadeOf bytes.now items
             → IsAmountOf bytes.now items (duration_numbers value)) }
-        ensures exchanged { (other : List ℕ) → config.now.iso_order ≡ order.Lax → AreExchanged bytes.now other
-            → result gives duration_answer config.now.iso_order config.now.microseconds_precision_overflow_behavior other }
+        ensures exchanged { (other : List ℕ) → (time_choices config.now).order ≡ order.Lax
+            → AreExchanged bytes.now other
+            → result gives duration_answer (time_choices config.now).order
+            (time_choices config.now).behavior other }
     {
         Self::parse(
             bytes,
@@ -280,7 +296,8 @@ impl FromStr for Duration {
     ghost use Rattle.speedate_base.specs.declared.config.MicrosecondsPrecisionOverflowBehavior.TheVariants as behavior;
     ghost use Rattle.speedate.specs.Duration.{◌gives◌, duration_answer};
 
-    ghost from_str_gives = { λ text result. result gives duration_answer order.Lax behavior.Error text };
+    ghost from_str_gives = { λ text result.
+        result gives duration_answer order.Lax behavior.Error text };
 
     /// The answer of [`Duration::parse_str`]: `"PT90M".parse()` gives an hour and a half.
     fn from_str(text: &str) -> Result<Self, ParseError> {

@@ -9,7 +9,7 @@ use Rattle.std.proofs.lemmas.Bool.{and_from, cases_lt}
 use Rattle.std.proofs.lemmas.Bool.Decides.{nat_tests}
 use Rattle.std.proofs.lemmas.Nat.{pow-add}
 use Rattle.std.proofs.Math.Nat.{pow-succ', pow-le-pow_right}
-use Rattle.speedate_base.specs.Digits.{one_digit_value, run_length, digits_value, fraction_value}
+use Rattle.speedate_base.specs.Digits.{one_digit_value, digits_value, fraction_value}
 
 -- a digit stands within its text
 pub digit-within : (bytes : List ℕ) (place : ℕ) → is_ascii_digit (get_or bytes place 0) ≡ true → place < length bytes

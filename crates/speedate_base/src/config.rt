@@ -1,10 +1,10 @@
 //! Configurations: the unit of timestamps, how times are parsed, and which offset the values of
 //! timestamps get.
 
-ghost use Rattle.std.specs.Prelude.{◌≡◌, IsTrue, Ok};
+ghost use Rattle.std.specs.Prelude.{◌≡◌, IfOk, Ok};
 ghost use Rattle.std.specs.Option.{ForSome};
 ghost use Rattle.speedate_base.specs.declared.config.TimestampUnit.TheVariants as unit;
-ghost use Rattle.speedate_base.specs.Offset.{IsOffset, is_offset, offset_table};
+ghost use Rattle.speedate_base.specs.Offset.{IsOffset, offset_table};
 ghost use Rattle.speedate_base.specs.Requirement.{meets, result_map};
 
 mod choice;
@@ -61,13 +61,17 @@ pub enum IsoOrder {
     Strict,
 }
 
-/// Whether an offset in seconds is less than 24 hours, east or west of UTC: true for -86,399, false for
-/// 86,400 and for `i32::MIN`.
-pub fn is_offset(offset: i32) -> bool
-    ensures value { result ≡ is_offset offset }
-    ensures range { IsTrue result → IsOffset offset }
+/// Refuses an offset of 24 hours or more, in seconds, east or west of UTC: it fails with `OutOfRangeTz`
+/// for `Some(86_400)` and `Some(i32::MIN)`. If there is no offset, there is nothing to refuse.
+#[inline]
+pub fn require_offset(offset: Option<i32>) -> Result<(), ParseError>
+    ensures answer { result ≡ meets (offset_table offset) (Ok tt) }
+    ensures range { IfOk result (λ _. ForSome offset IsOffset) }
 {
-    offset.unsigned_abs() < SECONDS_PER_DAY
+    match offset {
+        Some(seconds) if seconds.unsigned_abs() >= SECONDS_PER_DAY => Err(ParseError::OutOfRangeTz),
+        _ => Ok(()),
+    }
 }
 
 /// How dates are parsed: the unit of timestamps. The default infers it;
@@ -168,9 +172,9 @@ impl Default for TimeConfig {
     /// may come in any order.
     fn default() -> Self {
         TimeConfig {
-            microseconds_precision_overflow_behavior: MicrosecondsPrecisionOverflowBehavior::default(),
+            microseconds_precision_overflow_behavior: Default::default(),
             unix_timestamp_offset: None,
-            iso_order: IsoOrder::default(),
+            iso_order: Default::default(),
         }
     }
 }
@@ -230,10 +234,8 @@ impl TimeConfigBuilder {
         ensures choices { result_map time_choices result
             ≡ meets (offset_table offset) (Ok (with_offset offset (time_choices self))) }
     {
-        match offset {
-            Some(seconds) if !is_offset(seconds) => Err(ParseError::OutOfRangeTz),
-            _ => Ok(self.unix_timestamp_offset(offset)),
-        }
+        require_offset(offset)?;
+        Ok(self.unix_timestamp_offset(offset))
     }
 
     /// Sets whether the components of an ISO 8601 duration have to come in order: with `Strict`,

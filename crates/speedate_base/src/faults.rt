@@ -147,7 +147,8 @@ impl ParseError {
     fn row(&self) -> (&'static str, &'static str)
         ensures name { result.0.now ≡ fault_name self.now }
         ensures short { length result.0.now ≤ 29 }
-        ensures distinct { (other : ParseError) → result.0.now ≡ fault_name other → self.now ≡ other }
+        ensures distinct { (other : ParseError) → result.0.now ≡ fault_name other
+            → self.now ≡ other }
         ensures documentation { result.1.now ≡ fault_documentation self.now }
         ensures documentation_short { length result.1.now ≤ 63 }
     {

@@ -1,19 +1,19 @@
 //! Dates of the Gregorian calendar, from 0000-01-01 to 9999-12-31.
 
-ghost use Rattle.std.specs.Prelude.{◌≡◌, ◌<◌, ◌≤◌, ◌↔◌, IfOk, Ok, OnOk, Some, length};
+ghost use Rattle.std.specs.Prelude.{◌≡◌, ◌<◌, ◌≤◌, ◌↔◌, Ok, Some, length};
 ghost use Rattle.std.specs.Int.{is_in_range, IsInRange};
 ghost use Rattle.speedate_civil.specs.Calendar.{month_length, is_leap_year};
 
 mod day_number;
 mod order;
-pub(crate) mod timestamp;
+mod parse;
+mod timestamp;
 
 use crate::text::two_digit_text;
 use arrayvec::ArrayString;
+pub(crate) use parse::may_be_number;
 use speedate_base::faults::ParseError;
-use speedate_base::numbers::{LANES, eight_bytes, fitting, pairs, two_digits};
 use std::fmt;
-use std::simd::prelude::*;
 
 /// How many bytes the text of a date has.
 const TEXT_LENGTH: usize = 10;
@@ -76,21 +76,21 @@ fn is_day(year: u16, month: u8, day: u8) -> bool
 }
 
 impl Date {
-    ghost use Rattle.std.specs.Prelude.{ℕ, ◌+◌, ◌++◌, List, take};
+    ghost use Rattle.std.specs.Prelude.{ℕ, ◌+◌, ◌++◌, List};
     ghost use Rattle.arrayvec.specs.ArrayString.{array_string_len};
     ghost use Rattle.speedate_base.specs.declared.config.DateConfig.{DateConfig};
-    ghost use Rattle.speedate_base.specs.Numbers.{NoNumber, number_answer};
     ghost use Rattle.speedate_base.specs.Requirement.{result_map};
     ghost use Rattle.speedate_civil.specs.declared.date.Date.{Date};
-    ghost use Rattle.speedate_civil.specs.Calendar.{Ymd};
-    ghost use Rattle.speedate_civil.specs.Date.{ymd, date_front, date_answer, date_text, date_or_timestamp, ◌gives◌, ◌gives_front◌, new_date_answer};
+    ghost use Rattle.speedate_civil.specs.Date.{ymd, date_front, date_answer, date_text, date_or_timestamp, ◌gives◌, new_date_answer};
 
     /// The date of a year, a month and a day: 2020-02-29 for 2020, 2 and 29.
     ///
     /// The errors, in the order in which they are looked for:
     ///
     /// - `DateTooLarge` if the year is over 9999;
+
     /// - `OutOfRangeMonth` if the month is not 1 to 12;
+
     /// - `OutOfRangeDay` if the month has no such day.
     pub fn new(year: u16, month: u8, day: u8) -> Result<Self, ParseError>
         ensures answer { result gives new_date_answer year month day }
@@ -113,70 +113,16 @@ impl Date {
     /// looked for:
     ///
     /// - `TooShort` if the text has fewer than ten bytes;
+
     /// - `InvalidCharYear`, `InvalidCharDateSep`, `InvalidCharMonth`, `InvalidCharDateSep` and
     ///   `InvalidCharDay`, from the left, for the first part that is not digits, or not a `-`;
+
     /// - `OutOfRangeMonth` if the month is not 1 to 12;
+
     /// - `OutOfRangeDay` if the month has no such day;
-    /// - `ExtraCharacters` if the text has more than ten bytes.
-    pub fn parse_str_rfc3339(text: &str) -> Result<Self, ParseError>
-        ensures answer { result gives date_answer text.now }
-    {
-        Self::parse_bytes_rfc3339(text.as_bytes())
-    }
-
-    /// Parses a date from bytes, and no timestamp: 29 February 2020 from `b"2020-02-29"`. The bytes need
-    /// not be text. The form and the errors are those of [`Date::parse_str_rfc3339`].
-    #[inline]
-    pub fn parse_bytes_rfc3339(bytes: &[u8]) -> Result<Self, ParseError>
-        ensures answer { result gives date_answer bytes.now }
-        ensures no_number { OnOk result (number_answer bytes.now ≡ NoNumber) }
-    {
-        let (date, size) = Self::parse_front(bytes)?;
-        if size != bytes.len() {
-            return Err(ParseError::ExtraCharacters);
-        }
-        Ok(date)
-    }
-
-    /// Parses the date at the front of a text, whatever follows it, and returns how many bytes it takes,
-    /// which is always ten: 22 November 2026 and 10 from `b"2026-11-22 opening balance"`. It reads no
-    /// timestamps. The errors are those of [`Date::parse_str_rfc3339`] except `ExtraCharacters`.
-    #[inline]
-    pub fn parse_front(bytes: &[u8]) -> Result<(Self, usize), ParseError>
-        ensures answer { result gives_front date_front bytes.now }
-        ensures within { IfOk result (λ front. front.1 ≤ length bytes.now) }
-        ensures whole { (date : Ymd)
-            → (date_answer bytes.now ≡ Ok date) ↔ (result gives_front Ok (date, length bytes.now)) }
-        ensures alone { IfOk result (λ front. date_answer (take front.1 bytes.now) ≡ Ok (ymd front.0)) }
-    {
-        if bytes.len() < TEXT_LENGTH {
-            return Err(ParseError::TooShort);
-        }
-        let front = eight_bytes(bytes, 0);
-        let form = u8x8::from_array(*b"0000-00-");
-        let place = fitting(front, form);
-        if place < LANES {
-            return Err(match place {
-                0..=3 => ParseError::InvalidCharYear,
-                4 | 7 => ParseError::InvalidCharDateSep,
-                _ => ParseError::InvalidCharMonth,
-            });
-        }
-        let [century, _, year, _, _, month, _, _] = pairs(front, form, LANES);
-        let year = 100 * u16::from(century) + u16::from(year);
-        let Some(day) = two_digits(bytes, 8) else {
-            return Err(ParseError::InvalidCharDay);
-        };
-        if month < 1 || month > 12 {
-            return Err(ParseError::OutOfRangeMonth);
-        }
-        if !is_day(year, month, day) {
-            return Err(ParseError::OutOfRangeDay);
-        }
-        Ok((Date { year, month, day }, TEXT_LENGTH))
-    }
 
     /// The canonical text, `YYYY-MM-DD`: `2020-02-29` for 29 February 2020. It is not allocated;
+
     /// `.as_str()` is the text. It reads back as the date under every configuration, and at the front
     /// of a text too, whatever follows it. No other date has the same text.
     pub fn to_text(&self) -> ArrayString<TEXT_LENGTH>
@@ -184,9 +130,11 @@ impl Date {
         ensures reads_back { date_answer result.bytes ≡ Ok (ymd self.now) }
         ensures reads_back_with_config { (config : DateConfig)
             → date_or_timestamp config.timestamp_unit result.bytes ≡ Ok (ymd self.now) }
-        ensures reads_front { (rest : List ℕ) → date_front (result.bytes ++ rest) ≡ Ok (ymd self.now, length result.bytes) }
+        ensures reads_front { (rest : List ℕ)
+            → date_front (result.bytes ++ rest) ≡ Ok (ymd self.now, length result.bytes) }
         ensures canonical { (config : DateConfig)
-            → result_map date_text (date_or_timestamp config.timestamp_unit result.bytes) ≡ Ok result.bytes }
+            → result_map date_text (date_or_timestamp config.timestamp_unit result.bytes)
+            ≡ Ok result.bytes }
         ensures distinct { (other : Date)
             → (result.bytes ≡ date_text (ymd other)) ↔ (ymd self.now ≡ ymd other) }
     {

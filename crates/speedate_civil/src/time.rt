@@ -2,6 +2,7 @@
 
 ghost use Rattle.std.specs.Prelude.{◌≡◌, ◌≤◌};
 ghost use Rattle.std.specs.Option.{ForSome};
+ghost use Rattle.speedate_base.specs.Config.{time_choices};
 ghost use Rattle.speedate_base.specs.Offset.{IsOffset};
 
 mod offset;
@@ -151,7 +152,7 @@ impl Time {
     /// Those of [`Time::parse_str`], but with `Truncate` there is no `SecondFractionTooLong`.
     #[inline(always)]
     pub fn parse_bytes_with_config(bytes: &[u8], config: &TimeConfig) -> Result<Self, ParseError>
-        ensures answer { result gives time_answer config.now.microseconds_precision_overflow_behavior bytes.now }
+        ensures answer { result gives time_answer (time_choices config.now).behavior bytes.now }
         ensures minutes { IfOk result (λ time. IsWholeMinutes time.tz_offset) }
     {
         Self::parse_whole(bytes, config.microseconds_precision_overflow_behavior)
@@ -200,13 +201,14 @@ impl Time {
     /// `ExtraCharacters`.
     #[inline(always)]
     pub fn parse_front(bytes: &[u8], config: &TimeConfig) -> Result<(Self, usize), ParseError>
-        ensures answer { result gives_front time_front config.now.microseconds_precision_overflow_behavior bytes.now }
+        ensures answer { result gives_front time_front (time_choices config.now).behavior
+            bytes.now }
         ensures within { IfOk result (λ front. front.1 ≤ length bytes.now) }
         ensures whole { (time : TimeOfDay)
-            → (time_answer config.now.microseconds_precision_overflow_behavior bytes.now ≡ Ok time)
+            → (time_answer (time_choices config.now).behavior bytes.now ≡ Ok time)
             ↔ (result gives_front Ok (time, length bytes.now)) }
         ensures alone { IfOk result (λ front.
-            time_answer config.now.microseconds_precision_overflow_behavior (take front.1 bytes.now)
+            time_answer (time_choices config.now).behavior (take front.1 bytes.now)
             ≡ Ok (time_of_day front.0)) }
         ensures minutes { IfOk result (λ front. IsWholeMinutes front.0.tz_offset) }
     {
@@ -299,7 +301,8 @@ impl Time {
         timestamp_microsecond: u32,
         config: &TimeConfig,
     ) -> Result<Self, ParseError>
-        ensures answer { result gives timestamp_answer timestamp_second timestamp_microsecond config.now.unix_timestamp_offset }
+        ensures answer { result gives timestamp_answer timestamp_second timestamp_microsecond
+            (time_choices config.now).offset }
         ensures instant { IfOk result (λ time. microsecond_of_day (time_of_day time)
             ≡ 1000000 * timestamp_second + timestamp_microsecond) }
     {

@@ -24,13 +24,17 @@ impl Duration {
     /// and has at most 3,652,426 days. A date-time without an offset is taken to be in UTC. If the
     /// offsets are equal, [`Duration::after`] leads from `earlier` exactly to `later`.
     pub fn between(earlier: &DateTime, later: &DateTime) -> Duration
-        ensures answer { duration_numbers result ≡ duration_between (date_and_time earlier.now) (date_and_time later.now) }
+        ensures answer { duration_numbers result
+            ≡ duration_between (date_and_time earlier.now) (date_and_time later.now) }
         ensures length { signed_amount (duration_numbers result)
-            ≡ utc_microsecond (date_and_time later.now) -ℤ utc_microsecond (date_and_time earlier.now) }
-        ensures ends { IfOk (date_time_after (signed_amount (duration_numbers result)) (date_and_time earlier.now))
+            ≡ utc_microsecond (date_and_time later.now)
+            -ℤ utc_microsecond (date_and_time earlier.now) }
+        ensures ends { IfOk
+            (date_time_after (signed_amount (duration_numbers result)) (date_and_time earlier.now))
             (λ end. utc_microsecond end ≡ utc_microsecond (date_and_time later.now)) }
         ensures leads_back { later.now.time.tz_offset ≡ earlier.now.time.tz_offset
-            → date_time_after (signed_amount (duration_numbers result)) (date_and_time earlier.now) ≡ Ok (date_and_time later.now) }
+            → date_time_after (signed_amount (duration_numbers result)) (date_and_time earlier.now)
+            ≡ Ok (date_and_time later.now) }
         ensures days { result.day ≤ 3652426 }
     {
         Self::of_microseconds(utc_microsecond(later) - utc_microsecond(earlier))
@@ -46,16 +50,22 @@ impl Duration {
     /// `DateTooLarge` if it is after the year 9999.
     #[inline(always)]
     pub fn after(&self, start: &DateTime) -> Result<DateTime, ParseError>
-        ensures answer { result gives date_time_after (signed_amount (duration_numbers self.now)) (date_and_time start.now) }
+        ensures answer { result gives date_time_after (signed_amount (duration_numbers self.now))
+            (date_and_time start.now) }
         ensures ends { IfOk result (λ end. utc_microsecond (date_and_time end)
-            ≡ utc_microsecond (date_and_time start.now) +ℤ signed_amount (duration_numbers self.now)) }
+            ≡ utc_microsecond (date_and_time start.now)
+            +ℤ signed_amount (duration_numbers self.now)) }
         ensures offset { IfOk result (λ end. end.time.tz_offset ≡ start.now.time.tz_offset) }
-        ensures between { IfOk result (λ end. duration_between (date_and_time start.now) (date_and_time end)
+        ensures between { IfOk result (λ end.
+            duration_between (date_and_time start.now) (date_and_time end)
             ≡ with_positive_zero (duration_numbers self.now)) }
-        ensures order { (other : Duration) → IfOk result (λ end. IfOk (date_time_after (signed_amount (duration_numbers other)) (date_and_time start.now))
+        ensures order { (other : Duration) → IfOk result (λ end. IfOk
+            (date_time_after (signed_amount (duration_numbers other)) (date_and_time start.now))
             (λ next. int_cmp (utc_microsecond (date_and_time end)) (utc_microsecond next)
-            ≡ int_cmp (signed_amount (duration_numbers self.now)) (signed_amount (duration_numbers other)))) }
-        ensures leads_back { IfOk result (λ end. date_time_after (neg_ℤ (signed_amount (duration_numbers self.now))) (date_and_time end)
+            ≡ int_cmp (signed_amount (duration_numbers self.now))
+            (signed_amount (duration_numbers other)))) }
+        ensures leads_back { IfOk result (λ end.
+            date_time_after (neg_ℤ (signed_amount (duration_numbers self.now))) (date_and_time end)
             ≡ Ok (date_and_time start.now)) }
     {
         instant_date_time(self.end(start), start.time.tz_offset)
@@ -69,17 +79,22 @@ impl Duration {
     ///
     /// Those of [`Duration::after`].
     pub fn before(&self, start: &DateTime) -> Result<DateTime, ParseError>
-        ensures answer { result gives date_time_after (neg_ℤ (signed_amount (duration_numbers self.now))) (date_and_time start.now) }
+        ensures answer { result gives date_time_after
+            (neg_ℤ (signed_amount (duration_numbers self.now))) (date_and_time start.now) }
         ensures ends { IfOk result (λ end. utc_microsecond (date_and_time end)
-            ≡ utc_microsecond (date_and_time start.now) -ℤ signed_amount (duration_numbers self.now)) }
+            ≡ utc_microsecond (date_and_time start.now)
+            -ℤ signed_amount (duration_numbers self.now)) }
         ensures offset { IfOk result (λ end. end.time.tz_offset ≡ start.now.time.tz_offset) }
-        ensures between { IfOk result (λ end. duration_between (date_and_time end) (date_and_time start.now)
+        ensures between { IfOk result (λ end.
+            duration_between (date_and_time end) (date_and_time start.now)
             ≡ with_positive_zero (duration_numbers self.now)) }
-        ensures order { (other : Duration) → IfOk result (λ end.
-            IfOk (date_time_after (neg_ℤ (signed_amount (duration_numbers other))) (date_and_time start.now))
+        ensures order { (other : Duration) → IfOk result (λ end. IfOk
+            (date_time_after (neg_ℤ (signed_amount (duration_numbers other))) (date_and_time start.now))
             (λ next. int_cmp (utc_microsecond (date_and_time end)) (utc_microsecond next)
-            ≡ int_cmp (signed_amount (duration_numbers other)) (signed_amount (duration_numbers self.now)))) }
-        ensures leads_back { IfOk result (λ end. date_time_after (signed_amount (duration_numbers self.now)) (date_and_time end)
+            ≡ int_cmp (signed_amount (duration_numbers other))
+            (signed_amount (duration_numbers self.now)))) }
+        ensures leads_back { IfOk result (λ end.
+            date_time_after (signed_amount (duration_numbers self.now)) (date_and_time end)
             ≡ Ok (date_and_time start.now)) }
     {
         self.negated().after(start)
@@ -88,7 +103,8 @@ impl Duration {
     /// The duration with the other sign: -PT1S for PT1S, and PT0S for -PT0S.
     pub fn negated(&self) -> Duration
         ensures numbers { duration_numbers result ≡ negated (duration_numbers self.now) }
-        ensures length { signed_amount (duration_numbers result) ≡ neg_ℤ (signed_amount (duration_numbers self.now)) }
+        ensures length { signed_amount (duration_numbers result)
+            ≡ neg_ℤ (signed_amount (duration_numbers self.now)) }
     {
         Duration {
             positive: !self.positive,
@@ -102,7 +118,8 @@ impl Duration {
     /// [`Duration::from_signed_microseconds`] leads back, from 0 to PT0S.
     pub fn signed_total_microseconds(&self) -> i128
         ensures microsecond { result ≡ signed_amount (duration_numbers self.now) }
-        ensures leads_back { amount_answer result ≡ Ok (with_positive_zero (duration_numbers self.now)) }
+        ensures leads_back { amount_answer result
+            ≡ Ok (with_positive_zero (duration_numbers self.now)) }
     {
         1_000_000 * i128::from(self.signed_total_seconds()) + i128::from(self.signed_microseconds())
     }
@@ -115,7 +132,8 @@ impl Duration {
     /// `DurationDaysTooLarge` if it has more than 999,999,999 days.
     pub fn from_signed_microseconds(microseconds: i128) -> Result<Self, ParseError>
         ensures answer { result_map duration_numbers result ≡ amount_answer microseconds }
-        ensures length { IfOk result (λ duration. signed_amount (duration_numbers duration) ≡ microseconds) }
+        ensures length { IfOk result (λ duration. signed_amount (duration_numbers duration)
+            ≡ microseconds) }
     {
         let size = microseconds.unsigned_abs();
         let (seconds, per_day) = (size / 1_000_000, u128::from(SECONDS_PER_DAY));
@@ -148,7 +166,8 @@ impl Duration {
     /// The instant this long after a date-time, as a clock at its offset shows it.
     fn end(&self, start: &DateTime) -> UnixTime
         ensures instant { unix_instant result
-            ≡ instant_at (local_microsecond (date_and_time start.now) +ℤ signed_amount (duration_numbers self.now)) }
+            ≡ instant_at (local_microsecond (date_and_time start.now)
+            +ℤ signed_amount (duration_numbers self.now)) }
     {
         UnixTime::carried(
             start.timestamp() + self.signed_total_seconds(),
@@ -163,8 +182,10 @@ impl Duration {
     /// The duration from `earlier` to `later`, in whole days: two days from 2020-02-28 to 2020-03-01. It
     /// is negative if `later` is before `earlier`.
     pub fn between_dates(earlier: &Date, later: &Date) -> Duration
-        ensures answer { duration_numbers result ≡ duration_between_dates (ymd earlier.now) (ymd later.now) }
-        ensures leads_back { date_after_days (duration_numbers result) (ymd earlier.now) ≡ Ok (ymd later.now) }
+        ensures answer { duration_numbers result
+            ≡ duration_between_dates (ymd earlier.now) (ymd later.now) }
+        ensures leads_back { date_after_days (duration_numbers result) (ymd earlier.now)
+            ≡ Ok (ymd later.now) }
     {
         let days = later.days_since(earlier);
         Duration {
@@ -184,8 +205,10 @@ impl Duration {
     /// year 0000, or `DateTooLarge` if it is after the year 9999.
     pub fn after_date(&self, start: &Date) -> Result<Date, ParseError>
         ensures answer { result gives date_after_days (duration_numbers self.now) (ymd start.now) }
-        ensures days { IfOk result (λ end. days_between (ymd start.now) (ymd end) ≡ signed_day (duration_numbers self.now)) }
-        ensures leads_back { IfOk result (λ end. date_after_days (negated (duration_numbers self.now)) (ymd end) ≡ Ok (ymd start.now)) }
+        ensures days { IfOk result (λ end. days_between (ymd start.now) (ymd end)
+            ≡ signed_day (duration_numbers self.now)) }
+        ensures leads_back { IfOk result (λ end.
+            date_after_days (negated (duration_numbers self.now)) (ymd end) ≡ Ok (ymd start.now)) }
     {
         if self.second != 0 || self.microsecond != 0 {
             return Err(ParseError::DateNotExact);
@@ -207,9 +230,12 @@ impl Duration {
     /// Those of [`Duration::after_date`].
     #[tactic(auto, using(crate::proofs::DurationMoveLemmas::turned))]
     pub fn before_date(&self, start: &Date) -> Result<Date, ParseError>
-        ensures answer { result gives date_after_days (negated (duration_numbers self.now)) (ymd start.now) }
-        ensures days { IfOk result (λ end. days_between (ymd end) (ymd start.now) ≡ signed_day (duration_numbers self.now)) }
-        ensures leads_back { IfOk result (λ end. date_after_days (duration_numbers self.now) (ymd end) ≡ Ok (ymd start.now)) }
+        ensures answer { result gives date_after_days (negated (duration_numbers self.now))
+            (ymd start.now) }
+        ensures days { IfOk result (λ end. days_between (ymd end) (ymd start.now)
+            ≡ signed_day (duration_numbers self.now)) }
+        ensures leads_back { IfOk result (λ end.
+            date_after_days (duration_numbers self.now) (ymd end) ≡ Ok (ymd start.now)) }
     {
         self.negated().after_date(start)
     }

@@ -92,7 +92,8 @@ pub(super) fn is_day_letter(byte: u8) -> bool
 /// longest of them, 0 if no word goes on. `None` if a word goes on in another way.
 #[inline(always)]
 fn ending_size(text: &[u8]) -> Option<usize>
-    ensures size { result ≡ (if has_whole_ending text.now then Some (size_of_one day_endings text.now) else None) }
+    ensures size { result
+        ≡ (if has_whole_ending text.now then Some (size_of_one day_endings text.now) else None) }
     ensures within { IfSome result (λ size. size ≤ length text.now) }
 {
     match text {

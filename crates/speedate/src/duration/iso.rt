@@ -157,7 +157,8 @@ impl Sums {
     /// The sums with the short components after a `T`, if a first one begins a text, and what follows them.
     #[inline(always)]
     fn with_short_time(self, text: &[u8]) -> (Self, &[u8])
-        ensures answer { iso_from (sums_parts result.0) result.1.now ≡ iso_from (sums_parts self) text.now }
+        ensures answer { iso_from (sums_parts result.0) result.1.now
+            ≡ iso_from (sums_parts self) text.now }
     {
         match text {
             [b'T', rest @ ..] if !self.is_time => self.begin_time().with_short_components(rest),
@@ -169,7 +170,8 @@ impl Sums {
     /// their size would be counted in each step of the loop.
     #[inline(always)]
     fn with_short_components(self, text: &[u8]) -> (Self, &[u8])
-        ensures answer { iso_from (sums_parts result.0) result.1.now ≡ iso_from (sums_parts self) text.now }
+        ensures answer { iso_from (sums_parts result.0) result.1.now
+            ≡ iso_from (sums_parts self) text.now }
     {
         let mut sums = self;
         let mut rest = text;
@@ -184,7 +186,8 @@ impl Sums {
     /// number of one to six digits with its designator, and nothing is wrong in it.
     #[inline(always)]
     fn with_short_component(self, text: &[u8]) -> Option<(Self, usize)>
-        ensures item { IfSome result (λ next. Ok (sums_parts next.0, next.1) ≡ item_front (sums_parts self) (item_at text.now)) }
+        ensures item { IfSome result (λ next. Ok (sums_parts next.0, next.1)
+            ≡ item_front (sums_parts self) (item_at text.now)) }
         ensures some { IfSome result (λ next. 0 < next.1) }
         ensures within { IfSome result (λ next. next.1 ≤ length text.now) }
     {
@@ -215,7 +218,8 @@ impl Sums {
     #[inline(always)]
     fn takes(&self, unit: &DurationUnit) -> bool
         requires { IsUnitOf self.now.is_time unit.now }
-        ensures taken { result ≡ is_some (unit_in (sums_parts self.now).next_units unit.now.designator) }
+        ensures taken { result
+            ≡ is_some (unit_in (sums_parts self.now).next_units unit.now.designator) }
         ensures place { IsTrue result → self.now.passed ≤ unit.now.place }
     {
         self.passed <= unit.place
@@ -227,7 +231,8 @@ impl Sums {
         requires unit { IsUnitOf self.now.is_time unit.now }
         requires place { self.now.passed ≤ unit.now.place }
         ensures units { drop result (units self.now.is_time)
-            ≡ next_units_after self.now.order self.now.is_time unit.now.designator (sums_parts self.now).next_units }
+            ≡ next_units_after self.now.order self.now.is_time unit.now.designator
+            (sums_parts self.now).next_units }
     {
         match self.order {
             IsoOrder::Lax => 0,
@@ -242,8 +247,10 @@ impl Sums {
         requires unit { IsUnitOf self.is_time unit.now }
         requires place { self.passed ≤ unit.now.place }
         requires short { number < 1000000 }
-        ensures sums { IfSome result (λ sums. sums_parts sums ≡ with_number (unit_parts unit.now) number [] (sums_parts self)) }
-        ensures counted { is_some result ≡ are_counted (with_number (unit_parts unit.now) number [] (sums_parts self)) }
+        ensures sums { IfSome result (λ sums. sums_parts sums
+            ≡ with_number (unit_parts unit.now) number [] (sums_parts self)) }
+        ensures counted { is_some result
+            ≡ are_counted (with_number (unit_parts unit.now) number [] (sums_parts self)) }
     {
         let mut sums = self;
         sums.passed = self.passed_by(unit);
@@ -256,7 +263,8 @@ impl Sums {
     /// The amount that all items add up to, if a component is among them.
     #[inline(always)]
     fn amount(self) -> Result<UnsignedDuration, ParseError>
-        ensures answer { result_map unsigned_numbers result ≡ (if self.some then Ok (sums_amount (sums_parts self)) else Err fault.TooShort) }
+        ensures answer { result_map unsigned_numbers result
+            ≡ (if self.some then Ok (sums_amount (sums_parts self)) else Err fault.TooShort) }
     {
         if !self.some {
             return Err(ParseError::TooShort);
@@ -287,7 +295,8 @@ impl Sums {
     #[inline(always)]
     fn with_item(self, text: &[u8]) -> Result<(Self, usize), ParseError>
         requires { 0 < length text.now }
-        ensures item { result_map (with_size sums_parts) result ≡ item_front (sums_parts self) (item_at text.now) }
+        ensures item { result_map (with_size sums_parts) result
+            ≡ item_front (sums_parts self) (item_at text.now) }
         ensures some { IfOk result (λ next. 0 < next.1) }
         ensures within { IfOk result (λ next. next.1 ≤ length text.now) }
     {
@@ -304,7 +313,8 @@ impl Sums {
     #[tactic(auto, using(crate::proofs::IsoItemLemmas::component_rules))]
     #[inline(always)]
     fn with_component(self, text: &[u8]) -> Result<(Self, usize), ParseError>
-        ensures item { result_map (with_size sums_parts) result ≡ item_front (sums_parts self) (Component (component_at text.now)) }
+        ensures item { result_map (with_size sums_parts) result
+            ≡ item_front (sums_parts self) (Component (component_at text.now)) }
         ensures some { IfOk result (λ next. 0 < next.1) }
         ensures within { IfOk result (λ next. next.1 ≤ length text.now) }
     {
@@ -350,8 +360,11 @@ impl Sums {
         requires digits { IsTrue (list_all is_ascii_digit (drop 1 fraction.now)) }
         requires microseconds { microseconds ≡ fraction_value 6 (drop 1 fraction.now) }
         requires small { microseconds < 1000000 }
-        ensures sums { result_map sums_parts result ≡ (if are_counted (with_number (unit_parts unit.now) number fraction.now (sums_parts self))
-            then Ok (with_number (unit_parts unit.now) number fraction.now (sums_parts self)) else Err fault.DurationValueTooLarge) }
+        ensures sums { result_map sums_parts result
+            ≡ (if are_counted
+            (with_number (unit_parts unit.now) number fraction.now (sums_parts self))
+            then Ok (with_number (unit_parts unit.now) number fraction.now (sums_parts self))
+            else Err fault.DurationValueTooLarge) }
     {
         let (whole, microsecond) = match fraction {
             [] => (0, 0),
@@ -384,7 +397,8 @@ impl Sums {
 /// how many bytes it has with its decimal mark: 120,000 and 4 for `b".120S"`, and 0 and 0 if there is none.
 #[inline(always)]
 fn fraction_at_front(text: &[u8]) -> (u32, usize)
-    ensures microseconds { result.0 ≡ fraction_value 6 (drop 1 (take (fraction_size text.now) text.now)) }
+    ensures microseconds { result.0
+        ≡ fraction_value 6 (drop 1 (take (fraction_size text.now) text.now)) }
     ensures small { result.0 < 1000000 }
     ensures length { result.1 ≡ fraction_size text.now }
     ensures within { result.1 ≤ length text.now }

@@ -44,14 +44,18 @@ impl Ord for Duration {
 
     ghost matches_partial_cmp = { Prim.search (comparing, rules) };
 
-    ghost matches_eq = { λ first second. duration_order-same (duration_numbers first) (duration_numbers second) };
+    ghost matches_eq = { λ first second.
+        duration_order-same (duration_numbers first) (duration_numbers second) };
 
     /// Which of two durations is the smaller one: a negative one before a positive one, the shorter
     /// of two positive ones, and the longer of two negative ones. Negative zero is before positive
     /// zero: -PT2S, -PT1S, -PT0S, PT0S and PT1S are in order.
     fn cmp(&self, other: &Duration) -> Ordering
-        ensures order { result ≡ duration_order (duration_numbers self.now) (duration_numbers other.now) }
-        ensures length { result ≡ ordering_then (int_cmp (signed_amount (duration_numbers self.now)) (signed_amount (duration_numbers other.now)))
+        ensures order { result
+            ≡ duration_order (duration_numbers self.now) (duration_numbers other.now) }
+        ensures length { result ≡ ordering_then
+            (int_cmp (signed_amount (duration_numbers self.now))
+            (signed_amount (duration_numbers other.now)))
             (bool_cmp self.now.positive other.now.positive) }
     {
         self.key().cmp(&other.key())
@@ -67,8 +71,11 @@ impl PartialOrd for Duration {
     /// What [`Duration::cmp`] returns, since any two durations have an order:
     /// `Some(Ordering::Less)` for -PT0S and PT0S.
     fn partial_cmp(&self, other: &Duration) -> Option<Ordering>
-        ensures order { result ≡ Some (duration_order (duration_numbers self.now) (duration_numbers other.now)) }
-        ensures length { result ≡ Some (ordering_then (int_cmp (signed_amount (duration_numbers self.now)) (signed_amount (duration_numbers other.now)))
+        ensures order { result
+            ≡ Some (duration_order (duration_numbers self.now) (duration_numbers other.now)) }
+        ensures length { result ≡ Some (ordering_then
+            (int_cmp (signed_amount (duration_numbers self.now))
+            (signed_amount (duration_numbers other.now)))
             (bool_cmp self.now.positive other.now.positive)) }
     {
         Some(self.cmp(other))

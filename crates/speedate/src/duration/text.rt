@@ -3,6 +3,7 @@
 ghost use Rattle.std.specs.Prelude.{◌≡◌, ◌≢◌, ◌+◌, ◌++◌, ◌<◌, ◌≤◌, ◌↔◌, length, Some, Result, Ok};
 ghost use Rattle.std.specs.Fmt.{decimal};
 ghost use Rattle.arrayvec.specs.ArrayString.{array_string_len};
+ghost use Rattle.speedate_base.specs.Config.{time_choices};
 ghost use Rattle.speedate_base.specs.Digits.{two_digit_text};
 ghost use Rattle.speedate.specs.Duration.{counted_text, without_last_zeros, short_fraction_text, seconds_text, rest_text, duration_text};
 
@@ -72,7 +73,8 @@ fn push_counted<const LENGTH: usize>(number: u32, unit: char, text: &mut ArraySt
     requires ascii { unit < 128 }
     requires room { array_string_len text.old + length (counted_text number unit) ≤ LENGTH }
     ensures text { text.new.bytes ≡ text.old.bytes ++ counted_text number unit }
-    ensures length { array_string_len text.new ≡ array_string_len text.old + length (counted_text number unit) }
+    ensures length { array_string_len text.new
+        ≡ array_string_len text.old + length (counted_text number unit) }
 {
     if number != 0 {
         push_number(number, text);
@@ -155,12 +157,15 @@ impl Duration {
     pub fn to_text(&self) -> ArrayString<TEXT_MAX>
         ensures text { result.bytes ≡ duration_text (duration_numbers self.now) }
         ensures reads_back { (config : TimeConfig)
-            → duration_answer config.iso_order config.microseconds_precision_overflow_behavior result.bytes ≡ Ok (duration_numbers self.now) }
+            → duration_answer (time_choices config).order (time_choices config).behavior
+            result.bytes ≡ Ok (duration_numbers self.now) }
         ensures canonical { (config : TimeConfig)
-            → result_map duration_text (duration_answer config.iso_order config.microseconds_precision_overflow_behavior result.bytes)
-            ≡ Ok result.bytes }
+            → result_map duration_text
+            (duration_answer (time_choices config).order (time_choices config).behavior
+            result.bytes) ≡ Ok result.bytes }
         ensures distinct { (other : Duration)
-            → (result.bytes ≡ duration_text (duration_numbers other)) ↔ (duration_numbers self.now ≡ duration_numbers other) }
+            → (result.bytes ≡ duration_text (duration_numbers other))
+            ↔ (duration_numbers self.now ≡ duration_numbers other) }
     {
         let mut text = ArrayString::new();
         self.push_onto(&mut text);
@@ -173,7 +178,8 @@ impl Duration {
     #[inline(always)]
     pub fn push_onto<const LENGTH: usize>(&self, text: &mut ArrayString<LENGTH>)
         requires room { array_string_len text.old + TEXT_MAX ≤ LENGTH }
-        ensures text { text.new.bytes ≡ text.old.bytes ++ duration_text (duration_numbers self.now) }
+        ensures text { text.new.bytes
+            ≡ text.old.bytes ++ duration_text (duration_numbers self.now) }
         ensures short { array_string_len text.new ≤ array_string_len text.old + TEXT_MAX }
     {
         text.push_str(if self.positive { "P" } else { "-P" });

@@ -31,7 +31,8 @@ impl UnsignedDuration {
         order: IsoOrder,
         behavior: MicrosecondsPrecisionOverflowBehavior,
     ) -> Result<Self, ParseError>
-        ensures answer { result_map unsigned_numbers result ≡ unsigned_answer order behavior bytes.now }
+        ensures answer { result_map unsigned_numbers result
+            ≡ unsigned_answer order behavior bytes.now }
     {
         if byte_at(bytes, 0) == b'P' {
             return Sums::read(&bytes[1..], order);

@@ -23,7 +23,8 @@ impl ConfigError {
     /// `ConfigError::UnknownTimestampUnitString`. No other error has it.
     pub fn name(&self) -> &'static str
         ensures name { result.now ≡ config_error_name self.now }
-        ensures distinct { (other : ConfigError) → result.now ≡ config_error_name other → self.now ≡ other }
+        ensures distinct { (other : ConfigError) → result.now ≡ config_error_name other
+            → self.now ≡ other }
     {
         match self {
             ConfigError::UnknownMicrosecondsPrecisionOverflowBehaviorString => {

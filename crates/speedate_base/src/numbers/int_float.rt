@@ -34,7 +34,8 @@ impl<'a> Decimal<'a> {
     /// `b"1"` and `b"50"`. `None` if a byte is no digit, or if there is no digit at all.
     pub fn new(negative: bool, whole: &'a [u8], fraction: &'a [u8]) -> Option<Self>
         ensures answer { option_map decimal_value result
-            ≡ decimal_of_digits (record { negative = negative; whole = whole.now; fraction = fraction.now }) }
+            ≡ decimal_of_digits
+            (record { negative = negative; whole = whole.now; fraction = fraction.now }) }
     {
         if !are_digits(whole)
             || !are_digits(fraction)

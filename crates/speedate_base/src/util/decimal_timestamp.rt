@@ -65,7 +65,8 @@ pub fn decimal_to_seconds_micros(
     decimal: Decimal<'_>,
     unit: UnixUnit,
 ) -> Result<UnixTime, ParseError>
-    ensures answer { result_map unix_instant result ≡ range_answer (decimal_instant (unix_row unit) (decimal_value decimal.entry)) }
+    ensures answer { result_map unix_instant result
+        ≡ range_answer (decimal_instant (unix_row unit) (decimal_value decimal.entry)) }
     ensures within { IfOk result (λ time. IsInYears (unix_instant time)) }
 {
     let whole = digits_number(decimal.whole).saturating_mul(unit.microseconds);
@@ -85,7 +86,8 @@ pub fn decimal_to_seconds_micros(
 fn fraction_microseconds(digits: &[u8], unit: UnixUnit, negative: bool) -> u64
     requires { IsTrue (list_all is_ascii_digit digits.now) }
     ensures nearest { with_sign negative result
-        ≡ nearest (with_sign negative (digits_value digits.now * unit.microseconds)) (10 ^ length digits.now) }
+        ≡ nearest (with_sign negative (digits_value digits.now
+        * unit.microseconds)) (10 ^ length digits.now) }
     ensures within { result ≤ 1000000 }
 {
     // So few digits are whole microseconds.

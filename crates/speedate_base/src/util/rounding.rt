@@ -25,7 +25,8 @@ pub fn nearest_microseconds(digits: &[u8], unit: u64, negative: bool) -> u64
     requires unit { unit ≤ LARGEST_UNIT }
     ensures nearest { with_sign negative result
         ≡ nearest (with_sign negative (digits_value digits.now * unit)) (10 ^ length digits.now) }
-    ensures only { (m : ℤ) → IsNearest (with_sign negative (digits_value digits.now * unit)) (10 ^ length digits.now) m
+    ensures only { (m : ℤ)
+        → IsNearest (with_sign negative (digits_value digits.now * unit)) (10 ^ length digits.now) m
         → m ≡ with_sign negative result }
     ensures within { result ≤ unit }
 {
@@ -41,7 +42,8 @@ pub fn nearest_microseconds(digits: &[u8], unit: u64, negative: bool) -> u64
 pub fn twice_microseconds(digits: &[u8], unit: u64, up: bool) -> u64
     requires digits { IsTrue (list_all is_ascii_digit digits.now) }
     requires unit { unit ≤ LARGEST_UNIT }
-    ensures twice { result ≡ quotient up (2 * (digits_value digits.now * unit)) (10 ^ length digits.now) }
+    ensures twice { result
+        ≡ quotient up (2 * (digits_value digits.now * unit)) (10 ^ length digits.now) }
     ensures within { result ≤ 2 * unit }
 {
     let mut place = digits.len() - digits.len() % LANES;
@@ -60,7 +62,8 @@ fn last_digits_taken(digits: &[u8], unit: u64, up: bool) -> u64
     requires short { length digits.now < LANES }
     requires digits { IsTrue (list_all is_ascii_digit digits.now) }
     requires unit { unit ≤ LARGEST_UNIT }
-    ensures twice { result ≡ quotient up (2 * (digits_value digits.now * unit)) (10 ^ length digits.now) }
+    ensures twice { result
+        ≡ quotient up (2 * (digits_value digits.now * unit)) (10 ^ length digits.now) }
     ensures within { result ≤ 2 * unit }
 {
     let value = one_by_one(digits).unwrap();

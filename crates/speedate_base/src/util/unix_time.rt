@@ -74,7 +74,8 @@ impl UnixTime {
     /// after second 1. Fails with `TimeTooLarge` if the microseconds exceed `u32::MAX` together, or if
     /// the seconds and those carried exceed `i64::MAX`.
     pub fn later(self, microseconds: u32) -> Result<Self, ParseError>
-        ensures later { result_map unix_instant result ≡ later_answer microseconds (unix_instant self) }
+        ensures later { result_map unix_instant result
+            ≡ later_answer microseconds (unix_instant self) }
     {
         let sum = self
             .microsecond

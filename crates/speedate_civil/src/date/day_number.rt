@@ -1,22 +1,17 @@
 //! Days counted from 0000-01-01, and what follows from the count: the next day, days added and
-//! between, the day of the year, and Unix timestamps.
+//! between, and the day of the year.
 
-ghost use Rattle.std.specs.Prelude.{◌≡◌, ◌+◌, ◌-◌, ◌*◌, ◌<◌, ◌≤◌, min, Bool, Ok, Some, IfSome, pos, unsigned_abs};
+ghost use Rattle.std.specs.Prelude.{◌≡◌, ◌+◌, ◌-◌, ◌*◌, ◌<◌, ◌≤◌, min, Some, IfSome, pos, unsigned_abs};
 ghost use Rattle.std.specs.Int.{IsInRange};
 ghost use Rattle.std.specs.Option.{option_map};
 ghost use Rattle.std.specs.Ordering.{int_cmp};
-ghost use Rattle.speedate_base.specs.declared.config.TimestampUnit.TheVariants as unit;
-ghost use Rattle.speedate_civil.specs.Date.{ymd, date_timestamp_answer};
-ghost use Rattle.speedate_civil.specs.Calendar.{days_of_months, days_before_year, year_length, ordinal_day, day_number, date_after, date_numbered, next_date, midnight_second, midnight_millisecond, date_order, date_added, days_between};
+ghost use Rattle.speedate_civil.specs.Date.{ymd};
+ghost use Rattle.speedate_civil.specs.Calendar.{days_of_months, days_before_year, year_length, ordinal_day, day_number, date_after, date_numbered, next_date, date_order, date_added, days_between};
 
 use super::{Date, is_leap_year, month_length};
-use speedate_base::util::SECONDS_PER_DAY;
 
 /// The day number of 9999-12-31.
 const LAST_DAY_NUMBER: u32 = 3_652_424;
-
-/// The day number of 1970-01-01.
-const EPOCH_DAY: i64 = 719_528;
 
 /// The days of the 399 years before the year 0. Years are counted from the first of them, so that
 /// the last of each four years is the one that may be leap, and the last of each four centuries
@@ -79,7 +74,8 @@ fn year_of_century(century: u32, day: u32) -> (u32, u32)
     requires century { century ≤ 3 }
     requires day { day + min century 1 < 36525 }
     ensures year { result.0 ≤ 99 }
-    ensures day { days_before_year (100 * century + result.0) + result.1 ≡ days_before_year (100 * century) + day }
+    ensures day { days_before_year (100 * century + result.0) + result.1
+        ≡ days_before_year (100 * century) + day }
     ensures within { result.1 < year_length (100 * century + result.0) }
 {
     let (four_years, in_four_years) = four_years(century, day);
@@ -159,7 +155,8 @@ impl Date {
     /// The day after the date: 2000-01-01 for 1999-12-31. `None` for 9999-12-31.
     pub fn next_day(&self) -> Option<Self>
         ensures date { option_map ymd result ≡ next_date (ymd self.now) }
-        ensures number { IfSome result (λ next. day_number (ymd next) ≡ day_number (ymd self.now) + 1) }
+        ensures number { IfSome result (λ next. day_number (ymd next)
+            ≡ day_number (ymd self.now) + 1) }
     {
         if self.day < month_length(self.year, self.month) {
             Some(Date {
@@ -214,24 +211,5 @@ impl Date {
         ensures day { result ≡ ordinal_day (ymd self.now) }
     {
         days_before_month(self.year, self.month) + u16::from(self.day)
-    }
-
-    /// The Unix timestamp of the date's midnight in UTC, in seconds since 1970-01-01T00:00:00: 86,400
-    /// for 1970-01-02. Each day has 86,400 seconds; the timestamp is negative before 1970.
-    /// [`Date::from_timestamp`], in seconds, leads back.
-    #[tactic(auto, using(speedate_base::proofs::TimestampLemmas::instant_of_seconds))]
-    pub fn timestamp(&self) -> i64
-        ensures second { result ≡ midnight_second (ymd self.now) }
-        ensures leads_back { (exact : Bool) → date_timestamp_answer unit.Second exact result ≡ Ok (ymd self.now) }
-    {
-        (i64::from(self.day_number()) - EPOCH_DAY) * i64::from(SECONDS_PER_DAY)
-    }
-
-    /// The Unix timestamp of the date's midnight in UTC, in milliseconds: 86,400,000 for 1970-01-02. It
-    /// is a thousand times [`Date::timestamp`].
-    pub fn timestamp_ms(&self) -> i64
-        ensures millisecond { result ≡ midnight_millisecond (ymd self.now) }
-    {
-        1000 * self.timestamp()
     }
 }

@@ -26,8 +26,10 @@ impl Ord for Date {
     /// Their texts, as bytes, and their day numbers compare in the same way.
     fn cmp(&self, other: &Date) -> Ordering
         ensures order { result ≡ date_order (ymd self.now) (ymd other.now) }
-        ensures text_order { result ≡ slice_cmp nat_cmp (date_text (ymd self.now)) (date_text (ymd other.now)) }
-        ensures day_order { result ≡ nat_cmp (day_number (ymd self.now)) (day_number (ymd other.now)) }
+        ensures text_order { result
+            ≡ slice_cmp nat_cmp (date_text (ymd self.now)) (date_text (ymd other.now)) }
+        ensures day_order { result
+            ≡ nat_cmp (day_number (ymd self.now)) (day_number (ymd other.now)) }
     {
         self.year
             .cmp(&other.year)
@@ -44,8 +46,10 @@ impl PartialOrd for Date {
     /// The answer of [`Date::cmp`], in `Some`: `Some(Ordering::Less)` for 2020-02-29 and 2020-03-01.
     fn partial_cmp(&self, other: &Date) -> Option<Ordering>
         ensures order { result ≡ Some (date_order (ymd self.now) (ymd other.now)) }
-        ensures text_order { result ≡ Some (slice_cmp nat_cmp (date_text (ymd self.now)) (date_text (ymd other.now))) }
-        ensures day_order { result ≡ Some (nat_cmp (day_number (ymd self.now)) (day_number (ymd other.now))) }
+        ensures text_order { result
+            ≡ Some (slice_cmp nat_cmp (date_text (ymd self.now)) (date_text (ymd other.now))) }
+        ensures day_order { result
+            ≡ Some (nat_cmp (day_number (ymd self.now)) (day_number (ymd other.now))) }
     {
         Some(self.cmp(other))
     }

@@ -1,11 +1,12 @@
-//! Date-times of what a clock tells.
+//! Date-times and dates of what a clock tells.
 
 ghost use Rattle.std.specs.Prelude.{◌≡◌, ◌≤◌, Option};
 ghost use Rattle.speedate_base.specs.Requirement.{result_map};
 
 use super::timezone::shifted;
 use super::{DateTime, instant_date_time};
-use speedate_base::config::is_offset;
+use crate::date::Date;
+use speedate_base::config::require_offset;
 use speedate_base::faults::ParseError;
 use speedate_base::util::{LAST_SECOND, UnixTime};
 
@@ -57,9 +58,7 @@ impl DateTime {
         if moment.second > LAST_SECOND as u64 {
             return Err(ParseError::DateTooLarge);
         }
-        if !is_offset(tz_offset) {
-            return Err(ParseError::OutOfRangeTz);
-        }
+        require_offset(Some(tz_offset))?;
         let time = UnixTime {
             second: shifted(moment.second as i64, tz_offset),
             microsecond: moment.microsecond,
@@ -75,9 +74,30 @@ impl DateTime {
     /// of [`DateTime::now_at`].
     pub fn now<F: FnOnce() -> Option<Moment>>(clock: F, tz_offset: i32) -> Result<Self, ParseError>
         requires { F.pre clock }
-        ensures answer { (told : Option Moment) × F.post clock told × (result gives now_answer tz_offset told) }
+        ensures answer { (told : Option Moment) × F.post clock told
+            × (result gives now_answer tz_offset told) }
     {
         let moment = clock().ok_or(ParseError::SystemTimeError)?;
         Self::now_at(moment, tz_offset)
+    }
+}
+
+impl Date {
+    ghost use Rattle.speedate_civil.specs.declared.datetime.now.Moment.{Moment};
+    ghost use Rattle.speedate_civil.specs.Date.{◌gives◌};
+    ghost use Rattle.speedate_civil.specs.DateTime.{today_answer};
+
+    /// The date that a clock tells, at an offset in seconds: 2022-06-08 for a clock that tells second
+    /// 1,654,646,399, and 3,600. The clock and the errors are those of [`DateTime::now`].
+    pub fn today<F: FnOnce() -> Option<Moment>>(
+        clock: F,
+        tz_offset: i32,
+    ) -> Result<Self, ParseError>
+        requires { F.pre clock }
+        ensures answer { (told : Option Moment) × F.post clock told
+            × (result gives today_answer tz_offset told) }
+    {
+        let now = DateTime::now(clock, tz_offset)?;
+        Ok(now.date)
     }
 }

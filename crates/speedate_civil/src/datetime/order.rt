@@ -21,13 +21,17 @@ impl DateTime {
     /// with different offsets can be equal here, while `==` tells them apart: so this is a call, and
     /// no order trait.
     pub fn cmp_instant(&self, other: &DateTime) -> Ordering
-        ensures order { result ≡ date_time_instant_order (date_and_time self.now) (date_and_time other.now) }
+        ensures order { result
+            ≡ date_time_instant_order (date_and_time self.now) (date_and_time other.now) }
         ensures text_order { self.now.time.tz_offset ≡ None → other.now.time.tz_offset ≡ None
-            → result ≡ slice_cmp nat_cmp (date_time_text (date_and_time self.now)) (date_time_text (date_and_time other.now)) }
-        ensures reversed { date_time_instant_order (date_and_time other.now) (date_and_time self.now) ≡ ordering_reverse result }
-        ensures transitive { (third : DateTime) → BothOrNeither self.now.time.tz_offset other.now.time.tz_offset
-            → BothOrNeither other.now.time.tz_offset third.time.tz_offset
-            → IsNotAfter result → IsNotAfter (date_time_instant_order (date_and_time other.now) (date_and_time third))
+            → result ≡ slice_cmp nat_cmp (date_time_text (date_and_time self.now))
+            (date_time_text (date_and_time other.now)) }
+        ensures reversed { date_time_instant_order (date_and_time other.now)
+            (date_and_time self.now) ≡ ordering_reverse result }
+        ensures transitive { (third : DateTime)
+            → BothOrNeither self.now.time.tz_offset other.now.time.tz_offset
+            → BothOrNeither other.now.time.tz_offset third.time.tz_offset → IsNotAfter result
+            → IsNotAfter (date_time_instant_order (date_and_time other.now) (date_and_time third))
             → IsNotAfter (date_time_instant_order (date_and_time self.now) (date_and_time third)) }
     {
         let is_utc = self.time.tz_offset.is_some() && other.time.tz_offset.is_some();

@@ -2,6 +2,7 @@
 
 ghost use Rattle.std.specs.Prelude.{Some, ℕ, ◌≡◌, ◌≤◌, ◌+◌, ◌++◌, ◌↔◌, IsTrue, List, Ok, length};
 ghost use Rattle.arrayvec.specs.ArrayString.{array_string_len};
+ghost use Rattle.speedate_base.specs.Config.{time_choices};
 ghost use Rattle.speedate_base.specs.declared.config.TimeConfig.{TimeConfig};
 ghost use Rattle.speedate_base.specs.declared.config.date_time.DateTimeConfig.{DateTimeConfig};
 ghost use Rattle.speedate_base.specs.Offset.{IsWholeMinutes};
@@ -29,17 +30,23 @@ impl DateTime {
     pub fn to_text(&self) -> ArrayString<TEXT_MAX>
         ensures text { result.bytes ≡ date_time_text (date_and_time self.now) }
         ensures reads_back { IsWholeMinutes self.now.time.tz_offset → (config : TimeConfig)
-            → date_time_answer config.microseconds_precision_overflow_behavior result.bytes ≡ Ok (date_and_time self.now) }
-        ensures reads_back_with_config { IsWholeMinutes self.now.time.tz_offset → (config : DateTimeConfig)
+            → date_time_answer (time_choices config).behavior result.bytes
+            ≡ Ok (date_and_time self.now) }
+        ensures reads_back_with_config { IsWholeMinutes self.now.time.tz_offset
+            → (config : DateTimeConfig)
             → date_time_by_config config result.bytes ≡ Ok (date_and_time self.now) }
-        ensures reads_front { IsWholeMinutes self.now.time.tz_offset → (config : TimeConfig) (rest : List ℕ)
+        ensures reads_front { IsWholeMinutes self.now.time.tz_offset
+            → (config : TimeConfig) (rest : List ℕ)
             → IsTrue (is_after_time (date_and_time self.now).time rest)
-            ↔ (date_time_front config.microseconds_precision_overflow_behavior (result.bytes ++ rest)
+            ↔ (date_time_front (time_choices config).behavior (result.bytes ++ rest)
             ≡ Ok (date_and_time self.now, length result.bytes)) }
         ensures canonical { IsWholeMinutes self.now.time.tz_offset → (config : DateTimeConfig)
-            → result_map date_time_text (date_time_by_config config result.bytes) ≡ Ok result.bytes }
-        ensures distinct { IsWholeMinutes self.now.time.tz_offset → (other : DateTime) → IsWholeMinutes other.time.tz_offset
-            → (result.bytes ≡ date_time_text (date_and_time other)) ↔ (date_and_time self.now ≡ date_and_time other) }
+            → result_map date_time_text (date_time_by_config config result.bytes)
+            ≡ Ok result.bytes }
+        ensures distinct { IsWholeMinutes self.now.time.tz_offset → (other : DateTime)
+            → IsWholeMinutes other.time.tz_offset
+            → (result.bytes ≡ date_time_text (date_and_time other))
+            ↔ (date_and_time self.now ≡ date_and_time other) }
     {
         let mut text = ArrayString::new();
         self.push_onto(&mut text);

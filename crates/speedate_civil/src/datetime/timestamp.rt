@@ -1,26 +1,24 @@
-//! Date-times from timestamps, from texts that are a timestamp instead of a date-time, and back.
+//! Date-times from timestamps, and back.
 
-ghost use Rattle.std.specs.Prelude.{◌≡◌, ◌<◌, Ok, Err, IfOk, None, unsigned_abs};
+ghost use Rattle.std.specs.Prelude.{◌≡◌, ◌<◌, Ok, IfOk, None, unsigned_abs};
 ghost use Rattle.std.specs.Option.{ForSome};
-ghost use Rattle.speedate_base.specs.declared.config.MicrosecondsPrecisionOverflowBehavior.TheVariants as behavior;
+ghost use Rattle.speedate_base.specs.Config.{choices};
 ghost use Rattle.speedate_base.specs.declared.config.TimestampUnit.TheVariants as unit;
 ghost use Rattle.speedate_base.specs.Nearest.{IsNearest};
 ghost use Rattle.speedate_base.specs.Numbers.{decimal_scale, decimal_value};
 ghost use Rattle.speedate_base.specs.Offset.{IsOffset, IsWholeMinutes};
 ghost use Rattle.speedate_base.specs.Timestamp.{IsInYears, unix_instant, decimal_row, decimal_numerator, decimal_instant, unix_row};
-ghost use Rattle.speedate_civil.specs.DateTime.{local_second, utc_second, local_millisecond, utc_millisecond, local_microsecond, date_and_time, date_time_answer, IsShownAt, date_time_at, instant_date_time, date_time_timestamp_answer, meant_microsecond, date_time_or_timestamp, date_time_by_config, date_time_decimal_answer, date_time_decimal_text, ◌gives◌};
+ghost use Rattle.speedate_civil.specs.DateTime.{local_second, utc_second, local_millisecond, utc_millisecond, local_microsecond, date_and_time, IsShownAt, date_time_at, instant_date_time, date_time_timestamp_answer, meant_microsecond, date_time_decimal_answer, ◌gives◌};
 
+use super::DateTime;
 use crate::date::Date;
-use crate::date::timestamp::may_be_number;
-use crate::datetime::DateTime;
 use crate::time::Time;
 use speedate_base::config::DateTimeConfig;
 use speedate_base::faults::ParseError;
-use speedate_base::numbers::{Decimal, IntFloat, float_parse_bytes, takes_digits};
+use speedate_base::numbers::Decimal;
 use speedate_base::util::{
     UnixTime, UnixUnit, decimal_to_seconds_micros, decimal_unit, timestamp_to_seconds_micros,
 };
-use std::str::FromStr;
 
 impl DateTime {
     /// Parses a date-time from a text, which may be a timestamp: 12:13:14 on 29 February 2020 from
@@ -31,93 +29,17 @@ impl DateTime {
     /// milliseconds. The errors are:
     ///
     /// - of a whole number: those of [`DateTime::from_timestamp`];
+
     /// - of a decimal: `SecondFractionTooLong` if more than six digits follow the point of seconds, or
     ///   `MillisecondFractionTooLong` if more than three follow that of milliseconds; then those of
     ///   [`DateTime::from_decimal_with_config`];
-    /// - of any other text: those of [`DateTime::parse_str_rfc3339`].
-    #[inline(always)]
-    pub fn parse_str(text: &str) -> Result<Self, ParseError>
-        ensures answer { result gives date_time_or_timestamp unit.Infer behavior.Error None text.now }
-        ensures minutes { IfOk result (λ value. IsWholeMinutes value.time.tz_offset) }
-    {
-        Self::parse_bytes(text.as_bytes())
-    }
-
-    /// Parses a date-time from bytes, which may be a timestamp: 1970-01-01T00:00:01 from `b"1"`. The
-    /// bytes need not be text. The forms and the errors are those of [`DateTime::parse_str`].
-    #[inline(always)]
-    pub fn parse_bytes(bytes: &[u8]) -> Result<Self, ParseError>
-        ensures answer { result gives date_time_or_timestamp unit.Infer behavior.Error None bytes.now }
-        ensures minutes { IfOk result (λ value. IsWholeMinutes value.time.tz_offset) }
-    {
-        Self::parse_bytes_with_config(bytes, &DateTimeConfig::default())
-    }
-
-    /// Parses a date-time from a text, which may be a timestamp, by a configuration:
-    /// 1970-01-01T00:00:01+01:00 from `"1"` with the offset 3,600.
-    ///
-    /// The configuration has the unit of timestamps, their offset, which is attached and shifts
-    /// nothing, and the behavior for digits past the microsecond. `Truncate` drops those of a text, but
-    /// rounds a timestamp to the nearest microsecond. The offset and the unit do not matter to texts of
-    /// a date-time.
-    ///
-    /// The errors of a number are those of [`DateTime::parse_str`], but only the behavior `Error`
-    /// counts digits, and in microseconds a digit after the point is `MicrosecondFractionTooLong`. The
-    /// errors of any other text are those of [`DateTime::parse_bytes_rfc3339_with_config`].
-    #[inline(always)]
-    pub fn parse_str_with_config(text: &str, config: &DateTimeConfig) -> Result<Self, ParseError>
-        ensures answer { result gives date_time_by_config config.now text.now }
-        ensures minutes { IsWholeMinutes config.now.time_config.unix_timestamp_offset
-            → IfOk result (λ value. IsWholeMinutes value.time.tz_offset) }
-    {
-        Self::parse_bytes_with_config(text.as_bytes(), config)
-    }
-
-    /// Parses a date-time from bytes, which may be a timestamp, by a configuration:
-    /// 1970-01-01T00:00:00.001000 from `b"1"` in milliseconds. The bytes need not be text. The rest is
-    /// as for [`DateTime::parse_str_with_config`].
-    #[inline(always)]
-    pub fn parse_bytes_with_config(
-        bytes: &[u8],
-        config: &DateTimeConfig,
-    ) -> Result<Self, ParseError>
-        ensures answer { result gives date_time_by_config config.now bytes.now }
-        ensures minutes { IsWholeMinutes config.now.time_config.unix_timestamp_offset
-            → IfOk result (λ value. IsWholeMinutes value.time.tz_offset) }
-    {
-        match Self::parse_bytes_rfc3339_with_config(bytes, &config.time_config) {
-            Ok(value) => Ok(value),
-            Err(fault) => Self::parse_timestamp(bytes, fault, config),
-        }
-    }
-
-    /// Parses the timestamp that the bytes are, which are no date-time, by this error.
-    fn parse_timestamp(
-        bytes: &[u8],
-        fault: ParseError,
-        config: &DateTimeConfig,
-    ) -> Result<Self, ParseError>
-        requires { date_time_answer
-            config.now.time_config.microseconds_precision_overflow_behavior bytes.now ≡ Err fault }
-        ensures answer { result gives date_time_by_config config.now bytes.now }
-        ensures minutes { IsWholeMinutes config.now.time_config.unix_timestamp_offset
-            → IfOk result (λ value. IsWholeMinutes value.time.tz_offset) }
-    {
-        if !may_be_number(fault) {
-            return Err(fault);
-        }
-        match float_parse_bytes(bytes) {
-            IntFloat::Int(timestamp) => Self::from_timestamp_with_config(timestamp, 0, config),
-            IntFloat::Float(decimal) => Self::parse_decimal(decimal, config),
-            IntFloat::Err => Err(fault),
-        }
-    }
 
     /// The date-time of a Unix timestamp, whose unit is inferred, and additional microseconds, without
     /// an offset: 1970-01-01T00:00:00.667444 for -1 and 1,667,444 microseconds. The errors are those of
     /// [`DateTime::from_timestamp_with_config`].
     pub fn from_timestamp(timestamp: i64, microseconds: u32) -> Result<Self, ParseError>
-        ensures answer { result gives date_time_timestamp_answer unit.Infer None microseconds timestamp }
+        ensures answer { result gives date_time_timestamp_answer unit.Infer None microseconds
+            timestamp }
         ensures instant { IfOk result (λ value. local_microsecond (date_and_time value)
             ≡ meant_microsecond unit.Infer microseconds timestamp) }
     {
@@ -132,9 +54,12 @@ impl DateTime {
     /// order in which they are looked for:
     ///
     /// - `DateTooSmall` if the unit of `i64::MIN` is to be inferred;
+
     /// - `TimeTooLarge` if the microseconds of the timestamp and the additional ones exceed `u32::MAX`
     ///   together, or if the seconds and those carried exceed `i64::MAX`;
+
     /// - `DateTooSmall` if the sum lies before the year 0000;
+
     /// - `DateTooLarge` if it lies after the year 9999.
     #[inline(always)]
     pub fn from_timestamp_with_config(
@@ -142,11 +67,11 @@ impl DateTime {
         timestamp_microsecond: u32,
         config: &DateTimeConfig,
     ) -> Result<Self, ParseError>
-        ensures answer { result gives date_time_timestamp_answer config.now.timestamp_unit
-            config.now.time_config.unix_timestamp_offset timestamp_microsecond timestamp }
+        ensures answer { result gives date_time_timestamp_answer (choices config.now).unit
+            (choices config.now).offset timestamp_microsecond timestamp }
         ensures instant { IfOk result (λ value. local_microsecond (date_and_time value)
-            ≡ meant_microsecond config.now.timestamp_unit timestamp_microsecond timestamp) }
-        ensures minutes { IsWholeMinutes config.now.time_config.unix_timestamp_offset
+            ≡ meant_microsecond (choices config.now).unit timestamp_microsecond timestamp) }
+        ensures minutes { IsWholeMinutes (choices config.now).offset
             → IfOk result (λ value. IsWholeMinutes value.time.tz_offset) }
     {
         let time = timestamp_to_seconds_micros(timestamp, config.timestamp_unit)?;
@@ -169,46 +94,33 @@ impl DateTime {
         decimal: Decimal<'_>,
         config: &DateTimeConfig,
     ) -> Result<Self, ParseError>
-        ensures answer { result gives date_time_decimal_answer config.now.timestamp_unit
-            config.now.time_config.unix_timestamp_offset (decimal_value decimal.entry) }
+        ensures answer { result gives date_time_decimal_answer (choices config.now).unit
+            (choices config.now).offset (decimal_value decimal.entry) }
         ensures nearest { IfOk result (λ value. IsNearest
-            (decimal_numerator (decimal_row config.now.timestamp_unit (decimal_value decimal.entry)) (decimal_value decimal.entry))
-            (decimal_scale (decimal_value decimal.entry)) (local_microsecond (date_and_time value))) }
+            (decimal_numerator (decimal_row (choices config.now).unit (decimal_value decimal.entry))
+            (decimal_value decimal.entry)) (decimal_scale (decimal_value decimal.entry))
+            (local_microsecond (date_and_time value))) }
     {
         let unit = decimal_unit(decimal, config.timestamp_unit);
-        Self::at_decimal(decimal, unit, config.time_config.unix_timestamp_offset)
-    }
-
-    /// The date-time of a decimal timestamp in a text, whose digits are counted if the configuration
-    /// refuses those past the microsecond.
-    fn parse_decimal(decimal: Decimal<'_>, config: &DateTimeConfig) -> Result<Self, ParseError>
-        ensures answer { result gives date_time_decimal_text config.now.timestamp_unit
-            config.now.time_config.microseconds_precision_overflow_behavior
-            config.now.time_config.unix_timestamp_offset (decimal_value decimal.entry) }
-        ensures minutes { IsWholeMinutes config.now.time_config.unix_timestamp_offset
-            → IfOk result (λ value. IsWholeMinutes value.time.tz_offset) }
-    {
-        let unit = decimal_unit(decimal, config.timestamp_unit);
-        let behavior = config.time_config.microseconds_precision_overflow_behavior;
-        if !takes_digits(behavior, decimal.fraction.len(), unit.digits) {
-            return Err(unit.too_long);
-        }
         Self::at_decimal(decimal, unit, config.time_config.unix_timestamp_offset)
     }
 
     /// The date-time of a decimal timestamp in a unit that is known, with the offset attached.
-    fn at_decimal(
+    pub(super) fn at_decimal(
         decimal: Decimal<'_>,
         unit: UnixUnit,
         offset: Option<i32>,
     ) -> Result<Self, ParseError>
         requires { ForSome offset IsOffset }
-        ensures answer { result gives instant_date_time offset (decimal_instant (unix_row unit) (decimal_value decimal.entry)) }
-        ensures minutes { IsWholeMinutes offset → IfOk result (λ value. IsWholeMinutes value.time.tz_offset) }
+        ensures answer { result gives instant_date_time offset
+            (decimal_instant (unix_row unit) (decimal_value decimal.entry)) }
+        ensures minutes { IsWholeMinutes offset
+            → IfOk result (λ value. IsWholeMinutes value.time.tz_offset) }
     {
         let time = decimal_to_seconds_micros(decimal, unit)?;
         Ok(Self::at_instant(time, offset))
     }
+
     /// The date-time at an instant of the years 0000 to 9999, with the offset attached.
     fn at_instant(time: UnixTime, offset: Option<i32>) -> Self
         requires within { IsInYears (unix_instant time) }
@@ -229,7 +141,8 @@ impl DateTime {
         ensures second { result ≡ local_second (date_and_time self.now) }
         ensures small { unsigned_abs result < 300000000000 }
         ensures leads_back { self.now.time.tz_offset ≡ None
-            → date_time_timestamp_answer unit.Second None self.now.time.microsecond result ≡ Ok (date_and_time self.now) }
+            → date_time_timestamp_answer unit.Second None self.now.time.microsecond result
+            ≡ Ok (date_and_time self.now) }
     {
         self.date.timestamp() + i64::from(self.time.total_seconds())
     }
@@ -260,17 +173,6 @@ impl DateTime {
     }
 }
 
-impl FromStr for DateTime {
-    type Err = ParseError;
-
-    ghost from_str_gives = { λ text result. result gives date_time_or_timestamp unit.Infer behavior.Error None text };
-
-    /// The answer of [`DateTime::parse_str`]: `"1654560000".parse()` gives midnight on 7 June 2022.
-    fn from_str(text: &str) -> Result<Self, ParseError> {
-        Self::parse_str(text)
-    }
-}
-
 /// The date-time whose clock shows an instant, with the offset attached: 1970-01-01T00:00:01+01:00
 /// for second 1 and the offset 3,600. Fails with `DateTooSmall` before the year 0000, with
 /// `DateTooLarge` after the year 9999. The offset is less than 24 hours, which is a condition on the
@@ -278,7 +180,8 @@ impl FromStr for DateTime {
 pub fn instant_date_time(time: UnixTime, offset: Option<i32>) -> Result<DateTime, ParseError>
     requires { ForSome offset IsOffset }
     ensures answer { result gives instant_date_time offset (unix_instant time) }
-    ensures shown { IfOk result (λ value. IsShownAt offset (unix_instant time) (date_and_time value)) }
+    ensures shown { IfOk result (λ value.
+        IsShownAt offset (unix_instant time) (date_and_time value)) }
 {
     let within = time.in_years()?;
     Ok(DateTime::at_instant(within, offset))

@@ -31,8 +31,10 @@ impl DateTime {
     pub fn in_timezone(&self, tz_offset: i32) -> Result<Self, ParseError>
         ensures answer { result gives date_time_in_timezone tz_offset (date_and_time self.now) }
         ensures offset { IfOk result (λ value. value.time.tz_offset ≡ Some tz_offset) }
-        ensures instant { IfOk result (λ value. utc_second (date_and_time value) ≡ utc_second (date_and_time self.now)) }
-        ensures microsecond { IfOk result (λ value. value.time.microsecond ≡ self.now.time.microsecond) }
+        ensures instant { IfOk result (λ value. utc_second (date_and_time value)
+            ≡ utc_second (date_and_time self.now)) }
+        ensures microsecond { IfOk result (λ value. value.time.microsecond
+            ≡ self.now.time.microsecond) }
     {
         let shift = clock_shift(self.time.tz_offset, tz_offset)?;
         let time = UnixTime {

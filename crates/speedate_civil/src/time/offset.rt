@@ -177,8 +177,9 @@ pub(crate) fn push_offset<const LENGTH: usize>(offset: Option<i32>, text: &mut A
 fn push_signed<const LENGTH: usize>(offset: i32, text: &mut ArrayString<LENGTH>)
     requires range { IsOffset offset }
     requires room { array_string_len text.old + 6 ≤ LENGTH }
-    ensures text { text.new.bytes ≡ text.old.bytes
-        ++ (if is_negative offset then hyphen else plus_sign) ∷ offset_size_text (unsigned_abs offset) }
+    ensures text { text.new.bytes
+        ≡ text.old.bytes ++ (if is_negative offset then hyphen else plus_sign)
+        ∷ offset_size_text (unsigned_abs offset) }
 {
     let size = offset.unsigned_abs();
     text.push(if offset < 0 { '-' } else { '+' });

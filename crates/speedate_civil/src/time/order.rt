@@ -23,10 +23,13 @@ impl Time {
     pub fn cmp_instant(&self, other: &Time) -> Ordering
         ensures order { result ≡ time_instant_order (time_of_day self.now) (time_of_day other.now) }
         ensures text_order { self.now.tz_offset ≡ None → other.now.tz_offset ≡ None
-            → result ≡ slice_cmp nat_cmp (time_text (time_of_day self.now)) (time_text (time_of_day other.now)) }
-        ensures reversed { time_instant_order (time_of_day other.now) (time_of_day self.now) ≡ ordering_reverse result }
-        ensures transitive { (third : Time) → BothOrNeither self.now.tz_offset other.now.tz_offset → BothOrNeither other.now.tz_offset third.tz_offset
-            → IsNotAfter result → IsNotAfter (time_instant_order (time_of_day other.now) (time_of_day third))
+            → result ≡ slice_cmp nat_cmp (time_text (time_of_day self.now))
+            (time_text (time_of_day other.now)) }
+        ensures reversed { time_instant_order (time_of_day other.now) (time_of_day self.now)
+            ≡ ordering_reverse result }
+        ensures transitive { (third : Time) → BothOrNeither self.now.tz_offset other.now.tz_offset
+            → BothOrNeither other.now.tz_offset third.tz_offset → IsNotAfter result
+            → IsNotAfter (time_instant_order (time_of_day other.now) (time_of_day third))
             → IsNotAfter (time_instant_order (time_of_day self.now) (time_of_day third)) }
     {
         let is_utc = self.tz_offset.is_some() && other.tz_offset.is_some();

@@ -62,7 +62,8 @@ impl PureTime {
         behavior: MicrosecondsPrecisionOverflowBehavior,
     ) -> Result<Self, ParseError>
         requires { place ≤ length bytes.now }
-        ensures answer { result_map clock_parts result ≡ clock_front behavior (drop place bytes.now) }
+        ensures answer { result_map clock_parts result
+            ≡ clock_front behavior (drop place bytes.now) }
         ensures within { IfOk result (λ time. place + time.size ≤ length bytes.now) }
     {
         let text = &bytes[place..];
@@ -108,7 +109,8 @@ impl PureTime {
         behavior: MicrosecondsPrecisionOverflowBehavior,
     ) -> Result<Self, ParseError>
         requires { place ≤ length bytes.now }
-        ensures answer { result_map clock_parts result ≡ minute_front behavior (drop place bytes.now) }
+        ensures answer { result_map clock_parts result
+            ≡ minute_front behavior (drop place bytes.now) }
         ensures within { IfOk result (λ time. place + time.size ≤ length bytes.now) }
     {
         let rest = &bytes[place..];
@@ -160,7 +162,8 @@ impl PureTime {
         requires minute { minute ≡ two_digit_value (drop place bytes.now) 0 }
         requires range { minute ≤ 59 }
         requires second { second ≡ second_there (drop place bytes.now) }
-        ensures answer { result_map clock_parts result ≡ clock_answer behavior (drop place bytes.now) }
+        ensures answer { result_map clock_parts result
+            ≡ clock_answer behavior (drop place bytes.now) }
         ensures minute { IfOk result (λ time. time.minute ≡ minute) }
         ensures within { IfOk result (λ time. place + time.size ≤ length bytes.now) }
     {
@@ -243,7 +246,8 @@ impl Second {
 fn fraction_after_second(bytes: &[u8], minute: usize) -> Fraction
     requires { minute + 6 ≤ length bytes.now }
     ensures length { result.length ≡ run_length (drop minute bytes.now) 6 }
-    ensures microsecond { result.microsecond ≡ fraction_value 6 (run_digits (drop minute bytes.now) 6) }
+    ensures microsecond { result.microsecond
+        ≡ fraction_value 6 (run_digits (drop minute bytes.now) 6) }
     ensures within { minute + 6 + result.length ≤ length bytes.now }
     ensures small { result.microsecond ≤ 999999 }
 {

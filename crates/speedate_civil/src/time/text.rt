@@ -2,6 +2,7 @@
 
 ghost use Rattle.std.specs.Prelude.{◌≡◌, ◌≤◌, Some, ℕ, ◌+◌, ◌++◌, ◌↔◌, IsTrue, List, Ok, length};
 ghost use Rattle.arrayvec.specs.ArrayString.{array_string_len};
+ghost use Rattle.speedate_base.specs.Config.{time_choices};
 ghost use Rattle.speedate_base.specs.declared.config.TimeConfig.{TimeConfig};
 ghost use Rattle.speedate_base.specs.Offset.{IsWholeMinutes};
 ghost use Rattle.speedate_base.specs.Requirement.{result_map};
@@ -29,16 +30,19 @@ impl Time {
     pub fn to_text(&self) -> ArrayString<TEXT_MAX>
         ensures text { result.bytes ≡ time_text (time_of_day self.now) }
         ensures reads_back { IsWholeMinutes self.now.tz_offset → (config : TimeConfig)
-            → time_answer config.microseconds_precision_overflow_behavior result.bytes ≡ Ok (time_of_day self.now) }
-        ensures reads_front { IsWholeMinutes self.now.tz_offset → (config : TimeConfig) (rest : List ℕ)
+            → time_answer (time_choices config).behavior result.bytes ≡ Ok (time_of_day self.now) }
+        ensures reads_front { IsWholeMinutes self.now.tz_offset
+            → (config : TimeConfig) (rest : List ℕ)
             → IsTrue (is_after_time (time_of_day self.now) rest)
-            ↔ (time_front config.microseconds_precision_overflow_behavior (result.bytes ++ rest)
+            ↔ (time_front (time_choices config).behavior (result.bytes ++ rest)
             ≡ Ok (time_of_day self.now, length result.bytes)) }
         ensures canonical { IsWholeMinutes self.now.tz_offset → (config : TimeConfig)
-            → result_map time_text (time_answer config.microseconds_precision_overflow_behavior result.bytes)
+            → result_map time_text (time_answer (time_choices config).behavior result.bytes)
             ≡ Ok result.bytes }
-        ensures distinct { IsWholeMinutes self.now.tz_offset → (other : Time) → IsWholeMinutes other.tz_offset
-            → (result.bytes ≡ time_text (time_of_day other)) ↔ (time_of_day self.now ≡ time_of_day other) }
+        ensures distinct { IsWholeMinutes self.now.tz_offset → (other : Time)
+            → IsWholeMinutes other.tz_offset
+            → (result.bytes ≡ time_text (time_of_day other))
+            ↔ (time_of_day self.now ≡ time_of_day other) }
     {
         let mut text = ArrayString::new();
         self.push_onto(&mut text);

@@ -9,7 +9,7 @@ ghost use Rattle.speedate_civil.specs.DateTime.{time_with_offset, time_in_timezo
 ghost use Rattle.speedate_civil.specs.Time.{time_of_day, utc_second_of_day, ◌gives◌};
 
 use super::Time;
-use speedate_base::config::is_offset;
+use speedate_base::config::require_offset;
 use speedate_base::faults::ParseError;
 use speedate_base::util::SECONDS_PER_DAY;
 
@@ -19,16 +19,14 @@ impl Time {
     pub fn with_timezone_offset(&self, tz_offset: Option<i32>) -> Result<Self, ParseError>
         ensures answer { result gives time_with_offset tz_offset (time_of_day self.now) }
     {
-        match tz_offset {
-            Some(offset) if !is_offset(offset) => Err(ParseError::OutOfRangeTz),
-            _ => Ok(Time {
-                hour: self.hour,
-                minute: self.minute,
-                second: self.second,
-                microsecond: self.microsecond,
-                tz_offset,
-            }),
-        }
+        require_offset(tz_offset)?;
+        Ok(Time {
+            hour: self.hour,
+            minute: self.minute,
+            second: self.second,
+            microsecond: self.microsecond,
+            tz_offset,
+        })
     }
 
     /// The time at the same instant, as a clock at another offset, in seconds, shows it:
@@ -42,7 +40,8 @@ impl Time {
     pub fn in_timezone(&self, tz_offset: i32) -> Result<Self, ParseError>
         ensures answer { result gives time_in_timezone tz_offset (time_of_day self.now) }
         ensures offset { IfOk result (λ time. time.tz_offset ≡ Some tz_offset) }
-        ensures instant { IfOk result (λ time. utc_second_of_day (time_of_day time) ≡ utc_second_of_day (time_of_day self.now)) }
+        ensures instant { IfOk result (λ time. utc_second_of_day (time_of_day time)
+            ≡ utc_second_of_day (time_of_day self.now)) }
         ensures microsecond { IfOk result (λ time. time.microsecond ≡ self.now.microsecond) }
     {
         let shift = clock_shift(self.tz_offset, tz_offset)?;
@@ -60,15 +59,12 @@ impl Time {
 pub(crate) fn clock_shift(old: Option<i32>, offset: i32) -> Result<i32, ParseError>
     requires { ForSome old IsOffset }
     ensures answer { result ≡ meets (move_table offset old) (Ok (offset -ℤ unwrap_or old (pos 0))) }
-    ensures range { IfOk result (λ shift. IsOffset offset × (unsigned_abs shift < 2 * seconds_per_day)) }
+    ensures range { IfOk result (λ shift. IsOffset offset
+        × (unsigned_abs shift < 2 * seconds_per_day)) }
 {
-    if !is_offset(offset) {
-        return Err(ParseError::OutOfRangeTz);
-    }
-    match old {
-        Some(old) => Ok(difference(offset, old)),
-        None => Err(ParseError::TzRequired),
-    }
+    require_offset(Some(offset))?;
+    let old = old.ok_or(ParseError::TzRequired)?;
+    Ok(difference(offset, old))
 }
 
 /// How much larger one offset is than another.

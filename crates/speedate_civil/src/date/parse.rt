@@ -1,0 +1,160 @@
+//! Parsers of dates: of texts of RFC 3339, at the front of a text, and of timestamps.
+
+ghost use Rattle.std.specs.Prelude.{◌≡◌, ◌≤◌, ◌↔◌, Err, IfOk, Ok, OnOk, length, take};
+ghost use Rattle.speedate_base.specs.declared.config.TimestampUnit.TheVariants as unit;
+ghost use Rattle.speedate_base.specs.Numbers.{NoNumber, number_answer};
+ghost use Rattle.speedate_civil.specs.Calendar.{Ymd};
+ghost use Rattle.speedate_civil.specs.Date.{ymd, date_front, date_answer, date_or_timestamp, ◌gives◌, ◌gives_front◌};
+ghost use Rattle.speedate_civil.specs.Reader.{may_be_number};
+
+use super::{Date, TEXT_LENGTH, is_day};
+use speedate_base::config::DateConfig;
+use speedate_base::faults::ParseError;
+use speedate_base::numbers::{LANES, eight_bytes, fitting, int_parse_bytes, pairs, two_digits};
+use std::simd::prelude::*;
+use std::str::FromStr;
+
+impl Date {
+    /// Parses a date from a text, which may be a timestamp: 2020-02-29 from `"2020-02-29"`, and
+    /// 2022-06-07 from `"1654560000"`.
+    ///
+    /// A text that is no date but a whole number is the timestamp of a midnight, in seconds if the
+    /// number without its sign is at most 20,000,000,000, otherwise in milliseconds.
+    ///
+    /// # Errors
+    ///
+    /// A timestamp has the errors of [`Date::from_timestamp`] for an exact date, any other text those
+    /// of [`Date::parse_str_rfc3339`].
+    pub fn parse_str(text: &str) -> Result<Self, ParseError>
+        ensures answer { result gives date_or_timestamp unit.Infer text.now }
+    {
+        Self::parse_bytes(text.as_bytes())
+    }
+
+    /// Parses a date from bytes, which may be a timestamp: 1970-01-02 from `b"86400"`. The bytes need
+    /// not be text. The forms and the errors are those of [`Date::parse_str`].
+    pub fn parse_bytes(bytes: &[u8]) -> Result<Self, ParseError>
+        ensures answer { result gives date_or_timestamp unit.Infer bytes.now }
+    {
+        Self::parse_bytes_with_config(bytes, &DateConfig::default())
+    }
+
+    /// Parses a date from a text, which may be a timestamp in the unit of the configuration: 2022-01-01
+    /// from `"1640995200"` in seconds. The errors are those of [`Date::parse_str`].
+    pub fn parse_str_with_config(text: &str, config: &DateConfig) -> Result<Self, ParseError>
+        ensures answer { result gives date_or_timestamp config.now.timestamp_unit text.now }
+    {
+        Self::parse_bytes_with_config(text.as_bytes(), config)
+    }
+
+    /// Parses a date from bytes, which may be a timestamp in the unit of the configuration: 1970-01-02
+    /// from `b"86400000"` in milliseconds. The bytes need not be text. The errors are those of
+    /// [`Date::parse_str`].
+    pub fn parse_bytes_with_config(bytes: &[u8], config: &DateConfig) -> Result<Self, ParseError>
+        ensures answer { result gives date_or_timestamp config.now.timestamp_unit bytes.now }
+    {
+        match Self::parse_bytes_rfc3339(bytes) {
+            Ok(date) => Ok(date),
+            Err(fault) => Self::parse_timestamp(bytes, fault, config),
+        }
+    }
+
+    /// - `ExtraCharacters` if the text has more than ten bytes.
+    pub fn parse_str_rfc3339(text: &str) -> Result<Self, ParseError>
+        ensures answer { result gives date_answer text.now }
+    {
+        Self::parse_bytes_rfc3339(text.as_bytes())
+    }
+
+    /// Parses a date from bytes, and no timestamp: 29 February 2020 from `b"2020-02-29"`. The bytes need
+    /// not be text. The form and the errors are those of [`Date::parse_str_rfc3339`].
+    #[inline]
+    pub fn parse_bytes_rfc3339(bytes: &[u8]) -> Result<Self, ParseError>
+        ensures answer { result gives date_answer bytes.now }
+        ensures no_number { OnOk result (number_answer bytes.now ≡ NoNumber) }
+    {
+        let (date, size) = Self::parse_front(bytes)?;
+        if size != bytes.len() {
+            return Err(ParseError::ExtraCharacters);
+        }
+        Ok(date)
+    }
+
+    /// Parses the date at the front of a text, whatever follows it, and returns how many bytes it takes,
+    /// which is always ten: 22 November 2026 and 10 from `b"2026-11-22 opening balance"`. It reads no
+    /// timestamps. The errors are those of [`Date::parse_str_rfc3339`] except `ExtraCharacters`.
+    #[inline]
+    pub fn parse_front(bytes: &[u8]) -> Result<(Self, usize), ParseError>
+        ensures answer { result gives_front date_front bytes.now }
+        ensures within { IfOk result (λ front. front.1 ≤ length bytes.now) }
+        ensures whole { (date : Ymd)
+            → (date_answer bytes.now ≡ Ok date) ↔ (result gives_front Ok (date, length bytes.now)) }
+        ensures alone { IfOk result (λ front. date_answer (take front.1 bytes.now)
+            ≡ Ok (ymd front.0)) }
+    {
+        if bytes.len() < TEXT_LENGTH {
+            return Err(ParseError::TooShort);
+        }
+        let front = eight_bytes(bytes, 0);
+        let form = u8x8::from_array(*b"0000-00-");
+        let place = fitting(front, form);
+        if place < LANES {
+            return Err(match place {
+                0..=3 => ParseError::InvalidCharYear,
+                4 | 7 => ParseError::InvalidCharDateSep,
+                _ => ParseError::InvalidCharMonth,
+            });
+        }
+        let [century, _, year, _, _, month, _, _] = pairs(front, form, LANES);
+        let year = 100 * u16::from(century) + u16::from(year);
+        let Some(day) = two_digits(bytes, 8) else {
+            return Err(ParseError::InvalidCharDay);
+        };
+        if month < 1 || month > 12 {
+            return Err(ParseError::OutOfRangeMonth);
+        }
+        if !is_day(year, month, day) {
+            return Err(ParseError::OutOfRangeDay);
+        }
+        Ok((Date { year, month, day }, TEXT_LENGTH))
+    }
+
+    /// Parses the timestamp that the bytes are, which are no date, by this error.
+    fn parse_timestamp(
+        bytes: &[u8],
+        fault: ParseError,
+        config: &DateConfig,
+    ) -> Result<Self, ParseError>
+        requires { date_answer bytes.now ≡ Err fault }
+        ensures answer { result gives date_or_timestamp config.now.timestamp_unit bytes.now }
+    {
+        if !may_be_number(fault) {
+            return Err(fault);
+        }
+        match int_parse_bytes(bytes) {
+            Some(timestamp) => Self::from_timestamp(timestamp, true, config),
+            None => Err(fault),
+        }
+    }
+}
+
+impl FromStr for Date {
+    type Err = ParseError;
+
+    ghost from_str_gives = { λ text result. result gives date_or_timestamp unit.Infer text };
+
+    /// The answer of [`Date::parse_str`]: `"2020-02-29".parse()` gives 29 February 2020.
+    fn from_str(text: &str) -> Result<Self, ParseError> {
+        Self::parse_str(text)
+    }
+}
+
+/// Whether a text that is refused as a date by this error may be a whole number.
+pub(crate) fn may_be_number(fault: ParseError) -> bool
+    ensures { result ≡ may_be_number fault }
+{
+    matches!(
+        fault,
+        ParseError::TooShort | ParseError::InvalidCharYear | ParseError::InvalidCharDateSep
+    )
+}

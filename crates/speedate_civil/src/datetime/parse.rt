@@ -1,0 +1,295 @@
+//! Parsers of date-times: of texts of RFC 3339, relaxed or alone, at the front of a text, and of
+//! timestamps.
+
+ghost use Rattle.std.specs.Prelude.{◌≡◌, ◌≤◌, ◌↔◌, ◌==◌, ◌||◌, Err, IfOk, IsOk, IsTrue, None, Ok, OnOk, length, slice_index, take};
+ghost use Rattle.speedate_base.specs.Ascii.{capital_t, small_t};
+ghost use Rattle.speedate_base.specs.Config.{choices, time_choices};
+ghost use Rattle.speedate_base.specs.declared.config.MicrosecondsPrecisionOverflowBehavior.TheVariants as behavior;
+ghost use Rattle.speedate_base.specs.declared.config.TimestampUnit.TheVariants as unit;
+ghost use Rattle.speedate_base.specs.Numbers.{NoNumber, decimal_value, number_answer};
+ghost use Rattle.speedate_base.specs.Offset.{IsWholeMinutes};
+ghost use Rattle.speedate_base.specs.Requirement.{meets};
+ghost use Rattle.speedate_civil.specs.DateTime.{DateAndTime, date_and_time, date_time_answer, date_time_by_config, date_time_decimal_text, date_time_front, date_time_or_timestamp, is_separator, ◌gives◌, ◌gives_front◌};
+ghost use Rattle.speedate_civil.specs.Standard.{IsDateTime, standard_date_time, strict_date_time_answer};
+
+use super::DateTime;
+use crate::date::{Date, may_be_number};
+use crate::time::{Time, end_fault};
+use speedate_base::config::{DateTimeConfig, MicrosecondsPrecisionOverflowBehavior, TimeConfig};
+use speedate_base::faults::ParseError;
+use speedate_base::numbers::{Decimal, IntFloat, byte_at, float_parse_bytes, takes_digits};
+use speedate_base::util::decimal_unit;
+use std::str::FromStr;
+
+/// The place of the time, after the ten bytes of a date and a separator.
+const TIME_PLACE: usize = 11;
+
+impl DateTime {
+    /// - of any other text: those of [`DateTime::parse_str_rfc3339`].
+    #[inline(always)]
+    pub fn parse_str(text: &str) -> Result<Self, ParseError>
+        ensures answer { result gives date_time_or_timestamp unit.Infer behavior.Error None
+            text.now }
+        ensures minutes { IfOk result (λ value. IsWholeMinutes value.time.tz_offset) }
+    {
+        Self::parse_bytes(text.as_bytes())
+    }
+
+    /// Parses a date-time from bytes, which may be a timestamp: 1970-01-01T00:00:01 from `b"1"`. The
+    /// bytes need not be text. The forms and the errors are those of [`DateTime::parse_str`].
+    #[inline(always)]
+    pub fn parse_bytes(bytes: &[u8]) -> Result<Self, ParseError>
+        ensures answer { result gives date_time_or_timestamp unit.Infer behavior.Error None
+            bytes.now }
+        ensures minutes { IfOk result (λ value. IsWholeMinutes value.time.tz_offset) }
+    {
+        Self::parse_bytes_with_config(bytes, &DateTimeConfig::default())
+    }
+
+    /// Parses a date-time from a text, which may be a timestamp, by a configuration:
+    /// 1970-01-01T00:00:01+01:00 from `"1"` with the offset 3,600.
+    ///
+    /// The configuration has the unit of timestamps, their offset, which is attached and shifts
+    /// nothing, and the behavior for digits past the microsecond. `Truncate` drops those of a text, but
+    /// rounds a timestamp to the nearest microsecond. The offset and the unit do not matter to texts of
+    /// a date-time.
+    ///
+    /// The errors of a number are those of [`DateTime::parse_str`], but only the behavior `Error`
+    /// counts digits, and in microseconds a digit after the point is `MicrosecondFractionTooLong`. The
+    /// errors of any other text are those of [`DateTime::parse_bytes_rfc3339_with_config`].
+    #[inline(always)]
+    pub fn parse_str_with_config(text: &str, config: &DateTimeConfig) -> Result<Self, ParseError>
+        ensures answer { result gives date_time_by_config config.now text.now }
+        ensures minutes { IsWholeMinutes (choices config.now).offset
+            → IfOk result (λ value. IsWholeMinutes value.time.tz_offset) }
+    {
+        Self::parse_bytes_with_config(text.as_bytes(), config)
+    }
+
+    /// Parses a date-time from bytes, which may be a timestamp, by a configuration:
+    /// 1970-01-01T00:00:00.001000 from `b"1"` in milliseconds. The bytes need not be text. The rest is
+    /// as for [`DateTime::parse_str_with_config`].
+    #[inline(always)]
+    pub fn parse_bytes_with_config(
+        bytes: &[u8],
+        config: &DateTimeConfig,
+    ) -> Result<Self, ParseError>
+        ensures answer { result gives date_time_by_config config.now bytes.now }
+        ensures minutes { IsWholeMinutes (choices config.now).offset
+            → IfOk result (λ value. IsWholeMinutes value.time.tz_offset) }
+    {
+        match Self::parse_bytes_rfc3339_with_config(bytes, &config.time_config) {
+            Ok(value) => Ok(value),
+            Err(fault) => Self::parse_timestamp(bytes, fault, config),
+        }
+    }
+
+    /// - those of [`Time::parse_str`] for what follows the separator.
+    #[inline(always)]
+    pub fn parse_str_rfc3339(text: &str) -> Result<Self, ParseError>
+        ensures answer { result gives date_time_answer behavior.Error text.now }
+        ensures minutes { IfOk result (λ value. IsWholeMinutes value.time.tz_offset) }
+    {
+        Self::parse_bytes_rfc3339(text.as_bytes())
+    }
+
+    /// Parses a date-time from bytes, and no timestamp: 12:13 on 1 January 2020 from
+    /// `b"2020-01-01_12:13"`. The bytes need not be text. The form and the errors are those of
+    /// [`DateTime::parse_str_rfc3339`].
+    #[inline(always)]
+    pub fn parse_bytes_rfc3339(bytes: &[u8]) -> Result<Self, ParseError>
+        ensures answer { result gives date_time_answer behavior.Error bytes.now }
+        ensures minutes { IfOk result (λ value. IsWholeMinutes value.time.tz_offset) }
+        ensures no_number { OnOk result (number_answer bytes.now ≡ NoNumber) }
+    {
+        Self::parse_bytes_rfc3339_with_config(bytes, &TimeConfig::default())
+    }
+
+    /// Parses a date-time from bytes, and no timestamp, by a configuration: 12:13:12.123456 on 1 January
+    /// 2020 from `b"2020-01-01T12:13:12.1234567"` with the behavior `Truncate`, which drops the digits
+    /// of a second past the sixth. The bytes need not be text. The form is that of
+    /// [`DateTime::parse_str_rfc3339`]. The offset of the configuration does not matter.
+    ///
+    /// # Errors
+    ///
+    /// Those of [`DateTime::parse_str_rfc3339`], but with `Truncate` there is no
+    /// `SecondFractionTooLong`.
+    #[inline(always)]
+    pub fn parse_bytes_rfc3339_with_config(
+        bytes: &[u8],
+        config: &TimeConfig,
+    ) -> Result<Self, ParseError>
+        ensures answer { result gives date_time_answer (time_choices config.now).behavior
+            bytes.now }
+        ensures minutes { IfOk result (λ value. IsWholeMinutes value.time.tz_offset) }
+        ensures no_number { OnOk result (number_answer bytes.now ≡ NoNumber) }
+    {
+        Self::parse_whole(bytes, config.microseconds_precision_overflow_behavior)
+    }
+
+    /// Parses a date-time from bytes that are a date-time of RFC 3339 5.6, and no timestamp: 12:13:14 on
+    /// 29 February 2020 in UTC from `b"2020-02-29T12:13:14Z"`. The bytes need not be text.
+    ///
+    /// It accepts the texts of RFC 3339 and no others, with the two exceptions of
+    /// [`Time::parse_bytes_strict`]. The value is that of
+    /// [`DateTime::parse_bytes_rfc3339_with_config`] with this behavior.
+    ///
+    /// # Errors
+    ///
+    /// A text that has an error there has it here too. Of the others one is refused with
+    /// `InvalidCharDateTimeSep` if neither `T` nor `t` parts date and time, and then with the errors of
+    /// `Time::parse_bytes_strict`.
+    pub fn parse_bytes_strict(
+        bytes: &[u8],
+        behavior: MicrosecondsPrecisionOverflowBehavior,
+    ) -> Result<Self, ParseError>
+        ensures answer { result gives strict_date_time_answer behavior bytes.now }
+        ensures standard { IsOk result ↔ IsDateTime behavior bytes.now }
+        ensures minutes { IfOk result (λ value. IsWholeMinutes value.time.tz_offset) }
+    {
+        let value = Self::parse_whole(bytes, behavior)?;
+        require_standard_date_time(bytes)?;
+        Ok(value)
+    }
+
+    /// Parses the date-time at the front of a text, whatever follows it, and returns how many bytes it
+    /// takes: 12:13:14.5 on 22 November 2026, an hour east of UTC, and 27, from
+    /// `b"2026-11-22T12:13:14.5+01:00 GET /"`. It reads no timestamps.
+    ///
+    /// It ends where [`Time::parse_front`] ends. The errors are those of [`Date::parse_front`], then
+    /// `InvalidCharDateTimeSep`, then those of [`Time::parse_front`].
+    #[inline(always)]
+    pub fn parse_front(bytes: &[u8], config: &TimeConfig) -> Result<(Self, usize), ParseError>
+        ensures answer { result gives_front date_time_front (time_choices config.now).behavior
+            bytes.now }
+        ensures within { IfOk result (λ front. front.1 ≤ length bytes.now) }
+        ensures whole { (value : DateAndTime)
+            → (date_time_answer (time_choices config.now).behavior bytes.now ≡ Ok value)
+            ↔ (result gives_front Ok (value, length bytes.now)) }
+        ensures alone { IfOk result (λ front.
+            date_time_answer (time_choices config.now).behavior (take front.1 bytes.now)
+            ≡ Ok (date_and_time front.0)) }
+        ensures minutes { IfOk result (λ front. IsWholeMinutes front.0.time.tz_offset) }
+        ensures no_number { OnOk result (number_answer bytes.now ≡ NoNumber) }
+    {
+        Self::front(bytes, config.microseconds_precision_overflow_behavior)
+    }
+
+    /// Parses the date-time that takes all the bytes.
+    #[inline(always)]
+    fn parse_whole(
+        bytes: &[u8],
+        behavior: MicrosecondsPrecisionOverflowBehavior,
+    ) -> Result<Self, ParseError>
+        ensures answer { result gives date_time_answer behavior bytes.now }
+        ensures minutes { IfOk result (λ value. IsWholeMinutes value.time.tz_offset) }
+        ensures no_number { OnOk result (number_answer bytes.now ≡ NoNumber) }
+    {
+        let (value, size) = Self::front(bytes, behavior)?;
+        if size != bytes.len() {
+            return Err(end_fault(value.time.tz_offset));
+        }
+        Ok(value)
+    }
+
+    /// Parses the date-time at the front of a text, and how many bytes it takes, whatever follows it.
+    #[inline(always)]
+    fn front(
+        bytes: &[u8],
+        behavior: MicrosecondsPrecisionOverflowBehavior,
+    ) -> Result<(Self, usize), ParseError>
+        ensures answer { result gives_front date_time_front behavior bytes.now }
+        ensures within { IfOk result (λ front. front.1 ≤ length bytes.now) }
+        ensures minutes { IfOk result (λ front. IsWholeMinutes front.0.time.tz_offset) }
+        ensures no_number { OnOk result (number_answer bytes.now ≡ NoNumber) }
+    {
+        let (date, _) = Date::parse_front(bytes)?;
+        if !has_separator(bytes) {
+            return Err(ParseError::InvalidCharDateTimeSep);
+        }
+        let (time, size) = Time::front_at(bytes, TIME_PLACE, behavior)?;
+        Ok((DateTime { date, time }, TIME_PLACE + size))
+    }
+
+    /// Parses the timestamp that the bytes are, which are no date-time, by this error.
+    fn parse_timestamp(
+        bytes: &[u8],
+        fault: ParseError,
+        config: &DateTimeConfig,
+    ) -> Result<Self, ParseError>
+        requires { date_time_answer
+            (choices config.now).behavior bytes.now ≡ Err fault }
+        ensures answer { result gives date_time_by_config config.now bytes.now }
+        ensures minutes { IsWholeMinutes (choices config.now).offset
+            → IfOk result (λ value. IsWholeMinutes value.time.tz_offset) }
+    {
+        if !may_be_number(fault) {
+            return Err(fault);
+        }
+        match float_parse_bytes(bytes) {
+            IntFloat::Int(timestamp) => Self::from_timestamp_with_config(timestamp, 0, config),
+            IntFloat::Float(decimal) => Self::parse_decimal(decimal, config),
+            IntFloat::Err => Err(fault),
+        }
+    }
+
+    /// The date-time of a decimal timestamp in a text, whose digits are counted if the configuration
+    /// refuses those past the microsecond.
+    fn parse_decimal(decimal: Decimal<'_>, config: &DateTimeConfig) -> Result<Self, ParseError>
+        ensures answer { result gives date_time_decimal_text (choices config.now).unit
+            (choices config.now).behavior
+            (choices config.now).offset (decimal_value decimal.entry) }
+        ensures minutes { IsWholeMinutes (choices config.now).offset
+            → IfOk result (λ value. IsWholeMinutes value.time.tz_offset) }
+    {
+        let unit = decimal_unit(decimal, config.timestamp_unit);
+        let behavior = config.time_config.microseconds_precision_overflow_behavior;
+        if !takes_digits(behavior, decimal.fraction.len(), unit.digits) {
+            return Err(unit.too_long);
+        }
+        Self::at_decimal(decimal, unit, config.time_config.unix_timestamp_offset)
+    }
+}
+
+impl FromStr for DateTime {
+    type Err = ParseError;
+
+    ghost from_str_gives = { λ text result.
+        result gives date_time_or_timestamp unit.Infer behavior.Error None text };
+
+    /// The answer of [`DateTime::parse_str`]: `"1654560000".parse()` gives midnight on 7 June 2022.
+    fn from_str(text: &str) -> Result<Self, ParseError> {
+        Self::parse_str(text)
+    }
+}
+
+/// Whether a separator follows the ten bytes of a date: `T`, `t`, a space or `_`.
+#[inline(always)]
+fn has_separator(bytes: &[u8]) -> bool
+    ensures value { result ≡ is_separator (slice_index bytes.now 10) }
+    ensures there { IsTrue result → 11 ≤ length bytes.now }
+{
+    let byte = byte_at(bytes, 10);
+    matches!(byte, b'T' | b't' | b' ' | b'_')
+}
+
+/// Refuses a text that is read as a date-time, but is none of RFC 3339.
+#[tactic(auto, using(std::proofs::lemmas::List::take_rest))]
+fn require_standard_date_time(text: &[u8]) -> Result<(), ParseError>
+    ensures answer { result ≡ meets (standard_date_time text.now) (Ok tt) }
+{
+    if !has_letter_t(text) {
+        return Err(ParseError::InvalidCharDateTimeSep);
+    }
+    Time::require_standard(&text[TIME_PLACE..])
+}
+
+/// Whether `T` or `t` follows the ten bytes of a date.
+fn has_letter_t(text: &[u8]) -> bool
+    ensures value { result
+        ≡ ((slice_index text.now 10 == capital_t) || (slice_index text.now 10 == small_t)) }
+    ensures there { IsTrue result → 11 ≤ length text.now }
+{
+    let byte = byte_at(text, 10);
+    byte == b'T' || byte == b't'
+}
