@@ -212,7 +212,7 @@ impl Time {
             ≡ Ok (time_of_day front.0)) }
         ensures minutes { IfOk result (λ front. IsWholeMinutes front.0.tz_offset) }
     {
-        Self::front_at(bytes, 0, config.microseconds_precision_overflow_behavior)
+        Self::front(bytes, config.microseconds_precision_overflow_behavior)
     }
 
     /// Parses the time that takes all the bytes.
@@ -233,21 +233,19 @@ impl Time {
         Ok(clock.at_offset(tz_offset))
     }
 
-    /// Parses the time that begins at `place`, and how many bytes it takes, whatever follows it.
+    /// Parses the time at the front of a text, and how many bytes it takes, whatever follows it.
     #[inline(always)]
-    pub(crate) fn front_at(
+    pub(crate) fn front(
         bytes: &[u8],
-        place: usize,
         behavior: MicrosecondsPrecisionOverflowBehavior,
     ) -> Result<(Self, usize), ParseError>
-        requires { place ≤ length bytes.now }
-        ensures answer { result gives_front time_front behavior (drop place bytes.now) }
-        ensures within { IfOk result (λ front. place + front.1 ≤ length bytes.now) }
+        ensures answer { result gives_front time_front behavior bytes.now }
+        ensures within { IfOk result (λ front. front.1 ≤ length bytes.now) }
         ensures minutes { IfOk result (λ front. IsWholeMinutes front.0.tz_offset) }
     {
-        let clock = PureTime::parse(bytes, place, behavior)?;
-        let (tz_offset, size) = read_offset(bytes, place + clock.size)?;
-        Ok((clock.at_offset(tz_offset), clock.size + size))
+        let clock = PureTime::parse(bytes, 0, behavior)?;
+        let (tz_offset, offset_size) = read_offset(bytes, clock.size)?;
+        Ok((clock.at_offset(tz_offset), clock.size + offset_size))
     }
 
     /// Refuses a text that is read as a time, but is none of RFC 3339.

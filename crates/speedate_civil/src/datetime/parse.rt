@@ -207,7 +207,7 @@ impl DateTime {
         if !has_separator(bytes) {
             return Err(ParseError::InvalidCharDateTimeSep);
         }
-        let (time, size) = Time::front_at(bytes, TIME_PLACE, behavior)?;
+        let (time, size) = Time::front(&bytes[TIME_PLACE..], behavior)?;
         Ok((DateTime { date, time }, TIME_PLACE + size))
     }
 
