@@ -25,7 +25,8 @@ pub fn is_in_order(line: &[u8], next: &[u8]) -> bool
 /// Whether the lines of a ledger are in order, each and the next one: false where one of several
 /// begins with no date.
 pub fn are_in_order(lines: &[&[u8]]) -> bool
-    ensures order { IsAllAdjacentAnswer (λ line next answer. answer ≡ is_in_order line.now next.now) lines.now result }
+    ensures order { IsAllAdjacentAnswer
+        (λ line next answer. answer ≡ is_in_order line.now next.now) lines.now result }
 {
     lines.is_sorted_by(|line, next| is_in_order(line, next))
 }
