@@ -40,7 +40,8 @@ enum Kind {
 #[inline(always)]
 pub fn answer_line(line: &[u8], pending: &mut Pending)
     requires { array_string_len pending.old + ANSWER_MAX ≤ PENDING_MAX }
-    ensures answered { pending.new.bytes ≡ pending.old.bytes ++ (line_answer line.now ++ line_feed ∷ []) }
+    ensures answered { pending.new.bytes
+        ≡ pending.old.bytes ++ (line_answer line.now ++ line_feed ∷ []) }
 {
     if line.len() > LINE_MAX {
         return refuse("line_too_long", pending);
@@ -55,7 +56,8 @@ pub fn answer_line(line: &[u8], pending: &mut Pending)
 #[tactic(auto, unfolding(crate::specs::Lines::kind_and_text))]
 #[inline(always)]
 fn kind_of(line: &[u8]) -> Option<(Kind, &[u8])>
-    ensures kind { option_map (λ found. (found.0, found.1.now)) result ≡ kind_and_text kinds line.now }
+    ensures kind { option_map (λ found. (found.0, found.1.now)) result
+        ≡ kind_and_text kinds line.now }
 {
     if let Some(text) = text_after(line, b"date ") {
         Some((Kind::Date, text))
@@ -99,7 +101,8 @@ macro_rules! answer {
 #[inline(always)]
 fn answer_text(kind: Kind, text: &[u8], pending: &mut Pending)
     requires { array_string_len pending.old + ANSWER_MAX ≤ PENDING_MAX }
-    ensures answered { pending.new.bytes ≡ pending.old.bytes ++ (reply_to kind text.now ++ line_feed ∷ []) }
+    ensures answered { pending.new.bytes
+        ≡ pending.old.bytes ++ (reply_to kind text.now ++ line_feed ∷ []) }
 {
     match kind {
         Kind::Date => answer!(Date::parse_bytes(text), pending),
@@ -117,7 +120,8 @@ fn answer_text(kind: Kind, text: &[u8], pending: &mut Pending)
 fn accept(text: &str, pending: &mut Pending)
     requires short { length text.now ≤ TEXT_MAX }
     requires room { array_string_len pending.old + ANSWER_MAX ≤ PENDING_MAX }
-    ensures answered { pending.new.bytes ≡ pending.old.bytes ++ (ok_answer text.now ++ line_feed ∷ []) }
+    ensures answered { pending.new.bytes
+        ≡ pending.old.bytes ++ (ok_answer text.now ++ line_feed ∷ []) }
 {
     pending.push_str("ok ");
     pending.push_str(text);
@@ -128,7 +132,8 @@ fn accept(text: &str, pending: &mut Pending)
 fn refuse(name: &str, pending: &mut Pending)
     requires short { length name.now ≤ TEXT_MAX }
     requires room { array_string_len pending.old + ANSWER_MAX ≤ PENDING_MAX }
-    ensures answered { pending.new.bytes ≡ pending.old.bytes ++ (err_answer name.now ++ line_feed ∷ []) }
+    ensures answered { pending.new.bytes
+        ≡ pending.old.bytes ++ (err_answer name.now ++ line_feed ∷ []) }
 {
     pending.push_str("err ");
     pending.push_str(name);

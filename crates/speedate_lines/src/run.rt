@@ -51,11 +51,12 @@ pub fn run<R: Read, W: Write>(
     // An end that had not failed has failed if and only if the answer says so.
     ensures failed { input.old.failed ≡ false → output.old.failed ≡ false →
         EndsBy result input.new.failed output.new.failed }
-    // All input was read, and what was written is the answers to its lines. One flush came, after the
-    // last write.
+    // All input was read, and what was written is the answers to its lines. One flush came, after
+    // the last write.
     ensures read { OnOk result (IsAtEnd (R.remaining input.new.inner)) }
     ensures answered { OnOk result (IfSome (R.remaining input.old.inner) (λ text.
-        Appends (W.contents output.old.inner) (W.contents output.new.inner) (answers (lines text)))) }
+        Appends (W.contents output.old.inner) (W.contents output.new.inner)
+        (answers (lines text)))) }
     ensures flushed { OnOk result (output.new.flushed ≡ true) }
     ensures flushed_once { OnOk result (output.new.flushes ≡ one_more output.old.flushes) }
     // After a failed read what was written is the answers to all complete lines that were read, and

@@ -28,13 +28,25 @@ impl<T> Model for Watched<T> {
 
     ghost Value = { Watch T };
 
-    ghost view = { λ w. record { inner = w.inner; failed = w.failed; flushed = w.flushed; reads = w.reads; flushes = w.flushes } };
+    ghost view = { λ w. record {
+      inner = w.inner;
+      failed = w.failed;
+      flushed = w.flushed;
+      reads = w.reads;
+      flushes = w.flushes;
+    } };
 }
 
 impl<T> Watched<T> {
     /// Watches `inner`, which has not failed, has not been read and has not been flushed.
     pub fn new(inner: T) -> Self
-        ensures new { result ≡ record { inner = inner; failed = false; flushed = false; reads = 0; flushes = 0 } }
+        ensures new { result ≡ record {
+          inner = inner;
+          failed = false;
+          flushed = false;
+          reads = 0;
+          flushes = 0;
+        } }
     {
         Watched {
             inner,

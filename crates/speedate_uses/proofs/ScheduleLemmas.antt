@@ -40,6 +40,9 @@ wait_more true true every gone some not_longer = omega (arith, ints)
 wait_more true false every zero some not_longer = omega (arith, ints)
 wait_more true false every (suc gone) some not_longer = absurd (cc)
 
+-- what a wait cites
+pub ruleset waiting = (wait_once, wait_more)
+
 -- and `every` is no longer than that
 pub wait-short : (one two : Bool) (every gone most : ℕ) → pos 0 <ℤ with_sign (not one) every
     → is_gt (ordering_then (int_cmp (with_sign (not one) every) (with_sign (not two) gone)) (bool_cmp one two)) ≡ false → gone < most → every < most

@@ -1,3 +1,4 @@
+pub mod Calendar
 pub mod Ledger
 pub mod Hours
 pub mod Log

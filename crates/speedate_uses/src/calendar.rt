@@ -1,9 +1,10 @@
 //! A calendar: what a month is called, and how many days are left to a date.
 
-ghost use Rattle.std.specs.Prelude.{◌≡◌, ◌-◌, IsSomeAnd, slice_get};
+ghost use Rattle.std.specs.Prelude.{◌≡◌};
 ghost use Rattle.speedate.specs.Date.{ymd, date_answer};
 ghost use Rattle.speedate.specs.Calendar.{days_between};
 ghost use Rattle.speedate.specs.Requirement.{result_map};
+ghost use Rattle.speedate_uses.specs.Calendar.{month_name};
 
 use speedate::{Date, ParseError};
 
@@ -32,7 +33,7 @@ const MONTHS: [&str; 12] = [
 
 /// The English name of a date's month: the type says that it is 1 to 12.
 pub fn month_name(date: &Date) -> &'static str
-    ensures name { IsSomeAnd (slice_get MONTHS (date.now.month - 1)) (λ name. name.now ≡ result.now) }
+    ensures name { result.now ≡ month_name date.now.month }
 {
     MONTHS[usize::from(date.month) - 1]
 }

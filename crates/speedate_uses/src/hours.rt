@@ -11,7 +11,8 @@ use speedate::{DateTime, Duration, ParseError, TimeConfig};
 /// When work began, and how long it lasted: nine in the morning, and seven and a half hours, for
 /// `2026-11-23T09:00:00Z PT7H30M`.
 pub fn shift(line: &[u8]) -> Result<(DateTime, Duration), ParseError>
-    ensures answer { result_map (λ shift. (date_and_time shift.0, duration_numbers shift.1)) result ≡ shift_answer line.now }
+    ensures answer { result_map (λ shift. (date_and_time shift.0, duration_numbers shift.1)) result
+        ≡ shift_answer line.now }
 {
     let (start, size) = DateTime::parse_front(line, &TimeConfig::default())?;
     let length = length_after(&line[size..])?;

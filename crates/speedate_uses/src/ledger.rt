@@ -25,13 +25,14 @@ pub fn is_in_order(line: &[u8], next: &[u8]) -> bool
 /// Whether the lines of a ledger are in order, each and the next one: false where one of several
 /// begins with no date.
 pub fn are_in_order(lines: &[&[u8]]) -> bool
-    ensures order { IsAllAdjacentAnswer (λ line next answer. answer ≡ is_in_order line.now next.now) lines.now result }
+    ensures order { IsAllAdjacentAnswer
+        (λ line next answer. answer ≡ is_in_order line.now next.now) lines.now result }
 {
     lines.is_sorted_by(|line, next| is_in_order(line, next))
 }
 
 /// An entry of a ledger: 42.50 paid on 30 November 2026 has the date 2026-11-30 and -4,250 cents.
-#[derive(Clone, Copy, Debug, PartialEq, Eq)]
+#[derive(Clone, Copy, Debug)]
 pub struct Entry {
     /// The day of the entry.
     pub date: Date,
@@ -93,7 +94,10 @@ mod tests {
         let rent = entry(&rt, "2026-12-01", b"-900");
         let wages = entry(&rt, "2026-12-01", b"2500.0");
         let mut entries = [rent, wages, food];
-        let sorted = sort_by_date(rt.alloc(), &mut entries);
-        assert!(rt; sorted.is_ok() && entries == [food, rent, wages]);
+        assert!(rt; sort_by_date(rt.alloc(), &mut entries).is_ok());
+        for (entry, want) in entries.iter().zip([food, rent, wages]) {
+            same(&rt, entry.date, want.date, "the date");
+            same(&rt, entry.cents, want.cents, "the amount");
+        }
     }
 }

@@ -1,6 +1,7 @@
 //! A log: lines that begin with date-times, taken apart and chosen.
 
 ghost use Rattle.std.specs.Prelude.{◌≡◌, ℕ, IfOk, List, drop, filter};
+ghost use Rattle.speedate.specs.Config.{time_choices};
 ghost use Rattle.speedate.specs.DateTime.{DateAndTime, date_and_time, date_time_front};
 ghost use Rattle.speedate.specs.Requirement.{result_map};
 ghost use Rattle.speedate_uses.specs.Log.{is_between};
@@ -14,9 +15,10 @@ pub fn log_entry<'a>(
     line: &'a [u8],
     config: &TimeConfig,
 ) -> Result<(DateTime, &'a [u8]), ParseError>
-    ensures entry { result_map {B = DateAndTime × List ℕ} (λ entry. (date_and_time entry.0, entry.1.now)) result
+    ensures entry { result_map {B = DateAndTime × List ℕ}
+        (λ entry. (date_and_time entry.0, entry.1.now)) result
         ≡ result_map (λ front. (front.0, drop front.1 line.now))
-        (date_time_front config.now.microseconds_precision_overflow_behavior line.now) }
+        (date_time_front (time_choices config.now).behavior line.now) }
 {
     let (value, size) = DateTime::parse_front(line, config)?;
     Ok((value, &line[size..]))
@@ -25,7 +27,7 @@ pub fn log_entry<'a>(
 /// Whether a line of a log begins with a date-time between two others, both among them, by instant:
 /// `2026-11-22T12:13:14Z GET /` lies between 12:13 and 12:14 in UTC on that day.
 pub fn is_between(line: &[u8], config: &TimeConfig, first: &DateTime, last: &DateTime) -> bool
-    ensures kept { result ≡ is_between config.now.microseconds_precision_overflow_behavior
+    ensures kept { result ≡ is_between (time_choices config.now).behavior
         (date_and_time first.now) (date_and_time last.now) line.now }
 {
     match DateTime::parse_front(line, config) {
@@ -43,7 +45,7 @@ pub fn lines_between<'a, A: Allocator>(
     last: &DateTime,
 ) -> Result<Vec<&'a [u8], A>, AllocError>
     ensures kept { IfOk result (λ kept. kept.items
-        ≡ filter (λ line. is_between config.now.microseconds_precision_overflow_behavior
+        ≡ filter (λ line. is_between (time_choices config.now).behavior
         (date_and_time first.now) (date_and_time last.now) line.now) lines.now) }
 {
     lines

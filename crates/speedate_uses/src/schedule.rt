@@ -20,11 +20,14 @@ pub fn next_run(
     every: &Duration,
     now: &DateTime,
 ) -> Result<Option<DateTime>, ParseError>
-    ensures answer { result_map (option_map date_and_time) result
-        ≡ next_run_answer (date_and_time last.now) (duration_numbers every.now) (date_and_time now.now) }
-    ensures first { IfOk result (λ next. IfSome next (λ run. IsNextRun (utc_microsecond (date_and_time last.now))
-        (signed_amount (duration_numbers every.now)) (utc_microsecond (date_and_time now.now)) (utc_microsecond (date_and_time run)))) }
-    ensures offset { IfOk result (λ next. IfSome next (λ run. run.time.tz_offset ≡ last.now.time.tz_offset)) }
+    ensures answer { result_map (option_map date_and_time) result ≡ next_run_answer
+        (date_and_time last.now) (duration_numbers every.now) (date_and_time now.now) }
+    ensures first { IfOk result (λ next. IfSome next (λ run.
+        IsNextRun (utc_microsecond (date_and_time last.now))
+        (signed_amount (duration_numbers every.now))
+        (utc_microsecond (date_and_time now.now)) (utc_microsecond (date_and_time run)))) }
+    ensures offset { IfOk result (λ next. IfSome next (λ run.
+        run.time.tz_offset ≡ last.now.time.tz_offset)) }
     ensures none { (result ≡ Ok None) ↔ (signed_amount (duration_numbers every.now) ≤ℤ pos 0) }
 {
     if !is_positive(every) {
@@ -42,12 +45,13 @@ fn is_positive(every: &Duration) -> bool
 
 /// How long after its last run a job runs next, where so much time has gone by since: the first whole
 /// number of times `every` that is longer.
-#[tactic(auto, using(crate::proofs::ScheduleLemmas::wait_once, crate::proofs::ScheduleLemmas::wait_more))]
+#[tactic(auto, using(crate::proofs::ScheduleLemmas::waiting))]
 fn next_wait(gone: &Duration, every: &Duration) -> Duration
     requires positive { pos 0 <ℤ signed_amount (duration_numbers every.now) }
     requires days { gone.now.day ≤ 3652426 }
     ensures length { let every = amount_microseconds (duration_numbers every.now) in
-        signed_amount (duration_numbers result) ≡ pos (next_count every (signed_amount (duration_numbers gone.now)) * every) }
+        signed_amount (duration_numbers result)
+        ≡ pos (next_count every (signed_amount (duration_numbers gone.now)) * every) }
 {
     if every.cmp(gone).is_gt() {
         return *every;

@@ -12,8 +12,8 @@ use speedate::{Duration, ParseError};
 /// The whole milliseconds of a timeout, as a configuration has it: 30,000 for `"PT30S"`. There are none
 /// if it has the negative sign.
 pub fn timeout_ms(text: &str) -> Result<Option<u64>, ParseError>
-    ensures timeout { result ≡ result_map
-        (λ timeout. if timeout.positive then Some (unsigned_abs (signed_milliseconds timeout)) else None)
+    ensures timeout { result ≡ result_map (λ timeout. if timeout.positive
+        then Some (unsigned_abs (signed_milliseconds timeout)) else None)
         (duration_answer order.Lax behavior.Error text.now) }
 {
     let timeout = Duration::parse_str(text)?;

@@ -6,7 +6,7 @@ ghost use Rattle.speedate.specs.DateTime.{date_and_time, ◌gives◌};
 ghost use Rattle.speedate.specs.Fault.{fault_documentation, fault_name};
 ghost use Rattle.speedate.specs.Standard.{strict_date_time_answer};
 
-use speedate::{DateTime, MicrosecondsPrecisionOverflowBehavior, ParseError};
+use speedate::{DateTime, MicrosecondsPrecisionOverflowBehavior as Behavior, ParseError};
 
 /// What is wrong with a field.
 #[derive(Clone, Copy, Debug)]
@@ -21,10 +21,11 @@ pub struct FieldFault<'a> {
 
 /// The date-time that a field has, or what is wrong with it.
 pub fn date_time_field<'a>(field: &'a str, text: &str) -> Result<DateTime, FieldFault<'a>>
-    ensures answer { MatchResult result
-        (λ value. strict_date_time_answer MicrosecondsPrecisionOverflowBehavior.Truncate text.now ≡ Ok (date_and_time value))
-        (λ found. (fault : ParseError) × (found.field.now ≡ field.now) × (found.fault.now ≡ fault_name fault) × (found.text.now ≡ fault_documentation fault)
-        × (strict_date_time_answer MicrosecondsPrecisionOverflowBehavior.Truncate text.now ≡ Err fault)) }
+    ensures answer { let answer = strict_date_time_answer Behavior.Truncate text.now in
+        MatchResult result (λ value. answer ≡ Ok (date_and_time value))
+        (λ found. (fault : ParseError) × (found.field.now ≡ field.now)
+        × (found.fault.now ≡ fault_name fault) × (found.text.now ≡ fault_documentation fault)
+        × (answer ≡ Err fault)) }
 {
     match schema_date_time(text) {
         Ok(value) => Ok(value),
@@ -39,10 +40,9 @@ pub fn date_time_field<'a>(field: &'a str, text: &str) -> Result<DateTime, Field
 /// The date-time that a text of JSON Schema's format `date-time` is, or the error of a text that is none:
 /// digits past the microsecond are dropped.
 pub fn schema_date_time(text: &str) -> Result<DateTime, ParseError>
-    ensures answer { result gives strict_date_time_answer MicrosecondsPrecisionOverflowBehavior.Truncate text.now }
+    ensures answer { result gives strict_date_time_answer Behavior.Truncate text.now }
 {
-    let behavior = MicrosecondsPrecisionOverflowBehavior::Truncate;
-    DateTime::parse_bytes_strict(text.as_bytes(), behavior)
+    DateTime::parse_bytes_strict(text.as_bytes(), Behavior::Truncate)
 }
 
 #[cfg(test)]
