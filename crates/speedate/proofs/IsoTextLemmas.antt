@@ -96,13 +96,13 @@ IsMicroseconds fraction microsecond =
     IsFraction fraction × (fraction_seconds (unit capital_s 0 1) (drop 1 fraction) ≡ 0)
     × (fraction_microseconds (unit capital_s 0 1) (drop 1 fraction) ≡ microsecond)
 
-fraction-of : (microsecond : ℕ) (none : Bool) → (microsecond == 0) ≡ none → microsecond < 1000000
+fraction-of : (microsecond : ℕ) (none : Bool) → (microsecond == 0) ≡ none → microsecond ≤ 999999
     → IsMicroseconds (if none then [] else full_stop ∷ without_last_zeros (six_digit_text microsecond)) microsecond
 fraction-of microsecond none other small = grind (arith, ints, nat_tests, other, small, eqb-true, no-seconds, no-microseconds)
 
 -- seconds with their fraction are read as the end of a text
 seconds-end : (next : List DurationUnit) (some : Bool) (number microsecond day second : ℕ) → is_some (unit_in next capital_s) ≡ true
-    → number ≤ 4294967295 → microsecond < 1000000 → day ≤ 4294967295 → second + number ≤ 4294967295
+    → number ≤ 4294967295 → microsecond ≤ 999999 → day ≤ 4294967295 → second + number ≤ 4294967295
     → iso_from (at next true some day second) (decimal number ++ short_fraction_text microsecond ++ capital_s ∷ [])
     ≡ Ok (record { day = day; second = second + number; microsecond = microsecond })
 seconds-end next some number microsecond day second comes few small few_days few_seconds =
@@ -119,7 +119,7 @@ seconds-end next some number microsecond day second comes few small few_days few
 
 -- and where nothing is printed for none
 seconds-read : (next : List DurationUnit) (some none : Bool) (number microsecond day second : ℕ) → ((number == 0) && (microsecond == 0)) ≡ none
-    → is_some (unit_in next capital_s) ≡ true → number ≤ 4294967295 → microsecond < 1000000 → day ≤ 4294967295 → second + number ≤ 4294967295
+    → is_some (unit_in next capital_s) ≡ true → number ≤ 4294967295 → microsecond ≤ 999999 → day ≤ 4294967295 → second + number ≤ 4294967295
     → (if none then some else true) ≡ true
     → iso_from (at next true some day second) (if none then [] else decimal number ++ short_fraction_text microsecond ++ capital_s ∷ [])
     ≡ Ok (record { day = day; second = second + number; microsecond = microsecond })

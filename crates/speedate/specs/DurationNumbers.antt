@@ -30,7 +30,7 @@ pub record UnsignedDuration : Type 0 where
 pub record IsDuration (numbers : DurationNumbers) : Type 0 where
   pub day : numbers.day ≤ 999999999
   pub second : numbers.second < seconds_per_day
-  pub microsecond : numbers.microsecond < 1000000
+  pub microsecond : numbers.microsecond ≤ 999999
 
 -- its amount in seconds, and in microseconds, without its sign
 abbrev pub amount_seconds : DurationNumbers → ℕ

@@ -48,7 +48,7 @@ pub struct Duration {
     pub microsecond: u32,
     pub ghost day_in_range: { day ≤ 999999999 },
     pub ghost second_in_range: { second < 86400 },
-    pub ghost microsecond_in_range: { microsecond < 1000000 },
+    pub ghost microsecond_in_range: { microsecond ≤ 999999 },
 }
 
 impl Duration {
@@ -217,8 +217,8 @@ impl Duration {
 
     /// Parses a duration, with or without a sign. What it goes by are values: constants that come in a
     /// configuration are not seen to be constants.
-    #[tactic(auto, using(std::proofs::lemmas::List::take_rest))]
     #[inline(always)]
+    #[tactic(auto, using(std::proofs::lemmas::List::take_rest))]
     fn parse(
         bytes: &[u8],
         order: IsoOrder,
@@ -239,7 +239,7 @@ impl Duration {
         // Most amounts are in their normal form as they are parsed.
         if amount.day <= DAYS_MAX
             && amount.second < SECONDS_PER_DAY
-            && amount.microsecond < 1_000_000
+            && amount.microsecond <= 999_999
         {
             return Ok(Duration {
                 positive,
@@ -271,7 +271,7 @@ impl Duration {
     /// `-PT1.001S`.
     pub fn signed_microseconds(&self) -> i32
         ensures microsecond { result ≡ signed_microsecond (duration_numbers self.now) }
-        ensures small { unsigned_abs result < 1000000 }
+        ensures small { unsigned_abs result ≤ 999999 }
     {
         let microseconds = self.microsecond as i32;
         if self.positive {

@@ -36,8 +36,8 @@ enum Kind {
 
 /// Appends the answer to a line, which is given without its line feed, and a line feed: for
 /// `date 2020-02-29`, `ok 2020-02-29`.
-#[tactic(auto, using(crate::proofs::AnswerLemmas::line_answers))]
 #[inline(always)]
+#[tactic(auto, using(crate::proofs::AnswerLemmas::line_answers))]
 pub fn answer_line(line: &[u8], pending: &mut Pending)
     requires { array_string_len pending.old + ANSWER_MAX ≤ PENDING_MAX }
     ensures answered { pending.new.bytes
@@ -53,8 +53,8 @@ pub fn answer_line(line: &[u8], pending: &mut Pending)
 }
 
 /// The kind whose word and a space begin a line, and the text after those.
-#[tactic(auto, unfolding(crate::specs::Lines::kind_and_text))]
 #[inline(always)]
+#[tactic(auto, unfolding(crate::specs::Lines::kind_and_text))]
 fn kind_of(line: &[u8]) -> Option<(Kind, &[u8])>
     ensures kind { option_map (λ found. (found.0, found.1.now)) result
         ≡ kind_and_text kinds line.now }

@@ -26,8 +26,8 @@ impl UnsignedDuration {
 
     /// Parses a duration as a clock shows it, whose hours are the digits at its front: a day, an hour
     /// and three seconds from `b"25:00:03"`.
-    #[tactic(auto, unfolding(crate::specs::ClockForm::clock_form))]
     #[inline(always)]
+    #[tactic(auto, unfolding(crate::specs::ClockForm::clock_form))]
     pub(super) fn from_clock(
         bytes: &[u8],
         hours: DigitRun,
@@ -89,8 +89,8 @@ fn hours_end(bytes: &[u8], end: usize) -> Result<usize, ParseError>
 }
 
 /// Whether the digits at the front, which end at `end`, are at most ten, and `:` follows them.
-#[tactic(auto, using(crate::proofs::ClockFormLemmas::hours_rules))]
 #[inline(always)]
+#[tactic(auto, using(crate::proofs::ClockFormLemmas::hours_rules))]
 fn has_hours(bytes: &[u8], end: usize) -> bool
     requires { end ≡ run_length bytes.now 0 }
     ensures value { result ≡ has_hours bytes.now }

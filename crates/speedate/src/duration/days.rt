@@ -15,8 +15,8 @@ impl UnsignedDuration {
 
     /// Parses a duration whose days, the digits at its front, come first: a day and ten hours from
     /// `b"1 day, 10:00"`.
-    #[tactic(auto, unfolding(crate::specs::DayForm::day_form))]
     #[inline(always)]
+    #[tactic(auto, unfolding(crate::specs::DayForm::day_form))]
     pub(super) fn from_days(
         bytes: &[u8],
         days: DigitRun,
@@ -31,8 +31,8 @@ impl UnsignedDuration {
     }
 
     /// Parses what follows the days, nothing or a clock of fewer than 24 hours, and joins the two.
-    #[tactic(auto, unfolding(crate::specs::DayForm::after_days))]
     #[inline(always)]
+    #[tactic(auto, unfolding(crate::specs::DayForm::after_days))]
     fn after_days(
         rest: &[u8],
         days: u32,

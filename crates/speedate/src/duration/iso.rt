@@ -67,7 +67,7 @@ impl DurationUnit {
     fn fraction(&self, digits: &[u8], microseconds: u32) -> (u32, u32)
         requires digits { IsTrue (list_all is_ascii_digit digits.now) }
         requires microseconds { microseconds ≡ fraction_value 6 digits.now }
-        requires small { microseconds < 1000000 }
+        requires small { microseconds ≤ 999999 }
         ensures second { result.0 ≡ fraction_seconds (unit_parts self.now) digits.now }
         ensures microsecond { result.1 ≡ fraction_microseconds (unit_parts self.now) digits.now }
         ensures second_small { result.0 ≤ 31536000 }
@@ -81,7 +81,8 @@ impl DurationUnit {
         (whole as u32, (all - 1_000_000 * whole) as u32)
     }
 
-    /// The whole seconds and the microseconds of a fraction of this unit that has any number of digits.
+    /// The whole seconds and the microseconds of a fraction of this unit that has any number of digits:
+    /// out of line, since it is long, and few fractions have more than six.
     #[inline(never)]
     fn long_fraction(&self, digits: &[u8]) -> (u32, u32)
         requires { IsTrue (list_all is_ascii_digit digits.now) }
@@ -214,8 +215,8 @@ impl Sums {
     }
 
     /// Whether a unit of this side may still come.
-    #[tactic(auto, using(crate::proofs::IsoItemLemmas::place_rules))]
     #[inline(always)]
+    #[tactic(auto, using(crate::proofs::IsoItemLemmas::place_rules))]
     fn takes(&self, unit: &DurationUnit) -> bool
         requires { IsUnitOf self.now.is_time unit.now }
         ensures taken { result
@@ -310,8 +311,8 @@ impl Sums {
     }
 
     /// The sums with the component that begins a text, and how many bytes it has.
-    #[tactic(auto, using(crate::proofs::IsoItemLemmas::component_rules))]
     #[inline(always)]
+    #[tactic(auto, using(crate::proofs::IsoItemLemmas::component_rules))]
     fn with_component(self, text: &[u8]) -> Result<(Self, usize), ParseError>
         ensures item { result_map (with_size sums_parts) result
             ≡ item_front (sums_parts self) (Component (component_at text.now)) }
@@ -359,7 +360,7 @@ impl Sums {
         requires place { self.passed ≤ unit.now.place }
         requires digits { IsTrue (list_all is_ascii_digit (drop 1 fraction.now)) }
         requires microseconds { microseconds ≡ fraction_value 6 (drop 1 fraction.now) }
-        requires small { microseconds < 1000000 }
+        requires small { microseconds ≤ 999999 }
         ensures sums { result_map sums_parts result
             ≡ (if are_counted
             (with_number (unit_parts unit.now) number fraction.now (sums_parts self))
@@ -399,7 +400,7 @@ impl Sums {
 fn fraction_at_front(text: &[u8]) -> (u32, usize)
     ensures microseconds { result.0
         ≡ fraction_value 6 (drop 1 (take (fraction_size text.now) text.now)) }
-    ensures small { result.0 < 1000000 }
+    ensures small { result.0 ≤ 999999 }
     ensures length { result.1 ≡ fraction_size text.now }
     ensures within { result.1 ≤ length text.now }
 {

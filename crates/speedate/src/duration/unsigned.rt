@@ -24,8 +24,8 @@ pub(super) struct UnsignedDuration {
 
 impl UnsignedDuration {
     /// Parses a duration after its sign, in the form that its text has.
-    #[tactic(auto, unfolding(crate::specs::Duration::unsigned_answer))]
     #[inline(always)]
+    #[tactic(auto, unfolding(crate::specs::Duration::unsigned_answer))]
     pub(super) fn parse(
         bytes: &[u8],
         order: IsoOrder,
@@ -41,8 +41,8 @@ impl UnsignedDuration {
     }
 
     /// Parses a duration of days, or one that a clock shows.
-    #[tactic(auto, unfolding(crate::specs::Duration::form_answer))]
     #[inline(always)]
+    #[tactic(auto, unfolding(crate::specs::Duration::form_answer))]
     fn days_or_clock(
         bytes: &[u8],
         behavior: MicrosecondsPrecisionOverflowBehavior,
@@ -66,7 +66,8 @@ impl UnsignedDuration {
         Self::refused_clock(bytes, number, behavior)
     }
 
-    /// Parses a refused clock again, for its error.
+    /// Parses a refused clock again, for its error: out of line, so that it does not lengthen the way of
+    /// a clock that is parsed.
     #[inline(never)]
     fn refused_clock(
         bytes: &[u8],

@@ -17,7 +17,7 @@ pub struct UnixTime {
     pub second: i64,
     /// The microseconds that are left, 0 to 999,999.
     pub microsecond: u32,
-    pub ghost microsecond_in_range: { microsecond < 1000000 },
+    pub ghost microsecond_in_range: { microsecond ≤ 999999 },
 }
 
 impl UnixTime {

@@ -11,7 +11,7 @@ ghost use Rattle.speedate_civil.specs.declared.datetime.DateTime.{DateTime};
 ghost use Rattle.speedate_civil.specs.DateTime.{date_and_time, date_time_answer, date_time_front, date_time_text, date_time_by_config};
 ghost use Rattle.speedate_civil.specs.Time.{is_after_time};
 
-use crate::datetime::DateTime;
+use super::DateTime;
 use arrayvec::ArrayString;
 use std::fmt;
 

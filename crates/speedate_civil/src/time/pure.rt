@@ -3,7 +3,7 @@
 ghost use Rattle.std.specs.Prelude.{◌≡◌, ◌+◌, ◌≤◌, IfOk, IsTrue, length, drop, codes};
 ghost use Rattle.speedate_base.specs.Digits.{run_length, run_digits, fraction_value, two_digit_value, fit_length};
 
-use crate::time::Time;
+use super::Time;
 use speedate_base::config::MicrosecondsPrecisionOverflowBehavior;
 use speedate_base::faults::ParseError;
 use speedate_base::numbers::{

@@ -9,9 +9,9 @@ ghost use Rattle.speedate_base.specs.Requirement.{result_map};
 ghost use Rattle.speedate_civil.specs.declared.time.Time.{Time};
 ghost use Rattle.speedate_civil.specs.Time.{time_of_day, time_answer, time_front, clock_text, time_text, is_after_time};
 
+use super::Time;
+use super::offset::push_offset;
 use crate::text::{push_six_digits, two_digit_text};
-use crate::time::Time;
-use crate::time::offset::push_offset;
 use arrayvec::ArrayString;
 use std::fmt;
 
