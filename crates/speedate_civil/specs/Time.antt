@@ -155,15 +155,18 @@ minute_digits rest = (two_digits_at rest 0 else_fault fault.InvalidCharMinute) �
 abbrev pub hour_range : List ℕ → List Requirement
 hour_range text = (nat_le (two_digit_value text 0) 23 else_fault fault.OutOfRangeHour) ∷ []
 
--- then the range of its minute, its second, and the fraction
-abbrev pub minute_table : MicrosecondsPrecisionOverflowBehavior → List ℕ → List Requirement
-minute_table behavior rest =
-    (nat_le (two_digit_value rest 0) 59 else_fault fault.OutOfRangeMinute)
-    ∷ ((has_second rest implies two_digits_at rest 3) else_fault fault.InvalidCharSecond)
+-- then its second, and the fraction
+abbrev pub second_table : MicrosecondsPrecisionOverflowBehavior → List ℕ → List Requirement
+second_table behavior rest =
+    ((has_second rest implies two_digits_at rest 3) else_fault fault.InvalidCharSecond)
     ∷ ((has_second rest implies nat_le (two_digit_value rest 3) 59) else_fault fault.OutOfRangeSecond)
     ∷ ((has_fraction rest implies nat_lt 0 (run_length rest 6)) else_fault fault.SecondFractionMissing)
     ∷ (((has_fraction rest && refuses_digits behavior) implies nat_le (run_length rest 6) 6) else_fault fault.SecondFractionTooLong)
     ∷ []
+
+-- the range of its minute, and these
+abbrev pub minute_table : MicrosecondsPrecisionOverflowBehavior → List ℕ → List Requirement
+minute_table behavior rest = (nat_le (two_digit_value rest 0) 59 else_fault fault.OutOfRangeMinute) ∷ second_table behavior rest
 
 -- the clock whose minute begins a text, given that it is two digits, or the text's fault
 abbrev pub clock_answer : MicrosecondsPrecisionOverflowBehavior → List ℕ → Result Clock ParseError

@@ -1,6 +1,6 @@
 //! Times of day without their offsets, at the front of a text.
 
-ghost use Rattle.std.specs.Prelude.{◌≡◌, ◌+◌, ◌≤◌, IfOk, IsTrue, length, drop, codes};
+ghost use Rattle.std.specs.Prelude.{◌≡◌, ◌+◌, ◌≤◌, IfOk, IsTrue, Ok, length, drop, codes};
 ghost use Rattle.speedate_base.specs.Digits.{run_length, run_digits, fraction_value, two_digit_value, fit_length};
 
 use super::Time;
@@ -31,7 +31,18 @@ pub struct PureTime {
     pub ghost microsecond_in_range: { microsecond ≤ 999999 },
 }
 
-/// What follows the minute of a clock.
+/// What follows the minute of a clock: a second and a microsecond, 0 if there are none, and how many
+/// bytes the clock takes from its minute on.
+#[derive(Clone, Copy)]
+struct AfterMinute {
+    second: u8,
+    microsecond: u32,
+    size: usize,
+    ghost second_in_range: { second ≤ 59 },
+    ghost microsecond_in_range: { microsecond ≤ 999999 },
+}
+
+/// The second after the minute of a clock.
 #[derive(Clone, Copy)]
 enum Second {
     /// No `:`, so there is no second.
@@ -45,9 +56,9 @@ enum Second {
 impl PureTime {
     ghost use Rattle.std.specs.Option.{ForSome};
     ghost use Rattle.speedate_base.specs.Offset.{IsOffset, IsWholeMinutes};
-    ghost use Rattle.speedate_base.specs.Requirement.{result_map};
-    ghost use Rattle.speedate_civil.specs.Reader.{second_there};
-    ghost use Rattle.speedate_civil.specs.Time.{clock_answer, clock_front, minute_front, clock_parts, has_decimal_mark, time_of_day, clock_with_offset};
+    ghost use Rattle.speedate_base.specs.Requirement.{meets, result_map};
+    ghost use Rattle.speedate_civil.specs.Reader.{clock_after, second_there};
+    ghost use Rattle.speedate_civil.specs.Time.{clock_front, minute_clock, minute_front, second_table, clock_parts, has_decimal_mark, time_of_day, clock_with_offset};
 
     /// Parses the clock that begins at `place`, whatever follows it: 12:13:14 and a half, in ten bytes,
     /// from `b"P12:13:14.5Z"` at place 1.
@@ -87,13 +98,13 @@ impl PureTime {
         if minute > 59 {
             return Err(ParseError::OutOfRangeMinute);
         }
-        let time = Self::after_minute(minute, Second::in_front(front, fits), text, 3, behavior)?;
+        let after = Self::after_minute(Second::in_front(front, fits), text, 3, behavior)?;
         Ok(PureTime {
             hour,
             minute,
-            second: time.second,
-            microsecond: time.microsecond,
-            size: 3 + time.size,
+            second: after.second,
+            microsecond: after.microsecond,
+            size: 3 + after.size,
         })
     }
 
@@ -129,7 +140,14 @@ impl PureTime {
             3 | 4 => Second::Faulty,
             _ => Second::Number(second),
         };
-        Self::after_minute(minute, second, rest, 0, behavior)
+        let after = Self::after_minute(second, rest, 0, behavior)?;
+        Ok(PureTime {
+            hour: 0,
+            minute,
+            second: after.second,
+            microsecond: after.microsecond,
+            size: after.size,
+        })
     }
 
     /// The time of day with this offset, if there is one.
@@ -148,33 +166,27 @@ impl PureTime {
         }
     }
 
-    /// Tests the range of the second that follows the minute at `place`, and reads the fraction after
-    /// it.
+    /// Tests the range of the second that follows the minute at the front of a text, and reads the
+    /// fraction after it.
     #[inline(always)]
     fn after_minute(
-        minute: u8,
         second: Second,
         bytes: &[u8],
-        place: usize,
+        minute: usize,
         behavior: MicrosecondsPrecisionOverflowBehavior,
-    ) -> Result<Self, ParseError>
-        requires place { place + 2 ≤ length bytes.now }
-        requires minute { minute ≡ two_digit_value (drop place bytes.now) 0 }
-        requires range { minute ≤ 59 }
-        requires second { second ≡ second_there (drop place bytes.now) }
-        ensures answer { result_map clock_parts result
-            ≡ clock_answer behavior (drop place bytes.now) }
-        ensures minute { IfOk result (λ time. time.minute ≡ minute) }
-        ensures within { IfOk result (λ time. place + time.size ≤ length bytes.now) }
+    ) -> Result<AfterMinute, ParseError>
+        requires minute { minute + 2 ≤ length bytes.now }
+        requires second { second ≡ second_there (drop minute bytes.now) }
+        ensures answer { result_map (clock_after (two_digit_value (drop minute bytes.now) 0)) result
+            ≡ meets (second_table behavior (drop minute bytes.now))
+            (Ok (minute_clock (drop minute bytes.now))) }
+        ensures within { IfOk result (λ after. minute + after.size ≤ length bytes.now) }
     {
-        let rest = &bytes[place..];
         let second = match second {
             Second::Number(second) => second,
             Second::Faulty => return Err(ParseError::InvalidCharSecond),
             Second::Absent => {
-                return Ok(PureTime {
-                    hour: 0,
-                    minute,
+                return Ok(AfterMinute {
                     second: 0,
                     microsecond: 0,
                     size: 2,
@@ -184,25 +196,21 @@ impl PureTime {
         if second > 59 {
             return Err(ParseError::OutOfRangeSecond);
         }
-        if !Self::has_decimal_mark(rest) {
-            return Ok(PureTime {
-                hour: 0,
-                minute,
+        if !Self::has_decimal_mark(&bytes[minute..]) {
+            return Ok(AfterMinute {
                 second,
                 microsecond: 0,
                 size: 5,
             });
         }
-        let fraction = fraction_after_second(bytes, place);
+        let fraction = fraction_after_second(bytes, minute);
         if fraction.length == 0 {
             return Err(ParseError::SecondFractionMissing);
         }
         if !takes_digits(behavior, fraction.length, 6) {
             return Err(ParseError::SecondFractionTooLong);
         }
-        Ok(PureTime {
-            hour: 0,
-            minute,
+        Ok(AfterMinute {
             second,
             microsecond: fraction.microsecond,
             size: 6 + fraction.length,

@@ -6,8 +6,9 @@ use Rattle.std.proofs.lemmas.Result.{err_from_is_err_and}
 use Rattle.speedate_base.specs.declared.config.MicrosecondsPrecisionOverflowBehavior.{MicrosecondsPrecisionOverflowBehavior}
 use Rattle.speedate_base.specs.Ascii.{colon}
 use Rattle.speedate_base.specs.Digits.{two_digits_at, two_digit_value, eight_at, fit_length, fit_digits, neighbours}
-use Rattle.speedate_base.specs.Requirement.{result_map}
-use Rattle.speedate_civil.specs.Time.{Clock, at_hour, clock_answer, clock_front, clock_parts}
+use Rattle.speedate_base.specs.Requirement.{meets, result_map}
+use Rattle.speedate_civil.specs.Reader.{clock_after}
+use Rattle.speedate_civil.specs.Time.{at_hour, clock_front, minute_clock, second_table}
 use Rattle.speedate_base.proofs.PatternLemmas.{fit_length-all}
 use Rattle.speedate_civil.proofs.time.pure.PureTime.parse.Goals as goal
 
@@ -21,6 +22,7 @@ record Front (text numbers : List ℕ) : Type 0 where
   separator : (slice_index text 2 == colon) ≡ true
   minute : two_digits_at (drop 3 text) 0 ≡ true
   hour_is : get_or numbers 0 0 ≡ two_digit_value text 0
+  minute_is : get_or numbers 3 0 ≡ two_digit_value (drop 3 text) 0
 
 front_is : (text : List ℕ) → 5 ≤ fit_length pattern (eight_at text 0) → Front text (neighbours (fit_digits 5 pattern (eight_at text 0)))
 front_is text fits = grind (arith, common_steps, and_from, get_or-drop, fit_length-all)
@@ -31,24 +33,21 @@ read text front numbers fits from counted enough spelled =
     let five : 5 ≤ fit_length pattern (eight_at text 0) = subst (λ (block : List ℕ). 5 ≤ fit_length pattern block) from (omega (arith, counted, enough)) in
     subst (λ (all : List ℕ). Front text all) (sym (spelled ∙ ap (λ (block : List ℕ). neighbours (fit_digits 5 pattern block)) from)) (front_is text five)
 
--- the rows of the hour and the minute hold, so the clock after them decides
-decided : (behavior : MicrosecondsPrecisionOverflowBehavior) (text numbers : List ℕ) → Front text numbers → 5 ≤ length text → get_or numbers 0 0 ≤ 23
-    → clock_front behavior text ≡ result_map (at_hour (get_or numbers 0 0)) (clock_answer behavior (drop 3 text))
-decided behavior text numbers front long early = search rules
+-- the rows of the hour and the minute hold, so what follows the minute decides
+decided : (behavior : MicrosecondsPrecisionOverflowBehavior) (text numbers : List ℕ) → Front text numbers → 5 ≤ length text
+    → get_or numbers 0 0 ≤ 23 → get_or numbers 3 0 ≤ 59 → clock_front behavior text
+    ≡ result_map (at_hour (get_or numbers 0 0)) (meets (second_table behavior (drop 3 text)) (Ok (minute_clock (drop 3 text))))
+decided behavior text numbers front long early short = search rules
 
--- a clock with another name for its minute
-renamed : (hour : ℕ) (clock : Clock) (minute : ℕ) → clock.minute ≡ minute
-    → record { hour = hour; minute = minute; second = clock.second; microsecond = clock.microsecond; size = 3 + clock.size } ≡ at_hour hour clock
-renamed hour clock minute same = search rules
-
-pub returns-in_err-time-clause-answer : goal.returns-in_err-time-clause-answer
-returns-in_err-time-clause-answer c =
+pub returns-in_err-after-clause-answer : goal.returns-in_err-after-clause-answer
+returns-in_err-after-clause-answer c =
     let bytes = c.args.bytes.now in
     let place = c.args.place in
     let text : List ℕ = take (length bytes - place) (drop place bytes) in
     let front = read text _ _ _ c.eight_bytes-front.ensures.bytes c.fitting-fits.ensures.count c.if-fits-lt5.false c.pairs.ensures.numbers in
-    let is = ap (clock_front c.args.behavior) (sym (take_rest bytes place)) ∙ decided c.args.behavior text _ front c.if-text-lt5.false c.if-hour-gt23.false
-    ∙ ap (result_map (at_hour (get_or c.pairs.result 0 0))) (sym c.in_err-time.ensures.answer) in
+    let is = ap (clock_front c.args.behavior) (sym (take_rest bytes place))
+    ∙ decided c.args.behavior text _ front c.if-text-lt5.false c.if-hour-gt23.false c.if-minute-gt59.false
+    ∙ ap (result_map (at_hour (get_or c.pairs.result 0 0))) (sym c.in_err-after.ensures.answer) in
     let p = err_from_is_err_and c.from_residual.result c.from_residual.ensures.1 in
     rw (p.1, p.2) (sym is)
 
@@ -58,6 +57,7 @@ returns-clause-answer c =
     let place = c.args.place in
     let text : List ℕ = take (length bytes - place) (drop place bytes) in
     let front = read text _ _ _ c.eight_bytes-front.ensures.bytes c.fitting-fits.ensures.count c.if-fits-lt5.false c.pairs.ensures.numbers in
-    let is = ap (clock_front c.args.behavior) (sym (take_rest bytes place)) ∙ decided c.args.behavior text _ front c.if-text-lt5.false c.if-hour-gt23.false
-    ∙ ap (result_map (at_hour (get_or c.pairs.result 0 0))) (sym c.in_ok-time.ensures.answer) in
-    ap Ok (renamed (get_or c.pairs.result 0 0) (clock_parts c.in_ok-time.time) _ c.in_ok-time.ensures.minute) ∙ sym is
+    let is = ap (clock_front c.args.behavior) (sym (take_rest bytes place))
+    ∙ decided c.args.behavior text _ front c.if-text-lt5.false c.if-hour-gt23.false c.if-minute-gt59.false
+    ∙ ap (result_map (at_hour (get_or c.pairs.result 0 0))) (sym c.in_ok-after.ensures.answer) in
+    ap (λ (minute : ℕ). Ok (at_hour (get_or c.pairs.result 0 0) (clock_after minute c.in_ok-after.after))) front.minute_is ∙ sym is
