@@ -6,12 +6,11 @@ use Rattle.std.proofs.lemmas.Bool.{cases_lt, eqb-true}
 use Rattle.std.proofs.lemmas.Bool.Decides.{nat_tests}
 use Rattle.std.proofs.lemmas.List.{get_or_past, take-append-drop, drop_more, take_rest}
 use Rattle.std.proofs.lemmas.List.Sums.{position_or_len_is, passes_at_first, prefix_len_passes}
-use Rattle.speedate_base.specs.declared.config.MicrosecondsPrecisionOverflowBehavior.{MicrosecondsPrecisionOverflowBehavior}
 use Rattle.speedate_base.specs.Ascii.{colon}
 use Rattle.speedate_base.specs.Digits.{run_length, digits_value, two_digits_at}
 use Rattle.speedate_base.proofs.DigitRunLemmas.{run_length-ended, run-whole}
 use Rattle.speedate_base.proofs.NumberLemmas.{run-digits}
-use Rattle.speedate.specs.ClockForm.{hours, colon_place, has_hours, after_hours, from_minute, hours_table, hours_range, clock_numbers, clock_form}
+use Rattle.speedate.specs.ClockForm.{hours, colon_place, has_hours, after_hours, from_minute, hours_table, hours_range, clock_numbers, clock_form, MicrosecondsPrecisionOverflowBehavior}
 use Rattle.std.proofs.lemmas.List.Folds.{list_any-append}
 use Rattle.speedate_base.specs.declared.faults.ParseError.TheVariants as fault
 use Rattle.speedate_base.specs.Requirement.{◌else_fault◌, ◌implies◌, meets, result_and_then}

@@ -1,8 +1,7 @@
 -- Durations are in their ranges, and have one normal form.
 use Rattle.std.proofs.Common.{rules, ◌≡◌, Ok}
 use Rattle.speedate.specs.DurationNumbers.{DurationNumbers, IsDuration, amount_microseconds, of_amount, normal_form}
-use Rattle.speedate.specs.declared.duration.Duration.{Duration}
-use Rattle.speedate.specs.Duration.{duration_numbers}
+use Rattle.speedate.specs.Duration.{duration_numbers, Duration}
 
 -- numbers in their ranges are those of their amount
 pub of_amount-only : (numbers : DurationNumbers) → IsDuration numbers → of_amount numbers.positive (amount_microseconds numbers) ≡ numbers

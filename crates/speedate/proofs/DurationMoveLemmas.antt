@@ -3,7 +3,6 @@
 use Rattle.std.proofs.Common.{rules, arith, ◌∙◌, ap, sym, ◌≡◌, ℕ, ◌<◌, ◌≤◌, Bool, true, not, ◌||◌, ◌==◌, ℤ, pos, neg_ℤ, ◌+ℤ◌, ◌-ℤ◌, ◌*ℤ◌, ◌≤ℤ◌, Option, Result, Ok, Err, IfOk, unsigned_abs, refl, [], ◌∷◌, if◌then◌else◌, ok_or, unwrap_or, int_cmp}
 use Rattle.std.proofs.lemmas.Int.{ints}
 use Rattle.std.proofs.lemmas.Result.{IfOk-weaker}
-use Rattle.speedate_base.specs.declared.faults.ParseError.{ParseError}
 use Rattle.speedate_base.specs.Numbers.{with_sign}
 use Rattle.speedate_base.specs.Timestamp.{seconds_per_day, Instant, first_second, last_second, instant_at}
 use Rattle.speedate_base.proofs.TimestampLemmas.{instant_at-microsecond, instant_at-is}
@@ -14,7 +13,7 @@ use Rattle.speedate_civil.proofs.DateTimeTimestampLemmas.{instant_date_time-loca
 use Rattle.speedate_civil.proofs.DateTimeValueLemmas.{is_date_and_time, offset-small, local_second-late, local_second-early}
 use Rattle.speedate.proofs.DurationLemmas.{of_amount-only}
 use Rattle.speedate.specs.Duration.{signed_amount, duration_of_amount, amount_answer, with_positive_zero, duration_between, date_time_after, negated, date_after_days, is_whole_days}
-use Rattle.speedate.specs.DurationNumbers.{DurationNumbers, IsDuration, of_amount, signed_day, signed_seconds, signed_microsecond}
+use Rattle.speedate.specs.DurationNumbers.{DurationNumbers, IsDuration, of_amount, signed_day, signed_seconds, signed_microsecond, ParseError}
 use Rattle.speedate_base.specs.declared.faults.ParseError.TheVariants as fault
 use Rattle.speedate_base.specs.Requirement.{◌else_fault◌}
 use Rattle.speedate_base.proofs.RequirementLemmas.{meets-all}

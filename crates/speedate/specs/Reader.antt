@@ -1,10 +1,9 @@
 -- What contracts see of the parts of the reader of ISO 8601 durations.
 use Rattle.std.specs.Prelude.{Bool, ◌≡◌, [], ◌∷◌, ◌==◌, length, if◌then◌else◌, drop, zero, suc, Some, List, ℕ, Result, Ok}
-use Rattle.speedate_base.specs.declared.faults.ParseError.{ParseError}
 use Rattle.speedate_base.specs.Requirement.{meets}
 use Rattle.speedate.specs.declared.duration.iso.DurationUnit.{DurationUnit as StructDurationUnit}
 use Rattle.speedate.specs.declared.duration.iso.Sums.{Sums as StructSums}
-use Rattle.speedate.specs.IsoForm.{DurationUnit, units, unit_in, Item, item_text, Sums, with_item, item_table}
+use Rattle.speedate.specs.IsoForm.{DurationUnit, units, unit_in, Item, item_text, Sums, with_item, item_table, ParseError}
 
 -- a unit by its designator and its worth
 abbrev pub unit_parts : StructDurationUnit → DurationUnit

@@ -3,12 +3,11 @@ use Rattle.std.proofs.Common.{◌≡◌, ◌↔◌, ℕ, ◌≤◌, ◌<◌, Boo
 use Rattle.std.proofs.lemmas.Grind.{common_steps}
 use Rattle.std.proofs.lemmas.Bool.Decides.{nat_tests}
 use Rattle.std.specs.Char.{is_ascii_digit}
-use Rattle.speedate_base.specs.declared.config.MicrosecondsPrecisionOverflowBehavior.{MicrosecondsPrecisionOverflowBehavior}
 use Rattle.speedate_base.specs.Ascii.{colon, full_stop}
 use Rattle.speedate_base.specs.Digits.{run_length, six_digit_text, two_digit_text, is_decimal_mark}
 use Rattle.speedate_base.specs.Offset.{IsWholeMinutes}
 use Rattle.speedate_base.specs.Requirement.{meets}
-use Rattle.speedate_civil.specs.Time.{Clock, clock_front, minute_text, begins_offset, offset_front, TimeOfDay, IsTime, clock_text, continues_fraction, is_after_time, time_front, time_text}
+use Rattle.speedate_civil.specs.Time.{Clock, clock_front, minute_text, begins_offset, offset_front, TimeOfDay, IsTime, clock_text, continues_fraction, is_after_time, time_front, time_text, MicrosecondsPrecisionOverflowBehavior}
 use Rattle.speedate_civil.specs.DateTime.{DateAndTime, IsDateAndTime, date_time_front, date_time_text, separator_table}
 use Rattle.speedate_civil.specs.Date.{date_front}
 use Rattle.speedate_civil.proofs.DateTimeLemmas.{date_time_text-front}

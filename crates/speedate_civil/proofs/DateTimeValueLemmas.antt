@@ -4,8 +4,7 @@ use Rattle.std.specs.Option.{ForSome}
 use Rattle.std.proofs.lemmas.Int.{ints}
 use Rattle.speedate_base.specs.Offset.{IsOffset}
 use Rattle.speedate_base.specs.Timestamp.{seconds_per_day, first_second, last_second}
-use Rattle.speedate_civil.specs.declared.datetime.DateTime.{DateTime}
-use Rattle.speedate_civil.specs.DateTime.{DateAndTime, IsDateAndTime, local_second, date_and_time}
+use Rattle.speedate_civil.specs.DateTime.{DateAndTime, IsDateAndTime, local_second, date_and_time, DateTime}
 use Rattle.speedate_civil.proofs.DayNumberLemmas.{day_number-small}
 use Rattle.speedate_civil.proofs.DateValueLemmas.{is_date}
 use Rattle.speedate_civil.proofs.TimeValueLemmas.{is_time}

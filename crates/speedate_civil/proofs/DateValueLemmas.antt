@@ -1,7 +1,6 @@
 -- What every `Date` is.
-use Rattle.speedate_civil.specs.declared.date.Date.{Date}
 use Rattle.speedate_civil.specs.Calendar.{IsDate, IsDay}
-use Rattle.speedate_civil.specs.Date.{ymd}
+use Rattle.speedate_civil.specs.Date.{ymd, Date}
 
 pub is_day : (date : Date) → IsDay (ymd date)
 is_day date = record { month = date.month_in_range; day = date.day_in_range }

@@ -1,8 +1,7 @@
 -- Days that are added to a date and counted again, and their order.
 use Rattle.std.proofs.Common.{◌≡◌, ℕ, ℤ, pos, ◌+ℤ◌, ◌-ℤ◌, Option, IfSome, int_cmp, nat_cmp, rules}
-use Rattle.speedate_civil.specs.declared.date.Date.{Date}
 use Rattle.speedate_civil.specs.Calendar.{day_number}
-use Rattle.speedate_civil.specs.Date.{ymd}
+use Rattle.speedate_civil.specs.Date.{ymd, Date}
 
 -- a number of days leads to a day number, so it is the days up to it
 pub days-counted : (result : Option Date) (first number : ℕ) (days : ℤ) → pos number ≡ pos first +ℤ days

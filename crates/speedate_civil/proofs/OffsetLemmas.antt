@@ -1,12 +1,11 @@
 -- Offsets at the front of a text, by what they begin with; and a printed offset of whole minutes is read as itself.
 use Rattle.std.proofs.Common.{◌≡◌, ℕ, zero, suc, ◌%◌, ◌<◌, Bool, true, false, not, ◌||◌, List, ◌∷◌, ◌++◌, length, drop, ◌==◌, slice_index, Option, Some, None, ℤ, pos, negsuc, Result, Ok, refl, is_some, rules, arith, le-ltb, ne_eqb}
 use Rattle.std.specs.Option.{ForSome}
-use Rattle.speedate_base.specs.declared.faults.ParseError.{ParseError}
 use Rattle.speedate_base.specs.Ascii.{plus_sign, hyphen, capital_z}
 use Rattle.speedate_base.specs.Numbers.{with_sign}
 use Rattle.speedate_base.specs.Offset.{IsOffset, IsWholeMinutes}
 use Rattle.speedate_base.specs.Timestamp.{seconds_per_day}
-use Rattle.speedate_civil.specs.Time.{begins_offset, has_minus_sign, is_plus_or_minus, is_utc, offset_front, offset_text, offset_size_text, signed_front}
+use Rattle.speedate_civil.specs.Time.{begins_offset, has_minus_sign, is_plus_or_minus, is_utc, offset_front, offset_text, offset_size_text, signed_front, ParseError}
 
 -- what holds of the offset of a text by what it begins with, `+` or `-`, `Z` or `z`, U+2212 or none of them, holds of it
 pub offset-cases : (P : Result (Option ℤ × ℕ) ParseError → Type 0) (rest : List ℕ)

@@ -7,18 +7,14 @@ use Rattle.std.proofs.lemmas.Bool.{not-true}
 use Rattle.std.proofs.lemmas.Bool.Decides.{nat_tests}
 use Rattle.std.proofs.lemmas.List.{drop_more, nil_from_length}
 use Rattle.std.proofs.lemmas.List.Sums.{prefix_len-le-length}
-use Rattle.speedate_base.specs.declared.config.MicrosecondsPrecisionOverflowBehavior.{MicrosecondsPrecisionOverflowBehavior}
-use Rattle.speedate_base.specs.declared.faults.ParseError.{ParseError}
 use Rattle.speedate_base.specs.Ascii.{colon, comma, full_stop, hyphen, plus_sign, capital_t, capital_z, small_t, small_z}
 use Rattle.speedate_base.specs.Digits.{run_length, two_digits_at, two_digit_text, two_digit_value, four_digit_value, is_decimal_mark}
 use Rattle.speedate_base.specs.Numbers.{with_sign}
 use Rattle.speedate_base.specs.Config.{refuses_digits}
 use Rattle.speedate_base.specs.Requirement.{Requirement, ◌implies◌, AllHold, alone, meets, result_map, result_and_then}
-use Rattle.speedate_civil.specs.declared.datetime.DateTime.{DateTime}
-use Rattle.speedate_civil.specs.declared.time.Time.{Time}
 use Rattle.speedate_civil.specs.Calendar.{Ymd, IsDate}
-use Rattle.speedate_civil.specs.Time.{Clock, clock_front, has_decimal_mark, has_second, minute_text, end_fault, is_plus_or_minus, offset_digits, offset_front, offset_ranges, signed_front, TimeOfDay, clock_with_offset, time_front, time_answer, time_of_day}
-use Rattle.speedate_civil.specs.DateTime.{DateAndTime, date_time_answer, date_time_front, separator_table, date_and_time}
+use Rattle.speedate_civil.specs.Time.{Clock, clock_front, has_decimal_mark, has_second, minute_text, end_fault, is_plus_or_minus, offset_digits, offset_front, offset_ranges, signed_front, TimeOfDay, clock_with_offset, time_front, time_answer, time_of_day, ParseError, MicrosecondsPrecisionOverflowBehavior, Time}
+use Rattle.speedate_civil.specs.DateTime.{DateAndTime, date_time_answer, date_time_front, separator_table, date_and_time, DateTime}
 use Rattle.speedate_civil.specs.Date.{date_front, date_table, date_text}
 use Rattle.speedate_civil.specs.Standard.{IsFullDate, IsDateTime, IsTwoDigits, IsSecfrac, IsPartialTime, IsNumoffset, IsTimeOffset, IsFullTime, offset_place, standard_date_time, standard_offset, standard_time, strict_date_time_answer, strict_time_answer}
 use Rattle.speedate_base.proofs.DigitRunLemmas.{run_length-append}

@@ -1,7 +1,6 @@
 -- What every `Time` is.
 use Rattle.std.proofs.Common.{arith}
-use Rattle.speedate_civil.specs.declared.time.Time.{Time}
-use Rattle.speedate_civil.specs.Time.{IsTime, time_of_day}
+use Rattle.speedate_civil.specs.Time.{IsTime, time_of_day, Time}
 
 pub is_time : (time : Time) → IsTime (time_of_day time)
 is_time time = omega arith

@@ -1,15 +1,15 @@
 -- Dates: from their numbers, from texts, and from timestamps.
 use Rattle.std.specs.Prelude.{ℕ, pos, List, [], ◌∷◌, nat_le, ℤ, Result, Ok, ◌++◌, length, ◌==◌, slice_index, Bool, true, ◌&&◌, ◌+ℤ◌, unsigned_abs, option_map, ◌≡◌}
 use Rattle.std.specs.Int.{is_in_range, int_div_euclid, int_rem_euclid}
-use Rattle.speedate_base.specs.declared.config.TimestampUnit.{TimestampUnit}
+pub use Rattle.speedate_base.specs.declared.config.TimestampUnit.{TimestampUnit}
 use Rattle.speedate_base.specs.declared.faults.ParseError.TheVariants as fault
-use Rattle.speedate_base.specs.declared.faults.ParseError.{ParseError}
+pub use Rattle.speedate_base.specs.declared.faults.ParseError.{ParseError}
 use Rattle.speedate_base.specs.Ascii.{hyphen}
 use Rattle.speedate_base.specs.Digits.{four_digits_at, four_digit_value, four_digit_text, two_digits_at, two_digit_value, two_digit_text}
 use Rattle.speedate_base.specs.Numbers.{whole_number}
 use Rattle.speedate_base.specs.Timestamp.{seconds_per_day, Instant, instant_answer, range_answer}
 use Rattle.speedate_base.specs.Requirement.{Requirement, ◌else_fault◌, meets, alone, ◌>>=◌, ◌implies◌, or_number, result_map, with_size}
-use Rattle.speedate_civil.specs.declared.date.Date.{Date}
+pub use Rattle.speedate_civil.specs.declared.date.Date.{Date}
 use Rattle.speedate_civil.specs.Calendar.{Ymd, month_length, epoch_day, date_after}
 
 -- the numbers of a date

@@ -3,21 +3,18 @@ use Rattle.std.specs.Prelude.{◌/◌, ℤ, pos, ◌+ℤ◌, ◌-ℤ◌, ◌*ℤ
 use Rattle.std.specs.Option.{unwrap_or}
 use Rattle.std.specs.Ordering.{is_le, int_cmp, nat_cmp, on, then_cmp}
 use Rattle.std.specs.declared.cmp.Ordering.{Ordering}
-use Rattle.speedate_base.specs.declared.config.date_time.DateTimeConfig.{DateTimeConfig}
-use Rattle.speedate_base.specs.declared.config.MicrosecondsPrecisionOverflowBehavior.{MicrosecondsPrecisionOverflowBehavior}
-use Rattle.speedate_base.specs.declared.config.TimestampUnit.{TimestampUnit}
+pub use Rattle.speedate_base.specs.declared.config.date_time.DateTimeConfig.{DateTimeConfig}
 use Rattle.speedate_base.specs.declared.faults.ParseError.TheVariants as fault
-use Rattle.speedate_base.specs.declared.faults.ParseError.{ParseError}
 use Rattle.speedate_base.specs.Ascii.{space, capital_t, low_line, small_t}
 use Rattle.speedate_base.specs.Numbers.{DecimalParts, Number, Whole, Fractional, NoNumber, number_answer}
 use Rattle.speedate_base.specs.Offset.{offset_table}
 use Rattle.speedate_base.specs.Timestamp.{seconds_per_day, decimal_row, decimal_instant, digits_table, Instant, timestamp_microsecond, instant_answer, range_answer, last_second, later_answer}
 use Rattle.speedate_base.specs.Requirement.{Requirement, ◌else_fault◌, meets, alone, ◌>>=◌, result_map, or_number, with_size}
-use Rattle.speedate_civil.specs.declared.datetime.DateTime.{DateTime}
+pub use Rattle.speedate_civil.specs.declared.datetime.DateTime.{DateTime}
 use Rattle.speedate_civil.specs.declared.datetime.now.Moment.{Moment}
 use Rattle.speedate_civil.specs.Calendar.{Ymd, IsDate, midnight_second, date_after}
-use Rattle.speedate_civil.specs.Date.{ymd, date_front, date_text, day_at, second_at}
-use Rattle.speedate_civil.specs.Time.{microsecond_range, TimeOfDay, IsTime, second_of_day, time_of_day, end_fault, time_front, time_text, time_at, utc_second_of_day}
+use Rattle.speedate_civil.specs.Date.{ymd, date_front, date_text, day_at, second_at, TimestampUnit}
+use Rattle.speedate_civil.specs.Time.{microsecond_range, TimeOfDay, IsTime, second_of_day, time_of_day, end_fault, time_front, time_text, time_at, utc_second_of_day, ParseError, MicrosecondsPrecisionOverflowBehavior}
 
 -- a date-time by its date and its time of day
 pub record DateAndTime : Type 0 where

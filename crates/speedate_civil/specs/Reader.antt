@@ -1,12 +1,11 @@
 -- What readers decide by on their way to an answer.
 use Rattle.std.specs.Prelude.{ℕ, List, Bool, true, false, if◌then◌else◌}
-use Rattle.speedate_base.specs.declared.faults.ParseError.{ParseError}
 use Rattle.speedate_base.specs.declared.faults.ParseError.TheVariants as fault
 use Rattle.speedate_base.specs.Digits.{two_digits_at, two_digit_value}
 use Rattle.speedate_civil.specs.declared.time.pure.AfterMinute.{AfterMinute}
 use Rattle.speedate_civil.specs.declared.time.pure.Second.{Second}
 use Rattle.speedate_civil.specs.declared.time.pure.Second.TheVariants as second
-use Rattle.speedate_civil.specs.Time.{Clock, has_second}
+use Rattle.speedate_civil.specs.Time.{Clock, has_second, ParseError}
 
 -- the second of a clock that is given from its minute on
 abbrev pub second_there : List ℕ → Second

@@ -6,8 +6,7 @@ ghost use Rattle.speedate_base.specs.Config.{time_choices};
 ghost use Rattle.speedate_base.specs.declared.config.TimeConfig.{TimeConfig};
 ghost use Rattle.speedate_base.specs.Offset.{IsWholeMinutes};
 ghost use Rattle.speedate_base.specs.Requirement.{result_map};
-ghost use Rattle.speedate_civil.specs.declared.time.Time.{Time};
-ghost use Rattle.speedate_civil.specs.Time.{time_of_day, time_answer, time_front, clock_text, time_text, is_after_time};
+ghost use Rattle.speedate_civil.specs.Time.{time_of_day, time_answer, time_front, clock_text, time_text, is_after_time, Time};
 
 use super::Time;
 use super::offset::push_offset;

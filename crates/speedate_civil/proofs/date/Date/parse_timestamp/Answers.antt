@@ -1,7 +1,6 @@
 use Rattle.std.proofs.Common.{◌∙◌, ap₂, sym, true, Result, rules, Option, ℤ, option_map}
-use Rattle.speedate_base.specs.declared.faults.ParseError.{ParseError}
 use Rattle.speedate_civil.specs.Calendar.{Ymd}
-use Rattle.speedate_civil.specs.Date.{date_timestamp_answer}
+use Rattle.speedate_civil.specs.Date.{date_timestamp_answer, ParseError}
 use Rattle.speedate_base.specs.Requirement.{or_number}
 use Rattle.speedate_civil.proofs.NumberTextLemmas.{whole_number-refused}
 use Rattle.speedate_civil.proofs.date.Date.parse_timestamp.Goals as goal

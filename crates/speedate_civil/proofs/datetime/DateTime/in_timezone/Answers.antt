@@ -4,8 +4,7 @@ use Rattle.std.proofs.lemmas.Int.{to_z-of_z}
 use Rattle.speedate_base.specs.declared.faults.ParseError.{ParseError}
 use Rattle.speedate_base.specs.Requirement.{AllHold}
 use Rattle.speedate_base.specs.Timestamp.{Instant}
-use Rattle.speedate_civil.specs.declared.datetime.DateTime.{DateTime}
-use Rattle.speedate_civil.specs.DateTime.{DateAndTime, utc_second, IsShownAt, move_table, date_and_time}
+use Rattle.speedate_civil.specs.DateTime.{DateAndTime, utc_second, IsShownAt, move_table, date_and_time, DateTime}
 use Rattle.speedate_base.proofs.RequirementLemmas.{meets-all}
 use Rattle.speedate_civil.proofs.OffsetMoveLemmas.{second-moved, instant-kept}
 use Rattle.speedate_civil.proofs.datetime.DateTime.in_timezone.Goals as goal

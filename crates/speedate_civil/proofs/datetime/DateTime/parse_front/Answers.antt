@@ -1,10 +1,7 @@
 use Rattle.std.proofs.Common.{◌≡◌, sym, ℕ, ◌≤◌, IfOk, List, length, take, Result, Ok, Err}
-use Rattle.speedate_base.specs.declared.config.MicrosecondsPrecisionOverflowBehavior.{MicrosecondsPrecisionOverflowBehavior}
-use Rattle.speedate_base.specs.declared.faults.ParseError.{ParseError}
 use Rattle.speedate_base.specs.Requirement.{result_map, with_size}
-use Rattle.speedate_civil.specs.declared.datetime.DateTime.{DateTime}
-use Rattle.speedate_civil.specs.DateTime.{DateAndTime, date_time_front, date_time_answer, date_and_time}
-use Rattle.speedate_civil.specs.Time.{end_fault}
+use Rattle.speedate_civil.specs.DateTime.{DateAndTime, date_time_front, date_time_answer, date_and_time, DateTime}
+use Rattle.speedate_civil.specs.Time.{end_fault, ParseError, MicrosecondsPrecisionOverflowBehavior}
 use Rattle.speedate_base.proofs.RequirementLemmas.{alone-iff}
 use Rattle.speedate_civil.proofs.FrontLemmas.{date_time_front-alone}
 use Rattle.speedate_civil.proofs.datetime.DateTime.parse_front.Goals as goal

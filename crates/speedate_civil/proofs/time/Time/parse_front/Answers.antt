@@ -1,9 +1,6 @@
 use Rattle.std.proofs.Common.{◌≡◌, arith, sym, ℕ, ◌+◌, ◌≤◌, IfOk, List, length, take, Result, Ok, Err}
-use Rattle.speedate_base.specs.declared.config.MicrosecondsPrecisionOverflowBehavior.{MicrosecondsPrecisionOverflowBehavior}
-use Rattle.speedate_base.specs.declared.faults.ParseError.{ParseError}
 use Rattle.speedate_base.specs.Requirement.{result_map, with_size}
-use Rattle.speedate_civil.specs.declared.time.Time.{Time}
-use Rattle.speedate_civil.specs.Time.{end_fault, TimeOfDay, time_front, time_answer, time_of_day}
+use Rattle.speedate_civil.specs.Time.{end_fault, TimeOfDay, time_front, time_answer, time_of_day, ParseError, MicrosecondsPrecisionOverflowBehavior, Time}
 use Rattle.speedate_base.proofs.RequirementLemmas.{alone-iff}
 use Rattle.speedate_civil.proofs.FrontLemmas.{time_front-alone}
 use Rattle.speedate_civil.proofs.time.Time.parse_front.Goals as goal

@@ -3,12 +3,11 @@ use Rattle.std.proofs.lemmas.Grind.{common_steps}
 use Rattle.std.proofs.lemmas.Bool.Decides.{nat_tests}
 use Rattle.std.proofs.lemmas.Int.{to_z-of_z}
 use Rattle.std.proofs.lemmas.Result.{err_from_is_err_and}
-use Rattle.speedate_base.specs.declared.faults.ParseError.{ParseError}
 use Rattle.speedate_base.specs.Digits.{two_digit_value, eight_at}
 use Rattle.speedate_base.specs.Numbers.{with_sign}
 use Rattle.speedate_base.specs.Timestamp.{seconds_per_day}
 use Rattle.speedate_base.specs.Requirement.{◌else_fault◌, meets}
-use Rattle.speedate_civil.specs.Time.{offset_digits, offset_ranges, signed_front, offset_minute, offset_digits_size, offset_size}
+use Rattle.speedate_civil.specs.Time.{offset_digits, offset_ranges, signed_front, offset_minute, offset_digits_size, offset_size, ParseError}
 use Rattle.speedate_base.proofs.RequirementLemmas.{meets-all, meets-next, meets-value}
 use Rattle.speedate_base.proofs.PatternLemmas.{eight_at-drop}
 use Rattle.speedate_base.specs.declared.faults.ParseError.TheVariants as fault

@@ -3,12 +3,11 @@ use Rattle.std.proofs.lemmas.Grind.{common_steps}
 use Rattle.std.proofs.lemmas.Bool.{and_from}
 use Rattle.std.proofs.lemmas.List.{take_rest}
 use Rattle.std.proofs.lemmas.Result.{err_from_is_err_and}
-use Rattle.speedate_base.specs.declared.config.MicrosecondsPrecisionOverflowBehavior.{MicrosecondsPrecisionOverflowBehavior}
 use Rattle.speedate_base.specs.Ascii.{colon}
 use Rattle.speedate_base.specs.Digits.{two_digits_at, two_digit_value, eight_at, fit_length, fit_digits, neighbours}
 use Rattle.speedate_base.specs.Requirement.{meets, result_map}
 use Rattle.speedate_civil.specs.Reader.{clock_after}
-use Rattle.speedate_civil.specs.Time.{at_hour, clock_front, minute_clock, second_table}
+use Rattle.speedate_civil.specs.Time.{at_hour, clock_front, minute_clock, second_table, MicrosecondsPrecisionOverflowBehavior}
 use Rattle.speedate_base.proofs.PatternLemmas.{fit_length-all}
 use Rattle.speedate_civil.proofs.time.pure.PureTime.parse.Goals as goal
 
