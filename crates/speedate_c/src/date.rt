@@ -13,7 +13,7 @@ ghost use Rattle.speedate_c.specs.Date.{date_of, shown_date};
 use crate::code::{NO_SUCH_DATE, SUCCESS, VALUE_OUT_OF_RANGE, order_number};
 use crate::config::{SpeedateConfig, flag};
 use crate::text::write_text;
-use speedate::{Date, DateConfig, ParseError};
+use speedate::{Date, ParseError};
 
 /// A date.
 #[repr(C)]
@@ -91,10 +91,7 @@ pub extern "C" fn speedate_date_parse(
     ensures answer { (result, out.new) ≡ with_option (choices_of config) (config_out_of_range, out.old)
         (λ config. after_answer shown_date out.old (date_or_timestamp config.unit text.now)) }
 {
-    let config = config_or_return!(config);
-    let config = DateConfig {
-        timestamp_unit: config.timestamp_unit,
-    };
+    let config = config_or_return!(config.to_date_config());
     write_date(Date::parse_bytes_with_config(text, &config), out)
 }
 
@@ -180,12 +177,9 @@ pub extern "C" fn speedate_date_from_timestamp(
         (λ config. with_option (slice_get flags require_exact) (value_out_of_range, out.old)
         (λ exact. after_answer shown_date out.old (date_timestamp_answer config.unit exact timestamp))) }
 {
-    let config = config_or_return!(config);
+    let config = config_or_return!(config.to_date_config());
     let Some(exact) = flag(require_exact) else {
         return VALUE_OUT_OF_RANGE;
-    };
-    let config = DateConfig {
-        timestamp_unit: config.timestamp_unit,
     };
     write_date(Date::from_timestamp(timestamp, exact, &config), out)
 }

@@ -76,7 +76,7 @@ pub extern "C" fn speedate_datetime_parse(
         (λ config. after_answer shown_date_time out.old
         (date_time_or_timestamp config.unit config.behavior config.offset text.now)) }
 {
-    let config = config_or_return!(config);
+    let config = config_or_return!(config.to_config());
     write_date_time(DateTime::parse_bytes_with_config(text, &config), out)
 }
 
@@ -92,7 +92,7 @@ pub extern "C" fn speedate_datetime_parse_rfc3339(
     ensures answer { (result, out.new) ≡ with_option (choices_of config) (config_out_of_range, out.old)
         (λ config. after_answer shown_date_time out.old (date_time_answer config.behavior text.now)) }
 {
-    let config = config_or_return!(config);
+    let config = config_or_return!(config.to_config());
     let answer = DateTime::parse_bytes_rfc3339_with_config(text, &config.time_config);
     write_date_time(answer, out)
 }
@@ -109,7 +109,7 @@ pub extern "C" fn speedate_datetime_parse_strict(
     ensures answer { (result, out.new) ≡ with_option (choices_of config) (config_out_of_range, out.old)
         (λ config. after_answer shown_date_time out.old (strict_date_time_answer config.behavior text.now)) }
 {
-    let config = config_or_return!(config);
+    let config = config_or_return!(config.to_config());
     let behavior = config.time_config.microseconds_precision_overflow_behavior;
     write_date_time(DateTime::parse_bytes_strict(text, behavior), out)
 }
@@ -127,7 +127,7 @@ pub extern "C" fn speedate_datetime_parse_front(
     ensures answer { (result, out.new, size.new) ≡ with_option (choices_of config) (config_out_of_range, out.old, size.old)
         (λ config. after_front shown_date_time out.old size.old (date_time_front config.behavior text.now)) }
 {
-    let config = config_or_return!(config);
+    let config = config_or_return!(config.to_config());
     let (value, count) = answer_or_return!(DateTime::parse_front(text, &config.time_config));
     *out = SpeedateDateTime::from_value(&value);
     *size = count;
@@ -192,7 +192,7 @@ pub extern "C" fn speedate_datetime_from_timestamp(
         (λ config. after_answer shown_date_time out.old
         (date_time_timestamp_answer config.unit config.offset microsecond timestamp)) }
 {
-    let config = config_or_return!(config);
+    let config = config_or_return!(config.to_config());
     let answer = DateTime::from_timestamp_with_config(timestamp, microsecond, &config);
     write_date_time(answer, out)
 }

@@ -90,7 +90,7 @@ pub extern "C" fn speedate_duration_parse(
     ensures answer { (result, out.new) ≡ with_option (choices_of config) (config_out_of_range, out.old)
         (λ config. after_answer shown_duration out.old (duration_answer config.order config.behavior text.now)) }
 {
-    let config = config_or_return!(config);
+    let config = config_or_return!(config.to_config());
     let answer = Duration::parse_bytes_with_config(text, &config.time_config);
     write_duration(answer, out)
 }

@@ -97,7 +97,7 @@ fn parse_configured(text: &[u8], config: SpeedateConfig, out: &mut SpeedateTime)
     ensures answer { (result, out.new) ≡ with_option (choices_of config) (config_out_of_range, out.old)
         (λ config. after_answer shown_time out.old (time_answer config.behavior text.now)) }
 {
-    let config = config_or_return!(config);
+    let config = config_or_return!(config.to_config());
     let time = Time::parse_bytes_with_config(text, &config.time_config);
     write_time(time, out)
 }
@@ -115,7 +115,7 @@ pub extern "C" fn speedate_time_parse_strict(
     ensures answer { (result, out.new) ≡ with_option (choices_of config) (config_out_of_range, out.old)
         (λ config. after_answer shown_time out.old (strict_time_answer config.behavior text.now)) }
 {
-    let config = config_or_return!(config);
+    let config = config_or_return!(config.to_config());
     let behavior = config.time_config.microseconds_precision_overflow_behavior;
     write_time(Time::parse_bytes_strict(text, behavior), out)
 }
@@ -133,7 +133,7 @@ pub extern "C" fn speedate_time_parse_front(
     ensures answer { (result, out.new, size.new) ≡ with_option (choices_of config) (config_out_of_range, out.old, size.old)
         (λ config. after_front shown_time out.old size.old (time_front config.behavior text.now)) }
 {
-    let config = config_or_return!(config);
+    let config = config_or_return!(config.to_config());
     let (time, count) = answer_or_return!(Time::parse_front(text, &config.time_config));
     *out = SpeedateTime::from_value(&time);
     *size = count;
@@ -195,7 +195,7 @@ pub extern "C" fn speedate_time_from_timestamp(
     ensures answer { (result, out.new) ≡ with_option (choices_of config) (config_out_of_range, out.old)
         (λ config. after_answer shown_time out.old (timestamp_answer second microsecond config.offset)) }
 {
-    let config = config_or_return!(config);
+    let config = config_or_return!(config.to_config());
     let time = Time::from_timestamp_with_config(second, microsecond, &config.time_config);
     write_time(time, out)
 }
