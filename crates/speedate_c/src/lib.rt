@@ -49,6 +49,7 @@ mod config;
 mod date;
 mod datetime;
 mod duration;
+mod number;
 mod text;
 mod time;
 
