@@ -5,7 +5,7 @@ ghost use Rattle.speedate.specs.DateTime.{local_millisecond, local_second, utc_m
 ghost use Rattle.speedate.specs.Standard.{strict_date_time_answer};
 ghost use Rattle.speedate.specs.Requirement.{result_map};
 ghost use Rattle.speedate_c.specs.After.{after_answer, after_front, after_text, after_value, with_option, with_value};
-ghost use Rattle.speedate_c.specs.Code.{answer_code, buffer_too_small, config_out_of_range, order_number, value_out_of_range};
+ghost use Rattle.speedate_c.specs.Code.{answer_code, buffer_too_small, config_out_of_range, order_number, success, value_out_of_range};
 ghost use Rattle.speedate_c.specs.Config.{choices_of};
 ghost use Rattle.speedate_c.specs.DateTime.{date_time_of, shown_date_time};
 
@@ -14,7 +14,11 @@ use crate::config::SpeedateConfig;
 use crate::date::SpeedateDate;
 use crate::text::write_text;
 use crate::time::SpeedateTime;
+use arrayvec::ArrayString;
 use speedate::{DateTime, ParseError};
+
+/// How many bytes the longest text of a date-time has.
+const TEXT_MAX: usize = 32;
 
 /// A date and a time of day, with an offset from UTC or without one.
 #[repr(C)]
@@ -54,7 +58,8 @@ pub(crate) fn write_date_time(
     answer: Result<DateTime, ParseError>,
     out: &mut SpeedateDateTime,
 ) -> i32
-    ensures after { (result, out.new) ≡ after_answer shown_date_time out.old (result_map date_and_time answer) }
+    ensures after { (result, out.new)
+        ≡ after_answer shown_date_time out.old (result_map date_and_time answer) }
 {
     let value = answer_or_return!(answer);
     *out = SpeedateDateTime::from_value(&value);
@@ -72,11 +77,12 @@ pub extern "C" fn speedate_datetime_parse(
     config: SpeedateConfig,
     out: &mut SpeedateDateTime,
 ) -> i32
-    ensures answer { (result, out.new) ≡ with_option (choices_of config) (config_out_of_range, out.old)
+    ensures answer { (result, out.new)
+        ≡ with_option (choices_of config) (config_out_of_range, out.old)
         (λ config. after_answer shown_date_time out.old
         (date_time_or_timestamp config.unit config.behavior config.offset text.now)) }
 {
-    let config = config_or_return!(config);
+    let config = config_or_return!(config.to_config());
     write_date_time(DateTime::parse_bytes_with_config(text, &config), out)
 }
 
@@ -89,10 +95,12 @@ pub extern "C" fn speedate_datetime_parse_rfc3339(
     config: SpeedateConfig,
     out: &mut SpeedateDateTime,
 ) -> i32
-    ensures answer { (result, out.new) ≡ with_option (choices_of config) (config_out_of_range, out.old)
-        (λ config. after_answer shown_date_time out.old (date_time_answer config.behavior text.now)) }
+    ensures answer { (result, out.new)
+        ≡ with_option (choices_of config) (config_out_of_range, out.old)
+        (λ config. after_answer shown_date_time out.old
+        (date_time_answer config.behavior text.now)) }
 {
-    let config = config_or_return!(config);
+    let config = config_or_return!(config.to_config());
     let answer = DateTime::parse_bytes_rfc3339_with_config(text, &config.time_config);
     write_date_time(answer, out)
 }
@@ -106,10 +114,12 @@ pub extern "C" fn speedate_datetime_parse_strict(
     config: SpeedateConfig,
     out: &mut SpeedateDateTime,
 ) -> i32
-    ensures answer { (result, out.new) ≡ with_option (choices_of config) (config_out_of_range, out.old)
-        (λ config. after_answer shown_date_time out.old (strict_date_time_answer config.behavior text.now)) }
+    ensures answer { (result, out.new)
+        ≡ with_option (choices_of config) (config_out_of_range, out.old)
+        (λ config. after_answer shown_date_time out.old
+        (strict_date_time_answer config.behavior text.now)) }
 {
-    let config = config_or_return!(config);
+    let config = config_or_return!(config.to_config());
     let behavior = config.time_config.microseconds_precision_overflow_behavior;
     write_date_time(DateTime::parse_bytes_strict(text, behavior), out)
 }
@@ -124,10 +134,12 @@ pub extern "C" fn speedate_datetime_parse_front(
     out: &mut SpeedateDateTime,
     size: &mut usize,
 ) -> i32
-    ensures answer { (result, out.new, size.new) ≡ with_option (choices_of config) (config_out_of_range, out.old, size.old)
-        (λ config. after_front shown_date_time out.old size.old (date_time_front config.behavior text.now)) }
+    ensures answer { (result, out.new, size.new)
+        ≡ with_option (choices_of config) (config_out_of_range, out.old, size.old)
+        (λ config. after_front shown_date_time out.old size.old
+        (date_time_front config.behavior text.now)) }
 {
-    let config = config_or_return!(config);
+    let config = config_or_return!(config.to_config());
     let (value, count) = answer_or_return!(DateTime::parse_front(text, &config.time_config));
     *out = SpeedateDateTime::from_value(&value);
     *size = count;
@@ -152,12 +164,26 @@ pub extern "C" fn speedate_datetime_to_text(
     buffer: &mut [u8],
     text_length: &mut usize,
 ) -> i32
-    ensures answer { (result, buffer.new, text_length.new) ≡ with_value (date_time_of value) (value_out_of_range, buffer.old, text_length.old)
+    ensures answer { (result, buffer.new, text_length.new)
+        ≡ with_value (date_time_of value) (value_out_of_range, buffer.old, text_length.old)
         (λ value. after_text (date_time_text value) buffer.old text_length.old) }
     ensures room { 33 ≤ length buffer.old → result ≢ buffer_too_small }
 {
     let value = value_or_return!(value);
-    write_text(value.to_text().as_str(), buffer, text_length)
+    let DateTime { date, time } = value;
+    print_by_parts!(time, time => print_date_time(&DateTime { date, time }, buffer, text_length))
+}
+
+/// Prints a date-time into a buffer, and gives the code.
+#[inline(always)]
+fn print_date_time(value: &DateTime, buffer: &mut [u8], text_length: &mut usize) -> i32
+    ensures after { (result, buffer.new, text_length.new)
+        ≡ after_text (date_time_text (date_and_time value.now)) buffer.old text_length.old }
+    ensures room { 33 ≤ length buffer.old → result ≡ success }
+{
+    let mut text = ArrayString::<TEXT_MAX>::new();
+    value.push_onto(&mut text);
+    write_text(text.as_str(), buffer, text_length)
 }
 
 /// Compares two date-times by their instants, as [`DateTime::cmp_instant`] does: -1 if the first
@@ -168,7 +194,8 @@ pub extern "C" fn speedate_datetime_compare(
     second: SpeedateDateTime,
     out: &mut i32,
 ) -> i32
-    ensures answer { (result, out.new) ≡ with_value (date_time_of first) (value_out_of_range, out.old)
+    ensures answer { (result, out.new)
+        ≡ with_value (date_time_of first) (value_out_of_range, out.old)
         (λ first. with_value (date_time_of second) (value_out_of_range, out.old)
         (λ second. after_value (order_number (date_time_instant_order first second)))) }
 {
@@ -188,11 +215,12 @@ pub extern "C" fn speedate_datetime_from_timestamp(
     config: SpeedateConfig,
     out: &mut SpeedateDateTime,
 ) -> i32
-    ensures answer { (result, out.new) ≡ with_option (choices_of config) (config_out_of_range, out.old)
+    ensures answer { (result, out.new)
+        ≡ with_option (choices_of config) (config_out_of_range, out.old)
         (λ config. after_answer shown_date_time out.old
         (date_time_timestamp_answer config.unit config.offset microsecond timestamp)) }
 {
-    let config = config_or_return!(config);
+    let config = config_or_return!(config.to_config());
     let answer = DateTime::from_timestamp_with_config(timestamp, microsecond, &config);
     write_date_time(answer, out)
 }
@@ -201,7 +229,8 @@ pub extern "C" fn speedate_datetime_from_timestamp(
 /// [`DateTime::timestamp`] gives it: 86,400 for 1970-01-02T00:00:00+01:00.
 #[unsafe(no_mangle)]
 pub extern "C" fn speedate_datetime_timestamp(value: SpeedateDateTime, out: &mut i64) -> i32
-    ensures answer { (result, out.new) ≡ with_value (date_time_of value) (value_out_of_range, out.old)
+    ensures answer { (result, out.new)
+        ≡ with_value (date_time_of value) (value_out_of_range, out.old)
         (λ value. after_value (local_second value)) }
 {
     write_of!(value => *out = value.timestamp())
@@ -211,7 +240,8 @@ pub extern "C" fn speedate_datetime_timestamp(value: SpeedateDateTime, out: &mut
 /// [`DateTime::timestamp_ms`] gives it: 86,400,123 for 1970-01-02T00:00:00.123+01:00.
 #[unsafe(no_mangle)]
 pub extern "C" fn speedate_datetime_timestamp_ms(value: SpeedateDateTime, out: &mut i64) -> i32
-    ensures answer { (result, out.new) ≡ with_value (date_time_of value) (value_out_of_range, out.old)
+    ensures answer { (result, out.new)
+        ≡ with_value (date_time_of value) (value_out_of_range, out.old)
         (λ value. after_value (local_millisecond value)) }
 {
     write_of!(value => *out = value.timestamp_ms())
@@ -221,7 +251,8 @@ pub extern "C" fn speedate_datetime_timestamp_ms(value: SpeedateDateTime, out: &
 /// 1970-01-02T00:00:00+01:00.
 #[unsafe(no_mangle)]
 pub extern "C" fn speedate_datetime_timestamp_tz(value: SpeedateDateTime, out: &mut i64) -> i32
-    ensures answer { (result, out.new) ≡ with_value (date_time_of value) (value_out_of_range, out.old)
+    ensures answer { (result, out.new)
+        ≡ with_value (date_time_of value) (value_out_of_range, out.old)
         (λ value. after_value (utc_second value)) }
 {
     write_of!(value => *out = value.timestamp_tz())
@@ -231,7 +262,8 @@ pub extern "C" fn speedate_datetime_timestamp_tz(value: SpeedateDateTime, out: &
 /// 82,800,123 for 1970-01-02T00:00:00.123+01:00.
 #[unsafe(no_mangle)]
 pub extern "C" fn speedate_datetime_timestamp_tz_ms(value: SpeedateDateTime, out: &mut i64) -> i32
-    ensures answer { (result, out.new) ≡ with_value (date_time_of value) (value_out_of_range, out.old)
+    ensures answer { (result, out.new)
+        ≡ with_value (date_time_of value) (value_out_of_range, out.old)
         (λ value. after_value (utc_millisecond value)) }
 {
     write_of!(value => *out = value.timestamp_tz_ms())
@@ -249,7 +281,8 @@ pub extern "C" fn speedate_datetime_in_timezone(
     offset: i32,
     out: &mut SpeedateDateTime,
 ) -> i32
-    ensures answer { (result, out.new) ≡ with_value (date_time_of value) (value_out_of_range, out.old)
+    ensures answer { (result, out.new)
+        ≡ with_value (date_time_of value) (value_out_of_range, out.old)
         (λ value. after_answer shown_date_time out.old (date_time_in_timezone offset value)) }
 {
     let value = value_or_return!(value);
