@@ -7,7 +7,7 @@ ghost use Rattle.speedate_base.specs.Requirement.{meets, result_map};
 ghost use Rattle.speedate.specs.ClockForm.{colon_place, has_hours, hours_table, after_hours, clock_form};
 
 use super::unsigned::UnsignedDuration;
-use speedate_base::config::MicrosecondsPrecisionOverflowBehavior;
+use speedate_base::config::MicrosecondsPrecisionOverflowBehavior as Behavior;
 use speedate_base::faults::ParseError;
 use speedate_base::numbers::{DigitRun, byte_at, takes_digits};
 use speedate_civil::time::PureTime;
@@ -31,7 +31,7 @@ impl UnsignedDuration {
     pub(super) fn from_clock(
         bytes: &[u8],
         hours: DigitRun,
-        behavior: MicrosecondsPrecisionOverflowBehavior,
+        behavior: Behavior,
     ) -> Result<Self, ParseError>
         requires length { hours.length ≡ run_length bytes.now 0 }
         requires value { hours.value ≡ min (run_value bytes.now 0) (2 ^ 64 - 1) }
@@ -43,11 +43,7 @@ impl UnsignedDuration {
 
     /// Parses what follows the hours of a clock, from its minute on: all of `rest`.
     #[inline(always)]
-    fn after_hours(
-        rest: &[u8],
-        hours: u64,
-        behavior: MicrosecondsPrecisionOverflowBehavior,
-    ) -> Result<Self, ParseError>
+    fn after_hours(rest: &[u8], hours: u64, behavior: Behavior) -> Result<Self, ParseError>
         ensures answer { result_map unsigned_numbers result ≡ after_hours behavior hours rest.now }
     {
         if hours > HOURS_MAX {

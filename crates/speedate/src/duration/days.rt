@@ -6,7 +6,7 @@ ghost use Rattle.speedate_base.specs.Digits.{run_length, run_value};
 ghost use Rattle.speedate.specs.DayForm.{size_of_one, day_endings, gaps, has_whole_ending, is_day_letter, days_front, after_days, day_form};
 
 use super::unsigned::UnsignedDuration;
-use speedate_base::config::MicrosecondsPrecisionOverflowBehavior;
+use speedate_base::config::MicrosecondsPrecisionOverflowBehavior as Behavior;
 use speedate_base::faults::ParseError;
 use speedate_base::numbers::{DigitRun, byte_at, digit_run};
 
@@ -20,7 +20,7 @@ impl UnsignedDuration {
     pub(super) fn from_days(
         bytes: &[u8],
         days: DigitRun,
-        behavior: MicrosecondsPrecisionOverflowBehavior,
+        behavior: Behavior,
     ) -> Result<Self, ParseError>
         requires length { days.length ≡ run_length bytes.now 0 }
         requires value { days.value ≡ min (run_value bytes.now 0) (2 ^ 64 - 1) }
@@ -33,11 +33,7 @@ impl UnsignedDuration {
     /// Parses what follows the days, nothing or a clock of fewer than 24 hours, and joins the two.
     #[inline(always)]
     #[tactic(auto, unfolding(crate::specs::DayForm::after_days))]
-    fn after_days(
-        rest: &[u8],
-        days: u32,
-        behavior: MicrosecondsPrecisionOverflowBehavior,
-    ) -> Result<Self, ParseError>
+    fn after_days(rest: &[u8], days: u32, behavior: Behavior) -> Result<Self, ParseError>
         ensures answer { result_map unsigned_numbers result ≡ after_days behavior days rest.now }
     {
         if rest.is_empty() {

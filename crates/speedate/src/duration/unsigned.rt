@@ -10,7 +10,7 @@ ghost use Rattle.speedate.specs.Duration.{unsigned_numbers, has_days, form_answe
 
 use super::days::is_day_letter;
 use super::iso::Sums;
-use speedate_base::config::{IsoOrder, MicrosecondsPrecisionOverflowBehavior};
+use speedate_base::config::{IsoOrder, MicrosecondsPrecisionOverflowBehavior as Behavior};
 use speedate_base::faults::ParseError;
 use speedate_base::numbers::{DigitRun, byte_at, digit_run};
 
@@ -29,7 +29,7 @@ impl UnsignedDuration {
     pub(super) fn parse(
         bytes: &[u8],
         order: IsoOrder,
-        behavior: MicrosecondsPrecisionOverflowBehavior,
+        behavior: Behavior,
     ) -> Result<Self, ParseError>
         ensures answer { result_map unsigned_numbers result
             ≡ unsigned_answer order behavior bytes.now }
@@ -43,10 +43,7 @@ impl UnsignedDuration {
     /// Parses a duration of days, or one that a clock shows.
     #[inline(always)]
     #[tactic(auto, unfolding(crate::specs::Duration::form_answer))]
-    fn days_or_clock(
-        bytes: &[u8],
-        behavior: MicrosecondsPrecisionOverflowBehavior,
-    ) -> Result<Self, ParseError>
+    fn days_or_clock(bytes: &[u8], behavior: Behavior) -> Result<Self, ParseError>
         ensures answer { result_map unsigned_numbers result ≡ form_answer behavior bytes.now }
     {
         if bytes.is_empty() {
@@ -69,11 +66,7 @@ impl UnsignedDuration {
     /// Parses a refused clock again, for its error: out of line, so that it does not lengthen the way of
     /// a clock that is parsed.
     #[inline(never)]
-    fn refused_clock(
-        bytes: &[u8],
-        hours: DigitRun,
-        behavior: MicrosecondsPrecisionOverflowBehavior,
-    ) -> Result<Self, ParseError>
+    fn refused_clock(bytes: &[u8], hours: DigitRun, behavior: Behavior) -> Result<Self, ParseError>
         requires length { hours.length ≡ run_length bytes.now 0 }
         requires value { hours.value ≡ min (run_value bytes.now 0) (2 ^ 64 - 1) }
         ensures answer { result_map unsigned_numbers result ≡ clock_form behavior bytes.now }

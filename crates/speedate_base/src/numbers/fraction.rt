@@ -8,7 +8,7 @@ ghost use Rattle.speedate_base.specs.Requirement.{◌implies◌};
 
 use super::digits::run_end;
 use super::lanes::{LANES, digits_in_front, eight_bytes, pairs};
-use crate::config::MicrosecondsPrecisionOverflowBehavior;
+use crate::config::MicrosecondsPrecisionOverflowBehavior as Behavior;
 use std::simd::prelude::*;
 
 /// A fraction of a second: how many digits it has, and the microsecond that they mean.
@@ -62,15 +62,11 @@ fn six_places(front: u8x8, count: usize) -> u32
 
 /// Whether a text may have `count` digits after its decimal mark, if the first `most` of them reach
 /// the microsecond: 7 with a `most` of 6 is true for `Truncate` and false for `Error`.
-pub fn takes_digits(
-    behavior: MicrosecondsPrecisionOverflowBehavior,
-    count: usize,
-    most: usize,
-) -> bool
+pub fn takes_digits(behavior: Behavior, count: usize, most: usize) -> bool
     ensures taken { result ≡ (refuses_digits behavior implies nat_le count most) }
 {
     match behavior {
-        MicrosecondsPrecisionOverflowBehavior::Truncate => true,
-        MicrosecondsPrecisionOverflowBehavior::Error => count <= most,
+        Behavior::Truncate => true,
+        Behavior::Error => count <= most,
     }
 }

@@ -4,7 +4,7 @@ ghost use Rattle.std.specs.Prelude.{◌≡◌, ◌+◌, ◌≤◌, IfOk, IsTrue,
 ghost use Rattle.speedate_base.specs.Digits.{run_length, run_digits, fraction_value, two_digit_value, fit_length};
 
 use super::Time;
-use speedate_base::config::MicrosecondsPrecisionOverflowBehavior;
+use speedate_base::config::MicrosecondsPrecisionOverflowBehavior as Behavior;
 use speedate_base::faults::ParseError;
 use speedate_base::numbers::{
     Fraction, LANES, byte_at, eight_bytes, fitting, is_decimal_mark, pairs, takes_digits,
@@ -67,11 +67,7 @@ impl PureTime {
     /// [`Time::parse_bytes_with_config`](crate::time::Time::parse_bytes_with_config) up to
     /// `SecondFractionTooLong`, which only the behavior `Error` gives.
     #[inline(always)]
-    pub fn parse(
-        bytes: &[u8],
-        place: usize,
-        behavior: MicrosecondsPrecisionOverflowBehavior,
-    ) -> Result<Self, ParseError>
+    pub fn parse(bytes: &[u8], place: usize, behavior: Behavior) -> Result<Self, ParseError>
         requires { place ≤ length bytes.now }
         ensures answer { result_map clock_parts result
             ≡ clock_front behavior (drop place bytes.now) }
@@ -117,7 +113,7 @@ impl PureTime {
     pub fn parse_from_minute(
         bytes: &[u8],
         place: usize,
-        behavior: MicrosecondsPrecisionOverflowBehavior,
+        behavior: Behavior,
     ) -> Result<Self, ParseError>
         requires { place ≤ length bytes.now }
         ensures answer { result_map clock_parts result
@@ -173,7 +169,7 @@ impl PureTime {
         second: Second,
         bytes: &[u8],
         minute: usize,
-        behavior: MicrosecondsPrecisionOverflowBehavior,
+        behavior: Behavior,
     ) -> Result<AfterMinute, ParseError>
         requires minute { minute + 2 ≤ length bytes.now }
         requires second { second ≡ second_there (drop minute bytes.now) }
