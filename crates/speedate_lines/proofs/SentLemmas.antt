@@ -1,10 +1,12 @@
 -- What has gone out of some bytes, step by step.
-use Rattle.std.proofs.Common.{rules, ◌≡◌, ◌∙◌, ap, sym, subst, List, [], ◌++◌, ℕ, refl, append_assoc, take, drop, take-append-drop, Result, Option, OnErr}
+use Rattle.std.proofs.Common.{rules, ◌≡◌, ◌∙◌, ap, sym, subst, List, [], ◌++◌, ℕ, refl, append_assoc, append-nil, take, drop, take-append-drop, Bool, true, ◌||◌, Result, Ok, Err, is_err, Option, OnErr}
 use Rattle.std.specs.Io.KnownBytes.{Appends, Keeps}
+use Rattle.std.proofs.lemmas.Bool.{false≢true}
 use Rattle.std.proofs.lemmas.List.{take_rest}
 use Rattle.std.proofs.Math.Bool.{or-false}
 use Rattle.std.proofs.KnownBytes.{Appends-nil, Appends-trans, Appends-kept}
-use Rattle.speedate_lines.specs.Run.{AppendsBut, AppendsBeginning, AppendsFrom}
+use Rattle.speedate_lines.specs.Run.{AppendsBut, AppendsBeginning, AppendsFrom, OnlyWrites}
+use Rattle.speedate_lines.specs.Watch.{Watch}
 
 -- nothing has been written
 pub AppendsBut-all : (a : Option (List ℕ)) (bytes : List ℕ) → AppendsBut bytes a a bytes
@@ -41,10 +43,9 @@ AppendsBut-more {left = left} more sent = record {
 pub AppendsBut-same : {a b : Option (List ℕ)} {left rest bytes : List ℕ} → AppendsBut left a b bytes → left ≡ rest → AppendsBut rest a b bytes
 AppendsBut-same {a = a} {b = b} {bytes = bytes} sent same = subst (λ (end : List ℕ). AppendsBut end a b bytes) same sent
 
--- what was left has been written
-pub Appends-left : (a b c : Option (List ℕ)) {left bytes : List ℕ} → AppendsBut left a b bytes → Appends b c left → Appends a c bytes
-Appends-left a b c {left = left} sent last =
-    subst (Appends a c) (sym sent.whole) (Appends-trans a b c sent.written left sent.sent last)
+-- nothing is left
+pub Appends-all : {a b : Option (List ℕ)} {bytes : List ℕ} → AppendsBut [] a b bytes → Appends a b bytes
+Appends-all {a = a} {b = b} sent = subst (Appends a b) (sym (sent.whole ∙ append-nil sent.written)) sent.sent
 
 -- of what was left a beginning has been written
 pub AppendsBeginning-left : {a b c : Option (List ℕ)} {left bytes : List ℕ} → AppendsBut left a b bytes → AppendsBeginning b c left → AppendsBeginning a c bytes
@@ -62,6 +63,20 @@ AppendsFrom-beginning {a = a} {b = b} {c = c} first before part same = record {
   left = part.left;
   sent = Appends-trans a b c first part.sent.written before part.sent.sent;
   whole = same ∙ ap (λ (end : List ℕ). first ++ end) part.sent.whole ∙ sym (append_assoc first part.sent.written part.left);
+}
+
+-- a call has failed that had to write the front of what was left
+pub OnlyWrites-failed : {W A B E F : Type 0} {contents : W → Option (List ℕ)} {a b c : Watch W} {others front bytes rest : List ℕ} {reason : F} (more : List ℕ) (result : Result A E)
+    → is_err result ≡ true → AppendsBut (front ++ more) (contents a.inner) (contents b.inner) bytes → b.failed ≡ a.failed → b.flushes ≡ a.flushes
+    → OnlyWrites {A = B} contents b c (Err reason) others front → OnlyWrites contents a c result rest bytes
+OnlyWrites-failed more (Ok value) fails sent failed flushes call = absurd (false≢true fails)
+OnlyWrites-failed more (Err fault) fails sent failed flushes call = record {
+  writes = record {
+    failed = call.writes.failed ∙ ap (λ (before : Bool). before || true) failed;
+    sent = search rules;
+    beginning = AppendsBeginning-left sent (AppendsBeginning-more more call.writes.beginning);
+  };
+  unflushed = call.unflushed ∙ flushes;
 }
 
 -- a fact that holds at an error

@@ -1,9 +1,10 @@
 -- What a run has read and written where it ends.
-use Rattle.std.specs.Prelude.{◌≡◌, ℕ, ◌+◌, ◌≤◌, List, [], ◌++◌, length, take, Option, ◌⊎◌, Bool, true, false, codes, Result, Ok, Err}
+use Rattle.std.specs.Prelude.{◌≡◌, ℕ, ◌+◌, ◌≤◌, List, [], ◌++◌, length, take, Option, ◌⊎◌, Bool, true, false, ◌||◌, codes, Result, Ok, Err, is_err, OnOk, OnErr}
 use Rattle.std.specs.Io.KnownBytes.{Consumes, IsAtEnd, Appends}
 use Rattle.speedate_lines.specs.declared.run.RunError.TheVariants.{Read, Write}
 use Rattle.speedate_lines.specs.declared.run.RunError.{RunError}
 use Rattle.speedate_lines.specs.Lines.{longest_line, complete_lines, lines, answers}
+use Rattle.speedate_lines.specs.Watch.{Watch}
 
 -- what is kept of an unfinished line: of one that is too long, enough to tell that it is
 abbrev pub kept_part : List ℕ → List ℕ
@@ -36,6 +37,17 @@ pub record AppendsBut (left : List ℕ) (old new : Option (List ℕ)) (bytes : L
 pub record AppendsBeginning (old new : Option (List ℕ)) (bytes : List ℕ) : Type 0 where
   pub left : List ℕ
   pub sent : AppendsBut left old new bytes
+
+-- what a call leaves that has to write some bytes: all of them but the last ones, which are left, or a beginning of them if it fails
+pub record Writes {W A E : Type 0} (contents : W → Option (List ℕ)) (old new : Watch W) (result : Result A E) (left bytes : List ℕ) : Type 0 where
+  pub failed : new.failed ≡ (old.failed || is_err result)
+  pub sent : OnOk result (AppendsBut left (contents old.inner) (contents new.inner) bytes)
+  pub beginning : OnErr result (AppendsBeginning (contents old.inner) (contents new.inner) bytes)
+
+-- the same of a call that does not flush
+pub record OnlyWrites {W A E : Type 0} (contents : W → Option (List ℕ)) (old new : Watch W) (result : Result A E) (left bytes : List ℕ) : Type 0 where
+  pub writes : Writes contents old new result left bytes
+  pub unflushed : new.flushes ≡ old.flushes
 
 -- a beginning of some bytes has been written, and in it these first ones at least
 pub record AppendsFrom (first : List ℕ) (old new : Option (List ℕ)) (bytes : List ℕ) : Type 0 where

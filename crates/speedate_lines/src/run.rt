@@ -4,7 +4,7 @@ ghost use Rattle.std.specs.Prelude.{◌≡◌, ◌+◌, ◌^◌, ◌<◌, ◌≤
 ghost use Rattle.std.specs.Io.KnownBytes.{Appends, Keeps, IsAtEnd};
 ghost use Rattle.arrayvec.specs.ArrayString.{array_string_len};
 ghost use Rattle.speedate_lines.specs.Lines.{answers, IsOneLine, complete_lines, unfinished_line, last_line, lines};
-ghost use Rattle.speedate_lines.specs.Run.{kept_part, ReadsAfter, EndsBy, AppendsBut, AppendsBeginning, AnswersCompleteLines, AnswersBeginning};
+ghost use Rattle.speedate_lines.specs.Run.{kept_part, ReadsAfter, EndsBy, Writes, OnlyWrites, AnswersCompleteLines, AnswersBeginning};
 ghost use Rattle.speedate_lines.specs.Watch.{one_more};
 
 use crate::answer::{ANSWER_MAX, LINE_MAX, PENDING_MAX, Pending, answer_line};
@@ -123,15 +123,11 @@ fn answer_lines<W: Write>(
     requires within { seen ≤ length text.now }
     requires one_line { IsOneLine text.now 0 seen }
     requires empty { pending.old.bytes ≡ [] }
-    ensures failed { output.new.failed ≡ (output.old.failed || is_err result) }
+    ensures answered { OnlyWrites W.contents output.old output.new result []
+        (answers (complete_lines text.now)) }
     ensures empty { OnOk result (pending.new.bytes ≡ []) }
     ensures start { IfOk result (λ start. start ≤ length text.now) }
     ensures unfinished { IfOk result (λ start. drop start text.now ≡ unfinished_line text.now) }
-    ensures answered { OnOk result (Appends (W.contents output.old.inner)
-        (W.contents output.new.inner) (answers (complete_lines text.now))) }
-    ensures beginning { OnErr result (AppendsBeginning (W.contents output.old.inner)
-        (W.contents output.new.inner) (answers (complete_lines text.now))) }
-    ensures unflushed { output.new.flushes ≡ output.old.flushes }
 {
     let mut start = 0;
     let mut searched = seen;
@@ -147,13 +143,9 @@ fn answer_lines<W: Write>(
 
 /// Writes the answers that wait, if there is no room for a further one.
 fn make_room<W: Write>(pending: &mut Pending, output: &mut Watched<W>) -> Result<(), Failed>
-    ensures failed { output.new.failed ≡ (output.old.failed || is_err result) }
+    ensures sent { OnlyWrites W.contents output.old output.new result pending.new.bytes
+        pending.old.bytes }
     ensures room { OnOk result (array_string_len pending.new + ANSWER_MAX ≤ PENDING_MAX) }
-    ensures sent { OnOk result (AppendsBut pending.new.bytes (W.contents output.old.inner)
-        (W.contents output.new.inner) pending.old.bytes) }
-    ensures beginning { OnErr result (AppendsBeginning (W.contents output.old.inner)
-        (W.contents output.new.inner) pending.old.bytes) }
-    ensures unflushed { output.new.flushes ≡ output.old.flushes }
 {
     if pending.remaining_capacity() < ANSWER_MAX {
         send(pending, output)?;
@@ -163,13 +155,8 @@ fn make_room<W: Write>(pending: &mut Pending, output: &mut Watched<W>) -> Result
 
 /// Writes all answers that wait.
 fn send<W: Write>(pending: &mut Pending, output: &mut Watched<W>) -> Result<(), Failed>
-    ensures failed { output.new.failed ≡ (output.old.failed || is_err result) }
+    ensures sent { OnlyWrites W.contents output.old output.new result [] pending.old.bytes }
     ensures empty { OnOk result (pending.new.bytes ≡ []) }
-    ensures sent { OnOk result (Appends (W.contents output.old.inner)
-        (W.contents output.new.inner) pending.old.bytes) }
-    ensures beginning { OnErr result (AppendsBeginning (W.contents output.old.inner)
-        (W.contents output.new.inner) pending.old.bytes) }
-    ensures unflushed { output.new.flushes ≡ output.old.flushes }
 {
     write_all(pending.as_str().as_bytes(), output)?;
     pending.clear();
@@ -179,12 +166,7 @@ fn send<W: Write>(pending: &mut Pending, output: &mut Watched<W>) -> Result<(), 
 /// Writes all of `bytes`.
 #[tactic(auto, using(crate::proofs::SentLemmas::writing))]
 fn write_all<W: Write>(bytes: &[u8], output: &mut Watched<W>) -> Result<(), Failed>
-    ensures failed { output.new.failed ≡ (output.old.failed || is_err result) }
-    ensures sent { OnOk result (Appends (W.contents output.old.inner)
-        (W.contents output.new.inner) bytes.now) }
-    ensures beginning { OnErr result (AppendsBeginning (W.contents output.old.inner)
-        (W.contents output.new.inner) bytes.now) }
-    ensures unflushed { output.new.flushes ≡ output.old.flushes }
+    ensures sent { OnlyWrites W.contents output.old output.new result [] bytes.now }
 {
     let mut rest = bytes;
     while !rest.is_empty() {
@@ -214,11 +196,8 @@ fn finish<W: Write>(
     output: &mut Watched<W>,
 ) -> Result<(), Failed>
     requires { pending.old.bytes ≡ [] }
-    ensures failed { output.new.failed ≡ (output.old.failed || is_err result) }
-    ensures answered { OnOk result (Appends (W.contents output.old.inner)
-        (W.contents output.new.inner) (answers (last_line last.now))) }
-    ensures beginning { OnErr result (AppendsBeginning (W.contents output.old.inner)
-        (W.contents output.new.inner) (answers (last_line last.now))) }
+    ensures answered { Writes W.contents output.old output.new result []
+        (answers (last_line last.now)) }
     ensures flushed { OnOk result (output.new.flushed ≡ true) }
     ensures flushed_once { OnOk result (output.new.flushes ≡ one_more output.old.flushes) }
 {

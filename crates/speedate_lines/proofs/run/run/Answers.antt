@@ -1,4 +1,4 @@
-use Rattle.std.proofs.Common.{◌≡◌, ◌∙◌, ap, sym, subst, refl, inl, inr, ℕ, List, [], ◌++◌, take, append-nil}
+use Rattle.std.proofs.Common.{rules, ◌≡◌, ◌∙◌, ap, sym, subst, refl, inl, inr, ℕ, List, [], ◌++◌, take, append-nil}
 use Rattle.std.proofs.lemmas.List.{length-take-le}
 use Rattle.std.specs.Io.KnownBytes.{Appends, Consumes}
 use Rattle.std.proofs.KnownBytes.{Appends-trans, Consumes-trans, Consumes-whole}
@@ -7,7 +7,7 @@ use Rattle.speedate_lines.specs.Run.{kept_part}
 use Rattle.speedate_lines.proofs.LineLemmas.{IsOneLine-from_kept}
 use Rattle.speedate_lines.proofs.CarryLemmas.{answers-more, kept-more, answers-all}
 use Rattle.std.proofs.Math.Bool.{or-false}
-use Rattle.speedate_lines.proofs.SentLemmas.{AppendsFrom-beginning}
+use Rattle.speedate_lines.proofs.SentLemmas.{Appends-all, AppendsFrom-beginning}
 use Rattle.speedate_lines.proofs.run.run.Goals as goal
 
 pub answer_lines-requires-clause-one_line : goal.answer_lines-requires-clause-one_line
@@ -24,15 +24,15 @@ loop-filled-preserved g c =
     let done = c.in-Ok-answer_lines.ensures in
     record {
       empty = done.empty;
-      input_failed = c.in-Ok.ensures.failed ∙ or-false c.loop-filled.input.failed ∙ before.input_failed;
-      output_failed = done.failed ∙ or-false c.loop-filled.output.failed ∙ before.output_failed;
-      unflushed = done.unflushed ∙ before.unflushed;
+      input_failed = search (rules, or-false);
+      output_failed = search (rules, or-false);
+      unflushed = search rules;
       short = c.carry-kept.ensures.short;
       answered = (
         read ++ filled.more,
         Consumes-trans _ _ _ read filled.more before.answered.1 filled.consumed,
         subst (Appends _ _) (sym (answers-more read filled.more _ _ before.answered.3 filled.text))
-            (Appends-trans _ _ _ (answers (complete_lines read)) _ before.answered.2 done.answered),
+            (Appends-trans _ _ _ (answers (complete_lines read)) _ before.answered.2 (Appends-all done.answered.writes.sent)),
         c.carry-kept.ensures.kept ∙ ap kept_part done.unfinished ∙ sym (kept-more read filled.more _ _ before.answered.3 filled.text),
       );
     }
@@ -54,7 +54,7 @@ returns-in-Ok-finish-clause-answered g c =
     let consumed = subst (Consumes _ _) whole (Consumes-trans _ _ _ read filled.more before.1 filled.consumed) in
     let all = answers-ended read filled.more _ _ c.loop-filled.block c.fill.new.block before.3 filled.text c.if-filled-kept.true ended.0 in
     Consumes-whole _ _ read (λ text. Appends (g.W.Write.contents c.args.output.now.inner) (g.W.Write.contents c.finish.new.output.inner) (answers (lines text)))
-    consumed ended.1 (subst (Appends _ _) all (Appends-trans _ _ _ (answers (complete_lines read)) _ before.2 c.in-Ok-finish.ensures.answered))
+    consumed ended.1 (subst (Appends _ _) all (Appends-trans _ _ _ (answers (complete_lines read)) _ before.2 (Appends-all c.in-Ok-finish.ensures.answered.sent)))
 
 pub returns-in_default-clause-unflushed : goal.returns-in_default-clause-unflushed
 returns-in_default-clause-unflushed g c = λ read. c.loop-filled.invariant.unflushed
@@ -70,7 +70,7 @@ returns-in_default-answer_lines-clause-write_failed g c = λ write.
       consumed = Consumes-trans _ _ _ before.0 filled.more before.1 filled.consumed;
       one_read = filled.one_read;
       is_due = inl refl;
-      sent = AppendsFrom-beginning (answers (complete_lines before.0)) before.2 c.in_default-answer_lines.ensures.beginning
+      sent = AppendsFrom-beginning (answers (complete_lines before.0)) before.2 c.in_default-answer_lines.ensures.answered.writes.beginning
           (answers-more before.0 filled.more _ _ before.3 filled.text);
     }
 
@@ -88,6 +88,6 @@ returns-in-Err-clause-write_failed g c = λ write.
       consumed = Consumes-trans _ _ _ read filled.more before.1 filled.consumed;
       one_read = filled.one_read;
       is_due = inr (ended.1, ap (λ (all : List ℕ). answers (lines all)) (sym whole));
-      sent = AppendsFrom-beginning (answers (complete_lines read)) before.2 c.in-Err.ensures.beginning
+      sent = AppendsFrom-beginning (answers (complete_lines read)) before.2 c.in-Err.ensures.answered.beginning
           (sym (answers-ended read filled.more _ _ c.loop-filled.block c.fill.new.block before.3 filled.text c.if-filled-kept.true ended.0));
     }
