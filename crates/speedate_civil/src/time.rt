@@ -12,7 +12,7 @@ mod text;
 mod timezone;
 
 pub(crate) use offset::end_fault;
-use offset::{has_minus_sign, is_utc, read_offset};
+use offset::{has_minus_sign, is_utc, parse_offset};
 pub use pure::PureTime;
 use speedate_base::config::{MicrosecondsPrecisionOverflowBehavior, TimeConfig};
 use speedate_base::faults::ParseError;
@@ -225,7 +225,7 @@ impl Time {
         ensures minutes { IfOk result (λ time. IsWholeMinutes time.tz_offset) }
     {
         let clock = PureTime::parse(bytes, 0, behavior)?;
-        let (tz_offset, size) = read_offset(bytes, clock.size)?;
+        let (tz_offset, size) = parse_offset(bytes, clock.size)?;
         // A time that is built before this test goes through memory.
         if clock.size + size != bytes.len() {
             return Err(end_fault(tz_offset));
@@ -244,11 +244,11 @@ impl Time {
         ensures minutes { IfOk result (λ front. IsWholeMinutes front.0.tz_offset) }
     {
         let clock = PureTime::parse(bytes, 0, behavior)?;
-        let (tz_offset, offset_size) = read_offset(bytes, clock.size)?;
+        let (tz_offset, offset_size) = parse_offset(bytes, clock.size)?;
         Ok((clock.at_offset(tz_offset), clock.size + offset_size))
     }
 
-    /// Refuses a text that is read as a time, but is none of RFC 3339.
+    /// Refuses a text that is parsed as a time, but is none of RFC 3339.
     #[inline(always)]
     pub(crate) fn require_standard(text: &[u8]) -> Result<(), ParseError>
         ensures answer { result ≡ meets (standard_time text.now) (Ok tt) }
@@ -263,7 +263,7 @@ impl Time {
         }
     }
 
-    /// Refuses an offset that is read at `place`, but is none of RFC 3339.
+    /// Refuses an offset that is parsed at `place`, but is none of RFC 3339.
     fn require_standard_offset(text: &[u8], place: usize) -> Result<(), ParseError>
         ensures answer { result ≡ meets (standard_offset (drop place text.now)) (Ok tt) }
     {

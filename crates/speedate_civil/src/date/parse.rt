@@ -81,7 +81,7 @@ impl Date {
     }
 
     /// Parses the date at the front of a text, whatever follows it, and returns how many bytes it takes,
-    /// which is always ten: 22 November 2026 and 10 from `b"2026-11-22 opening balance"`. It reads no
+    /// which is always ten: 22 November 2026 and 10 from `b"2026-11-22 opening balance"`. It parses no
     /// timestamps. The errors are those of [`Date::parse_str_rfc3339`] except `ExtraCharacters`.
     #[inline]
     pub fn parse_front(bytes: &[u8]) -> Result<(Self, usize), ParseError>

@@ -154,7 +154,7 @@ impl DateTime {
 
     /// Parses the date-time at the front of a text, whatever follows it, and returns how many bytes it
     /// takes: 12:13:14.5 on 22 November 2026, an hour east of UTC, and 27, from
-    /// `b"2026-11-22T12:13:14.5+01:00 GET /"`. It reads no timestamps.
+    /// `b"2026-11-22T12:13:14.5+01:00 GET /"`. It parses no timestamps.
     ///
     /// It ends where [`Time::parse_front`] ends. The errors are those of [`Date::parse_front`], then
     /// `InvalidCharDateTimeSep`, then those of [`Time::parse_front`].
@@ -273,7 +273,7 @@ fn has_separator(bytes: &[u8]) -> bool
     matches!(byte, b'T' | b't' | b' ' | b'_')
 }
 
-/// Refuses a text that is read as a date-time, but is none of RFC 3339.
+/// Refuses a text that is parsed as a date-time, but is none of RFC 3339.
 #[tactic(auto, using(std::proofs::lemmas::List::take_rest))]
 fn require_standard_date_time(text: &[u8]) -> Result<(), ParseError>
     ensures answer { result ≡ meets (standard_date_time text.now) (Ok tt) }

@@ -23,7 +23,7 @@ use std::simd::prelude::*;
 /// follows it: 0 and one byte for `Z` or `z`, 5,400 and six bytes for `+01:30`, none and no byte for
 /// ` GET`.
 #[inline(always)]
-pub(crate) fn read_offset(bytes: &[u8], place: usize) -> Result<(Option<i32>, usize), ParseError>
+pub(crate) fn parse_offset(bytes: &[u8], place: usize) -> Result<(Option<i32>, usize), ParseError>
     requires { place ≤ length bytes.now }
     ensures answer { result ≡ offset_front (drop place bytes.now) }
     ensures range { IfOk result (λ front. ForSome front.0 IsOffset) }

@@ -162,7 +162,7 @@ impl PureTime {
         }
     }
 
-    /// Tests the range of the second that follows the minute at the front of a text, and reads the
+    /// Tests the range of the second that follows the minute at the front of a text, and parses the
     /// fraction after it.
     #[inline(always)]
     fn after_minute(

@@ -1,7 +1,7 @@
 use Rattle.std.proofs.Common.{rules, ◌≡◌, ◌∙◌, add-zero, ap, ap₂, sym, ℕ, List, drop, true, ◌==◌, slice_index, drop-drop, get_or-drop}
 use Rattle.speedate_base.specs.Ascii.{hyphen}
 use Rattle.speedate_civil.specs.Time.{is_plus_or_minus, is_utc, signed_front}
-use Rattle.speedate_civil.proofs.time.offset.read_offset.Goals as goal
+use Rattle.speedate_civil.proofs.time.offset.parse_offset.Goals as goal
 
 -- the byte at a place is the first of what begins there
 first : (bytes : List ℕ) (place byte : ℕ) → byte ≡ slice_index bytes place → slice_index (drop place bytes) 0 ≡ byte
