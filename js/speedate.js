@@ -3,7 +3,7 @@
 
 /** The functions of speedate.h: a WebAssembly module, in base64. */
 const MODULE = "@MODULE@";
-const NEEDED = "speedate needs WebAssembly with 64-bit memories: Node 24, Chrome 133, Firefox 134; Node 20 with --experimental-wasm-memory64";
+const NEEDED = "speedate needs WebAssembly with BigInt and bulk memory: Node 16, Chrome 85, Firefox 79, Safari 15; and a policy that allows it";
 
 /** Where what goes in and comes out stands in the memory, from the end of the module's own part. */
 const PLACE = { out: 0, taken: 16, config: 24, defaultConfig: 32, first: 40, second: 56, buffer: 72, text: 136 };
@@ -40,20 +40,10 @@ class Library {
   reserve(size) {
     const { memory } = this.calls;
     const missing = this.start + PLACE.text + size - memory.buffer.byteLength;
-    if (missing > 0) grow(memory, Math.ceil(missing / PAGE_SIZE));
+    if (missing > 0) memory.grow(Math.ceil(missing / PAGE_SIZE));
     if (this.view?.buffer === memory.buffer) return;
     this.bytes = new Uint8Array(memory.buffer, this.start);
     this.view = new DataView(memory.buffer, this.start);
-  }
-}
-
-/** Engines that have 64-bit memories by a flag alone take the number of pages as a number. */
-function grow(memory, pages) {
-  try {
-    memory.grow(BigInt(pages));
-  } catch (error) {
-    if (!(error instanceof TypeError)) throw error;
-    memory.grow(pages);
   }
 }
 
