@@ -21,14 +21,16 @@ const noNumber = [undefined, ...noObject.filter((it) => typeof it !== "number"),
 const noUnit = [undefined, ...noObject, {}, "S", "", "seconds"];
 const ofTimestamp = [[0, noNumber.filter((it) => it !== 5n)], ["s", noUnit], [undefined, noOptions]];
 const ofDate = [date, [...noValue, time, dateTime, duration]];
+const ofDuration = [duration, [...noValue, date, time, dateTime]];
 const ofDateTime = [dateTime, [...noValue, date, time, duration]];
-const ofMove = [[dateTime, [...noValue, time, duration]], [duration, [...noValue, date, time, dateTime]]];
+const ofMove = [[dateTime, [...noValue, time, duration]], ofDuration];
 const CALLS = {
   ...Object.fromEntries(readers.map((it) => [it, [["x", noText], [undefined, noOptions]]])),
   dateFromTimestamp: ofTimestamp, timeFromTimestamp: ofTimestamp, dateTimeFromTimestamp: ofTimestamp,
   epochMilliseconds: [ofDateTime], toDate: [ofDateTime], fromDate: [[new Date(0), [undefined, ...noObject, {}, date]]],
   format: [[time, noValue]], compare: [ofDate, ofDate], between: [ofDate, ofDate], daysSince: [ofDate, ofDate],
-  addDays: [ofDate, [1, noNumber]], after: ofMove, before: ofMove, inTimezone: [[time, [...noValue, date, duration]], [0, noNumber]],
+  addDays: [ofDate, [1, noNumber]], dayOfYear: [ofDate], negate: [ofDuration], totalSeconds: [ofDuration],
+  after: ofMove, before: ofMove, inTimezone: [[time, [...noValue, date, duration]], [0, noNumber]],
 };
 assert.deepEqual([...Object.keys(CALLS), "SpeedateError"].sort(), Object.keys(speedate).sort());
 for (const [name, places] of Object.entries(CALLS))
