@@ -83,6 +83,9 @@ assert.deepEqual(duration, { sign: -1, days: -1, seconds: 0, milliseconds: -1, m
 assert.deepEqual(safeParseDate("x"), { ok: false, fault: "too_short", code: 1, message: "input is too short" });
 assert.equal(safeParseDate("x"), speedate.safeParseTime("x"));
 assert.deepEqual(fromDate(toDate(dateTime)), dateTime);
+const seen = [];
+format(new Proxy(dateTime, { get: (it, name) => (seen.push(name), it[name]) }));
+assert.deepEqual(seen, Object.keys(dateTime), "each field is looked at once");
 assert.equal(speedate.compare({ ...date, get day() { return format(time) && 29; } }, date), 0, "what a getter calls changes nothing");
 for (const size of [63, 64, 65, 65000, 66000, 2 ** 24, 2 ** 24 + 1]) {
   const text = `PT0.${"0".repeat(size)}S`;
