@@ -309,15 +309,12 @@ const DURATION = {
 };
 const ALL_KINDS = [DATE, TIME, DATE_TIME, DURATION];
 
-/** Whether these are the names of a kind's fields, which mostly stand in their order. */
-const areFields = (names, { fields }) =>
-  names.length === fields.length && fields.every((it, i) => it === names[i] || names.includes(it));
-
-/** A value of one of these kinds as it was given: its kind, and its fields. */
+/** A value of one of these kinds as it was given: its kind, and its fields, whose names mostly come in their order. */
 function given(value, name, kinds) {
   start();
   const names = Object(value) === value ? Object.getOwnPropertyNames(value) : [];
-  const kind = kinds.find((it) => areFields(names, it));
+  const fits = ({ fields }) => fields.length === names.length && fields.every((it, i) => it === names[i] || names.includes(it));
+  const kind = kinds.find(fits);
   if (kind === undefined || Object.getOwnPropertySymbols(value).length > 0)
     throw new TypeError(`${name} has to be a ${kinds.map((it) => it.name).join(" or ")} with just its fields`);
   return kind.look(value);

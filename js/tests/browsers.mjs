@@ -98,23 +98,20 @@ function start(command, ...args) {
   process.on("exit", () => process.kill(-pid));
 }
 
-/** Opens a page by WebKit's driver. */
-async function drive(binary, url) {
-  const driver = `http://127.0.0.1:${port + 1}`;
-  start("xvfb-run", "-a", "WebKitWebDriver", `--port=${port + 1}`);
-  while (!(await fetch(`${driver}/status`).catch(() => false))) await sleep(100);
-  const ask = async (path, body) => (await fetch(`${driver}/session${path}`, { method: "POST", body: JSON.stringify(body) })).json();
-  const alwaysMatch = { "webkitgtk:browserOptions": { binary, args: ["--automation"] } };
-  const { value } = await ask("", { capabilities: { alwaysMatch } });
-  await ask(`/${value.sessionId}/url`, { url });
-}
-
 setTimeout(() => assert.fail(`${engine} does not answer`), 240000);
 const url = pathToFileURL("frames.html").href;
 const profile = mkdtempSync(`${process.cwd()}/profile`);
 if (engine === "chromium") start(engine, "--headless", "--no-sandbox", "--disable-gpu", `--user-data-dir=${profile}`, url);
 else if (engine === "firefox-esr") start(engine, "--headless", "--no-remote", "--profile", profile, url);
-else await drive(engine, url);
+else {
+  start("xvfb-run", "-a", "WebKitWebDriver", `--port=${port + 1}`);
+  const driver = `http://127.0.0.1:${port + 1}`;
+  while (!(await fetch(`${driver}/status`).catch(() => false))) await sleep(100);
+  const ask = async (path, body) => (await fetch(`${driver}/session${path}`, { method: "POST", body: JSON.stringify(body) })).json();
+  const alwaysMatch = { "webkitgtk:browserOptions": { binary: engine, args: ["--automation"] } };
+  const { value } = await ask("", { capabilities: { alwaysMatch } });
+  await ask(`/${value.sessionId}/url`, { url });
+}
 
 const reports = [];
 for await (const [it] of on(server, "report")) {
