@@ -99,9 +99,11 @@ impl Duration {
     }
 
     /// The duration in microseconds, with the sign: -1,500,000 for -PT1.5S, and 0 for PT0S and -PT0S.
-    /// [`Duration::from_signed_microseconds`] leads back, from 0 to PT0S.
+    /// There are fewer than in 1,000,000,000 days. [`Duration::from_signed_microseconds`] leads back,
+    /// from 0 to PT0S.
     pub fn signed_total_microseconds(&self) -> i128
         ensures microsecond { result ≡ signed_amount (duration_numbers self.now) }
+        ensures small { unsigned_abs result < 86400000000000000000 }
         ensures leads_back { amount_answer result ≡ Ok (with_positive_zero (duration_numbers self.now)) }
     {
         1_000_000 * i128::from(self.signed_total_seconds()) + i128::from(self.signed_microseconds())
