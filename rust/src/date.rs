@@ -1,0 +1,202 @@
+use core::fmt;
+use core::str::FromStr;
+
+use crate::ffi::{self, Buffer, Config};
+use crate::value::Value;
+use crate::{DateConfig, ParseError};
+
+/// A day of the Gregorian calendar, from 0000-01-01 to 9999-12-31.
+///
+/// Its text is `YYYY-MM-DD`. Dates are ordered by year, month and day.
+///
+/// ```
+/// use speedate::Date;
+///
+/// let date: Date = "2020-02-29".parse()?;
+/// assert_eq!(date, Date { year: 2020, month: 2, day: 29 });
+/// assert!(date < Date { year: 2020, month: 3, day: 1 });
+/// # Ok::<(), speedate::ParseError>(())
+/// ```
+#[derive(Debug, PartialEq, Eq, PartialOrd, Clone, Copy)]
+pub struct Date {
+    /// 0 to 9999.
+    pub year: u16,
+    /// 1 to 12.
+    pub month: u8,
+    /// 1 to the length of the month.
+    pub day: u8,
+}
+
+impl Value for Date {
+    fn check(&self) -> Result<(), ParseError> {
+        Ok(ffi::speedate_date_check(self)?)
+    }
+}
+
+/// Writes `2020-02-29`. Of a date out of range it panics.
+impl fmt::Display for Date {
+    fn fmt(&self, f: &mut fmt::Formatter<'_>) -> fmt::Result {
+        f.write_str(self.total(Buffer::new().speedate_date_to_text(self)))
+    }
+}
+
+/// As [`Date::parse_str`], which takes timestamps too.
+impl FromStr for Date {
+    type Err = ParseError;
+
+    #[inline]
+    fn from_str(s: &str) -> Result<Self, Self::Err> {
+        Self::parse_str(s)
+    }
+}
+
+impl Date {
+    /// The date of a text, and of no timestamp.
+    ///
+    /// ```
+    /// use speedate::{Date, ParseError};
+    ///
+    /// assert_eq!(Date::parse_str_rfc3339("2020-02-29")?, Date { year: 2020, month: 2, day: 29 });
+    /// assert_eq!(Date::parse_str_rfc3339("1582934400"), Err(ParseError::InvalidCharDateSep));
+    /// # Ok::<(), ParseError>(())
+    /// ```
+    #[inline]
+    pub fn parse_str_rfc3339(str: &str) -> Result<Self, ParseError> {
+        Self::parse_bytes_rfc3339(str.as_bytes())
+    }
+
+    /// The date of a text, or in its place of a timestamp, which has to be a midnight. Every whole number is a timestamp,
+    /// `20200229` too.
+    ///
+    /// ```
+    /// use speedate::{Date, ParseError};
+    ///
+    /// assert_eq!(Date::parse_str("2020-02-29")?.to_string(), "2020-02-29");
+    /// assert_eq!(Date::parse_str("1582934400")?.to_string(), "2020-02-29");
+    /// assert_eq!(Date::parse_str("2021-02-29"), Err(ParseError::OutOfRangeDay));
+    /// # Ok::<(), ParseError>(())
+    /// ```
+    #[inline]
+    pub fn parse_str(str: &str) -> Result<Self, ParseError> {
+        Self::parse_bytes(str.as_bytes())
+    }
+
+    /// [`parse_str`](Self::parse_str) with a configuration.
+    #[inline]
+    pub fn parse_str_with_config(str: &str, config: &DateConfig) -> Result<Self, ParseError> {
+        Self::parse_bytes_with_config(str.as_bytes(), config)
+    }
+
+    /// [`parse_str_rfc3339`](Self::parse_str_rfc3339) of bytes.
+    #[inline]
+    pub fn parse_bytes_rfc3339(bytes: &[u8]) -> Result<Self, ParseError> {
+        Ok(ffi::speedate_date_parse_rfc3339(bytes)?)
+    }
+
+    /// [`parse_str`](Self::parse_str) of bytes.
+    #[inline]
+    pub fn parse_bytes(bytes: &[u8]) -> Result<Self, ParseError> {
+        Self::parse_bytes_with_config(bytes, &DateConfig::default())
+    }
+
+    /// [`parse_str`](Self::parse_str) of bytes, with a configuration.
+    #[inline]
+    pub fn parse_bytes_with_config(bytes: &[u8], config: &DateConfig) -> Result<Self, ParseError> {
+        Ok(ffi::speedate_date_parse(bytes, config.into())?)
+    }
+
+    /// The date at the front of an input, whatever follows it, and its size in bytes. It may not be a timestamp.
+    ///
+    /// ```
+    /// use speedate::Date;
+    ///
+    /// let (date, size) = Date::parse_front(b"2020-02-29 opening balance")?;
+    /// assert_eq!((date.to_string().as_str(), size), ("2020-02-29", 10));
+    /// # Ok::<(), speedate::ParseError>(())
+    /// ```
+    #[inline]
+    pub fn parse_front(bytes: &[u8]) -> Result<(Self, usize), ParseError> {
+        Ok(ffi::speedate_date_parse_front(bytes)?)
+    }
+
+    /// The date of a timestamp in the unit of the configuration. If `require_exact`, the timestamp has to be a midnight;
+    /// otherwise the date is that of the day in which it lies.
+    ///
+    /// ```
+    /// use speedate::{Date, DateConfig, ParseError};
+    ///
+    /// let config = DateConfig::default();
+    /// assert_eq!(Date::from_timestamp(1_582_934_400, true, &config)?.to_string(), "2020-02-29");
+    /// assert_eq!(Date::from_timestamp(1_582_934_401, true, &config), Err(ParseError::DateNotExact));
+    /// # Ok::<(), ParseError>(())
+    /// ```
+    #[inline]
+    pub fn from_timestamp(timestamp: i64, require_exact: bool, config: &DateConfig) -> Result<Self, ParseError> {
+        Ok(ffi::speedate_date_from_timestamp(timestamp, require_exact, config.into())?)
+    }
+
+    /// The second at which the date begins, counted from 1970-01-01. Of a date out of range it panics.
+    ///
+    /// ```
+    /// assert_eq!(speedate::Date { year: 1970, month: 1, day: 2 }.timestamp(), 86_400);
+    /// ```
+    #[inline]
+    pub fn timestamp(&self) -> i64 {
+        self.total(ffi::speedate_date_timestamp(self))
+    }
+
+    /// The millisecond at which the date begins, counted from 1970-01-01. Of a date out of range it panics.
+    #[inline]
+    pub fn timestamp_ms(&self) -> i64 {
+        self.total(ffi::speedate_date_timestamp_ms(self))
+    }
+
+    /// The date that a clock at the offset now shows, as of [`DateTime::now`](crate::DateTime::now).
+    #[cfg(feature = "std")]
+    pub fn today(tz_offset: i32) -> Result<Self, ParseError> {
+        Ok(crate::DateTime::now(tz_offset)?.date)
+    }
+
+    /// The day of the year, 1 to 366. Of a date out of range it panics.
+    #[inline]
+    pub fn ordinal_day(&self) -> u16 {
+        self.total(ffi::speedate_date_ordinal_day(self))
+    }
+
+    /// The date so many days later, or earlier if they are negative. It is `None` before 0000-01-01 and after 9999-12-31,
+    /// and of a date out of range.
+    ///
+    /// ```
+    /// use speedate::Date;
+    ///
+    /// let date = Date::parse_str("2020-02-28")?;
+    /// assert_eq!(date.checked_add_days(2), Some(Date { year: 2020, month: 3, day: 1 }));
+    /// # Ok::<(), speedate::ParseError>(())
+    /// ```
+    #[inline]
+    pub fn checked_add_days(&self, days: i32) -> Option<Self> {
+        ffi::speedate_date_add_days(self, days).ok()
+    }
+
+    /// The days from an earlier date to this one; they are negative if it is the later one. Of a date out of range it
+    /// panics.
+    ///
+    /// ```
+    /// use speedate::Date;
+    ///
+    /// let date = Date::parse_str("2020-03-01")?;
+    /// assert_eq!(date.days_since(&Date::parse_str("2020-02-28")?), 2);
+    /// # Ok::<(), speedate::ParseError>(())
+    /// ```
+    #[inline]
+    pub fn days_since(&self, earlier: &Self) -> i32 {
+        (self, earlier).total(ffi::speedate_date_days_since(self, earlier))
+    }
+}
+
+impl From<&DateConfig> for Config {
+    #[inline]
+    fn from(config: &DateConfig) -> Self {
+        Self::default().unit(config.timestamp_unit)
+    }
+}
