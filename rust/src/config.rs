@@ -40,8 +40,7 @@ impl FromStr for TimestampUnit {
 /// use speedate::{Date, DateConfig, TimestampUnit};
 ///
 /// let config = DateConfig::builder().timestamp_unit(TimestampUnit::Millisecond).build();
-/// assert_eq!(Date::parse_str_with_config("86400000", &config)?.to_string(), "1970-01-02");
-/// # Ok::<(), speedate::ParseError>(())
+/// assert_eq!(Date::parse_str_with_config("86400000", &config).unwrap().to_string(), "1970-01-02");
 /// ```
 #[derive(Debug, Clone, Default, PartialEq)]
 pub struct DateConfig {
@@ -89,8 +88,7 @@ impl DateConfigBuilder {
 ///     .timestamp_unit(TimestampUnit::Second)
 ///     .time_config(TimeConfig::builder().unix_timestamp_offset(Some(0)).build())
 ///     .build();
-/// assert_eq!(DateTime::parse_str_with_config("86400.5", &config)?.to_string(), "1970-01-02T00:00:00.500000Z");
-/// # Ok::<(), speedate::ParseError>(())
+/// assert_eq!(DateTime::parse_str_with_config("86400.5", &config).unwrap().to_string(), "1970-01-02T00:00:00.500000Z");
 /// ```
 #[derive(Debug, Clone, Default, PartialEq)]
 pub struct DateTimeConfig {
@@ -148,8 +146,7 @@ impl DateTimeConfigBuilder {
 ///
 /// let behavior = MicrosecondsPrecisionOverflowBehavior::Truncate;
 /// let config = TimeConfig::builder().microseconds_precision_overflow_behavior(behavior).build();
-/// assert_eq!(Time::parse_bytes_with_config(b"12:13:14.123456789", &config)?.to_string(), "12:13:14.123456");
-/// # Ok::<(), speedate::ParseError>(())
+/// assert_eq!(Time::parse_bytes_with_config(b"12:13:14.123456789", &config).unwrap().to_string(), "12:13:14.123456");
 /// ```
 #[derive(Debug, Clone, Default, PartialEq)]
 pub struct TimeConfig {

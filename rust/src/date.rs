@@ -12,10 +12,9 @@ use crate::{DateConfig, ParseError};
 /// ```
 /// use speedate::Date;
 ///
-/// let date: Date = "2020-02-29".parse()?;
+/// let date: Date = "2020-02-29".parse().unwrap();
 /// assert_eq!(date, Date { year: 2020, month: 2, day: 29 });
 /// assert!(date < Date { year: 2020, month: 3, day: 1 });
-/// # Ok::<(), speedate::ParseError>(())
 /// ```
 #[derive(Debug, PartialEq, Eq, PartialOrd, Clone, Copy)]
 pub struct Date {
@@ -29,7 +28,7 @@ pub struct Date {
 
 impl Value for Date {
     fn check(&self) -> Result<(), ParseError> {
-        Ok(ffi::speedate_date_check(self)?)
+        ffi::speedate_date_check(self)
     }
 }
 
@@ -44,7 +43,6 @@ impl fmt::Display for Date {
 impl FromStr for Date {
     type Err = ParseError;
 
-    #[inline]
     fn from_str(s: &str) -> Result<Self, Self::Err> {
         Self::parse_str(s)
     }
@@ -56,11 +54,9 @@ impl Date {
     /// ```
     /// use speedate::{Date, ParseError};
     ///
-    /// assert_eq!(Date::parse_str_rfc3339("2020-02-29")?, Date { year: 2020, month: 2, day: 29 });
+    /// assert_eq!(Date::parse_str_rfc3339("2020-02-29").unwrap(), Date { year: 2020, month: 2, day: 29 });
     /// assert_eq!(Date::parse_str_rfc3339("1582934400"), Err(ParseError::InvalidCharDateSep));
-    /// # Ok::<(), ParseError>(())
     /// ```
-    #[inline]
     pub fn parse_str_rfc3339(str: &str) -> Result<Self, ParseError> {
         Self::parse_bytes_rfc3339(str.as_bytes())
     }
@@ -71,38 +67,32 @@ impl Date {
     /// ```
     /// use speedate::{Date, ParseError};
     ///
-    /// assert_eq!(Date::parse_str("2020-02-29")?.to_string(), "2020-02-29");
-    /// assert_eq!(Date::parse_str("1582934400")?.to_string(), "2020-02-29");
+    /// assert_eq!(Date::parse_str("2020-02-29").unwrap().to_string(), "2020-02-29");
+    /// assert_eq!(Date::parse_str("1582934400").unwrap().to_string(), "2020-02-29");
     /// assert_eq!(Date::parse_str("2021-02-29"), Err(ParseError::OutOfRangeDay));
-    /// # Ok::<(), ParseError>(())
     /// ```
-    #[inline]
     pub fn parse_str(str: &str) -> Result<Self, ParseError> {
         Self::parse_bytes(str.as_bytes())
     }
 
     /// [`parse_str`](Self::parse_str) with a configuration.
-    #[inline]
     pub fn parse_str_with_config(str: &str, config: &DateConfig) -> Result<Self, ParseError> {
         Self::parse_bytes_with_config(str.as_bytes(), config)
     }
 
     /// [`parse_str_rfc3339`](Self::parse_str_rfc3339) of bytes.
-    #[inline]
     pub fn parse_bytes_rfc3339(bytes: &[u8]) -> Result<Self, ParseError> {
         Ok(ffi::speedate_date_parse_rfc3339(bytes)?)
     }
 
     /// [`parse_str`](Self::parse_str) of bytes.
-    #[inline]
     pub fn parse_bytes(bytes: &[u8]) -> Result<Self, ParseError> {
         Self::parse_bytes_with_config(bytes, &DateConfig::default())
     }
 
     /// [`parse_str`](Self::parse_str) of bytes, with a configuration.
-    #[inline]
     pub fn parse_bytes_with_config(bytes: &[u8], config: &DateConfig) -> Result<Self, ParseError> {
-        Ok(ffi::speedate_date_parse(bytes, config.into())?)
+        Ok(ffi::speedate_date_parse(bytes, config)?)
     }
 
     /// The date at the front of an input, whatever follows it, and its size in bytes. It may not be a timestamp.
@@ -110,11 +100,9 @@ impl Date {
     /// ```
     /// use speedate::Date;
     ///
-    /// let (date, size) = Date::parse_front(b"2020-02-29 opening balance")?;
+    /// let (date, size) = Date::parse_front(b"2020-02-29 opening balance").unwrap();
     /// assert_eq!((date.to_string().as_str(), size), ("2020-02-29", 10));
-    /// # Ok::<(), speedate::ParseError>(())
     /// ```
-    #[inline]
     pub fn parse_front(bytes: &[u8]) -> Result<(Self, usize), ParseError> {
         Ok(ffi::speedate_date_parse_front(bytes)?)
     }
@@ -126,13 +114,11 @@ impl Date {
     /// use speedate::{Date, DateConfig, ParseError};
     ///
     /// let config = DateConfig::default();
-    /// assert_eq!(Date::from_timestamp(1_582_934_400, true, &config)?.to_string(), "2020-02-29");
+    /// assert_eq!(Date::from_timestamp(1_582_934_400, true, &config).unwrap().to_string(), "2020-02-29");
     /// assert_eq!(Date::from_timestamp(1_582_934_401, true, &config), Err(ParseError::DateNotExact));
-    /// # Ok::<(), ParseError>(())
     /// ```
-    #[inline]
     pub fn from_timestamp(timestamp: i64, require_exact: bool, config: &DateConfig) -> Result<Self, ParseError> {
-        Ok(ffi::speedate_date_from_timestamp(timestamp, require_exact, config.into())?)
+        Ok(ffi::speedate_date_from_timestamp(timestamp, require_exact, config)?)
     }
 
     /// The second at which the date begins, counted from 1970-01-01. Of a date out of range it panics.
@@ -140,13 +126,11 @@ impl Date {
     /// ```
     /// assert_eq!(speedate::Date { year: 1970, month: 1, day: 2 }.timestamp(), 86_400);
     /// ```
-    #[inline]
     pub fn timestamp(&self) -> i64 {
         self.total(ffi::speedate_date_timestamp(self))
     }
 
     /// The millisecond at which the date begins, counted from 1970-01-01. Of a date out of range it panics.
-    #[inline]
     pub fn timestamp_ms(&self) -> i64 {
         self.total(ffi::speedate_date_timestamp_ms(self))
     }
@@ -158,7 +142,6 @@ impl Date {
     }
 
     /// The day of the year, 1 to 366. Of a date out of range it panics.
-    #[inline]
     pub fn ordinal_day(&self) -> u16 {
         self.total(ffi::speedate_date_ordinal_day(self))
     }
@@ -169,11 +152,9 @@ impl Date {
     /// ```
     /// use speedate::Date;
     ///
-    /// let date = Date::parse_str("2020-02-28")?;
+    /// let date = Date::parse_str("2020-02-28").unwrap();
     /// assert_eq!(date.checked_add_days(2), Some(Date { year: 2020, month: 3, day: 1 }));
-    /// # Ok::<(), speedate::ParseError>(())
     /// ```
-    #[inline]
     pub fn checked_add_days(&self, days: i32) -> Option<Self> {
         ffi::speedate_date_add_days(self, days).ok()
     }
@@ -184,18 +165,15 @@ impl Date {
     /// ```
     /// use speedate::Date;
     ///
-    /// let date = Date::parse_str("2020-03-01")?;
-    /// assert_eq!(date.days_since(&Date::parse_str("2020-02-28")?), 2);
-    /// # Ok::<(), speedate::ParseError>(())
+    /// let date = Date::parse_str("2020-03-01").unwrap();
+    /// assert_eq!(date.days_since(&Date::parse_str("2020-02-28").unwrap()), 2);
     /// ```
-    #[inline]
     pub fn days_since(&self, earlier: &Self) -> i32 {
         (self, earlier).total(ffi::speedate_date_days_since(self, earlier))
     }
 }
 
 impl From<&DateConfig> for Config {
-    #[inline]
     fn from(config: &DateConfig) -> Self {
         Self::default().unit(config.timestamp_unit)
     }

@@ -15,12 +15,11 @@ use crate::{Date, DateTimeConfig, MicrosecondsPrecisionOverflowBehavior, ParseEr
 /// ```
 /// use speedate::{Date, DateTime, Time};
 ///
-/// let value: DateTime = "2020-02-29T12:13:14-08:30".parse()?;
+/// let value: DateTime = "2020-02-29T12:13:14-08:30".parse().unwrap();
 /// let date = Date { year: 2020, month: 2, day: 29 };
 /// let time = Time { hour: 12, minute: 13, second: 14, microsecond: 0, tz_offset: Some(-30_600) };
 /// assert_eq!(value, DateTime { date, time });
 /// assert_eq!(value.to_string(), "2020-02-29T12:13:14-08:30");
-/// # Ok::<(), speedate::ParseError>(())
 /// ```
 #[derive(Debug, PartialEq, Eq, Clone, Copy)]
 pub struct DateTime {
@@ -32,7 +31,7 @@ pub struct DateTime {
 
 impl Value for DateTime {
     fn check(&self) -> Result<(), ParseError> {
-        Ok(ffi::speedate_datetime_check(self)?)
+        ffi::speedate_datetime_check(self)
     }
 }
 
@@ -47,7 +46,6 @@ impl fmt::Display for DateTime {
 impl FromStr for DateTime {
     type Err = ParseError;
 
-    #[inline]
     fn from_str(s: &str) -> Result<Self, Self::Err> {
         Self::parse_str(s)
     }
@@ -58,12 +56,10 @@ impl PartialOrd for DateTime {
     /// ```
     /// use speedate::DateTime;
     ///
-    /// let london = DateTime::parse_str("2000-01-01T15:00:00Z")?;
-    /// let paris = DateTime::parse_str("2000-01-01T16:00:00+01:00")?;
+    /// let london = DateTime::parse_str("2000-01-01T15:00:00Z").unwrap();
+    /// let paris = DateTime::parse_str("2000-01-01T16:00:00+01:00").unwrap();
     /// assert!(london <= paris && london >= paris && london != paris);
-    /// # Ok::<(), speedate::ParseError>(())
     /// ```
-    #[inline]
     fn partial_cmp(&self, other: &Self) -> Option<Ordering> {
         ffi::speedate_datetime_compare(self, other).ok()
     }
@@ -75,11 +71,9 @@ impl DateTime {
     /// ```
     /// use speedate::{DateTime, ParseError};
     ///
-    /// assert_eq!(DateTime::parse_str_rfc3339("2020-02-29 12:13Z")?.to_string(), "2020-02-29T12:13:00Z");
+    /// assert_eq!(DateTime::parse_str_rfc3339("2020-02-29 12:13Z").unwrap().to_string(), "2020-02-29T12:13:00Z");
     /// assert_eq!(DateTime::parse_str_rfc3339("1582978394"), Err(ParseError::InvalidCharDateSep));
-    /// # Ok::<(), ParseError>(())
     /// ```
-    #[inline]
     pub fn parse_str_rfc3339(str: &str) -> Result<Self, ParseError> {
         Self::parse_bytes_rfc3339(str.as_bytes())
     }
@@ -90,43 +84,36 @@ impl DateTime {
     /// ```
     /// use speedate::DateTime;
     ///
-    /// assert_eq!(DateTime::parse_str("2020-02-29T12:13:14Z")?.to_string(), "2020-02-29T12:13:14Z");
-    /// assert_eq!(DateTime::parse_str("1582978394.5")?.to_string(), "2020-02-29T12:13:14.500000");
-    /// # Ok::<(), speedate::ParseError>(())
+    /// assert_eq!(DateTime::parse_str("2020-02-29T12:13:14Z").unwrap().to_string(), "2020-02-29T12:13:14Z");
+    /// assert_eq!(DateTime::parse_str("1582978394.5").unwrap().to_string(), "2020-02-29T12:13:14.500000");
     /// ```
-    #[inline]
     pub fn parse_str(str: &str) -> Result<Self, ParseError> {
         Self::parse_bytes(str.as_bytes())
     }
 
     /// [`parse_str`](Self::parse_str) with a configuration.
-    #[inline]
     pub fn parse_str_with_config(str: &str, config: &DateTimeConfig) -> Result<Self, ParseError> {
         Self::parse_bytes_with_config(str.as_bytes(), config)
     }
 
     /// [`parse_str_rfc3339`](Self::parse_str_rfc3339) of bytes.
-    #[inline]
     pub fn parse_bytes_rfc3339(bytes: &[u8]) -> Result<Self, ParseError> {
         Self::parse_bytes_rfc3339_with_config(bytes, &TimeConfig::default())
     }
 
     /// [`parse_str_rfc3339`](Self::parse_str_rfc3339) of bytes, with a configuration, of which the behavior alone matters.
-    #[inline]
     pub fn parse_bytes_rfc3339_with_config(bytes: &[u8], config: &TimeConfig) -> Result<Self, ParseError> {
-        Ok(ffi::speedate_datetime_parse_rfc3339(bytes, config.into())?)
+        Ok(ffi::speedate_datetime_parse_rfc3339(bytes, config)?)
     }
 
     /// [`parse_str`](Self::parse_str) of bytes.
-    #[inline]
     pub fn parse_bytes(bytes: &[u8]) -> Result<Self, ParseError> {
         Self::parse_bytes_with_config(bytes, &DateTimeConfig::default())
     }
 
     /// [`parse_str`](Self::parse_str) of bytes, with a configuration.
-    #[inline]
     pub fn parse_bytes_with_config(bytes: &[u8], config: &DateTimeConfig) -> Result<Self, ParseError> {
-        Ok(ffi::speedate_datetime_parse(bytes, config.into())?)
+        Ok(ffi::speedate_datetime_parse(bytes, config)?)
     }
 
     /// The date-time of an input, if that is RFC 3339 alone. A second 60 is refused.
@@ -138,7 +125,6 @@ impl DateTime {
     /// let error = DateTime::parse_bytes_strict(b"2020-02-29 12:13:14Z", Behavior::Error).unwrap_err();
     /// assert_eq!(error, ParseError::InvalidCharDateTimeSep);
     /// ```
-    #[inline]
     pub fn parse_bytes_strict(
         bytes: &[u8],
         behavior: MicrosecondsPrecisionOverflowBehavior,
@@ -152,23 +138,20 @@ impl DateTime {
     /// ```
     /// use speedate::{DateTime, TimeConfig};
     ///
-    /// let (value, size) = DateTime::parse_front(b"2026-11-22T12:13:14Z GET /", &TimeConfig::default())?;
+    /// let (value, size) = DateTime::parse_front(b"2026-11-22T12:13:14Z GET /", &TimeConfig::default()).unwrap();
     /// assert_eq!((value.to_string().as_str(), size), ("2026-11-22T12:13:14Z", 20));
-    /// # Ok::<(), speedate::ParseError>(())
     /// ```
-    #[inline]
     pub fn parse_front(bytes: &[u8], config: &TimeConfig) -> Result<(Self, usize), ParseError> {
-        Ok(ffi::speedate_datetime_parse_front(bytes, config.into())?)
+        Ok(ffi::speedate_datetime_parse_front(bytes, config)?)
     }
 
     /// [`from_timestamp`](Self::from_timestamp), in the unit and with the offset of a configuration.
-    #[inline]
     pub fn from_timestamp_with_config(
         timestamp: i64,
         timestamp_microsecond: u32,
         config: &DateTimeConfig,
     ) -> Result<Self, ParseError> {
-        Ok(ffi::speedate_datetime_from_timestamp(timestamp, timestamp_microsecond, config.into())?)
+        Ok(ffi::speedate_datetime_from_timestamp(timestamp, timestamp_microsecond, config)?)
     }
 
     /// The date-time of a timestamp in the unit and with the offset of a configuration, to the nearest microsecond; of two
@@ -177,9 +160,8 @@ impl DateTime {
     /// ```
     /// use speedate::{DateTime, DateTimeConfig};
     ///
-    /// let value = DateTime::from_float_with_config(1_582_978_394.5, &DateTimeConfig::default())?;
+    /// let value = DateTime::from_float_with_config(1_582_978_394.5, &DateTimeConfig::default()).unwrap();
     /// assert_eq!(value.to_string(), "2020-02-29T12:13:14.500000");
-    /// # Ok::<(), speedate::ParseError>(())
     /// ```
     pub fn from_float_with_config(timestamp: f64, mode: &DateTimeConfig) -> Result<Self, ParseError> {
         let microseconds = match mode.timestamp_unit {
@@ -199,10 +181,8 @@ impl DateTime {
     /// ```
     /// use speedate::DateTime;
     ///
-    /// assert_eq!(DateTime::from_timestamp(1_582_978_394, 123)?.to_string(), "2020-02-29T12:13:14.000123");
-    /// # Ok::<(), speedate::ParseError>(())
+    /// assert_eq!(DateTime::from_timestamp(1_582_978_394, 123).unwrap().to_string(), "2020-02-29T12:13:14.000123");
     /// ```
-    #[inline]
     pub fn from_timestamp(timestamp: i64, timestamp_microsecond: u32) -> Result<Self, ParseError> {
         Self::from_timestamp_with_config(timestamp, timestamp_microsecond, &DateTimeConfig::default())
     }
@@ -212,13 +192,12 @@ impl DateTime {
     /// ```
     /// use speedate::DateTime;
     ///
-    /// assert_eq!(DateTime::now(3_600)?.time.tz_offset, Some(3_600));
-    /// # Ok::<(), speedate::ParseError>(())
+    /// assert_eq!(DateTime::now(3_600).unwrap().time.tz_offset, Some(3_600));
     /// ```
     #[cfg(feature = "std")]
     pub fn now(tz_offset: i32) -> Result<Self, ParseError> {
         let since = SystemTime::UNIX_EPOCH.elapsed().map_err(|_| ParseError::SystemTimeError)?;
-        let second = since.as_secs().try_into().map_err(|_| ParseError::DateTooLarge)?;
+        let second = i64::try_from(since.as_secs()).map_err(|_| ParseError::DateTooLarge)?;
         let config = Config::default().unit(TimestampUnit::Second).offset(Some(0));
         let now: Self = ffi::speedate_datetime_from_timestamp(second, since.subsec_micros(), config)?;
         now.in_timezone(tz_offset)
@@ -229,11 +208,9 @@ impl DateTime {
     /// ```
     /// use speedate::DateTime;
     ///
-    /// let value = DateTime::parse_str("2020-02-29T12:13:14Z")?;
-    /// assert_eq!(value.with_timezone_offset(Some(-8 * 3_600))?.to_string(), "2020-02-29T12:13:14-08:00");
-    /// # Ok::<(), speedate::ParseError>(())
+    /// let value = DateTime::parse_str("2020-02-29T12:13:14Z").unwrap();
+    /// assert_eq!(value.with_timezone_offset(Some(-8 * 3_600)).unwrap().to_string(), "2020-02-29T12:13:14-08:00");
     /// ```
-    #[inline]
     pub fn with_timezone_offset(&self, tz_offset: Option<i32>) -> Result<Self, ParseError> {
         let value = Self { time: Time { tz_offset, ..self.time }, ..*self };
         value.check()?;
@@ -246,11 +223,9 @@ impl DateTime {
     /// ```
     /// use speedate::DateTime;
     ///
-    /// let value = DateTime::parse_str("2020-02-29T23:00:00Z")?;
-    /// assert_eq!(value.in_timezone(7_200)?.to_string(), "2020-03-01T01:00:00+02:00");
-    /// # Ok::<(), speedate::ParseError>(())
+    /// let value = DateTime::parse_str("2020-02-29T23:00:00Z").unwrap();
+    /// assert_eq!(value.in_timezone(7_200).unwrap().to_string(), "2020-03-01T01:00:00+02:00");
     /// ```
-    #[inline]
     pub fn in_timezone(&self, tz_offset: i32) -> Result<Self, ParseError> {
         self.checked(ffi::speedate_datetime_in_timezone(self, tz_offset))
     }
@@ -259,16 +234,13 @@ impl DateTime {
     /// range it panics.
     ///
     /// ```
-    /// assert_eq!(speedate::DateTime::parse_str("1970-01-02T00:00+01:00")?.timestamp(), 86_400);
-    /// # Ok::<(), speedate::ParseError>(())
+    /// assert_eq!(speedate::DateTime::parse_str("1970-01-02T00:00+01:00").unwrap().timestamp(), 86_400);
     /// ```
-    #[inline]
     pub fn timestamp(&self) -> i64 {
         self.total(ffi::speedate_datetime_timestamp(self))
     }
 
     /// [`timestamp`](Self::timestamp) in milliseconds, rounded down.
-    #[inline]
     pub fn timestamp_ms(&self) -> i64 {
         self.total(ffi::speedate_datetime_timestamp_ms(self))
     }
@@ -277,23 +249,19 @@ impl DateTime {
     /// date-time out of range it panics.
     ///
     /// ```
-    /// assert_eq!(speedate::DateTime::parse_str("1970-01-02T00:00+01:00")?.timestamp_tz(), 82_800);
-    /// # Ok::<(), speedate::ParseError>(())
+    /// assert_eq!(speedate::DateTime::parse_str("1970-01-02T00:00+01:00").unwrap().timestamp_tz(), 82_800);
     /// ```
-    #[inline]
     pub fn timestamp_tz(&self) -> i64 {
         self.total(ffi::speedate_datetime_timestamp_tz(self))
     }
 
     /// [`timestamp_tz`](Self::timestamp_tz) in milliseconds, rounded down.
-    #[inline]
     pub fn timestamp_tz_ms(&self) -> i64 {
         self.total(ffi::speedate_datetime_timestamp_tz_ms(self))
     }
 }
 
 impl From<&DateTimeConfig> for Config {
-    #[inline]
     fn from(config: &DateTimeConfig) -> Self {
         Self::from(&config.time_config).unit(config.timestamp_unit).offset(config.time_config.unix_timestamp_offset)
     }

@@ -14,10 +14,9 @@ use crate::{DateTime, ParseError, TimeConfig};
 /// ```
 /// use speedate::Duration;
 ///
-/// let duration: Duration = "P1DT90M".parse()?;
+/// let duration: Duration = "P1DT90M".parse().unwrap();
 /// assert_eq!(duration, Duration { positive: true, day: 1, second: 5_400, microsecond: 0 });
 /// assert_eq!(duration.to_string(), "P1DT1H30M");
-/// # Ok::<(), speedate::ParseError>(())
 /// ```
 #[derive(Debug, PartialEq, Eq, Clone)]
 pub struct Duration {
@@ -33,7 +32,7 @@ pub struct Duration {
 
 impl Value for Duration {
     fn check(&self) -> Result<(), ParseError> {
-        Ok(ffi::speedate_duration_check(self)?)
+        ffi::speedate_duration_check(self)
     }
 
     /// Second and microsecond have one error.
@@ -57,7 +56,6 @@ impl fmt::Display for Duration {
 impl FromStr for Duration {
     type Err = ParseError;
 
-    #[inline]
     fn from_str(s: &str) -> Result<Self, Self::Err> {
         Self::parse_str(s)
     }
@@ -69,10 +67,8 @@ impl PartialOrd for Duration {
     /// ```
     /// use speedate::Duration;
     ///
-    /// assert!(Duration::parse_str("-P2D")? < Duration::parse_str("-P1D")?);
-    /// # Ok::<(), speedate::ParseError>(())
+    /// assert!(Duration::parse_str("-P2D").unwrap() < Duration::parse_str("-P1D").unwrap());
     /// ```
-    #[inline]
     fn partial_cmp(&self, other: &Self) -> Option<Ordering> {
         ffi::speedate_duration_compare(self, other).ok()
     }
@@ -85,10 +81,8 @@ impl Duration {
     /// use speedate::Duration;
     ///
     /// let duration = Duration { positive: false, day: 2, second: 101, microsecond: 123 };
-    /// assert_eq!(Duration::new(false, 1, 86_500, 1_000_123)?, duration);
-    /// # Ok::<(), speedate::ParseError>(())
+    /// assert_eq!(Duration::new(false, 1, 86_500, 1_000_123).unwrap(), duration);
     /// ```
-    #[inline]
     pub fn new(positive: bool, day: u32, second: u32, microsecond: u32) -> Result<Self, ParseError> {
         Ok(ffi::speedate_duration_normalize(&Self { positive, day, second, microsecond })?)
     }
@@ -98,26 +92,22 @@ impl Duration {
     /// ```
     /// use speedate::{Duration, ParseError};
     ///
-    /// assert_eq!(Duration::parse_str("P1YT2.1S")?.to_string(), "P1YT2.1S");
-    /// assert_eq!(Duration::parse_str("2 days, 10:20")?.to_string(), "P2DT10H20M");
+    /// assert_eq!(Duration::parse_str("P1YT2.1S").unwrap().to_string(), "P1YT2.1S");
+    /// assert_eq!(Duration::parse_str("2 days, 10:20").unwrap().to_string(), "P2DT10H20M");
     /// assert_eq!(Duration::parse_str("P1"), Err(ParseError::DurationInvalidDateUnit));
-    /// # Ok::<(), ParseError>(())
     /// ```
-    #[inline]
     pub fn parse_str(str: &str) -> Result<Self, ParseError> {
         Self::parse_bytes(str.as_bytes())
     }
 
     /// [`parse_str`](Self::parse_str) of bytes.
-    #[inline]
     pub fn parse_bytes(bytes: &[u8]) -> Result<Self, ParseError> {
         Self::parse_bytes_with_config(bytes, &TimeConfig::default())
     }
 
     /// [`parse_str`](Self::parse_str) of bytes, with a configuration, of which the behavior alone matters.
-    #[inline]
     pub fn parse_bytes_with_config(bytes: &[u8], config: &TimeConfig) -> Result<Self, ParseError> {
-        Ok(ffi::speedate_duration_parse(bytes, config.into())?)
+        Ok(ffi::speedate_duration_parse(bytes, config)?)
     }
 
     /// The duration from one date-time to another, by their instants; it is negative if the other is the earlier one. A
@@ -127,10 +117,8 @@ impl Duration {
     /// use speedate::{DateTime, Duration};
     ///
     /// let [start, end] = ["2020-02-29T23:00:00Z", "2020-03-01T01:30:00+01:00"].map(DateTime::parse_str);
-    /// assert_eq!(Duration::between(&start?, &end?).to_string(), "PT1H30M");
-    /// # Ok::<(), speedate::ParseError>(())
+    /// assert_eq!(Duration::between(&start.unwrap(), &end.unwrap()).to_string(), "PT1H30M");
     /// ```
-    #[inline]
     pub fn between(earlier: &DateTime, later: &DateTime) -> Self {
         (earlier, later).total(ffi::speedate_duration_between(earlier, later))
     }
@@ -140,17 +128,14 @@ impl Duration {
     /// ```
     /// use speedate::{DateTime, Duration};
     ///
-    /// let start = DateTime::parse_str("2020-02-29T23:00:00Z")?;
-    /// assert_eq!(Duration::parse_str("PT90M")?.after(&start)?.to_string(), "2020-03-01T00:30:00Z");
-    /// # Ok::<(), speedate::ParseError>(())
+    /// let start = DateTime::parse_str("2020-02-29T23:00:00Z").unwrap();
+    /// assert_eq!(Duration::parse_str("PT90M").unwrap().after(&start).unwrap().to_string(), "2020-03-01T00:30:00Z");
     /// ```
-    #[inline]
     pub fn after(&self, start: &DateTime) -> Result<DateTime, ParseError> {
         (self, start).checked(ffi::speedate_duration_after(self, start))
     }
 
     /// The date-time that is this duration before another, at its offset. What is out of range is refused.
-    #[inline]
     pub fn before(&self, start: &DateTime) -> Result<DateTime, ParseError> {
         (self, start).checked(ffi::speedate_duration_before(self, start))
     }
@@ -158,22 +143,18 @@ impl Duration {
     /// The whole seconds, cut toward zero, with the sign. Of a duration out of range it panics.
     ///
     /// ```
-    /// assert_eq!(speedate::Duration::parse_str("-P1DT1.5S")?.signed_total_seconds(), -86_401);
-    /// # Ok::<(), speedate::ParseError>(())
+    /// assert_eq!(speedate::Duration::parse_str("-P1DT1.5S").unwrap().signed_total_seconds(), -86_401);
     /// ```
-    #[inline]
     pub fn signed_total_seconds(&self) -> i64 {
         self.total(ffi::speedate_duration_signed_total_seconds(self))
     }
 
     /// The whole milliseconds, cut toward zero, with the sign. Of a duration out of range it panics.
-    #[inline]
     pub fn signed_total_ms(&self) -> i64 {
         self.total(ffi::speedate_duration_signed_total_ms(self))
     }
 
     /// The microseconds that the whole seconds leave, with the sign. Of a duration out of range it panics.
-    #[inline]
     pub fn signed_microseconds(&self) -> i32 {
         self.total(ffi::speedate_duration_signed_microseconds(self))
     }

@@ -34,7 +34,6 @@ macro_rules! parse_errors {
             }
 
             /// The error that has this number in `c/speedate.h`.
-            #[inline]
             pub(crate) fn numbered(number: i32) -> Option<Self> {
                 match number {
                     $($number => Some(Self::$variant),)*

@@ -11,7 +11,6 @@ pub fn int_parse_str(s: &str) -> Option<i64> {
 }
 
 /// [`int_parse_str`] of bytes.
-#[inline]
 pub fn int_parse_bytes(s: &[u8]) -> Option<i64> {
     speedate_int_parse(s).ok()
 }

@@ -14,10 +14,9 @@ use crate::{ConfigError, ParseError, TimeConfig};
 /// ```
 /// use speedate::Time;
 ///
-/// let time: Time = "12:13:14.5+01:30".parse()?;
+/// let time: Time = "12:13:14.5+01:30".parse().unwrap();
 /// assert_eq!(time, Time { hour: 12, minute: 13, second: 14, microsecond: 500_000, tz_offset: Some(5_400) });
 /// assert_eq!(time.to_string(), "12:13:14.500000+01:30");
-/// # Ok::<(), speedate::ParseError>(())
 /// ```
 #[derive(Debug, PartialEq, Eq, Clone, Copy)]
 pub struct Time {
@@ -35,7 +34,7 @@ pub struct Time {
 
 impl Value for Time {
     fn check(&self) -> Result<(), ParseError> {
-        Ok(ffi::speedate_time_check(self)?)
+        ffi::speedate_time_check(self)
     }
 }
 
@@ -50,7 +49,6 @@ impl fmt::Display for Time {
 impl FromStr for Time {
     type Err = ParseError;
 
-    #[inline]
     fn from_str(s: &str) -> Result<Self, Self::Err> {
         Self::parse_str(s)
     }
@@ -63,10 +61,8 @@ impl PartialOrd for Time {
     /// ```
     /// use speedate::Time;
     ///
-    /// assert!(Time::parse_str("15:00:00Z")? > Time::parse_str("15:00:00+01:00")?);
-    /// # Ok::<(), speedate::ParseError>(())
+    /// assert!(Time::parse_str("15:00:00Z").unwrap() > Time::parse_str("15:00:00+01:00").unwrap());
     /// ```
-    #[inline]
     fn partial_cmp(&self, other: &Self) -> Option<Ordering> {
         ffi::speedate_time_compare(self, other).ok()
     }
@@ -78,25 +74,21 @@ impl Time {
     /// ```
     /// use speedate::{ParseError, Time};
     ///
-    /// assert_eq!(Time::parse_str("12:13:14Z")?.tz_offset, Some(0));
+    /// assert_eq!(Time::parse_str("12:13:14Z").unwrap().tz_offset, Some(0));
     /// assert_eq!(Time::parse_str("24:00"), Err(ParseError::OutOfRangeHour));
-    /// # Ok::<(), ParseError>(())
     /// ```
-    #[inline]
     pub fn parse_str(str: &str) -> Result<Self, ParseError> {
         Self::parse_bytes(str.as_bytes())
     }
 
     /// [`parse_str`](Self::parse_str) of bytes.
-    #[inline]
     pub fn parse_bytes(bytes: &[u8]) -> Result<Self, ParseError> {
         Self::parse_bytes_with_config(bytes, &TimeConfig::default())
     }
 
     /// [`parse_str`](Self::parse_str) of bytes, with a configuration, of which the behavior alone matters.
-    #[inline]
     pub fn parse_bytes_with_config(bytes: &[u8], config: &TimeConfig) -> Result<Self, ParseError> {
-        Ok(ffi::speedate_time_parse(bytes, config.into())?)
+        Ok(ffi::speedate_time_parse(bytes, config)?)
     }
 
     /// The time of an input, if that is RFC 3339 alone. A second 60 is refused.
@@ -104,11 +96,9 @@ impl Time {
     /// ```
     /// use speedate::{MicrosecondsPrecisionOverflowBehavior as Behavior, ParseError, Time};
     ///
-    /// assert_eq!(Time::parse_bytes_strict(b"12:13:14Z", Behavior::Error)?.second, 14);
+    /// assert_eq!(Time::parse_bytes_strict(b"12:13:14Z", Behavior::Error).unwrap().second, 14);
     /// assert_eq!(Time::parse_bytes_strict(b"12:13:14", Behavior::Error), Err(ParseError::TzRequired));
-    /// # Ok::<(), ParseError>(())
     /// ```
-    #[inline]
     pub fn parse_bytes_strict(
         bytes: &[u8],
         behavior: MicrosecondsPrecisionOverflowBehavior,
@@ -121,13 +111,11 @@ impl Time {
     /// ```
     /// use speedate::{Time, TimeConfig};
     ///
-    /// let (time, size) = Time::parse_front(b"12:13:14Z GET /", &TimeConfig::default())?;
+    /// let (time, size) = Time::parse_front(b"12:13:14Z GET /", &TimeConfig::default()).unwrap();
     /// assert_eq!((time.to_string().as_str(), size), ("12:13:14Z", 9));
-    /// # Ok::<(), speedate::ParseError>(())
     /// ```
-    #[inline]
     pub fn parse_front(bytes: &[u8], config: &TimeConfig) -> Result<(Self, usize), ParseError> {
-        Ok(ffi::speedate_time_parse_front(bytes, config.into())?)
+        Ok(ffi::speedate_time_parse_front(bytes, config)?)
     }
 
     /// The time so many seconds and microseconds after midnight, on the same day.
@@ -135,17 +123,14 @@ impl Time {
     /// ```
     /// use speedate::{ParseError, Time};
     ///
-    /// assert_eq!(Time::from_timestamp(3_740, 123)?.to_string(), "01:02:20.000123");
+    /// assert_eq!(Time::from_timestamp(3_740, 123).unwrap().to_string(), "01:02:20.000123");
     /// assert_eq!(Time::from_timestamp(86_400, 0), Err(ParseError::TimeTooLarge));
-    /// # Ok::<(), ParseError>(())
     /// ```
-    #[inline]
     pub fn from_timestamp(timestamp_second: u32, timestamp_microsecond: u32) -> Result<Self, ParseError> {
         Self::from_timestamp_with_config(timestamp_second, timestamp_microsecond, &TimeConfig::default())
     }
 
     /// [`from_timestamp`](Self::from_timestamp), with the offset of a configuration.
-    #[inline]
     pub fn from_timestamp_with_config(
         timestamp_second: u32,
         timestamp_microsecond: u32,
@@ -158,16 +143,13 @@ impl Time {
     /// The seconds since midnight, whatever the offset. Of a time out of range it panics.
     ///
     /// ```
-    /// assert_eq!(speedate::Time::parse_str("01:02:20.5")?.total_seconds(), 3_740);
-    /// # Ok::<(), speedate::ParseError>(())
+    /// assert_eq!(speedate::Time::parse_str("01:02:20.5").unwrap().total_seconds(), 3_740);
     /// ```
-    #[inline]
     pub fn total_seconds(&self) -> u32 {
         self.total(ffi::speedate_time_total_seconds(self))
     }
 
     /// The milliseconds since midnight, rounded down, whatever the offset. Of a time out of range it panics.
-    #[inline]
     pub fn total_ms(&self) -> u32 {
         self.total(ffi::speedate_time_total_ms(self))
     }
@@ -177,11 +159,9 @@ impl Time {
     /// ```
     /// use speedate::Time;
     ///
-    /// let time = Time::parse_str("12:13:14Z")?;
-    /// assert_eq!(time.with_timezone_offset(Some(-8 * 3_600))?.to_string(), "12:13:14-08:00");
-    /// # Ok::<(), speedate::ParseError>(())
+    /// let time = Time::parse_str("12:13:14Z").unwrap();
+    /// assert_eq!(time.with_timezone_offset(Some(-8 * 3_600)).unwrap().to_string(), "12:13:14-08:00");
     /// ```
-    #[inline]
     pub fn with_timezone_offset(&self, tz_offset: Option<i32>) -> Result<Self, ParseError> {
         let time = Self { tz_offset, ..*self };
         time.check()?;
@@ -194,18 +174,15 @@ impl Time {
     /// ```
     /// use speedate::Time;
     ///
-    /// let time = Time::parse_str("15:00:00Z")?;
-    /// assert_eq!(time.in_timezone(7_200)?.to_string(), "17:00:00+02:00");
-    /// # Ok::<(), speedate::ParseError>(())
+    /// let time = Time::parse_str("15:00:00Z").unwrap();
+    /// assert_eq!(time.in_timezone(7_200).unwrap().to_string(), "17:00:00+02:00");
     /// ```
-    #[inline]
     pub fn in_timezone(&self, tz_offset: i32) -> Result<Self, ParseError> {
         self.checked(ffi::speedate_time_in_timezone(self, tz_offset))
     }
 }
 
 impl From<&TimeConfig> for Config {
-    #[inline]
     fn from(config: &TimeConfig) -> Self {
         Self::default().behavior(config.microseconds_precision_overflow_behavior)
     }

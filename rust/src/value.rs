@@ -24,7 +24,6 @@ pub(crate) trait Value: Debug {
     }
 
     /// The answer of a call that can refuse: a value out of range has the error of its field.
-    #[inline]
     fn checked<T>(&self, answer: Result<T, Code>) -> Result<T, ParseError> {
         answer.map_err(|code| match code {
             Code::VALUE_OUT_OF_RANGE => self.check().expect_err("the call found a field out of range"),
@@ -33,7 +32,6 @@ pub(crate) trait Value: Debug {
     }
 
     /// The answer of a call that refuses nothing but a value out of range.
-    #[inline]
     fn total<T>(&self, answer: Result<T, Code>) -> T {
         answer.unwrap_or_else(|_| out_of_range(self))
     }
