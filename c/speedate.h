@@ -140,7 +140,8 @@ enum SpeedateCode {
 
     /* From 101 on: mistakes of the caller. */
 
-    /* A value that was passed is out of range, such as month 13 or a flag of 2; or a number is not a code. */
+    /* A value that was passed is out of range, such as month 13 or a flag of 2; or a number is not a code, or a text
+     * not a whole number. */
     SPEEDATE_VALUE_OUT_OF_RANGE = 101,
     /* A field of the configuration is out of range. */
     SPEEDATE_CONFIG_OUT_OF_RANGE = 102,
@@ -465,6 +466,12 @@ int speedate_duration_between_dates(SpeedateDate earlier, SpeedateDate later, Sp
  * days, and SPEEDATE_DATE_TOO_SMALL or SPEEDATE_DATE_TOO_LARGE if the date is outside the years 0000 to 9999. */
 int speedate_duration_after_date(SpeedateDuration duration, SpeedateDate start, SpeedateDate *out);
 int speedate_duration_before_date(SpeedateDuration duration, SpeedateDate start, SpeedateDate *out);
+
+/* ---- Numbers ---- */
+
+/* Reads a whole number, "-012": one optional + or - and one or more digits. Any other text, and a number that does not
+ * fit 64 bits, fails with SPEEDATE_VALUE_OUT_OF_RANGE. */
+int speedate_int_parse(const char *text, size_t size, int64_t *out);
 
 #ifdef __cplusplus
 }

@@ -291,6 +291,8 @@ static int run_text(const char *text, size_t size) {
         WRITES(SpeedateDate, say_date, speedate_date_parse_rfc3339(text, size, out))
     if (is_call("date_parse_front"))
         WRITES_FRONT(SpeedateDate, say_date, speedate_date_parse_front(text, size, out, taken))
+    if (is_call("int_parse"))
+        WRITES(int64_t, say_number, speedate_int_parse(text, size, out))
     PARSE(SpeedateDate, say_date, date_parse)
     PARSE(SpeedateTime, say_time, time_parse)
     PARSE(SpeedateTime, say_time, time_parse_strict)

@@ -95,7 +95,7 @@ for (const row of readFileSync(process.argv[2], "utf8").split("\n").filter((it) 
   const [, how] = /^parse(|_rfc3339|_strict|_front)$/.exec(name) ?? [];
   const at = fields.findIndex((it) => /^(ok|[a-z]+_[a-z_]+)$/.test(it));
   const [args, [code, written, size]] = [fields.slice(0, at), fields.slice(at)];
-  if ((how === undefined && !(kind in KINDS && name in CALLS)) || LEFT_OUT.test(`${call} ${code}`)) {
+  if (!(kind in KINDS && (how !== undefined || name in CALLS)) || LEFT_OUT.test(`${call} ${code}`)) {
     left[call] = (left[call] ?? 0) + 1;
     continue;
   }

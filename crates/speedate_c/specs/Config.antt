@@ -1,6 +1,6 @@
 -- What a configuration from outside says. Each choice is a number: the place of its value in a list.
 use Rattle.std.specs.Prelude.{ℕ, ◌==◌, nat_le, Bool, false, true, ℤ, List, [], ◌∷◌, slice_get, Option, Some, None, Result, Ok, if◌then◌else◌}
-use Rattle.std.specs.Option.{option_and_then}
+use Rattle.std.specs.Option.{option_and_then, option_map}
 use Rattle.std.specs.Result.{result_ok}
 use Rattle.speedate.specs.Config.{Choices}
 use Rattle.speedate.specs.declared.IsoOrder.{IsoOrder}
@@ -12,7 +12,7 @@ use Rattle.speedate.specs.declared.ParseError.TheVariants as fault
 use Rattle.speedate.specs.declared.TimestampUnit.{TimestampUnit}
 use Rattle.speedate.specs.declared.TimestampUnit.TheVariants as unit
 use Rattle.speedate.specs.Offset.{offset_table}
-use Rattle.speedate.specs.Requirement.{◌else_fault◌, meets}
+use Rattle.speedate.specs.Requirement.{◌else_fault◌, meets, result_and_then}
 use Rattle.speedate_c.specs.declared.config.SpeedateConfig.{SpeedateConfig}
 
 -- the values in the order of their numbers, the default first
@@ -29,23 +29,31 @@ orders = order.Lax ∷ order.Strict ∷ []
 abbrev pub flags : List Bool
 flags = false ∷ true ∷ []
 
--- an offset by its flag and its seconds: none where the flag is 0, whatever the seconds
-abbrev pub offset_by_flag : ℕ → ℤ → Option ℤ
-offset_by_flag flag seconds = if flag == 0 then None else Some seconds
+-- an offset by its flag and its seconds, of any size: none where the flag is 0, whatever the seconds
+abbrev pub offset_by_flag : ℕ → ℤ → Result (Option ℤ) ParseError
+offset_by_flag flag seconds =
+    meets ((nat_le flag 1 else_fault fault.OutOfRangeTz) ∷ []) (Ok (if flag == 0 then None else Some seconds))
 
 -- and what both have to meet
 abbrev pub offset_answer : ℕ → ℤ → Result (Option ℤ) ParseError
-offset_answer flag seconds =
-    meets ((nat_le flag 1 else_fault fault.OutOfRangeTz) ∷ offset_table (offset_by_flag flag seconds)) (Ok (offset_by_flag flag seconds))
+offset_answer flag seconds = result_and_then (λ offset. meets (offset_table offset) (Ok offset)) (offset_by_flag flag seconds)
 
--- what a configuration from outside chooses, where each of its numbers has a value
-abbrev pub choices_of : SpeedateConfig → Option Choices
-choices_of config =
-    option_and_then (λ unit.
+-- what a configuration from outside chooses for times, where each of these numbers has a value
+abbrev pub time_choices_of : SpeedateConfig → Option Choices
+time_choices_of config =
     option_and_then (λ behavior.
     option_and_then (λ order.
-    option_and_then (λ offset. Some (record { unit = unit; behavior = behavior; order = order; offset = offset }))
+    option_map (λ offset. record { unit = unit.Infer; behavior = behavior; order = order; offset = offset })
     (result_ok (offset_answer config.has_timestamp_offset config.timestamp_offset)))
     (slice_get orders config.iso_order))
-    (slice_get behaviors config.overflow_behavior))
+    (slice_get behaviors config.overflow_behavior)
+
+-- the same with a unit
+abbrev pub with_unit : TimestampUnit → Choices → Choices
+with_unit unit chosen = record { unit = unit; behavior = chosen.behavior; order = chosen.order; offset = chosen.offset }
+
+-- what it chooses for date-times, where each of its numbers has a value
+abbrev pub choices_of : SpeedateConfig → Option Choices
+choices_of config =
+    option_and_then (λ unit. option_map (with_unit unit) (time_choices_of config))
     (slice_get units config.timestamp_unit)

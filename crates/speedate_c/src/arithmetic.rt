@@ -21,7 +21,8 @@ pub extern "C" fn speedate_duration_between(
     later: SpeedateDateTime,
     out: &mut SpeedateDuration,
 ) -> i32
-    ensures answer { (result, out.new) ≡ with_value (date_time_of earlier) (value_out_of_range, out.old)
+    ensures answer { (result, out.new)
+        ≡ with_value (date_time_of earlier) (value_out_of_range, out.old)
         (λ earlier. with_value (date_time_of later) (value_out_of_range, out.old)
         (λ later. after_value (shown_duration (duration_between earlier later)))) }
 {
@@ -39,9 +40,11 @@ pub extern "C" fn speedate_duration_after(
     start: SpeedateDateTime,
     out: &mut SpeedateDateTime,
 ) -> i32
-    ensures answer { (result, out.new) ≡ with_value (duration_of duration) (value_out_of_range, out.old)
+    ensures answer { (result, out.new)
+        ≡ with_value (duration_of duration) (value_out_of_range, out.old)
         (λ duration. with_value (date_time_of start) (value_out_of_range, out.old)
-        (λ start. after_answer shown_date_time out.old (date_time_after (signed_amount duration) start))) }
+        (λ start. after_answer shown_date_time out.old
+        (date_time_after (signed_amount duration) start))) }
 {
     let duration = value_or_return!(duration);
     let start = value_or_return!(start);
@@ -57,9 +60,11 @@ pub extern "C" fn speedate_duration_before(
     start: SpeedateDateTime,
     out: &mut SpeedateDateTime,
 ) -> i32
-    ensures answer { (result, out.new) ≡ with_value (duration_of duration) (value_out_of_range, out.old)
+    ensures answer { (result, out.new)
+        ≡ with_value (duration_of duration) (value_out_of_range, out.old)
         (λ duration. with_value (date_time_of start) (value_out_of_range, out.old)
-        (λ start. after_answer shown_date_time out.old (date_time_after (neg_ℤ (signed_amount duration)) start))) }
+        (λ start. after_answer shown_date_time out.old
+        (date_time_after (neg_ℤ (signed_amount duration)) start))) }
 {
     let duration = value_or_return!(duration);
     let start = value_or_return!(start);
@@ -92,7 +97,8 @@ pub extern "C" fn speedate_duration_after_date(
     start: SpeedateDate,
     out: &mut SpeedateDate,
 ) -> i32
-    ensures answer { (result, out.new) ≡ with_value (duration_of duration) (value_out_of_range, out.old)
+    ensures answer { (result, out.new)
+        ≡ with_value (duration_of duration) (value_out_of_range, out.old)
         (λ duration. with_value (date_of start) (value_out_of_range, out.old)
         (λ start. after_answer shown_date out.old (date_after_days duration start))) }
 {
@@ -110,7 +116,8 @@ pub extern "C" fn speedate_duration_before_date(
     start: SpeedateDate,
     out: &mut SpeedateDate,
 ) -> i32
-    ensures answer { (result, out.new) ≡ with_value (duration_of duration) (value_out_of_range, out.old)
+    ensures answer { (result, out.new)
+        ≡ with_value (duration_of duration) (value_out_of_range, out.old)
         (λ duration. with_value (date_of start) (value_out_of_range, out.old)
         (λ start. after_answer shown_date out.old (date_after_days (negated duration) start))) }
 {
@@ -125,7 +132,8 @@ pub extern "C" fn speedate_duration_negate(
     duration: SpeedateDuration,
     out: &mut SpeedateDuration,
 ) -> i32
-    ensures answer { (result, out.new) ≡ with_value (duration_of duration) (value_out_of_range, out.old)
+    ensures answer { (result, out.new)
+        ≡ with_value (duration_of duration) (value_out_of_range, out.old)
         (λ duration. after_value (shown_duration (negated duration))) }
 {
     write_of!(duration => *out = SpeedateDuration::from_value(&duration.negated()))

@@ -1,14 +1,13 @@
 //! Configurations from outside.
 
-ghost use Rattle.std.specs.Option.{ForSome, option_map};
-ghost use Rattle.std.specs.Prelude.{◌≡◌, IfOk, IsTrue, Some, slice_get};
-ghost use Rattle.speedate.specs.Offset.{IsOffset};
-ghost use Rattle.speedate.specs.Config.{choices, default_choices};
-ghost use Rattle.speedate_c.specs.Config.{behaviors, choices_of, flags, offset_answer, orders, units};
+ghost use Rattle.std.specs.Option.{option_map};
+ghost use Rattle.std.specs.Prelude.{◌≡◌, IsTrue, Some, slice_get};
+ghost use Rattle.speedate.specs.Config.{choices, default_choices, time_choices};
+ghost use Rattle.speedate_c.specs.Config.{behaviors, choices_of, flags, offset_by_flag, orders, time_choices_of, units};
 
 use speedate::{
-    DateTimeConfig, IsoOrder, MicrosecondsPrecisionOverflowBehavior, ParseError, TimeConfig,
-    TimestampUnit,
+    DateConfig, DateTimeConfig, IsoOrder, MicrosecondsPrecisionOverflowBehavior, ParseError,
+    TimeConfig, TimestampUnit,
 };
 
 /// How texts and timestamps are read. In each field 0 stands for the default.
@@ -40,19 +39,37 @@ impl SpeedateConfig {
             && self.iso_order == 0
     }
 
-    /// The configuration, if each number has a value.
+    /// The configuration of date-times, if each number has a value.
     pub(crate) fn to_config(self) -> Option<DateTimeConfig>
         ensures choices { option_map choices result ≡ choices_of self }
     {
-        let offset = offset(self.has_timestamp_offset, self.timestamp_offset);
         Some(DateTimeConfig {
             timestamp_unit: unit(self.timestamp_unit)?,
-            time_config: TimeConfig {
-                microseconds_precision_overflow_behavior: behavior(self.overflow_behavior)?,
-                iso_order: order(self.iso_order)?,
-                unix_timestamp_offset: offset.ok()?,
-            },
+            time_config: self.to_time_config()?,
         })
+    }
+
+    /// The configuration of dates, if each number has a value: those that dates do not use too.
+    pub(crate) fn to_date_config(self) -> Option<DateConfig>
+        ensures unit { option_map (λ config. config.timestamp_unit) result
+            ≡ option_map (λ config. config.unit) (choices_of self) }
+    {
+        let timestamp_unit = unit(self.timestamp_unit)?;
+        self.to_time_config()?;
+        Some(DateConfig { timestamp_unit })
+    }
+
+    /// The configuration of times, if each number of it has a value.
+    fn to_time_config(self) -> Option<TimeConfig>
+        ensures choices { option_map time_choices result ≡ time_choices_of self }
+    {
+        let offset = offset(self.has_timestamp_offset, self.timestamp_offset).ok()?;
+        let builder = TimeConfig::builder()
+            .microseconds_precision_overflow_behavior(behavior(self.overflow_behavior)?)
+            .iso_order(order(self.iso_order)?)
+            .try_unix_timestamp_offset(offset)
+            .ok()?;
+        Some(builder.build())
     }
 }
 
@@ -102,15 +119,14 @@ pub(crate) fn flag(number: u8) -> Option<bool>
     }
 }
 
-/// An offset by its flag and its seconds: none if the flag is 0, whatever the seconds.
-/// `OutOfRangeTz` if the flag is neither 0 nor 1, or the offset is of 24 hours or more.
+/// An offset by its flag and its seconds, of any size: none if the flag is 0, whatever the seconds.
+/// `OutOfRangeTz` if the flag is neither 0 nor 1.
 pub(crate) fn offset(flag: u8, seconds: i32) -> Result<Option<i32>, ParseError>
-    ensures answer { result ≡ offset_answer flag seconds }
-    ensures range { IfOk result (λ offset. ForSome offset IsOffset) }
+    ensures answer { result ≡ offset_by_flag flag seconds }
 {
     match flag {
         0 => Ok(None),
-        1 if seconds.unsigned_abs() < 86_400 => Ok(Some(seconds)),
+        1 => Ok(Some(seconds)),
         _ => Err(ParseError::OutOfRangeTz),
     }
 }

@@ -13,7 +13,7 @@ ghost use Rattle.speedate_c.specs.Date.{date_of, shown_date};
 use crate::code::{NO_SUCH_DATE, SUCCESS, VALUE_OUT_OF_RANGE, order_number};
 use crate::config::{SpeedateConfig, flag};
 use crate::text::write_text;
-use speedate::{Date, DateConfig, ParseError};
+use speedate::{Date, ParseError};
 
 /// A date.
 #[repr(C)]
@@ -59,7 +59,8 @@ pub(crate) fn write_date(answer: Result<Date, ParseError>, out: &mut SpeedateDat
 
 /// Writes a date, if there is one, and gives the code.
 fn write_some(date: Option<Date>, out: &mut SpeedateDate) -> i32
-    ensures after { (result, out.new) ≡ after_optional_date shown_date out.old (option_map ymd date) }
+    ensures after { (result, out.new)
+        ≡ after_optional_date shown_date out.old (option_map ymd date) }
 {
     match date {
         Some(date) => {
@@ -72,7 +73,8 @@ fn write_some(date: Option<Date>, out: &mut SpeedateDate) -> i32
 
 /// Prints a date into a buffer, and gives the code.
 fn print_date(date: &Date, buffer: &mut [u8], text_length: &mut usize) -> i32
-    ensures after { (result, buffer.new, text_length.new) ≡ after_text (date_text (ymd date.now)) buffer.old text_length.old }
+    ensures after { (result, buffer.new, text_length.new)
+        ≡ after_text (date_text (ymd date.now)) buffer.old text_length.old }
     ensures room { 11 ≤ length buffer.old → result ≡ success }
 {
     write_text(date.to_text().as_str(), buffer, text_length)
@@ -88,13 +90,11 @@ pub extern "C" fn speedate_date_parse(
     config: SpeedateConfig,
     out: &mut SpeedateDate,
 ) -> i32
-    ensures answer { (result, out.new) ≡ with_option (choices_of config) (config_out_of_range, out.old)
+    ensures answer { (result, out.new)
+        ≡ with_option (choices_of config) (config_out_of_range, out.old)
         (λ config. after_answer shown_date out.old (date_or_timestamp config.unit text.now)) }
 {
-    let config = config_or_return!(config);
-    let config = DateConfig {
-        timestamp_unit: config.timestamp_unit,
-    };
+    let config = config_or_return!(config.to_date_config());
     write_date(Date::parse_bytes_with_config(text, &config), out)
 }
 
@@ -115,7 +115,8 @@ pub extern "C" fn speedate_date_parse_front(
     out: &mut SpeedateDate,
     size: &mut usize,
 ) -> i32
-    ensures answer { (result, out.new, size.new) ≡ after_front shown_date out.old size.old (date_front text.now) }
+    ensures answer { (result, out.new, size.new)
+        ≡ after_front shown_date out.old size.old (date_front text.now) }
 {
     let (date, count) = answer_or_return!(Date::parse_front(text));
     *out = SpeedateDate::from_value(&date);
@@ -141,7 +142,8 @@ pub extern "C" fn speedate_date_to_text(
     buffer: &mut [u8],
     text_length: &mut usize,
 ) -> i32
-    ensures answer { (result, buffer.new, text_length.new) ≡ with_value (date_of date) (value_out_of_range, buffer.old, text_length.old)
+    ensures answer { (result, buffer.new, text_length.new)
+        ≡ with_value (date_of date) (value_out_of_range, buffer.old, text_length.old)
         (λ date. after_text (date_text date) buffer.old text_length.old) }
     ensures room { 11 ≤ length buffer.old → result ≢ buffer_too_small }
 {
@@ -176,16 +178,15 @@ pub extern "C" fn speedate_date_from_timestamp(
     config: SpeedateConfig,
     out: &mut SpeedateDate,
 ) -> i32
-    ensures answer { (result, out.new) ≡ with_option (choices_of config) (config_out_of_range, out.old)
+    ensures answer { (result, out.new)
+        ≡ with_option (choices_of config) (config_out_of_range, out.old)
         (λ config. with_option (slice_get flags require_exact) (value_out_of_range, out.old)
-        (λ exact. after_answer shown_date out.old (date_timestamp_answer config.unit exact timestamp))) }
+        (λ exact. after_answer shown_date out.old
+        (date_timestamp_answer config.unit exact timestamp))) }
 {
-    let config = config_or_return!(config);
+    let config = config_or_return!(config.to_date_config());
     let Some(exact) = flag(require_exact) else {
         return VALUE_OUT_OF_RANGE;
-    };
-    let config = DateConfig {
-        timestamp_unit: config.timestamp_unit,
     };
     write_date(Date::from_timestamp(timestamp, exact, &config), out)
 }
@@ -223,7 +224,8 @@ pub extern "C" fn speedate_date_day_number(date: SpeedateDate, out: &mut u32) ->
 /// `NO_SUCH_DATE` if the number is over 3,652,424.
 #[unsafe(no_mangle)]
 pub extern "C" fn speedate_date_from_day_number(number: u32, out: &mut SpeedateDate) -> i32
-    ensures answer { (result, out.new) ≡ after_optional_date shown_date out.old (date_numbered number) }
+    ensures answer { (result, out.new)
+        ≡ after_optional_date shown_date out.old (date_numbered number) }
 {
     write_some(Date::from_day_number(number), out)
 }

@@ -54,7 +54,8 @@ pub(crate) fn write_date_time(
     answer: Result<DateTime, ParseError>,
     out: &mut SpeedateDateTime,
 ) -> i32
-    ensures after { (result, out.new) ≡ after_answer shown_date_time out.old (result_map date_and_time answer) }
+    ensures after { (result, out.new)
+        ≡ after_answer shown_date_time out.old (result_map date_and_time answer) }
 {
     let value = answer_or_return!(answer);
     *out = SpeedateDateTime::from_value(&value);
@@ -72,11 +73,12 @@ pub extern "C" fn speedate_datetime_parse(
     config: SpeedateConfig,
     out: &mut SpeedateDateTime,
 ) -> i32
-    ensures answer { (result, out.new) ≡ with_option (choices_of config) (config_out_of_range, out.old)
+    ensures answer { (result, out.new)
+        ≡ with_option (choices_of config) (config_out_of_range, out.old)
         (λ config. after_answer shown_date_time out.old
         (date_time_or_timestamp config.unit config.behavior config.offset text.now)) }
 {
-    let config = config_or_return!(config);
+    let config = config_or_return!(config.to_config());
     write_date_time(DateTime::parse_bytes_with_config(text, &config), out)
 }
 
@@ -89,10 +91,12 @@ pub extern "C" fn speedate_datetime_parse_rfc3339(
     config: SpeedateConfig,
     out: &mut SpeedateDateTime,
 ) -> i32
-    ensures answer { (result, out.new) ≡ with_option (choices_of config) (config_out_of_range, out.old)
-        (λ config. after_answer shown_date_time out.old (date_time_answer config.behavior text.now)) }
+    ensures answer { (result, out.new)
+        ≡ with_option (choices_of config) (config_out_of_range, out.old)
+        (λ config. after_answer shown_date_time out.old
+        (date_time_answer config.behavior text.now)) }
 {
-    let config = config_or_return!(config);
+    let config = config_or_return!(config.to_config());
     let answer = DateTime::parse_bytes_rfc3339_with_config(text, &config.time_config);
     write_date_time(answer, out)
 }
@@ -106,10 +110,12 @@ pub extern "C" fn speedate_datetime_parse_strict(
     config: SpeedateConfig,
     out: &mut SpeedateDateTime,
 ) -> i32
-    ensures answer { (result, out.new) ≡ with_option (choices_of config) (config_out_of_range, out.old)
-        (λ config. after_answer shown_date_time out.old (strict_date_time_answer config.behavior text.now)) }
+    ensures answer { (result, out.new)
+        ≡ with_option (choices_of config) (config_out_of_range, out.old)
+        (λ config. after_answer shown_date_time out.old
+        (strict_date_time_answer config.behavior text.now)) }
 {
-    let config = config_or_return!(config);
+    let config = config_or_return!(config.to_config());
     let behavior = config.time_config.microseconds_precision_overflow_behavior;
     write_date_time(DateTime::parse_bytes_strict(text, behavior), out)
 }
@@ -124,10 +130,12 @@ pub extern "C" fn speedate_datetime_parse_front(
     out: &mut SpeedateDateTime,
     size: &mut usize,
 ) -> i32
-    ensures answer { (result, out.new, size.new) ≡ with_option (choices_of config) (config_out_of_range, out.old, size.old)
-        (λ config. after_front shown_date_time out.old size.old (date_time_front config.behavior text.now)) }
+    ensures answer { (result, out.new, size.new)
+        ≡ with_option (choices_of config) (config_out_of_range, out.old, size.old)
+        (λ config. after_front shown_date_time out.old size.old
+        (date_time_front config.behavior text.now)) }
 {
-    let config = config_or_return!(config);
+    let config = config_or_return!(config.to_config());
     let (value, count) = answer_or_return!(DateTime::parse_front(text, &config.time_config));
     *out = SpeedateDateTime::from_value(&value);
     *size = count;
@@ -152,7 +160,8 @@ pub extern "C" fn speedate_datetime_to_text(
     buffer: &mut [u8],
     text_length: &mut usize,
 ) -> i32
-    ensures answer { (result, buffer.new, text_length.new) ≡ with_value (date_time_of value) (value_out_of_range, buffer.old, text_length.old)
+    ensures answer { (result, buffer.new, text_length.new)
+        ≡ with_value (date_time_of value) (value_out_of_range, buffer.old, text_length.old)
         (λ value. after_text (date_time_text value) buffer.old text_length.old) }
     ensures room { 33 ≤ length buffer.old → result ≢ buffer_too_small }
 {
@@ -168,7 +177,8 @@ pub extern "C" fn speedate_datetime_compare(
     second: SpeedateDateTime,
     out: &mut i32,
 ) -> i32
-    ensures answer { (result, out.new) ≡ with_value (date_time_of first) (value_out_of_range, out.old)
+    ensures answer { (result, out.new)
+        ≡ with_value (date_time_of first) (value_out_of_range, out.old)
         (λ first. with_value (date_time_of second) (value_out_of_range, out.old)
         (λ second. after_value (order_number (date_time_instant_order first second)))) }
 {
@@ -188,11 +198,12 @@ pub extern "C" fn speedate_datetime_from_timestamp(
     config: SpeedateConfig,
     out: &mut SpeedateDateTime,
 ) -> i32
-    ensures answer { (result, out.new) ≡ with_option (choices_of config) (config_out_of_range, out.old)
+    ensures answer { (result, out.new)
+        ≡ with_option (choices_of config) (config_out_of_range, out.old)
         (λ config. after_answer shown_date_time out.old
         (date_time_timestamp_answer config.unit config.offset microsecond timestamp)) }
 {
-    let config = config_or_return!(config);
+    let config = config_or_return!(config.to_config());
     let answer = DateTime::from_timestamp_with_config(timestamp, microsecond, &config);
     write_date_time(answer, out)
 }
@@ -201,7 +212,8 @@ pub extern "C" fn speedate_datetime_from_timestamp(
 /// [`DateTime::timestamp`] gives it: 86,400 for 1970-01-02T00:00:00+01:00.
 #[unsafe(no_mangle)]
 pub extern "C" fn speedate_datetime_timestamp(value: SpeedateDateTime, out: &mut i64) -> i32
-    ensures answer { (result, out.new) ≡ with_value (date_time_of value) (value_out_of_range, out.old)
+    ensures answer { (result, out.new)
+        ≡ with_value (date_time_of value) (value_out_of_range, out.old)
         (λ value. after_value (local_second value)) }
 {
     write_of!(value => *out = value.timestamp())
@@ -211,7 +223,8 @@ pub extern "C" fn speedate_datetime_timestamp(value: SpeedateDateTime, out: &mut
 /// [`DateTime::timestamp_ms`] gives it: 86,400,123 for 1970-01-02T00:00:00.123+01:00.
 #[unsafe(no_mangle)]
 pub extern "C" fn speedate_datetime_timestamp_ms(value: SpeedateDateTime, out: &mut i64) -> i32
-    ensures answer { (result, out.new) ≡ with_value (date_time_of value) (value_out_of_range, out.old)
+    ensures answer { (result, out.new)
+        ≡ with_value (date_time_of value) (value_out_of_range, out.old)
         (λ value. after_value (local_millisecond value)) }
 {
     write_of!(value => *out = value.timestamp_ms())
@@ -221,7 +234,8 @@ pub extern "C" fn speedate_datetime_timestamp_ms(value: SpeedateDateTime, out: &
 /// 1970-01-02T00:00:00+01:00.
 #[unsafe(no_mangle)]
 pub extern "C" fn speedate_datetime_timestamp_tz(value: SpeedateDateTime, out: &mut i64) -> i32
-    ensures answer { (result, out.new) ≡ with_value (date_time_of value) (value_out_of_range, out.old)
+    ensures answer { (result, out.new)
+        ≡ with_value (date_time_of value) (value_out_of_range, out.old)
         (λ value. after_value (utc_second value)) }
 {
     write_of!(value => *out = value.timestamp_tz())
@@ -231,7 +245,8 @@ pub extern "C" fn speedate_datetime_timestamp_tz(value: SpeedateDateTime, out: &
 /// 82,800,123 for 1970-01-02T00:00:00.123+01:00.
 #[unsafe(no_mangle)]
 pub extern "C" fn speedate_datetime_timestamp_tz_ms(value: SpeedateDateTime, out: &mut i64) -> i32
-    ensures answer { (result, out.new) ≡ with_value (date_time_of value) (value_out_of_range, out.old)
+    ensures answer { (result, out.new)
+        ≡ with_value (date_time_of value) (value_out_of_range, out.old)
         (λ value. after_value (utc_millisecond value)) }
 {
     write_of!(value => *out = value.timestamp_tz_ms())
@@ -249,7 +264,8 @@ pub extern "C" fn speedate_datetime_in_timezone(
     offset: i32,
     out: &mut SpeedateDateTime,
 ) -> i32
-    ensures answer { (result, out.new) ≡ with_value (date_time_of value) (value_out_of_range, out.old)
+    ensures answer { (result, out.new)
+        ≡ with_value (date_time_of value) (value_out_of_range, out.old)
         (λ value. after_answer shown_date_time out.old (date_time_in_timezone offset value)) }
 {
     let value = value_or_return!(value);

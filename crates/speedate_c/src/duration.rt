@@ -32,7 +32,8 @@ impl SpeedateDuration {
     /// The duration of the numbers, or the error of the first that is out of range.
     pub(crate) fn to_value(&self) -> Result<Duration, ParseError>
         ensures answer { result gives duration_of self.now }
-        ensures ranges { IsOk result ↔ ((self.now.negative ≤ 1) × IsDuration (numbers_of self.now)) }
+        ensures ranges { IsOk result
+            ↔ ((self.now.negative ≤ 1) × IsDuration (numbers_of self.now)) }
     {
         if self.negative > 1 {
             return Err(ParseError::DurationValueTooLarge);
@@ -70,7 +71,8 @@ pub(crate) fn write_duration(
     answer: Result<Duration, ParseError>,
     out: &mut SpeedateDuration,
 ) -> i32
-    ensures after { (result, out.new) ≡ after_answer shown_duration out.old (result_map duration_numbers answer) }
+    ensures after { (result, out.new)
+        ≡ after_answer shown_duration out.old (result_map duration_numbers answer) }
 {
     let duration = answer_or_return!(answer);
     *out = SpeedateDuration::from_value(&duration);
@@ -87,10 +89,12 @@ pub extern "C" fn speedate_duration_parse(
     config: SpeedateConfig,
     out: &mut SpeedateDuration,
 ) -> i32
-    ensures answer { (result, out.new) ≡ with_option (choices_of config) (config_out_of_range, out.old)
-        (λ config. after_answer shown_duration out.old (duration_answer config.order config.behavior text.now)) }
+    ensures answer { (result, out.new)
+        ≡ with_option (choices_of config) (config_out_of_range, out.old)
+        (λ config. after_answer shown_duration out.old
+        (duration_answer config.order config.behavior text.now)) }
 {
-    let config = config_or_return!(config);
+    let config = config_or_return!(config.to_config());
     let answer = Duration::parse_bytes_with_config(text, &config.time_config);
     write_duration(answer, out)
 }
@@ -106,7 +110,8 @@ pub extern "C" fn speedate_duration_normalize(
     out: &mut SpeedateDuration,
 ) -> i32
     ensures answer { (result, out.new) ≡ (if nat_le numbers.negative 1
-        then after_answer shown_duration out.old (normal_form (numbers_of numbers)) else (value_out_of_range, out.old)) }
+        then after_answer shown_duration out.old (normal_form (numbers_of numbers))
+        else (value_out_of_range, out.old)) }
 {
     if numbers.negative > 1 {
         return VALUE_OUT_OF_RANGE;
@@ -134,7 +139,8 @@ pub extern "C" fn speedate_duration_to_text(
     buffer: &mut [u8],
     text_length: &mut usize,
 ) -> i32
-    ensures answer { (result, buffer.new, text_length.new) ≡ with_value (duration_of duration) (value_out_of_range, buffer.old, text_length.old)
+    ensures answer { (result, buffer.new, text_length.new)
+        ≡ with_value (duration_of duration) (value_out_of_range, buffer.old, text_length.old)
         (λ duration. after_text (duration_text duration) buffer.old text_length.old) }
     ensures room { 32 ≤ length buffer.old → result ≢ buffer_too_small }
 {
@@ -150,7 +156,8 @@ pub extern "C" fn speedate_duration_compare(
     second: SpeedateDuration,
     out: &mut i32,
 ) -> i32
-    ensures answer { (result, out.new) ≡ with_value (duration_of first) (value_out_of_range, out.old)
+    ensures answer { (result, out.new)
+        ≡ with_value (duration_of first) (value_out_of_range, out.old)
         (λ first. with_value (duration_of second) (value_out_of_range, out.old)
         (λ second. after_value (order_number (duration_order first second)))) }
 {
@@ -164,7 +171,8 @@ pub extern "C" fn speedate_duration_signed_total_seconds(
     duration: SpeedateDuration,
     out: &mut i64,
 ) -> i32
-    ensures answer { (result, out.new) ≡ with_value (duration_of duration) (value_out_of_range, out.old)
+    ensures answer { (result, out.new)
+        ≡ with_value (duration_of duration) (value_out_of_range, out.old)
         (λ duration. after_value (signed_seconds duration)) }
 {
     write_of!(duration => *out = duration.signed_total_seconds())
@@ -177,7 +185,8 @@ pub extern "C" fn speedate_duration_signed_total_ms(
     duration: SpeedateDuration,
     out: &mut i64,
 ) -> i32
-    ensures answer { (result, out.new) ≡ with_value (duration_of duration) (value_out_of_range, out.old)
+    ensures answer { (result, out.new)
+        ≡ with_value (duration_of duration) (value_out_of_range, out.old)
         (λ duration. after_value (signed_milliseconds duration)) }
 {
     write_of!(duration => *out = duration.signed_total_ms())
@@ -190,7 +199,8 @@ pub extern "C" fn speedate_duration_signed_microseconds(
     duration: SpeedateDuration,
     out: &mut i32,
 ) -> i32
-    ensures answer { (result, out.new) ≡ with_value (duration_of duration) (value_out_of_range, out.old)
+    ensures answer { (result, out.new)
+        ≡ with_value (duration_of duration) (value_out_of_range, out.old)
         (λ duration. after_value (signed_microsecond duration)) }
 {
     write_of!(duration => *out = duration.signed_microseconds())

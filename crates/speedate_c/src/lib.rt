@@ -16,8 +16,8 @@ macro_rules! value_or_return {
 
 /// The configuration of the caller's numbers. The call ends with `CONFIG_OUT_OF_RANGE` if there is none.
 macro_rules! config_or_return {
-    ($given:expr) => {
-        match $given.to_config() {
+    ($config:expr) => {
+        match $config {
             Some(config) => config,
             None => return $crate::code::CONFIG_OUT_OF_RANGE,
         }
@@ -49,6 +49,7 @@ mod config;
 mod date;
 mod datetime;
 mod duration;
+mod number;
 mod text;
 mod time;
 

@@ -9,7 +9,8 @@ use crate::code::{BUFFER_TOO_SMALL, SUCCESS, VALUE_OUT_OF_RANGE, code_row};
 /// Writes a text and a zero byte after it into a buffer, and its length beside it, and gives the
 /// code.
 pub(crate) fn write_text(text: &str, buffer: &mut [u8], text_length: &mut usize) -> i32
-    ensures after { (result, buffer.new, text_length.new) ≡ after_text text.now buffer.old text_length.old }
+    ensures after { (result, buffer.new, text_length.new)
+        ≡ after_text text.now buffer.old text_length.old }
     ensures room { length text.now < length buffer.old → result ≡ success }
 {
     let size = text.len();
@@ -37,7 +38,8 @@ fn fill(text: &str, buffer: &mut [u8])
 /// has no room for the name and a zero byte.
 #[unsafe(no_mangle)]
 pub extern "C" fn speedate_code_name(code: i32, buffer: &mut [u8], text_length: &mut usize) -> i32
-    ensures answer { (result, buffer.new, text_length.new) ≡ with_option (code_row code) (value_out_of_range, buffer.old, text_length.old)
+    ensures answer { (result, buffer.new, text_length.new)
+        ≡ with_option (code_row code) (value_out_of_range, buffer.old, text_length.old)
         (λ row. after_text row.0 buffer.old text_length.old) }
     ensures room { 64 ≤ length buffer.old → result ≢ buffer_too_small }
 {
@@ -56,7 +58,8 @@ pub extern "C" fn speedate_code_documentation(
     buffer: &mut [u8],
     text_length: &mut usize,
 ) -> i32
-    ensures answer { (result, buffer.new, text_length.new) ≡ with_option (code_row code) (value_out_of_range, buffer.old, text_length.old)
+    ensures answer { (result, buffer.new, text_length.new)
+        ≡ with_option (code_row code) (value_out_of_range, buffer.old, text_length.old)
         (λ row. after_text row.1 buffer.old text_length.old) }
     ensures room { 64 ≤ length buffer.old → result ≢ buffer_too_small }
 {

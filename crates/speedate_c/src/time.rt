@@ -64,7 +64,8 @@ impl SpeedateTime {
 
 /// Writes the time of an answer, and gives the code.
 fn write_time(answer: Result<Time, ParseError>, out: &mut SpeedateTime) -> i32
-    ensures after { (result, out.new) ≡ after_answer shown_time out.old (result_map time_of_day answer) }
+    ensures after { (result, out.new)
+        ≡ after_answer shown_time out.old (result_map time_of_day answer) }
 {
     let time = answer_or_return!(answer);
     *out = SpeedateTime::from_value(&time);
@@ -81,7 +82,8 @@ pub extern "C" fn speedate_time_parse(
     config: SpeedateConfig,
     out: &mut SpeedateTime,
 ) -> i32
-    ensures answer { (result, out.new) ≡ with_option (choices_of config) (config_out_of_range, out.old)
+    ensures answer { (result, out.new)
+        ≡ with_option (choices_of config) (config_out_of_range, out.old)
         (λ config. after_answer shown_time out.old (time_answer config.behavior text.now)) }
 {
     if config.is_default() {
@@ -94,10 +96,11 @@ pub extern "C" fn speedate_time_parse(
 #[cold]
 #[inline(never)]
 fn parse_configured(text: &[u8], config: SpeedateConfig, out: &mut SpeedateTime) -> i32
-    ensures answer { (result, out.new) ≡ with_option (choices_of config) (config_out_of_range, out.old)
+    ensures answer { (result, out.new)
+        ≡ with_option (choices_of config) (config_out_of_range, out.old)
         (λ config. after_answer shown_time out.old (time_answer config.behavior text.now)) }
 {
-    let config = config_or_return!(config);
+    let config = config_or_return!(config.to_config());
     let time = Time::parse_bytes_with_config(text, &config.time_config);
     write_time(time, out)
 }
@@ -112,10 +115,11 @@ pub extern "C" fn speedate_time_parse_strict(
     config: SpeedateConfig,
     out: &mut SpeedateTime,
 ) -> i32
-    ensures answer { (result, out.new) ≡ with_option (choices_of config) (config_out_of_range, out.old)
+    ensures answer { (result, out.new)
+        ≡ with_option (choices_of config) (config_out_of_range, out.old)
         (λ config. after_answer shown_time out.old (strict_time_answer config.behavior text.now)) }
 {
-    let config = config_or_return!(config);
+    let config = config_or_return!(config.to_config());
     let behavior = config.time_config.microseconds_precision_overflow_behavior;
     write_time(Time::parse_bytes_strict(text, behavior), out)
 }
@@ -130,10 +134,11 @@ pub extern "C" fn speedate_time_parse_front(
     out: &mut SpeedateTime,
     size: &mut usize,
 ) -> i32
-    ensures answer { (result, out.new, size.new) ≡ with_option (choices_of config) (config_out_of_range, out.old, size.old)
+    ensures answer { (result, out.new, size.new)
+        ≡ with_option (choices_of config) (config_out_of_range, out.old, size.old)
         (λ config. after_front shown_time out.old size.old (time_front config.behavior text.now)) }
 {
-    let config = config_or_return!(config);
+    let config = config_or_return!(config.to_config());
     let (time, count) = answer_or_return!(Time::parse_front(text, &config.time_config));
     *out = SpeedateTime::from_value(&time);
     *size = count;
@@ -158,7 +163,8 @@ pub extern "C" fn speedate_time_to_text(
     buffer: &mut [u8],
     text_length: &mut usize,
 ) -> i32
-    ensures answer { (result, buffer.new, text_length.new) ≡ with_value (time_of time) (value_out_of_range, buffer.old, text_length.old)
+    ensures answer { (result, buffer.new, text_length.new)
+        ≡ with_value (time_of time) (value_out_of_range, buffer.old, text_length.old)
         (λ time. after_text (time_text time) buffer.old text_length.old) }
     ensures room { 22 ≤ length buffer.old → result ≢ buffer_too_small }
 {
@@ -192,10 +198,12 @@ pub extern "C" fn speedate_time_from_timestamp(
     config: SpeedateConfig,
     out: &mut SpeedateTime,
 ) -> i32
-    ensures answer { (result, out.new) ≡ with_option (choices_of config) (config_out_of_range, out.old)
-        (λ config. after_answer shown_time out.old (timestamp_answer second microsecond config.offset)) }
+    ensures answer { (result, out.new)
+        ≡ with_option (choices_of config) (config_out_of_range, out.old)
+        (λ config. after_answer shown_time out.old
+        (timestamp_answer second microsecond config.offset)) }
 {
-    let config = config_or_return!(config);
+    let config = config_or_return!(config.to_config());
     let time = Time::from_timestamp_with_config(second, microsecond, &config.time_config);
     write_time(time, out)
 }
