@@ -133,7 +133,7 @@ impl Written for Time {
             minute: field(&from.minute),
             second: field(&from.second),
             microsecond: field(&from.microsecond),
-            tz_offset: (field(&from.has_offset) == 1).then(|| field(&from.offset)),
+            tz_offset: (field(&from.has_offset) == 1).then_some(field(&from.offset)),
         }
     }
 }
@@ -203,6 +203,7 @@ fn written<T: Written>(call: impl FnOnce(*mut T::C) -> c_int) -> Result<T, Code>
 /// Functions that write a value, of a text or of other values.
 macro_rules! calls {
     ($(fn $name:ident($([$text:ident])? $($argument:ident: $kind:ty),*) -> $answer:ty;)*) => {$(
+        #[inline]
         pub(crate) fn $name($($text: &[u8],)? $($argument: impl Into<$kind>),*) -> Result<$answer, Code> {
             unsafe extern "C" {
                 fn $name(
@@ -218,6 +219,7 @@ macro_rules! calls {
 /// Functions that write the value at the front of a text, and its size.
 macro_rules! fronts {
     ($(fn $name:ident([$text:ident] $($config:ident)?) -> $answer:ty;)*) => {$(
+        #[inline]
         pub(crate) fn $name($text: &[u8] $(, $config: impl Into<Config>)?) -> Result<($answer, usize), Code> {
             unsafe extern "C" {
                 fn $name(
@@ -236,6 +238,7 @@ macro_rules! fronts {
 /// Functions that say whether a value is in range.
 macro_rules! checks {
     ($(fn $name:ident($value:ident: $kind:ty);)*) => {$(
+        #[inline]
         pub(crate) fn $name($value: impl Into<$kind>) -> Result<(), ParseError> {
             unsafe extern "C" {
                 fn $name($value: $kind) -> c_int;
@@ -262,6 +265,7 @@ impl Buffer {
 macro_rules! printers {
     ($(fn $name:ident($value:ident: $kind:ty);)*) => {
         impl Buffer {$(
+            #[inline]
             pub(crate) fn $name(&mut self, $value: impl Into<$kind>) -> Result<&str, Code> {
                 unsafe extern "C" {
                     fn $name($value: $kind, buffer: *mut u8, size: usize, length: *mut usize) -> c_int;

@@ -56,7 +56,9 @@ fn what_is_no_number() {
 fn try_neighbors(float: f64, unit: TimestampUnit) {
     for float in [float, -float] {
         let bits = float.to_bits();
-        [bits.wrapping_sub(1), bits, bits + 1].map(|bits| try_float(f64::from_bits(bits), unit));
+        for bits in [bits.wrapping_sub(1), bits, bits + 1] {
+            try_float(f64::from_bits(bits), unit);
+        }
     }
 }
 

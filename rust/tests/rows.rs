@@ -1,7 +1,6 @@
 //! The rows of `c/tests/rows.txt` whose call, value and configuration the API has.
 
-use std::panic::catch_unwind;
-use std::str::Split;
+use std::panic::{catch_unwind, set_hook, take_hook};
 
 use speedate::{
     int_parse_str, Date, DateConfig, DateTime, DateTimeConfig, Duration, MicrosecondsPrecisionOverflowBehavior,
@@ -16,17 +15,18 @@ type Answer = Result<String, String>;
 #[test]
 fn rows() {
     // What a panic says is tested in `out_of_range.rs`.
-    std::panic::set_hook(Box::new(|_| {}));
-    let answered = ROWS.lines().filter_map(|row| Some((row, answer(row)?)));
-    let wrong: Vec<_> = answered.clone().filter(|(row, answer)| !is_told(row, answer)).collect();
+    set_hook(Box::new(|_| {}));
+    let answers: Vec<_> = ROWS.lines().filter_map(|row| Some((row, answer(row)?))).collect();
+    let _ = take_hook();
+    let wrong: Vec<_> = answers.iter().filter(|(row, answer)| !is_told(row, answer)).collect();
     assert!(wrong.is_empty(), "{wrong:#?}");
-    assert!(answered.count() > 200);
+    assert!(answers.len() > 200, "only {} rows", answers.len());
 }
 
 /// The answer to a row, if the API has its call.
-fn answer(row: &'static str) -> Option<Answer> {
-    let (call, arguments) = row.split_once('|')?;
-    catch_unwind(|| Row(arguments.split('|')).called(call)).unwrap_or_else(|_| Some(Err("panic".to_owned())))
+fn answer(row: &str) -> Option<Answer> {
+    let fields: Vec<&str> = row.split('|').collect();
+    catch_unwind(|| Row(&fields).answer()).unwrap_or_else(|_| Some(Err("panic".to_owned())))
 }
 
 /// Whether a row ends with the answer. A value out of range has the error of its field, or none where the call panics.
@@ -38,167 +38,125 @@ fn is_told(row: &str, answer: &Answer) -> bool {
     }
 }
 
-/// The fields of a row from the arguments on.
-struct Row(Split<'static, char>);
+/// The fields of a row: the call, its arguments, and what it answers.
+struct Row<'a>(&'a [&'a str]);
 
-impl Row {
-    fn called(&mut self, call: &str) -> Option<Answer> {
-        Some(match call {
-            "int_parse" => int_parse_str(self.text()).map(|it| it.to_string()).ok_or_else(|| "none".to_owned()),
-            "date_parse" => {
-                let config = self.config()?;
-                let config = DateConfig::builder().timestamp_unit(config.timestamp_unit).build();
-                shown(Date::parse_str_with_config(self.text(), &config))
-            }
-            "date_parse_rfc3339" => shown(Date::parse_str_rfc3339(self.text())),
-            "date_parse_front" => front(Date::parse_front(self.text().as_bytes())),
-            "date_check" => {
-                let midnight = Time { hour: 0, minute: 0, second: 0, microsecond: 0, tz_offset: None };
-                checked(DateTime { date: self.date()?, time: midnight }.with_timezone_offset(None))
-            }
-            "date_to_text" => Ok(self.date()?.to_string()),
+impl Row<'_> {
+    fn answer(&self) -> Option<Answer> {
+        let time_config = |place| Some(self.config(place)?.time_config);
+        let behavior = |place| Some(time_config(place)?.microseconds_precision_overflow_behavior);
+        Some(match self.0[0] {
+            "int_parse" => int_parse_str(self.0[1]).map(|it| it.to_string()).ok_or_else(|| "none".to_owned()),
+            "date_parse" => shown(Date::parse_bytes_with_config(self.text(2), &self.date_config(1)?)),
+            "date_parse_rfc3339" => shown(Date::parse_bytes_rfc3339(self.text(1))),
+            "date_parse_front" => front(Date::parse_front(self.text(1))),
+            "date_to_text" => Ok(self.date(1)?.to_string()),
             "date_from_timestamp" => {
-                let ([timestamp], [is_exact @ 0..=1]) = (self.numbers()?, self.numbers()?) else { return None };
-                let config = DateConfig { timestamp_unit: self.config()?.timestamp_unit };
-                shown(Date::from_timestamp(timestamp, is_exact == 1, &config))
+                let is_exact = [false, true].get(self.number::<usize>(2)?)?;
+                shown(Date::from_timestamp(self.number(1)?, *is_exact, &self.date_config(3)?))
             }
-            "date_timestamp" => total(self.date()?.timestamp()),
-            "date_timestamp_ms" => total(self.date()?.timestamp_ms()),
-            "date_ordinal_day" => total(self.date()?.ordinal_day()),
-            "date_add_days" => match self.date()?.checked_add_days(self.number()?) {
+            "date_timestamp" => total(self.date(1)?.timestamp()),
+            "date_timestamp_ms" => total(self.date(1)?.timestamp_ms()),
+            "date_ordinal_day" => total(self.date(1)?.ordinal_day()),
+            "date_add_days" => match self.date(1)?.checked_add_days(self.number(2)?) {
                 Some(date) => Ok(date.row()),
                 None => Err("no_such_date".to_owned()),
             },
-            "date_days_since" => total(self.date()?.days_since(&self.date()?)),
-            "time_parse" => {
-                let config = self.config()?.time_config;
-                shown(Time::parse_bytes_with_config(self.text().as_bytes(), &config))
-            }
-            "time_parse_strict" => {
-                let behavior = self.config()?.time_config.microseconds_precision_overflow_behavior;
-                shown(Time::parse_bytes_strict(self.text().as_bytes(), behavior))
-            }
-            "time_parse_front" => {
-                let config = self.config()?.time_config;
-                front(Time::parse_front(self.text().as_bytes(), &config))
-            }
-            "time_check" => {
-                let time = self.time()?;
-                checked(time.with_timezone_offset(time.tz_offset))
-            }
-            "time_to_text" => Ok(self.time()?.to_string()),
-            "time_compare" => order(&self.time()?, &self.time()?),
+            "date_days_since" => total(self.date(1)?.days_since(&self.date(2)?)),
+            "time_parse" => shown(Time::parse_bytes_with_config(self.text(2), &time_config(1)?)),
+            "time_parse_strict" => shown(Time::parse_bytes_strict(self.text(2), behavior(1)?)),
+            "time_parse_front" => front(Time::parse_front(self.text(2), &time_config(1)?)),
+            "time_to_text" => Ok(self.time(1)?.to_string()),
+            "time_compare" => order(&self.time(1)?, &self.time(2)?),
             "time_from_timestamp" => {
-                let (second, microsecond) = (self.number()?, self.number()?);
-                shown(Time::from_timestamp_with_config(second, microsecond, &self.config()?.time_config))
+                shown(Time::from_timestamp_with_config(self.number(1)?, self.number(2)?, &time_config(3)?))
             }
-            "time_total_seconds" => total(self.time()?.total_seconds()),
-            "time_total_ms" => total(self.time()?.total_ms()),
-            "time_in_timezone" => shown(self.time()?.in_timezone(self.number()?)),
-            "datetime_parse" => {
-                let config = self.config()?;
-                shown(DateTime::parse_str_with_config(self.text(), &config))
-            }
+            "time_total_seconds" => total(self.time(1)?.total_seconds()),
+            "time_total_ms" => total(self.time(1)?.total_ms()),
+            "time_in_timezone" => shown(self.time(1)?.in_timezone(self.number(2)?)),
+            "datetime_parse" => shown(DateTime::parse_bytes_with_config(self.text(2), &self.config(1)?)),
             "datetime_parse_rfc3339" => {
-                let config = self.config()?.time_config;
-                shown(DateTime::parse_bytes_rfc3339_with_config(self.text().as_bytes(), &config))
+                shown(DateTime::parse_bytes_rfc3339_with_config(self.text(2), &time_config(1)?))
             }
-            "datetime_parse_strict" => {
-                let behavior = self.config()?.time_config.microseconds_precision_overflow_behavior;
-                shown(DateTime::parse_bytes_strict(self.text().as_bytes(), behavior))
-            }
-            "datetime_parse_front" => {
-                let config = self.config()?.time_config;
-                front(DateTime::parse_front(self.text().as_bytes(), &config))
-            }
-            "datetime_check" => {
-                let value = self.date_time()?;
-                checked(value.with_timezone_offset(value.time.tz_offset))
-            }
-            "datetime_to_text" => Ok(self.date_time()?.to_string()),
-            "datetime_compare" => order(&self.date_time()?, &self.date_time()?),
+            "datetime_parse_strict" => shown(DateTime::parse_bytes_strict(self.text(2), behavior(1)?)),
+            "datetime_parse_front" => front(DateTime::parse_front(self.text(2), &time_config(1)?)),
+            "datetime_to_text" => Ok(self.date_time(1)?.to_string()),
+            "datetime_compare" => order(&self.date_time(1)?, &self.date_time(2)?),
             "datetime_from_timestamp" => {
-                let (timestamp, microsecond) = (self.number()?, self.number()?);
-                shown(DateTime::from_timestamp_with_config(timestamp, microsecond, &self.config()?))
+                shown(DateTime::from_timestamp_with_config(self.number(1)?, self.number(2)?, &self.config(3)?))
             }
-            "datetime_timestamp" => total(self.date_time()?.timestamp()),
-            "datetime_timestamp_ms" => total(self.date_time()?.timestamp_ms()),
-            "datetime_timestamp_tz" => total(self.date_time()?.timestamp_tz()),
-            "datetime_timestamp_tz_ms" => total(self.date_time()?.timestamp_tz_ms()),
-            "datetime_in_timezone" => shown(self.date_time()?.in_timezone(self.number()?)),
-            "duration_parse" => {
-                let config = self.config()?.time_config;
-                shown(Duration::parse_bytes_with_config(self.text().as_bytes(), &config))
-            }
+            "datetime_timestamp" => total(self.date_time(1)?.timestamp()),
+            "datetime_timestamp_ms" => total(self.date_time(1)?.timestamp_ms()),
+            "datetime_timestamp_tz" => total(self.date_time(1)?.timestamp_tz()),
+            "datetime_timestamp_tz_ms" => total(self.date_time(1)?.timestamp_tz_ms()),
+            "datetime_in_timezone" => shown(self.date_time(1)?.in_timezone(self.number(2)?)),
+            "duration_parse" => shown(Duration::parse_bytes_with_config(self.text(2), &time_config(1)?)),
             "duration_normalize" => {
-                let Duration { positive, day, second, microsecond } = self.duration()?;
+                let Duration { positive, day, second, microsecond } = self.duration(1)?;
                 shown(Duration::new(positive, day, second, microsecond))
             }
-            "duration_to_text" => Ok(self.duration()?.to_string()),
-            "duration_compare" => order(&self.duration()?, &self.duration()?),
-            "duration_signed_total_seconds" => total(self.duration()?.signed_total_seconds()),
-            "duration_signed_total_ms" => total(self.duration()?.signed_total_ms()),
-            "duration_signed_microseconds" => total(self.duration()?.signed_microseconds()),
-            "duration_between" => Ok(Duration::between(&self.date_time()?, &self.date_time()?).row()),
-            "duration_after" => shown(self.duration()?.after(&self.date_time()?)),
-            "duration_before" => shown(self.duration()?.before(&self.date_time()?)),
+            "duration_to_text" => Ok(self.duration(1)?.to_string()),
+            "duration_compare" => order(&self.duration(1)?, &self.duration(2)?),
+            "duration_signed_total_seconds" => total(self.duration(1)?.signed_total_seconds()),
+            "duration_signed_total_ms" => total(self.duration(1)?.signed_total_ms()),
+            "duration_signed_microseconds" => total(self.duration(1)?.signed_microseconds()),
+            "duration_between" => Ok(Duration::between(&self.date_time(1)?, &self.date_time(2)?).row()),
+            "duration_after" => shown(self.duration(1)?.after(&self.date_time(2)?)),
+            "duration_before" => shown(self.duration(1)?.before(&self.date_time(2)?)),
             _ => return None,
         })
     }
 
-    fn text(&mut self) -> &'static str {
-        self.0.next().expect("a row has an argument for each of its call's")
+    fn text(&self, place: usize) -> &[u8] {
+        self.0[place].as_bytes()
     }
 
-    fn numbers<const N: usize>(&mut self) -> Option<[i64; N]> {
-        let numbers: Vec<i64> = self.text().split(' ').map(|it| it.parse().unwrap()).collect();
-        numbers.try_into().ok()
-    }
-
-    fn number<T: TryFrom<i64>>(&mut self) -> Option<T> {
-        let [number] = self.numbers()?;
+    fn number<T: TryFrom<i64>>(&self, place: usize) -> Option<T> {
+        let [number] = self.numbers(place)?;
         number.try_into().ok()
     }
 
-    /// A configuration, if the API has its unit and order.
-    fn config(&mut self) -> Option<DateTimeConfig> {
-        if self.0.clone().next() == Some("default") {
-            self.text();
+    fn numbers<const N: usize>(&self, place: usize) -> Option<[i64; N]> {
+        let numbers: Vec<i64> = self.0[place].split(' ').map(|it| it.parse().unwrap()).collect();
+        numbers.try_into().ok()
+    }
+
+    /// A configuration, if the API has it.
+    fn config(&self, place: usize) -> Option<DateTimeConfig> {
+        if self.0[place] == "default" {
             return Some(DateTimeConfig::default());
         }
-        let [offset, has_offset, unit, behavior, order] = self.numbers()?;
-        let timestamp_unit = match unit {
-            0 => TimestampUnit::Infer,
-            1 => TimestampUnit::Second,
-            2 => TimestampUnit::Millisecond,
-            _ => return None,
-        };
-        let microseconds_precision_overflow_behavior = match behavior {
-            0 => MicrosecondsPrecisionOverflowBehavior::Error,
-            1 => MicrosecondsPrecisionOverflowBehavior::Truncate,
-            _ => return None,
-        };
-        let unix_timestamp_offset = offset_of(has_offset, offset)?;
+        let [offset, flag, unit, behavior, 0] = self.numbers(place)? else { return None };
+        let units = [TimestampUnit::Infer, TimestampUnit::Second, TimestampUnit::Millisecond];
+        let behaviors = ["error", "truncate"].map(|it| it.parse::<MicrosecondsPrecisionOverflowBehavior>().unwrap());
+        let microseconds_precision_overflow_behavior = *behaviors.get(behavior as usize)?;
+        let unix_timestamp_offset = flagged(flag, offset)?;
         let time_config = TimeConfig { microseconds_precision_overflow_behavior, unix_timestamp_offset };
-        (order == 0).then_some(DateTimeConfig { timestamp_unit, time_config })
+        Some(DateTimeConfig { timestamp_unit: *units.get(unit as usize)?, time_config })
     }
 
-    fn date(&mut self) -> Option<Date> {
-        self.numbers().map(date_of)
+    /// The configuration of a date, which has no offset.
+    fn date_config(&self, place: usize) -> Option<DateConfig> {
+        let DateTimeConfig { timestamp_unit, time_config } = self.config(place)?;
+        time_config.unix_timestamp_offset.is_none().then_some(DateConfig { timestamp_unit })
     }
 
-    fn time(&mut self) -> Option<Time> {
-        time_of(self.numbers()?)
+    fn date(&self, place: usize) -> Option<Date> {
+        self.numbers(place).map(date_of)
     }
 
-    fn date_time(&mut self) -> Option<DateTime> {
-        let [year, month, day, clock @ ..] = self.numbers::<9>()?;
-        Some(DateTime { date: date_of([year, month, day]), time: time_of(clock)? })
+    fn time(&self, place: usize) -> Option<Time> {
+        time_of(self.numbers(place)?)
     }
 
-    fn duration(&mut self) -> Option<Duration> {
-        let [negative @ 0..=1, day, second, microsecond] = self.numbers()? else { return None };
-        let [day, second, microsecond] = [day, second, microsecond].map(|it| it as u32);
+    fn date_time(&self, place: usize) -> Option<DateTime> {
+        let [year, month, day, time @ ..] = self.numbers::<9>(place)?;
+        Some(DateTime { date: date_of([year, month, day]), time: time_of(time)? })
+    }
+
+    fn duration(&self, place: usize) -> Option<Duration> {
+        let [negative @ 0..=1, numbers @ ..] = self.numbers::<4>(place)? else { return None };
+        let [day, second, microsecond] = numbers.map(|it| it as u32);
         Some(Duration { positive: negative == 0, day, second, microsecond })
     }
 }
@@ -207,15 +165,14 @@ fn date_of([year, month, day]: [i64; 3]) -> Date {
     Date { year: year as u16, month: month as u8, day: day as u8 }
 }
 
-fn time_of([hour, minute, second, has_offset, microsecond, offset]: [i64; 6]) -> Option<Time> {
+fn time_of([hour, minute, second, flag, microsecond, offset]: [i64; 6]) -> Option<Time> {
     let [hour, minute, second] = [hour, minute, second].map(|it| it as u8);
-    let tz_offset = offset_of(has_offset, offset)?;
-    Some(Time { hour, minute, second, microsecond: microsecond as u32, tz_offset })
+    Some(Time { hour, minute, second, microsecond: microsecond as u32, tz_offset: flagged(flag, offset)? })
 }
 
-/// An offset, if its flag is 0 or 1.
-fn offset_of(flag: i64, offset: i64) -> Option<Option<i32>> {
-    (flag <= 1).then_some((flag == 1).then_some(offset as i32))
+/// An offset, or none, if the flag says either.
+fn flagged(flag: i64, offset: i64) -> Option<Option<i32>> {
+    [None, Some(offset as i32)].get(flag as usize).copied()
 }
 
 /// A value as a row has it.
@@ -254,11 +211,6 @@ fn shown<T: Shown>(answer: Result<T, ParseError>) -> Answer {
 
 fn front<T: Shown>(answer: Result<(T, usize), ParseError>) -> Answer {
     answer.map(|(value, size)| format!("{}|{size}", value.row())).map_err(|error| error.to_string())
-}
-
-/// The answer of a call that keeps the value: nothing is written.
-fn checked<T>(answer: Result<T, ParseError>) -> Answer {
-    Err(answer.map_or_else(|error| error.to_string(), |_| "ok".to_owned()))
 }
 
 fn total(number: impl Into<i64>) -> Answer {
