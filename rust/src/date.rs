@@ -1,20 +1,15 @@
-use core::fmt;
-use core::str::FromStr;
-
-use crate::ffi::{self, Buffer, Config};
-use crate::value::Value;
+use crate::ffi::{self, Config};
+use crate::value::{text, Value};
 use crate::{DateConfig, ParseError};
 
-/// A day of the Gregorian calendar, from 0000-01-01 to 9999-12-31.
-///
-/// Its text is `YYYY-MM-DD`. Dates are ordered by year, month and day.
+/// A day of the Gregorian calendar, from 0000-01-01 to 9999-12-31. Its text is `YYYY-MM-DD`.
 ///
 /// ```
 /// use speedate::Date;
 ///
-/// let date: Date = "2020-02-29".parse().unwrap();
+/// let date = Date::parse_str("2020-02-29").unwrap();
 /// assert_eq!(date, Date { year: 2020, month: 2, day: 29 });
-/// assert!(date < Date { year: 2020, month: 3, day: 1 });
+/// assert_eq!(date.checked_add_days(1).unwrap().to_string(), "2020-03-01");
 /// ```
 #[derive(Debug, PartialEq, Eq, PartialOrd, Clone, Copy)]
 pub struct Date {
@@ -26,49 +21,26 @@ pub struct Date {
     pub day: u8,
 }
 
+text!(Date by speedate_date_to_text);
+
 impl Value for Date {
     fn check(&self) -> Result<(), ParseError> {
         ffi::speedate_date_check(self)
     }
 }
 
-/// Writes `2020-02-29`. Of a date out of range it panics.
-impl fmt::Display for Date {
-    fn fmt(&self, f: &mut fmt::Formatter<'_>) -> fmt::Result {
-        f.write_str(self.total(Buffer::new().speedate_date_to_text(self)))
-    }
-}
-
-/// As [`Date::parse_str`], which takes timestamps too.
-impl FromStr for Date {
-    type Err = ParseError;
-
-    fn from_str(s: &str) -> Result<Self, Self::Err> {
-        Self::parse_str(s)
-    }
-}
-
 impl Date {
-    /// The date of a text, and of no timestamp.
-    ///
-    /// ```
-    /// use speedate::{Date, ParseError};
-    ///
-    /// assert_eq!(Date::parse_str_rfc3339("2020-02-29").unwrap(), Date { year: 2020, month: 2, day: 29 });
-    /// assert_eq!(Date::parse_str_rfc3339("1582934400"), Err(ParseError::InvalidCharDateSep));
-    /// ```
+    /// The date of a text. A timestamp is refused.
     pub fn parse_str_rfc3339(str: &str) -> Result<Self, ParseError> {
         Self::parse_bytes_rfc3339(str.as_bytes())
     }
 
-    /// The date of a text, or in its place of a timestamp, which has to be a midnight. Every whole number is a timestamp,
-    /// `20200229` too.
+    /// The date of a text, or of a timestamp that is a midnight. Every whole number is a timestamp, `20200229` too.
     ///
     /// ```
     /// use speedate::{Date, ParseError};
     ///
-    /// assert_eq!(Date::parse_str("2020-02-29").unwrap().to_string(), "2020-02-29");
-    /// assert_eq!(Date::parse_str("1582934400").unwrap().to_string(), "2020-02-29");
+    /// assert_eq!(Date::parse_str("2020-02-29"), Date::parse_str("1582934400"));
     /// assert_eq!(Date::parse_str("2021-02-29"), Err(ParseError::OutOfRangeDay));
     /// ```
     pub fn parse_str(str: &str) -> Result<Self, ParseError> {
@@ -95,78 +67,61 @@ impl Date {
         Ok(ffi::speedate_date_parse(bytes, config)?)
     }
 
-    /// The date at the front of an input, whatever follows it, and its size in bytes. It may not be a timestamp.
+    /// The date at the front of an input, whatever follows it, and its size in bytes. A timestamp is refused.
     ///
     /// ```
-    /// use speedate::Date;
-    ///
-    /// let (date, size) = Date::parse_front(b"2020-02-29 opening balance").unwrap();
-    /// assert_eq!((date.to_string().as_str(), size), ("2020-02-29", 10));
+    /// let (date, size) = speedate::Date::parse_front(b"2020-02-29 opening balance").unwrap();
+    /// assert_eq!((date.day, size), (29, 10));
     /// ```
     pub fn parse_front(bytes: &[u8]) -> Result<(Self, usize), ParseError> {
         Ok(ffi::speedate_date_parse_front(bytes)?)
     }
 
-    /// The date of a timestamp in the unit of the configuration. If `require_exact`, the timestamp has to be a midnight;
-    /// otherwise the date is that of the day in which it lies.
+    /// The date of a timestamp in the unit of the configuration, which has to be a midnight if `require_exact`.
     ///
     /// ```
-    /// use speedate::{Date, DateConfig, ParseError};
+    /// use speedate::{Date, DateConfig};
     ///
-    /// let config = DateConfig::default();
-    /// assert_eq!(Date::from_timestamp(1_582_934_400, true, &config).unwrap().to_string(), "2020-02-29");
-    /// assert_eq!(Date::from_timestamp(1_582_934_401, true, &config), Err(ParseError::DateNotExact));
+    /// let date = Date::from_timestamp(1_582_934_401, false, &DateConfig::default()).unwrap();
+    /// assert_eq!(date.to_string(), "2020-02-29");
     /// ```
     pub fn from_timestamp(timestamp: i64, require_exact: bool, config: &DateConfig) -> Result<Self, ParseError> {
         Ok(ffi::speedate_date_from_timestamp(timestamp, require_exact, config)?)
     }
 
-    /// The second at which the date begins, counted from 1970-01-01. Of a date out of range it panics.
-    ///
-    /// ```
-    /// assert_eq!(speedate::Date { year: 1970, month: 1, day: 2 }.timestamp(), 86_400);
-    /// ```
+    /// The second at which the date begins, counted from 1970-01-01. It panics if the date is out of range.
     pub fn timestamp(&self) -> i64 {
         self.total(ffi::speedate_date_timestamp(self))
     }
 
-    /// The millisecond at which the date begins, counted from 1970-01-01. Of a date out of range it panics.
+    /// The millisecond at which the date begins, counted from 1970-01-01. It panics if the date is out of range.
     pub fn timestamp_ms(&self) -> i64 {
         self.total(ffi::speedate_date_timestamp_ms(self))
     }
 
-    /// The date that a clock at the offset now shows, as of [`DateTime::now`](crate::DateTime::now).
+    /// The date that a clock at an offset from UTC, in seconds, now shows.
     #[cfg(feature = "std")]
     pub fn today(tz_offset: i32) -> Result<Self, ParseError> {
         Ok(crate::DateTime::now(tz_offset)?.date)
     }
 
-    /// The day of the year, 1 to 366. Of a date out of range it panics.
+    /// The day of the year, 1 to 366. It panics if the date is out of range.
     pub fn ordinal_day(&self) -> u16 {
         self.total(ffi::speedate_date_ordinal_day(self))
     }
 
-    /// The date so many days later, or earlier if they are negative. It is `None` before 0000-01-01 and after 9999-12-31,
-    /// and of a date out of range.
-    ///
-    /// ```
-    /// use speedate::Date;
-    ///
-    /// let date = Date::parse_str("2020-02-28").unwrap();
-    /// assert_eq!(date.checked_add_days(2), Some(Date { year: 2020, month: 3, day: 1 }));
-    /// ```
+    /// The date so many days later, or earlier if they are negative. It is `None` before 0000-01-01, after 9999-12-31, and
+    /// if the date is out of range.
     pub fn checked_add_days(&self, days: i32) -> Option<Self> {
         ffi::speedate_date_add_days(self, days).ok()
     }
 
-    /// The days from an earlier date to this one; they are negative if it is the later one. Of a date out of range it
-    /// panics.
+    /// The days from an earlier date to this one, which are negative if it is the later one. It panics if a date is out of
+    /// range.
     ///
     /// ```
-    /// use speedate::Date;
-    ///
-    /// let date = Date::parse_str("2020-03-01").unwrap();
-    /// assert_eq!(date.days_since(&Date::parse_str("2020-02-28").unwrap()), 2);
+    /// let [date, earlier] = ["2020-03-01", "2020-02-28"].map(|text| speedate::Date::parse_str(text).unwrap());
+    /// assert_eq!(date.days_since(&earlier), 2);
     /// ```
     pub fn days_since(&self, earlier: &Self) -> i32 {
         (self, earlier).total(ffi::speedate_date_days_since(self, earlier))

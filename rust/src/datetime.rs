@@ -1,21 +1,18 @@
 use core::cmp::Ordering;
-use core::fmt;
-use core::str::FromStr;
 #[cfg(feature = "std")]
 use std::time::SystemTime;
 
-use crate::ffi::{self, Buffer, Config};
-use crate::value::Value;
+use crate::ffi::{self, Config};
+use crate::value::{text, Value};
 use crate::{Date, DateTimeConfig, MicrosecondsPrecisionOverflowBehavior, ParseError, Time, TimeConfig, TimestampUnit};
 
-/// A date and a time of day, as a clock at the offset of the time shows them.
-///
-/// Its text is that of the [`Date`], then `T`, `t`, `_` or a space, and that of the [`Time`].
+/// A date and a time of day, as a clock at the offset of the time shows them. Its text is that of the [`Date`], then `T`,
+/// `t`, `_` or a space, and that of the [`Time`].
 ///
 /// ```
 /// use speedate::{Date, DateTime, Time};
 ///
-/// let value: DateTime = "2020-02-29T12:13:14-08:30".parse().unwrap();
+/// let value = DateTime::parse_str("2020-02-29T12:13:14-08:30").unwrap();
 /// let date = Date { year: 2020, month: 2, day: 29 };
 /// let time = Time { hour: 12, minute: 13, second: 14, microsecond: 0, tz_offset: Some(-30_600) };
 /// assert_eq!(value, DateTime { date, time });
@@ -29,63 +26,35 @@ pub struct DateTime {
     pub time: Time,
 }
 
+text!(DateTime by speedate_datetime_to_text);
+
 impl Value for DateTime {
     fn check(&self) -> Result<(), ParseError> {
         ffi::speedate_datetime_check(self)
     }
 }
 
-/// Writes `2020-02-29T12:13:14.500000+01:30`. Of a date-time out of range it panics.
-impl fmt::Display for DateTime {
-    fn fmt(&self, f: &mut fmt::Formatter<'_>) -> fmt::Result {
-        f.write_str(self.total(Buffer::new().speedate_datetime_to_text(self)))
-    }
-}
-
-/// As [`DateTime::parse_str`], which takes timestamps too.
-impl FromStr for DateTime {
-    type Err = ParseError;
-
-    fn from_str(s: &str) -> Result<Self, Self::Err> {
-        Self::parse_str(s)
-    }
-}
-
-/// The order of instants, as that of [`Time`]: in UTC if both have an offset, otherwise as clocks show them.
+/// The order of instants, as that of [`Time`].
 impl PartialOrd for DateTime {
-    /// ```
-    /// use speedate::DateTime;
-    ///
-    /// let london = DateTime::parse_str("2000-01-01T15:00:00Z").unwrap();
-    /// let paris = DateTime::parse_str("2000-01-01T16:00:00+01:00").unwrap();
-    /// assert!(london <= paris && london >= paris && london != paris);
-    /// ```
     fn partial_cmp(&self, other: &Self) -> Option<Ordering> {
         ffi::speedate_datetime_compare(self, other).ok()
     }
 }
 
 impl DateTime {
-    /// The date-time of a text, and of no timestamp.
-    ///
-    /// ```
-    /// use speedate::{DateTime, ParseError};
-    ///
-    /// assert_eq!(DateTime::parse_str_rfc3339("2020-02-29 12:13Z").unwrap().to_string(), "2020-02-29T12:13:00Z");
-    /// assert_eq!(DateTime::parse_str_rfc3339("1582978394"), Err(ParseError::InvalidCharDateSep));
-    /// ```
+    /// The date-time of a text. A timestamp is refused.
     pub fn parse_str_rfc3339(str: &str) -> Result<Self, ParseError> {
         Self::parse_bytes_rfc3339(str.as_bytes())
     }
 
-    /// The date-time of a text, or in its place of a timestamp, whole or decimal. Every number is a timestamp, `20200229`
-    /// too, but for one with an exponent.
+    /// The date-time of a text, or of a timestamp, whole or decimal. Every number is a timestamp, `20200229` too, but for
+    /// one with an exponent, which is refused.
     ///
     /// ```
-    /// use speedate::DateTime;
+    /// use speedate::{DateTime, ParseError};
     ///
-    /// assert_eq!(DateTime::parse_str("2020-02-29T12:13:14Z").unwrap().to_string(), "2020-02-29T12:13:14Z");
-    /// assert_eq!(DateTime::parse_str("1582978394.5").unwrap().to_string(), "2020-02-29T12:13:14.500000");
+    /// assert_eq!(DateTime::parse_str("2020-02-29 12:13:14.5"), DateTime::parse_str("1582978394.5"));
+    /// assert_eq!(DateTime::parse_str("2020-02-29"), Err(ParseError::InvalidCharDateTimeSep));
     /// ```
     pub fn parse_str(str: &str) -> Result<Self, ParseError> {
         Self::parse_bytes(str.as_bytes())
@@ -101,7 +70,7 @@ impl DateTime {
         Self::parse_bytes_rfc3339_with_config(bytes, &TimeConfig::default())
     }
 
-    /// [`parse_str_rfc3339`](Self::parse_str_rfc3339) of bytes, with a configuration, of which the behavior alone matters.
+    /// [`parse_str_rfc3339`](Self::parse_str_rfc3339) of bytes, with a configuration, of which the behavior matters.
     pub fn parse_bytes_rfc3339_with_config(bytes: &[u8], config: &TimeConfig) -> Result<Self, ParseError> {
         Ok(ffi::speedate_datetime_parse_rfc3339(bytes, config)?)
     }
@@ -116,15 +85,7 @@ impl DateTime {
         Ok(ffi::speedate_datetime_parse(bytes, config)?)
     }
 
-    /// The date-time of an input, if that is RFC 3339 alone. A second 60 is refused.
-    ///
-    /// ```
-    /// use speedate::{DateTime, MicrosecondsPrecisionOverflowBehavior as Behavior, ParseError};
-    ///
-    /// assert!(DateTime::parse_bytes_strict(b"2020-02-29T12:13:14Z", Behavior::Error).is_ok());
-    /// let error = DateTime::parse_bytes_strict(b"2020-02-29 12:13:14Z", Behavior::Error).unwrap_err();
-    /// assert_eq!(error, ParseError::InvalidCharDateTimeSep);
-    /// ```
+    /// The date-time of an input that is RFC 3339 alone, without a second 60.
     pub fn parse_bytes_strict(
         bytes: &[u8],
         behavior: MicrosecondsPrecisionOverflowBehavior,
@@ -132,13 +93,12 @@ impl DateTime {
         Ok(ffi::speedate_datetime_parse_strict(bytes, Config::default().behavior(behavior))?)
     }
 
-    /// The date-time at the front of an input, whatever follows it, and its size in bytes. It may not be a timestamp, and
-    /// not a date alone.
+    /// The date-time at the front of an input, whatever follows it, and its size in bytes. A timestamp is refused, and so is
+    /// a date alone.
     ///
     /// ```
-    /// use speedate::{DateTime, TimeConfig};
-    ///
-    /// let (value, size) = DateTime::parse_front(b"2026-11-22T12:13:14Z GET /", &TimeConfig::default()).unwrap();
+    /// let line = b"2026-11-22T12:13:14Z GET /";
+    /// let (value, size) = speedate::DateTime::parse_front(line, &Default::default()).unwrap();
     /// assert_eq!((value.to_string().as_str(), size), ("2026-11-22T12:13:14Z", 20));
     /// ```
     pub fn parse_front(bytes: &[u8], config: &TimeConfig) -> Result<(Self, usize), ParseError> {
@@ -154,22 +114,15 @@ impl DateTime {
         Ok(ffi::speedate_datetime_from_timestamp(timestamp, timestamp_microsecond, config)?)
     }
 
-    /// The date-time of a timestamp in the unit and with the offset of a configuration, to the nearest microsecond; of two
-    /// that are as near, the later one. The value of the float counts, exactly. Not-a-number counts as 0.
-    ///
-    /// ```
-    /// use speedate::{DateTime, DateTimeConfig};
-    ///
-    /// let value = DateTime::from_float_with_config(1_582_978_394.5, &DateTimeConfig::default()).unwrap();
-    /// assert_eq!(value.to_string(), "2020-02-29T12:13:14.500000");
-    /// ```
+    /// The date-time of a timestamp in the unit and with the offset of a configuration. The exact value of the float is
+    /// rounded to the nearest microsecond, a tie to the later one. Not-a-number counts as 0.
     pub fn from_float_with_config(timestamp: f64, mode: &DateTimeConfig) -> Result<Self, ParseError> {
-        let microseconds = match mode.timestamp_unit {
-            TimestampUnit::Second => microseconds(timestamp, 1_000_000),
-            TimestampUnit::Millisecond => microseconds(timestamp, 1_000),
-            TimestampUnit::Infer if (-2e10..=2e10).contains(&timestamp) => microseconds(timestamp, 1_000_000),
-            TimestampUnit::Infer => microseconds(timestamp, 1_000),
+        let is_second = match mode.timestamp_unit {
+            TimestampUnit::Second => true,
+            TimestampUnit::Millisecond => false,
+            TimestampUnit::Infer => (-2e10..=2e10).contains(&timestamp),
         };
+        let microseconds = microseconds(timestamp, if is_second { 1_000_000 } else { 1_000 });
         let (second, microsecond) = (microseconds.div_euclid(1_000_000), microseconds.rem_euclid(1_000_000));
         let config = Config::from(mode).unit(TimestampUnit::Second);
         Ok(ffi::speedate_datetime_from_timestamp(second, microsecond as u32, config)?)
@@ -179,21 +132,14 @@ impl DateTime {
     /// most 20,000,000,000, otherwise milliseconds.
     ///
     /// ```
-    /// use speedate::DateTime;
-    ///
-    /// assert_eq!(DateTime::from_timestamp(1_582_978_394, 123).unwrap().to_string(), "2020-02-29T12:13:14.000123");
+    /// let value = speedate::DateTime::from_timestamp(1_582_978_394, 123).unwrap();
+    /// assert_eq!(value.to_string(), "2020-02-29T12:13:14.000123");
     /// ```
     pub fn from_timestamp(timestamp: i64, timestamp_microsecond: u32) -> Result<Self, ParseError> {
         Self::from_timestamp_with_config(timestamp, timestamp_microsecond, &DateTimeConfig::default())
     }
 
-    /// What a clock at the offset, in seconds, now shows, by [`SystemTime`].
-    ///
-    /// ```
-    /// use speedate::DateTime;
-    ///
-    /// assert_eq!(DateTime::now(3_600).unwrap().time.tz_offset, Some(3_600));
-    /// ```
+    /// What a clock at an offset from UTC, in seconds, now shows, by [`SystemTime`].
     #[cfg(feature = "std")]
     pub fn now(tz_offset: i32) -> Result<Self, ParseError> {
         let since = SystemTime::UNIX_EPOCH.elapsed().map_err(|_| ParseError::SystemTimeError)?;
@@ -203,39 +149,25 @@ impl DateTime {
         now.in_timezone(tz_offset)
     }
 
-    /// What the clock shows, with another offset, in seconds: mostly another instant. A date-time out of range is refused.
-    ///
-    /// ```
-    /// use speedate::DateTime;
-    ///
-    /// let value = DateTime::parse_str("2020-02-29T12:13:14Z").unwrap();
-    /// assert_eq!(value.with_timezone_offset(Some(-8 * 3_600)).unwrap().to_string(), "2020-02-29T12:13:14-08:00");
-    /// ```
+    /// The same clock with another offset, in seconds: mostly another instant. A date-time out of range is refused.
     pub fn with_timezone_offset(&self, tz_offset: Option<i32>) -> Result<Self, ParseError> {
         let value = Self { time: Time { tz_offset, ..self.time }, ..*self };
-        value.check()?;
-        Ok(value)
+        value.check().map(|()| value)
     }
 
     /// The same instant, as a clock at another offset, in seconds, shows it. A date-time without an offset is refused, and
     /// so is one out of range.
     ///
     /// ```
-    /// use speedate::DateTime;
-    ///
-    /// let value = DateTime::parse_str("2020-02-29T23:00:00Z").unwrap();
+    /// let value = speedate::DateTime::parse_str("2020-02-29T23:00Z").unwrap();
     /// assert_eq!(value.in_timezone(7_200).unwrap().to_string(), "2020-03-01T01:00:00+02:00");
+    /// assert_eq!(value.with_timezone_offset(Some(7_200)).unwrap().to_string(), "2020-02-29T23:00:00+02:00");
     /// ```
     pub fn in_timezone(&self, tz_offset: i32) -> Result<Self, ParseError> {
         self.checked(ffi::speedate_datetime_in_timezone(self, tz_offset))
     }
 
-    /// The seconds since 1970-01-01T00:00:00, as if date and time were in UTC: the offset is ignored. Of a date-time out of
-    /// range it panics.
-    ///
-    /// ```
-    /// assert_eq!(speedate::DateTime::parse_str("1970-01-02T00:00+01:00").unwrap().timestamp(), 86_400);
-    /// ```
+    /// The seconds since 1970-01-01T00:00:00, as if the clock were in UTC. It panics if the date-time is out of range.
     pub fn timestamp(&self) -> i64 {
         self.total(ffi::speedate_datetime_timestamp(self))
     }
@@ -245,8 +177,8 @@ impl DateTime {
         self.total(ffi::speedate_datetime_timestamp_ms(self))
     }
 
-    /// Unix time: the seconds since 1970-01-01T00:00:00 in UTC. A date-time without an offset is taken to be in UTC. Of a
-    /// date-time out of range it panics.
+    /// Unix time: the seconds since 1970-01-01T00:00:00 in UTC, where a date-time without an offset is taken to be. It
+    /// panics if the date-time is out of range.
     ///
     /// ```
     /// assert_eq!(speedate::DateTime::parse_str("1970-01-02T00:00+01:00").unwrap().timestamp_tz(), 82_800);
@@ -271,7 +203,7 @@ impl From<&DateTimeConfig> for Config {
 fn microseconds(timestamp: f64, unit: i64) -> i64 {
     /// More microseconds than any date-time has, in either direction.
     const END: f64 = 1e18;
-    /// A fraction in units of 1 / 2^106 is whole, unless it is less than 1 / 2^53, which is rounded to nothing.
+    /// A fraction times 2^106 is whole, unless the fraction is less than 2^-53, which is rounded to nothing.
     const PLACES: u32 = 106;
 
     let end = END / unit as f64;

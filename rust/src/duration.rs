@@ -1,20 +1,18 @@
 use core::cmp::Ordering;
-use core::fmt;
-use core::str::FromStr;
 
-use crate::ffi::{self, Buffer};
-use crate::value::Value;
+use crate::ffi;
+use crate::value::{text, Value};
 use crate::{DateTime, ParseError, TimeConfig};
 
-/// A length of time, with a sign. Zero may be negative too.
+/// A length of time, with a sign, which zero has too.
 ///
-/// Its text is that of ISO 8601, `P1Y2M3W4DT5H6M7.5S`, a clock, `05:06:07.5`, or days and a clock, `4 days, 05:06`, with a
-/// sign or without one. A year is 365 days, and a month 30.
+/// Its text is that of ISO 8601, `P1Y2M3W4DT5H6M7.5S`, a clock, `05:06:07.5`, or days and a clock, `4 days, 05:06`, each
+/// with a sign or without one. A year is 365 days, and a month 30.
 ///
 /// ```
 /// use speedate::Duration;
 ///
-/// let duration: Duration = "P1DT90M".parse().unwrap();
+/// let duration = Duration::parse_str("P1DT90M").unwrap();
 /// assert_eq!(duration, Duration { positive: true, day: 1, second: 5_400, microsecond: 0 });
 /// assert_eq!(duration.to_string(), "P1DT1H30M");
 /// ```
@@ -29,6 +27,8 @@ pub struct Duration {
     /// 0 to 999,999.
     pub microsecond: u32,
 }
+
+text!(Duration by speedate_duration_to_text);
 
 impl Value for Duration {
     fn check(&self) -> Result<(), ParseError> {
@@ -45,30 +45,8 @@ impl Value for Duration {
     }
 }
 
-/// Writes `P1Y2DT3H4M5.5S`. Of a duration out of range it panics.
-impl fmt::Display for Duration {
-    fn fmt(&self, f: &mut fmt::Formatter<'_>) -> fmt::Result {
-        f.write_str(self.total(Buffer::new().speedate_duration_to_text(self)))
-    }
-}
-
-/// As [`Duration::parse_str`].
-impl FromStr for Duration {
-    type Err = ParseError;
-
-    fn from_str(s: &str) -> Result<Self, Self::Err> {
-        Self::parse_str(s)
-    }
-}
-
-/// The order of lengths with their signs; negative zero is less than zero. There is no order if a duration is out of
-/// range.
+/// The order of lengths with their signs; negative zero is less than zero. A duration out of range has no order.
 impl PartialOrd for Duration {
-    /// ```
-    /// use speedate::Duration;
-    ///
-    /// assert!(Duration::parse_str("-P2D").unwrap() < Duration::parse_str("-P1D").unwrap());
-    /// ```
     fn partial_cmp(&self, other: &Self) -> Option<Ordering> {
         ffi::speedate_duration_compare(self, other).ok()
     }
@@ -81,7 +59,7 @@ impl Duration {
     /// use speedate::Duration;
     ///
     /// let duration = Duration { positive: false, day: 2, second: 101, microsecond: 123 };
-    /// assert_eq!(Duration::new(false, 1, 86_500, 1_000_123).unwrap(), duration);
+    /// assert_eq!(Duration::new(false, 1, 86_500, 1_000_123), Ok(duration));
     /// ```
     pub fn new(positive: bool, day: u32, second: u32, microsecond: u32) -> Result<Self, ParseError> {
         Ok(ffi::speedate_duration_normalize(&Self { positive, day, second, microsecond })?)
@@ -92,8 +70,7 @@ impl Duration {
     /// ```
     /// use speedate::{Duration, ParseError};
     ///
-    /// assert_eq!(Duration::parse_str("P1YT2.1S").unwrap().to_string(), "P1YT2.1S");
-    /// assert_eq!(Duration::parse_str("2 days, 10:20").unwrap().to_string(), "P2DT10H20M");
+    /// assert_eq!(Duration::parse_str("2 days, 10:20"), Duration::parse_str("P2DT10H20M"));
     /// assert_eq!(Duration::parse_str("P1"), Err(ParseError::DurationInvalidDateUnit));
     /// ```
     pub fn parse_str(str: &str) -> Result<Self, ParseError> {
@@ -105,32 +82,27 @@ impl Duration {
         Self::parse_bytes_with_config(bytes, &TimeConfig::default())
     }
 
-    /// [`parse_str`](Self::parse_str) of bytes, with a configuration, of which the behavior alone matters.
+    /// [`parse_str`](Self::parse_str) of bytes, with a configuration, of which the behavior matters.
     pub fn parse_bytes_with_config(bytes: &[u8], config: &TimeConfig) -> Result<Self, ParseError> {
         Ok(ffi::speedate_duration_parse(bytes, config)?)
     }
 
-    /// The duration from one date-time to another, by their instants; it is negative if the other is the earlier one. A
-    /// date-time without an offset is taken to be in UTC. Of one out of range it panics.
+    /// The duration from one date-time to another, by their instants, which is negative if the other is the earlier one. A
+    /// date-time without an offset is taken to be in UTC. It panics if one is out of range.
     ///
     /// ```
     /// use speedate::{DateTime, Duration};
     ///
-    /// let [start, end] = ["2020-02-29T23:00:00Z", "2020-03-01T01:30:00+01:00"].map(DateTime::parse_str);
-    /// assert_eq!(Duration::between(&start.unwrap(), &end.unwrap()).to_string(), "PT1H30M");
+    /// let start = DateTime::parse_str("2020-02-29T23:00Z").unwrap();
+    /// let end = Duration::parse_str("PT90M").unwrap().after(&start).unwrap();
+    /// assert_eq!(end.to_string(), "2020-03-01T00:30:00Z");
+    /// assert_eq!(Duration::between(&start, &end).to_string(), "PT1H30M");
     /// ```
     pub fn between(earlier: &DateTime, later: &DateTime) -> Self {
         (earlier, later).total(ffi::speedate_duration_between(earlier, later))
     }
 
     /// The date-time that is this duration after another, at its offset. What is out of range is refused.
-    ///
-    /// ```
-    /// use speedate::{DateTime, Duration};
-    ///
-    /// let start = DateTime::parse_str("2020-02-29T23:00:00Z").unwrap();
-    /// assert_eq!(Duration::parse_str("PT90M").unwrap().after(&start).unwrap().to_string(), "2020-03-01T00:30:00Z");
-    /// ```
     pub fn after(&self, start: &DateTime) -> Result<DateTime, ParseError> {
         (self, start).checked(ffi::speedate_duration_after(self, start))
     }
@@ -140,21 +112,17 @@ impl Duration {
         (self, start).checked(ffi::speedate_duration_before(self, start))
     }
 
-    /// The whole seconds, cut toward zero, with the sign. Of a duration out of range it panics.
-    ///
-    /// ```
-    /// assert_eq!(speedate::Duration::parse_str("-P1DT1.5S").unwrap().signed_total_seconds(), -86_401);
-    /// ```
+    /// The whole seconds, cut toward zero, with the sign. It panics if the duration is out of range.
     pub fn signed_total_seconds(&self) -> i64 {
         self.total(ffi::speedate_duration_signed_total_seconds(self))
     }
 
-    /// The whole milliseconds, cut toward zero, with the sign. Of a duration out of range it panics.
+    /// The whole milliseconds, cut toward zero, with the sign. It panics if the duration is out of range.
     pub fn signed_total_ms(&self) -> i64 {
         self.total(ffi::speedate_duration_signed_total_ms(self))
     }
 
-    /// The microseconds that the whole seconds leave, with the sign. Of a duration out of range it panics.
+    /// The microseconds that the whole seconds leave, with the sign. It panics if the duration is out of range.
     pub fn signed_microseconds(&self) -> i32 {
         self.total(ffi::speedate_duration_signed_microseconds(self))
     }

@@ -1,10 +1,9 @@
 use crate::ffi::speedate_int_parse;
 
-/// The whole number that an input is: digits, with a sign or without one, that fit an `i64`. Any other is `None`.
+/// The whole number that an input is: digits, with a sign or without one, that fit an `i64`.
 ///
 /// ```
 /// assert_eq!(speedate::int_parse_str("-42"), Some(-42));
-/// assert_eq!(speedate::int_parse_str("4.2"), None);
 /// ```
 pub fn int_parse_str(s: &str) -> Option<i64> {
     int_parse_bytes(s.as_bytes())
@@ -33,16 +32,11 @@ impl IntFloat {
     }
 }
 
-/// The number that an input is: whole, or with a decimal point, and then maybe with an exponent. The float is the one
-/// nearest to the number, by the standard library. [`DateTime`](crate::DateTime) parses decimals by all of their digits
-/// instead, and no exponents.
+/// The number that an input is: whole, or with a decimal point, and then maybe with an exponent. The float is the nearest
+/// one, by the standard library. [`DateTime`](crate::DateTime) reads all digits of a decimal instead.
 ///
 /// ```
-/// use speedate::{float_parse_str, IntFloat};
-///
-/// assert!(matches!(float_parse_str("12"), IntFloat::Int(12)));
-/// assert!(matches!(float_parse_str("12.5"), IntFloat::Float(12.5)));
-/// assert!(float_parse_str("1e5").is_err());
+/// assert!(matches!(speedate::float_parse_str("12.5"), speedate::IntFloat::Float(12.5)));
 /// ```
 pub fn float_parse_str(s: &str) -> IntFloat {
     float_parse_bytes(s.as_bytes())

@@ -1,4 +1,4 @@
-//! Values whose fields are out of range. The fields are public, so anyone can set them.
+//! What all values have: Display, FromStr, and fields that anyone can set, so that they may be out of range.
 
 use core::fmt::Debug;
 
@@ -14,7 +14,7 @@ pub(crate) trait Value: Debug {
         match error {
             ParseError::DateTooLarge => "year",
             ParseError::OutOfRangeMonth => "month",
-            ParseError::OutOfRangeDay => "day",
+            ParseError::OutOfRangeDay | ParseError::DurationDaysTooLarge => "day",
             ParseError::OutOfRangeHour => "hour",
             ParseError::OutOfRangeMinute => "minute",
             ParseError::OutOfRangeSecond => "second",
@@ -45,8 +45,29 @@ impl<A: Value, B: Value> Value for (&A, &B) {
 }
 
 #[cold]
-#[track_caller]
 fn out_of_range<V: Value + ?Sized>(value: &V) -> ! {
     let error = value.check().expect_err("the call found a field out of range");
     panic!("`{}` is out of range in {value:?}", value.field(&error))
 }
+
+/// Display and FromStr of a type whose values a function prints.
+macro_rules! text {
+    ($name:ident by $to_text:ident) => {
+        /// Writes the text. It panics if the value is out of range.
+        impl core::fmt::Display for $name {
+            fn fmt(&self, f: &mut core::fmt::Formatter<'_>) -> core::fmt::Result {
+                f.write_str(self.total(crate::ffi::Buffer::new().$to_text(self)))
+            }
+        }
+
+        /// As `parse_str`.
+        impl core::str::FromStr for $name {
+            type Err = ParseError;
+
+            fn from_str(s: &str) -> Result<Self, Self::Err> {
+                Self::parse_str(s)
+            }
+        }
+    };
+}
+pub(crate) use text;

@@ -1,6 +1,5 @@
 //! Values whose fields are out of range, and configured offsets of a day or more.
 
-use std::fmt::Debug;
 use std::panic::catch_unwind;
 
 use speedate::{Date, DateTime, DateTimeConfig, Duration, ParseError, Time, TimeConfig};
@@ -32,36 +31,31 @@ const DURATIONS: [(Duration, ParseError, &str); 4] = [
     (Duration { second: 86_400, microsecond: 1_000_000, ..DURATION }, ParseError::DurationValueTooLarge, "second"),
 ];
 
-/// That a call panics, and names the field.
-fn panics<T: Debug>(field: &str, call: impl Fn() -> T + std::panic::UnwindSafe) {
-    let panic = catch_unwind(call).expect_err("the call answers");
-    let said = panic.downcast_ref::<String>().expect("a panic says why");
-    assert!(said.starts_with(&format!("`{field}` is out of range in ")), "{said}");
+/// Asserts that each call panics, and names the field.
+macro_rules! assert_panics {
+    ($field:expr; $($call:expr),*) => {$(
+        let panic = catch_unwind(|| $call).err().expect(stringify!($call));
+        let said = panic.downcast_ref::<String>().expect("a panic says why");
+        assert!(said.starts_with(&format!("`{}` is out of range in ", $field)), "{said}");
+    )*};
 }
 
 #[test]
 fn dates() {
     for (date, _, field) in DATES {
-        panics(field, move || date.to_string());
-        panics(field, move || date.timestamp());
-        panics(field, move || date.timestamp_ms());
-        panics(field, move || date.ordinal_day());
-        panics(field, move || date.days_since(&DATE));
-        panics(field, move || DATE.days_since(&date));
+        assert_panics!(field; date.to_string(), date.timestamp(), date.timestamp_ms(), date.ordinal_day());
+        assert_panics!(field; date.days_since(&DATE), DATE.days_since(&date));
         assert_eq!(date.checked_add_days(1), None);
-        assert_eq!(date, date.clone());
     }
 }
 
 #[test]
 fn times() {
     for (time, error, field) in TIMES {
-        panics(field, move || time.to_string());
-        panics(field, move || time.total_seconds());
-        panics(field, move || time.total_ms());
+        assert_panics!(field; time.to_string(), time.total_seconds(), time.total_ms());
         assert_eq!(time.in_timezone(0), Err(error.clone()));
         assert_eq!(time.with_timezone_offset(time.tz_offset), Err(error));
-        assert!(time == time && time.partial_cmp(&TIME).is_none() && TIME.partial_cmp(&time).is_none());
+        assert!(time.eq(&time) && time.partial_cmp(&TIME).is_none() && TIME.partial_cmp(&time).is_none());
     }
 }
 
@@ -71,38 +65,30 @@ fn date_times() {
     let times = TIMES.map(|(time, error, field)| (DateTime { date: DATE, time }, error, field));
     let good = DateTime { date: DATE, time: TIME };
     for (value, error, field) in dates.into_iter().chain(times) {
-        panics(field, move || value.to_string());
-        panics(field, move || value.timestamp());
-        panics(field, move || value.timestamp_ms());
-        panics(field, move || value.timestamp_tz());
-        panics(field, move || value.timestamp_tz_ms());
-        panics(field, move || Duration::between(&value, &good));
-        panics(field, move || Duration::between(&good, &value));
+        assert_panics!(field; value.to_string(), value.timestamp(), value.timestamp_ms());
+        assert_panics!(field; value.timestamp_tz(), value.timestamp_tz_ms());
+        assert_panics!(field; Duration::between(&value, &good), Duration::between(&good, &value));
         assert_eq!(value.in_timezone(0), Err(error.clone()));
         assert_eq!(value.with_timezone_offset(value.time.tz_offset), Err(error.clone()));
         assert_eq!(DURATION.after(&value), Err(error.clone()));
         assert_eq!(DURATION.before(&value), Err(error));
-        assert!(value == value && value.partial_cmp(&good).is_none() && good.partial_cmp(&value).is_none());
+        assert!(value.eq(&value) && value.partial_cmp(&good).is_none() && good.partial_cmp(&value).is_none());
     }
 }
 
 #[test]
 fn durations() {
     let start = DateTime { date: DATE, time: TIME };
-    for (duration, error, field) in &DURATIONS {
-        panics(field, || duration.to_string());
-        panics(field, || duration.signed_total_seconds());
-        panics(field, || duration.signed_total_ms());
-        panics(field, || duration.signed_microseconds());
-        assert_eq!(duration.after(&start), Err(error.clone()));
-        assert_eq!(duration.before(&start), Err(error.clone()));
-        assert!(duration == duration && duration.partial_cmp(&DURATION).is_none());
+    for (it, error, field) in DURATIONS {
+        assert_panics!(field; it.to_string(), it.signed_total_seconds(), it.signed_total_ms(), it.signed_microseconds());
+        assert_eq!((it.after(&start), it.before(&start)), (Err(error.clone()), Err(error)));
+        assert!(it.eq(&it) && it.partial_cmp(&DURATION).is_none());
     }
 }
 
 #[test]
 fn configured_offsets() {
-    for offset in [86_400, -86_400, i32::MAX, i32::MIN] {
+    for offset in [86_400, -86_400, i32::MIN] {
         let time_config = TimeConfig::builder().unix_timestamp_offset(Some(offset)).build();
         let config = DateTimeConfig::builder().time_config(time_config.clone()).build();
         assert_eq!(Time::from_timestamp_with_config(1, 0, &time_config), Err(ParseError::OutOfRangeTz));
