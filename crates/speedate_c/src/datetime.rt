@@ -5,7 +5,7 @@ ghost use Rattle.speedate.specs.DateTime.{local_millisecond, local_second, utc_m
 ghost use Rattle.speedate.specs.Standard.{strict_date_time_answer};
 ghost use Rattle.speedate.specs.Requirement.{result_map};
 ghost use Rattle.speedate_c.specs.After.{after_answer, after_front, after_text, after_value, with_option, with_value};
-ghost use Rattle.speedate_c.specs.Code.{answer_code, buffer_too_small, config_out_of_range, order_number, value_out_of_range};
+ghost use Rattle.speedate_c.specs.Code.{answer_code, buffer_too_small, config_out_of_range, order_number, success, value_out_of_range};
 ghost use Rattle.speedate_c.specs.Config.{choices_of};
 ghost use Rattle.speedate_c.specs.DateTime.{date_time_of, shown_date_time};
 
@@ -14,7 +14,11 @@ use crate::config::SpeedateConfig;
 use crate::date::SpeedateDate;
 use crate::text::write_text;
 use crate::time::SpeedateTime;
+use arrayvec::ArrayString;
 use speedate::{DateTime, ParseError};
+
+/// How many bytes the longest text of a date-time has.
+const TEXT_MAX: usize = 32;
 
 /// A date and a time of day, with an offset from UTC or without one.
 #[repr(C)]
@@ -166,7 +170,20 @@ pub extern "C" fn speedate_datetime_to_text(
     ensures room { 33 ≤ length buffer.old → result ≢ buffer_too_small }
 {
     let value = value_or_return!(value);
-    write_text(value.to_text().as_str(), buffer, text_length)
+    let DateTime { date, time } = value;
+    print_by_parts!(time, time => print_date_time(&DateTime { date, time }, buffer, text_length))
+}
+
+/// Prints a date-time into a buffer, and gives the code.
+#[inline(always)]
+fn print_date_time(value: &DateTime, buffer: &mut [u8], text_length: &mut usize) -> i32
+    ensures after { (result, buffer.new, text_length.new)
+        ≡ after_text (date_time_text (date_and_time value.now)) buffer.old text_length.old }
+    ensures room { 33 ≤ length buffer.old → result ≡ success }
+{
+    let mut text = ArrayString::<TEXT_MAX>::new();
+    value.push_onto(&mut text);
+    write_text(text.as_str(), buffer, text_length)
 }
 
 /// Compares two date-times by their instants, as [`DateTime::cmp_instant`] does: -1 if the first

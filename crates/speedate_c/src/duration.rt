@@ -12,7 +12,11 @@ ghost use Rattle.speedate_c.specs.Duration.{duration_of, numbers_of, shown_durat
 use crate::code::{SUCCESS, VALUE_OUT_OF_RANGE, order_number};
 use crate::config::SpeedateConfig;
 use crate::text::write_text;
+use arrayvec::ArrayString;
 use speedate::{Duration, ParseError};
+
+/// How many bytes the longest text of a duration has.
+const TEXT_MAX: usize = 31;
 
 /// A duration: days of 86,400 seconds, seconds of a day, and microseconds of a second, with a sign.
 #[repr(C)]
@@ -145,7 +149,9 @@ pub extern "C" fn speedate_duration_to_text(
     ensures room { 32 ≤ length buffer.old → result ≢ buffer_too_small }
 {
     let duration = value_or_return!(duration);
-    write_text(duration.to_text().as_str(), buffer, text_length)
+    let mut text = ArrayString::<TEXT_MAX>::new();
+    duration.push_onto(&mut text);
+    write_text(text.as_str(), buffer, text_length)
 }
 
 /// Compares two durations, as [`Duration::cmp`] does: -1 if the first is the smaller one, 0

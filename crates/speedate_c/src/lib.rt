@@ -43,6 +43,25 @@ macro_rules! write_of {
     }};
 }
 
+/// Prints a time by the parts that its text has. In each arm the compiler knows the size of the text,
+/// so it writes the text into the buffer itself, and copies none.
+macro_rules! print_by_parts {
+    ($time:expr, $parts:ident => $print:expr) => {
+        match ($time.microsecond, $time.tz_offset) {
+            (0, None) => print_by_parts!($time, 0, None, $parts => $print),
+            (0, Some(0)) => print_by_parts!($time, 0, Some(0), $parts => $print),
+            (0, offset) => print_by_parts!($time, 0, offset, $parts => $print),
+            (micros, None) => print_by_parts!($time, micros, None, $parts => $print),
+            (micros, Some(0)) => print_by_parts!($time, micros, Some(0), $parts => $print),
+            (micros, offset) => print_by_parts!($time, micros, offset, $parts => $print),
+        }
+    };
+    ($time:expr, $microsecond:expr, $offset:expr, $parts:ident => $print:expr) => {{
+        let $parts = $crate::time::with_parts(&$time, $microsecond, $offset);
+        $print
+    }};
+}
+
 mod arithmetic;
 mod code;
 mod config;

@@ -8,6 +8,7 @@ use crate::code::{BUFFER_TOO_SMALL, SUCCESS, VALUE_OUT_OF_RANGE, code_row};
 
 /// Writes a text and a zero byte after it into a buffer, and its length beside it, and gives the
 /// code.
+#[inline(always)]
 pub(crate) fn write_text(text: &str, buffer: &mut [u8], text_length: &mut usize) -> i32
     ensures after { (result, buffer.new, text_length.new)
         ≡ after_text text.now buffer.old text_length.old }
@@ -23,6 +24,7 @@ pub(crate) fn write_text(text: &str, buffer: &mut [u8], text_length: &mut usize)
 }
 
 /// Writes a text and a zero byte at the front of a buffer.
+#[inline(always)]
 fn fill(text: &str, buffer: &mut [u8])
     requires room { length text.now < length buffer.old }
     ensures front { buffer.new ≡ text.now ++ 0 ∷ drop (length text.now + 1) buffer.old }

@@ -1,19 +1,25 @@
 //! Times of day as C sees them.
 
 ghost use Rattle.std.specs.Prelude.{◌≡◌, ◌≢◌, ◌≤◌, length};
+ghost use Rattle.std.specs.Option.{ForSome};
+ghost use Rattle.speedate.specs.Offset.{IsOffset};
 ghost use Rattle.speedate.specs.DateTime.{time_instant_order, time_in_timezone};
 ghost use Rattle.speedate.specs.Requirement.{result_map};
 ghost use Rattle.speedate.specs.Time.{time_of_day, millisecond_of_day, second_of_day, timestamp_answer, time_answer, time_front, time_text, ◌gives◌};
 ghost use Rattle.speedate.specs.Standard.{strict_time_answer};
 ghost use Rattle.speedate_c.specs.After.{after_answer, after_front, after_text, after_value, with_option, with_value};
-ghost use Rattle.speedate_c.specs.Code.{answer_code, buffer_too_small, config_out_of_range, order_number, value_out_of_range};
+ghost use Rattle.speedate_c.specs.Code.{answer_code, buffer_too_small, config_out_of_range, order_number, success, value_out_of_range};
 ghost use Rattle.speedate_c.specs.Config.{choices_of};
 ghost use Rattle.speedate_c.specs.Time.{shown_time, time_of};
 
 use crate::code::{SUCCESS, order_number};
 use crate::config::{SpeedateConfig, offset};
 use crate::text::write_text;
+use arrayvec::ArrayString;
 use speedate::{ParseError, Time};
+
+/// How many bytes the longest text of a time has.
+const TEXT_MAX: usize = 21;
 
 /// A time of day, with an offset from UTC or without one.
 #[repr(C)]
@@ -169,7 +175,36 @@ pub extern "C" fn speedate_time_to_text(
     ensures room { 22 ≤ length buffer.old → result ≢ buffer_too_small }
 {
     let time = value_or_return!(time);
-    write_text(time.to_text().as_str(), buffer, text_length)
+    print_by_parts!(time, parts => print_time(&parts, buffer, text_length))
+}
+
+/// A time with another microsecond and another offset.
+#[inline(always)]
+pub(crate) fn with_parts(time: &Time, microsecond: u32, tz_offset: Option<i32>) -> Time
+    requires microsecond { microsecond ≤ 999999 }
+    requires offset { ForSome tz_offset IsOffset }
+    ensures time { time_of_day result
+        ≡ record (time_of_day time.now) { microsecond = microsecond; offset = tz_offset } }
+{
+    Time {
+        hour: time.hour,
+        minute: time.minute,
+        second: time.second,
+        microsecond,
+        tz_offset,
+    }
+}
+
+/// Prints a time into a buffer, and gives the code.
+#[inline(always)]
+fn print_time(time: &Time, buffer: &mut [u8], text_length: &mut usize) -> i32
+    ensures after { (result, buffer.new, text_length.new)
+        ≡ after_text (time_text (time_of_day time.now)) buffer.old text_length.old }
+    ensures room { 22 ≤ length buffer.old → result ≡ success }
+{
+    let mut text = ArrayString::<TEXT_MAX>::new();
+    time.push_onto(&mut text);
+    write_text(text.as_str(), buffer, text_length)
 }
 
 /// Compares two times by their instants, as [`Time::cmp_instant`] does: -1 if the first is the
