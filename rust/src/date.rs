@@ -63,6 +63,7 @@ impl Date {
     }
 
     /// [`parse_str`](Self::parse_str) of bytes, with a configuration.
+    #[inline]
     pub fn parse_bytes_with_config(bytes: &[u8], config: &DateConfig) -> Result<Self, ParseError> {
         Ok(ffi::speedate_date_parse(bytes, config)?)
     }

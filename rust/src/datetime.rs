@@ -81,6 +81,7 @@ impl DateTime {
     }
 
     /// [`parse_str`](Self::parse_str) of bytes, with a configuration.
+    #[inline]
     pub fn parse_bytes_with_config(bytes: &[u8], config: &DateTimeConfig) -> Result<Self, ParseError> {
         Ok(ffi::speedate_datetime_parse(bytes, config)?)
     }

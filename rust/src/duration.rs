@@ -83,6 +83,7 @@ impl Duration {
     }
 
     /// [`parse_str`](Self::parse_str) of bytes, with a configuration, of which the behavior matters.
+    #[inline]
     pub fn parse_bytes_with_config(bytes: &[u8], config: &TimeConfig) -> Result<Self, ParseError> {
         Ok(ffi::speedate_duration_parse(bytes, config)?)
     }

@@ -67,6 +67,7 @@ impl Time {
     }
 
     /// [`parse_str`](Self::parse_str) of bytes, with a configuration, of which the behavior matters.
+    #[inline]
     pub fn parse_bytes_with_config(bytes: &[u8], config: &TimeConfig) -> Result<Self, ParseError> {
         Ok(ffi::speedate_time_parse(bytes, config)?)
     }
