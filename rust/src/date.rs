@@ -1,5 +1,5 @@
 use crate::ffi::{self, Config};
-use crate::value::{text, Value};
+use crate::value::{value, Value};
 use crate::{DateConfig, ParseError};
 
 /// A day of the Gregorian calendar, from 0000-01-01 to 9999-12-31. Its text is `YYYY-MM-DD`.
@@ -21,7 +21,17 @@ pub struct Date {
     pub day: u8,
 }
 
-text!(Date by speedate_date_to_text);
+value! {
+    /// The date of a text, or of a timestamp that is a midnight. Every whole number is a timestamp, `20200229` too.
+    ///
+    /// ```
+    /// use speedate::{Date, ParseError};
+    ///
+    /// assert_eq!(Date::parse_str("2020-02-29"), Date::parse_str("1582934400"));
+    /// assert_eq!(Date::parse_str("2021-02-29"), Err(ParseError::OutOfRangeDay));
+    /// ```
+    Date by speedate_date_parse under DateConfig, speedate_date_to_text
+}
 
 impl Value for Date {
     fn check(&self) -> Result<(), ParseError> {
@@ -35,18 +45,6 @@ impl Date {
         Self::parse_bytes_rfc3339(str.as_bytes())
     }
 
-    /// The date of a text, or of a timestamp that is a midnight. Every whole number is a timestamp, `20200229` too.
-    ///
-    /// ```
-    /// use speedate::{Date, ParseError};
-    ///
-    /// assert_eq!(Date::parse_str("2020-02-29"), Date::parse_str("1582934400"));
-    /// assert_eq!(Date::parse_str("2021-02-29"), Err(ParseError::OutOfRangeDay));
-    /// ```
-    pub fn parse_str(str: &str) -> Result<Self, ParseError> {
-        Self::parse_bytes(str.as_bytes())
-    }
-
     /// [`parse_str`](Self::parse_str) with a configuration.
     pub fn parse_str_with_config(str: &str, config: &DateConfig) -> Result<Self, ParseError> {
         Self::parse_bytes_with_config(str.as_bytes(), config)
@@ -55,17 +53,6 @@ impl Date {
     /// [`parse_str_rfc3339`](Self::parse_str_rfc3339) of bytes.
     pub fn parse_bytes_rfc3339(bytes: &[u8]) -> Result<Self, ParseError> {
         Ok(ffi::speedate_date_parse_rfc3339(bytes)?)
-    }
-
-    /// [`parse_str`](Self::parse_str) of bytes.
-    pub fn parse_bytes(bytes: &[u8]) -> Result<Self, ParseError> {
-        Self::parse_bytes_with_config(bytes, &DateConfig::default())
-    }
-
-    /// [`parse_str`](Self::parse_str) of bytes, with a configuration.
-    #[inline]
-    pub fn parse_bytes_with_config(bytes: &[u8], config: &DateConfig) -> Result<Self, ParseError> {
-        Ok(ffi::speedate_date_parse(bytes, config)?)
     }
 
     /// The date at the front of an input, whatever follows it, and its size in bytes. A timestamp is refused.

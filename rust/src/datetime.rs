@@ -3,7 +3,7 @@ use core::cmp::Ordering;
 use std::time::SystemTime;
 
 use crate::ffi::{self, Config};
-use crate::value::{text, Value};
+use crate::value::{value, Value};
 use crate::{Date, DateTimeConfig, MicrosecondsPrecisionOverflowBehavior, ParseError, Time, TimeConfig, TimestampUnit};
 
 /// A date and a time of day, as a clock at the offset of the time shows them. Its text is that of the [`Date`], then `T`,
@@ -26,7 +26,18 @@ pub struct DateTime {
     pub time: Time,
 }
 
-text!(DateTime by speedate_datetime_to_text);
+value! {
+    /// The date-time of a text, or of a timestamp, whole or decimal. Every number is a timestamp, `20200229` too, but for
+    /// one with an exponent, which is refused.
+    ///
+    /// ```
+    /// use speedate::{DateTime, ParseError};
+    ///
+    /// assert_eq!(DateTime::parse_str("2020-02-29 12:13:14.5"), DateTime::parse_str("1582978394.5"));
+    /// assert_eq!(DateTime::parse_str("2020-02-29"), Err(ParseError::InvalidCharDateTimeSep));
+    /// ```
+    DateTime by speedate_datetime_parse under DateTimeConfig, speedate_datetime_to_text
+}
 
 impl Value for DateTime {
     fn check(&self) -> Result<(), ParseError> {
@@ -47,19 +58,6 @@ impl DateTime {
         Self::parse_bytes_rfc3339(str.as_bytes())
     }
 
-    /// The date-time of a text, or of a timestamp, whole or decimal. Every number is a timestamp, `20200229` too, but for
-    /// one with an exponent, which is refused.
-    ///
-    /// ```
-    /// use speedate::{DateTime, ParseError};
-    ///
-    /// assert_eq!(DateTime::parse_str("2020-02-29 12:13:14.5"), DateTime::parse_str("1582978394.5"));
-    /// assert_eq!(DateTime::parse_str("2020-02-29"), Err(ParseError::InvalidCharDateTimeSep));
-    /// ```
-    pub fn parse_str(str: &str) -> Result<Self, ParseError> {
-        Self::parse_bytes(str.as_bytes())
-    }
-
     /// [`parse_str`](Self::parse_str) with a configuration.
     pub fn parse_str_with_config(str: &str, config: &DateTimeConfig) -> Result<Self, ParseError> {
         Self::parse_bytes_with_config(str.as_bytes(), config)
@@ -73,17 +71,6 @@ impl DateTime {
     /// [`parse_str_rfc3339`](Self::parse_str_rfc3339) of bytes, with a configuration, of which the behavior matters.
     pub fn parse_bytes_rfc3339_with_config(bytes: &[u8], config: &TimeConfig) -> Result<Self, ParseError> {
         Ok(ffi::speedate_datetime_parse_rfc3339(bytes, config)?)
-    }
-
-    /// [`parse_str`](Self::parse_str) of bytes.
-    pub fn parse_bytes(bytes: &[u8]) -> Result<Self, ParseError> {
-        Self::parse_bytes_with_config(bytes, &DateTimeConfig::default())
-    }
-
-    /// [`parse_str`](Self::parse_str) of bytes, with a configuration.
-    #[inline]
-    pub fn parse_bytes_with_config(bytes: &[u8], config: &DateTimeConfig) -> Result<Self, ParseError> {
-        Ok(ffi::speedate_datetime_parse(bytes, config)?)
     }
 
     /// The date-time of an input that is RFC 3339 alone, without a second 60.

@@ -1,7 +1,7 @@
 use core::cmp::Ordering;
 
 use crate::ffi;
-use crate::value::{text, Value};
+use crate::value::{value, Value};
 use crate::{DateTime, ParseError, TimeConfig};
 
 /// A length of time, with a sign, which zero has too.
@@ -28,7 +28,17 @@ pub struct Duration {
     pub microsecond: u32,
 }
 
-text!(Duration by speedate_duration_to_text);
+value! {
+    /// The duration of a text.
+    ///
+    /// ```
+    /// use speedate::{Duration, ParseError};
+    ///
+    /// assert_eq!(Duration::parse_str("2 days, 10:20"), Duration::parse_str("P2DT10H20M"));
+    /// assert_eq!(Duration::parse_str("P1"), Err(ParseError::DurationInvalidDateUnit));
+    /// ```
+    Duration by speedate_duration_parse under TimeConfig, speedate_duration_to_text
+}
 
 impl Value for Duration {
     fn check(&self) -> Result<(), ParseError> {
@@ -63,29 +73,6 @@ impl Duration {
     /// ```
     pub fn new(positive: bool, day: u32, second: u32, microsecond: u32) -> Result<Self, ParseError> {
         Ok(ffi::speedate_duration_normalize(&Self { positive, day, second, microsecond })?)
-    }
-
-    /// The duration of a text.
-    ///
-    /// ```
-    /// use speedate::{Duration, ParseError};
-    ///
-    /// assert_eq!(Duration::parse_str("2 days, 10:20"), Duration::parse_str("P2DT10H20M"));
-    /// assert_eq!(Duration::parse_str("P1"), Err(ParseError::DurationInvalidDateUnit));
-    /// ```
-    pub fn parse_str(str: &str) -> Result<Self, ParseError> {
-        Self::parse_bytes(str.as_bytes())
-    }
-
-    /// [`parse_str`](Self::parse_str) of bytes.
-    pub fn parse_bytes(bytes: &[u8]) -> Result<Self, ParseError> {
-        Self::parse_bytes_with_config(bytes, &TimeConfig::default())
-    }
-
-    /// [`parse_str`](Self::parse_str) of bytes, with a configuration, of which the behavior matters.
-    #[inline]
-    pub fn parse_bytes_with_config(bytes: &[u8], config: &TimeConfig) -> Result<Self, ParseError> {
-        Ok(ffi::speedate_duration_parse(bytes, config)?)
     }
 
     /// The duration from one date-time to another, by their instants, which is negative if the other is the earlier one. A

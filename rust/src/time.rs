@@ -2,7 +2,7 @@ use core::cmp::Ordering;
 use core::str::FromStr;
 
 use crate::ffi::{self, Config};
-use crate::value::{text, Value};
+use crate::value::{value, Value};
 use crate::{ConfigError, ParseError, TimeConfig};
 
 /// A time of day, with an offset from UTC or without one.
@@ -31,7 +31,17 @@ pub struct Time {
     pub tz_offset: Option<i32>,
 }
 
-text!(Time by speedate_time_to_text);
+value! {
+    /// The time of a text.
+    ///
+    /// ```
+    /// use speedate::{ParseError, Time};
+    ///
+    /// assert!(Time::parse_str("15:00Z").unwrap() > Time::parse_str("15:00+01:00").unwrap());
+    /// assert_eq!(Time::parse_str("24:00"), Err(ParseError::OutOfRangeHour));
+    /// ```
+    Time by speedate_time_parse under TimeConfig, speedate_time_to_text
+}
 
 impl Value for Time {
     fn check(&self) -> Result<(), ParseError> {
@@ -49,29 +59,6 @@ impl PartialOrd for Time {
 }
 
 impl Time {
-    /// The time of a text.
-    ///
-    /// ```
-    /// use speedate::{ParseError, Time};
-    ///
-    /// assert!(Time::parse_str("15:00Z").unwrap() > Time::parse_str("15:00+01:00").unwrap());
-    /// assert_eq!(Time::parse_str("24:00"), Err(ParseError::OutOfRangeHour));
-    /// ```
-    pub fn parse_str(str: &str) -> Result<Self, ParseError> {
-        Self::parse_bytes(str.as_bytes())
-    }
-
-    /// [`parse_str`](Self::parse_str) of bytes.
-    pub fn parse_bytes(bytes: &[u8]) -> Result<Self, ParseError> {
-        Self::parse_bytes_with_config(bytes, &TimeConfig::default())
-    }
-
-    /// [`parse_str`](Self::parse_str) of bytes, with a configuration, of which the behavior matters.
-    #[inline]
-    pub fn parse_bytes_with_config(bytes: &[u8], config: &TimeConfig) -> Result<Self, ParseError> {
-        Ok(ffi::speedate_time_parse(bytes, config)?)
-    }
-
     /// The time of an input that is RFC 3339 alone, without a second 60.
     ///
     /// ```

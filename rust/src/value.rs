@@ -1,4 +1,4 @@
-//! What all values have: Display, FromStr, and fields that anyone can set, so that they may be out of range.
+//! What all types have: texts, and public fields, which may be out of range, since anyone can set them.
 
 use core::fmt::Debug;
 
@@ -50,13 +50,13 @@ fn out_of_range<V: Value + ?Sized>(value: &V) -> ! {
     panic!("`{}` is out of range in {value:?}", value.field(&error))
 }
 
-/// Display and FromStr of a type whose values a function prints.
-macro_rules! text {
-    ($name:ident by $to_text:ident) => {
+/// Defines how values of a type are parsed and printed, by its functions of C.
+macro_rules! value {
+    ($(#[$parse_str:meta])* $name:ident by $parse:ident under $config:ident, $to_text:ident) => {
         /// Writes the text. It panics if the value is out of range.
         impl core::fmt::Display for $name {
             fn fmt(&self, f: &mut core::fmt::Formatter<'_>) -> core::fmt::Result {
-                f.write_str(self.total(crate::ffi::Buffer::new().$to_text(self)))
+                f.write_str(self.total(ffi::Buffer::new().$to_text(self)))
             }
         }
 
@@ -68,6 +68,24 @@ macro_rules! text {
                 Self::parse_str(s)
             }
         }
+
+        impl $name {
+            $(#[$parse_str])*
+            pub fn parse_str(str: &str) -> Result<Self, ParseError> {
+                Self::parse_bytes(str.as_bytes())
+            }
+
+            /// [`parse_str`](Self::parse_str) of bytes.
+            pub fn parse_bytes(bytes: &[u8]) -> Result<Self, ParseError> {
+                Self::parse_bytes_with_config(bytes, &$config::default())
+            }
+
+            /// [`parse_str`](Self::parse_str) of bytes, with a configuration.
+            #[inline]
+            pub fn parse_bytes_with_config(bytes: &[u8], config: &$config) -> Result<Self, ParseError> {
+                Ok(ffi::$parse(bytes, config)?)
+            }
+        }
     };
 }
-pub(crate) use text;
+pub(crate) use value;
