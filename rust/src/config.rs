@@ -28,9 +28,9 @@ impl FromStr for TimestampUnit {
     }
 }
 
-/// Defines a configuration, and its builder, which has a call for each field.
+/// Defines a configuration, and its builder, which has a call for each field, and what was chosen of it, if anything was.
 macro_rules! config {
-    ($(#[$about:meta])* $name:ident by $builder:ident { $($(#[$is:meta])* $field:ident: $kind:ty,)* }) => {
+    ($(#[$about:meta])* $name:ident by $builder:ident { $($(#[$is:meta])* $field:ident: $kind:ty as $chosen:ty,)* }) => {
         $(#[$about])*
         #[derive(Debug, Clone, Default, PartialEq)]
         pub struct $name {
@@ -47,7 +47,7 @@ macro_rules! config {
         #[doc = concat!("Builds a [`", stringify!($name), "`].")]
         #[derive(Debug, Clone, Default)]
         pub struct $builder {
-            $($field: Option<$kind>,)*
+            $($field: $chosen,)*
         }
 
         impl $builder {
@@ -59,14 +59,14 @@ macro_rules! config {
             $(
                 #[doc = concat!("Sets `", stringify!($field), "`.")]
                 pub fn $field(mut self, $field: $kind) -> Self {
-                    self.$field = Some($field);
+                    self.$field = $field.into();
                     self
                 }
             )*
 
             /// The configuration.
             pub fn build(self) -> $name {
-                $name { $($field: self.$field.unwrap_or_default(),)* }
+                $name { $($field: self.$field.map_or_else(Default::default, Into::into),)* }
             }
         }
     };
@@ -76,7 +76,7 @@ config! {
     /// How dates are parsed.
     DateConfig by DateConfigBuilder {
         /// The unit of timestamps.
-        timestamp_unit: TimestampUnit,
+        timestamp_unit: TimestampUnit as Option<TimestampUnit>,
     }
 }
 
@@ -94,9 +94,9 @@ config! {
     /// ```
     DateTimeConfig by DateTimeConfigBuilder {
         /// The unit of timestamps.
-        timestamp_unit: TimestampUnit,
+        timestamp_unit: TimestampUnit as Option<TimestampUnit>,
         /// How the time is parsed, and the offset of timestamps.
-        time_config: TimeConfig,
+        time_config: TimeConfig as Option<TimeConfig>,
     }
 }
 
@@ -104,10 +104,11 @@ config! {
     /// How times and durations are parsed.
     TimeConfig by TimeConfigBuilder {
         /// What happens to digits past the microsecond.
-        microseconds_precision_overflow_behavior: MicrosecondsPrecisionOverflowBehavior,
+        microseconds_precision_overflow_behavior: MicrosecondsPrecisionOverflowBehavior
+            as Option<MicrosecondsPrecisionOverflowBehavior>,
         /// The offset that the value of a timestamp gets, in seconds: `Some(0)` for Unix time. It is attached, and shifts
         /// nothing. One of a day or more fails with [`OutOfRangeTz`](crate::ParseError::OutOfRangeTz) in a call that takes
         /// timestamps, and is not looked at by any other.
-        unix_timestamp_offset: Option<i32>,
+        unix_timestamp_offset: Option<i32> as Option<i32>,
     }
 }
