@@ -5,8 +5,8 @@ use std::cmp::Ordering;
 use std::fmt::{Debug, Display};
 
 use super::api::{
-    self, Date, DateConfig, DateTime, DateTimeConfig, Duration, IntFloat, MicrosecondsPrecisionOverflowBehavior,
-    ParseError, Time, TimeConfig, TimestampUnit,
+    self, Date, DateConfig, DateTime, DateTimeConfig, DateTimeConfigBuilder, Duration, IntFloat,
+    MicrosecondsPrecisionOverflowBehavior, ParseError, Time, TimeConfig, TimeConfigBuilder, TimestampUnit,
 };
 use crate::answer::{Answer, Value};
 use crate::call::Call;
@@ -61,12 +61,17 @@ pub fn read(kind: Kind, text: &[u8], config: &Config) -> Answer {
     }
 }
 
-/// What Debug shows of the answer to a text.
+/// What Debug shows of the answer to a text, and of the configuration, its builder and its builder's default.
 fn debug(kind: Kind, text: &[u8], config: &Config) -> Value {
+    let time_config = time_config(config);
+    let offset = TimeConfigBuilder::new().unix_timestamp_offset(time_config.unix_timestamp_offset);
+    let built = DateTimeConfigBuilder::new().time_config(offset.clone().build());
+    let built = built.timestamp_unit(date_config(config).timestamp_unit);
+    let builders = (DateTimeConfigBuilder::default(), offset, built.clone(), built.build());
     match kind {
-        Kind::Date => text_of(Date::parse_bytes_with_config(text, &date_config(config))),
-        Kind::Time => text_of(Time::parse_bytes_with_config(text, &time_config(config))),
-        Kind::DateTimeRfc3339 => text_of(DateTime::parse_bytes_rfc3339_with_config(text, &time_config(config))),
+        Kind::Date => text_of((Date::parse_bytes_with_config(text, &date_config(config)), builders)),
+        Kind::Time => text_of((Time::parse_bytes_with_config(text, &time_config), builders)),
+        Kind::DateTimeRfc3339 => text_of((DateTime::parse_bytes_rfc3339_with_config(text, &time_config), builders)),
         _ => unreachable!("{kind:?} is not shown by Debug"),
     }
 }
