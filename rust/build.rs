@@ -6,52 +6,33 @@ use std::process::Command;
 
 fn main() {
     let target = env::var("TARGET").expect("cargo sets TARGET");
-    match library_folder(&target) {
-        Ok(folder) => {
+    let of_target = format!("SPEEDATE_DIR_{}", target.replace('-', "_"));
+    let named = folder_by(&of_target).or_else(|| folder_by("SPEEDATE_DIR")).or_else(|| folder_by_pkg_config(&target));
+    let flag = if target.starts_with("aarch64") { "--target aarch64 " } else { "" };
+    let made_by = format!("`bin/build_c {flag}--prefix DIR` of the repository makes it");
+    match named {
+        Some(folder) if folder.join("libspeedate.a").is_file() => {
             println!("cargo::rerun-if-changed={}", folder.join("libspeedate.a").display());
             println!("cargo::rustc-link-search=native={}", folder.display());
             println!("cargo::rustc-link-lib=static=speedate");
         }
-        Err(why) => println!("cargo::error={why}; `{}` of the repository makes it", build_command(&target)),
-    }
-}
-
-/// The folder with the library, or what is missing.
-fn library_folder(target: &str) -> Result<PathBuf, String> {
-    let of_target = format!("SPEEDATE_DIR_{}", target.replace('-', "_"));
-    for name in [of_target.as_str(), "SPEEDATE_DIR"] {
-        println!("cargo::rerun-if-env-changed={name}");
-        if let Some(prefix) = env::var_os(name) {
-            return with_library(Path::new(&prefix).join("lib"), name);
+        Some(folder) => println!("cargo::error=there is no {}/libspeedate.a; {made_by}", folder.display()),
+        None => {
+            println!("cargo::error=neither {of_target} nor SPEEDATE_DIR names DIR, the library's prefix; {made_by}")
         }
     }
-    println!("cargo::rerun-if-env-changed=PKG_CONFIG_PATH");
-    match folder_by_pkg_config(target) {
-        Some(folder) => with_library(folder, "pkg-config"),
-        None => Err(format!("neither {of_target} nor SPEEDATE_DIR nor pkg-config names the prefix of libspeedate.a")),
-    }
 }
 
-fn with_library(folder: PathBuf, named_by: &str) -> Result<PathBuf, String> {
-    match folder.join("libspeedate.a").is_file() {
-        true => Ok(folder),
-        false => Err(format!("there is no libspeedate.a in {}, which {named_by} names", folder.display())),
-    }
+/// The folder of libraries in the prefix that a variable names.
+fn folder_by(variable: &str) -> Option<PathBuf> {
+    println!("cargo::rerun-if-env-changed={variable}");
+    Some(Path::new(&env::var_os(variable)?).join("lib"))
 }
 
-/// What `pkg-config` says of this machine, which is nothing of another one.
+/// The one that `pkg-config` knows, if the target is this machine.
 fn folder_by_pkg_config(target: &str) -> Option<PathBuf> {
-    if env::var("HOST").is_ok_and(|host| host != target) {
-        return None;
-    }
+    println!("cargo::rerun-if-env-changed=PKG_CONFIG_PATH");
     let output = Command::new("pkg-config").args(["--variable=libdir", "speedate"]).output().ok()?;
-    let folder = String::from_utf8(output.stdout).ok()?;
-    output.status.success().then(|| folder.trim().into())
-}
-
-fn build_command(target: &str) -> &'static str {
-    match target.starts_with("aarch64") {
-        true => "bin/build_c --target aarch64 --prefix DIR",
-        false => "bin/build_c --prefix DIR",
-    }
+    let is_found = output.status.success() && env::var("HOST").is_ok_and(|host| host == target);
+    is_found.then(|| String::from_utf8_lossy(&output.stdout).trim_end().into())
 }

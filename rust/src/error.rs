@@ -7,10 +7,8 @@ macro_rules! parse_errors {
         /// Why an input, or a value, is refused.
         ///
         /// ```
-        /// use speedate::{Date, ParseError};
-        ///
-        /// let error = Date::parse_str("2021-02-29").unwrap_err();
-        /// assert_eq!(error, ParseError::OutOfRangeDay);
+        /// let error = speedate::Date::parse_str("2021-02-29").unwrap_err();
+        /// assert_eq!(error, speedate::ParseError::OutOfRangeDay);
         /// assert_eq!(error.to_string(), "out_of_range_day");
         /// assert_eq!(error.get_documentation(), Some("day value is outside expected range"));
         /// ```
@@ -103,12 +101,6 @@ impl fmt::Display for ParseError {
 impl Error for ParseError {}
 
 /// Why the name of a choice is refused.
-///
-/// ```
-/// use speedate::{ConfigError, TimestampUnit};
-///
-/// assert_eq!("min".parse::<TimestampUnit>(), Err(ConfigError::UnknownTimestampUnitString));
-/// ```
 #[derive(Debug, PartialEq, Eq, Clone)]
 pub enum ConfigError {
     /// A behavior is `error` or `truncate`.
