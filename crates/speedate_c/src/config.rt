@@ -43,9 +43,10 @@ impl SpeedateConfig {
     pub(crate) fn to_config(self) -> Option<DateTimeConfig>
         ensures choices { option_map choices result ≡ choices_of self }
     {
+        let time_config = self.to_time_config()?;
         Some(DateTimeConfig {
             timestamp_unit: unit(self.timestamp_unit)?,
-            time_config: self.to_time_config()?,
+            time_config,
         })
     }
 
@@ -54,9 +55,10 @@ impl SpeedateConfig {
         ensures unit { option_map (λ config. config.timestamp_unit) result
             ≡ option_map (λ config. config.unit) (choices_of self) }
     {
-        let timestamp_unit = unit(self.timestamp_unit)?;
         self.to_time_config()?;
-        Some(DateConfig { timestamp_unit })
+        Some(DateConfig {
+            timestamp_unit: unit(self.timestamp_unit)?,
+        })
     }
 
     /// The configuration of times, if each number of it has a value.
@@ -65,10 +67,10 @@ impl SpeedateConfig {
     {
         let offset = offset(self.has_timestamp_offset, self.timestamp_offset).ok()?;
         let builder = TimeConfig::builder()
-            .microseconds_precision_overflow_behavior(behavior(self.overflow_behavior)?)
-            .iso_order(order(self.iso_order)?)
             .try_unix_timestamp_offset(offset)
-            .ok()?;
+            .ok()?
+            .microseconds_precision_overflow_behavior(behavior(self.overflow_behavior)?)
+            .iso_order(order(self.iso_order)?);
         Some(builder.build())
     }
 }
