@@ -71,11 +71,13 @@ macro_rules! value {
 
         impl $name {
             $(#[$parse_str])*
+            #[inline]
             pub fn parse_str(str: &str) -> Result<Self, ParseError> {
                 Self::parse_bytes(str.as_bytes())
             }
 
             /// [`parse_str`](Self::parse_str) of bytes.
+            #[inline]
             pub fn parse_bytes(bytes: &[u8]) -> Result<Self, ParseError> {
                 Self::parse_bytes_with_config(bytes, &$config::default())
             }
