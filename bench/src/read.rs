@@ -13,6 +13,7 @@ pub fn rows(table: &mut Table) {
     time_rows(table);
     date_time_rows(table);
     timestamp_rows(table);
+    number_rows(table);
     duration_rows(table);
     front_rows(table);
 }
@@ -82,6 +83,16 @@ fn timestamp_rows(table: &mut Table) {
         let count = 1 + draw.below(6);
         format!("{}.{}", draw.within(0..=2_000_000_000), draw.digits(count))
     });
+}
+
+fn number_rows(table: &mut Table) {
+    let numbers = texts(|draw| draw.within(1_000_000_000..=3_000_000_000).to_string());
+    table.row("whole number", &numbers, rust(speedate::int_parse_bytes), ours(proved::int_parse_bytes), vec![]);
+    let floats: Vec<f64> = numbers.iter().map(|number| number.parse::<f64>().expect("a number") / 7.0).collect();
+    let rust = side("Rust crate", |float: &f64| DateTime::from_float_with_config(*float, &Default::default()));
+    let ours =
+        side("this library", |float: &f64| proved::DateTime::from_float_with_config(*float, &Default::default()));
+    table.row("timestamp, float", &floats, rust, ours, vec![]);
 }
 
 fn duration_rows(table: &mut Table) {
