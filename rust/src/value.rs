@@ -14,7 +14,7 @@ pub(crate) trait Value: Debug {
         match error {
             ParseError::DateTooLarge => "year",
             ParseError::OutOfRangeMonth => "month",
-            ParseError::OutOfRangeDay | ParseError::DurationDaysTooLarge => "day",
+            ParseError::OutOfRangeDay => "day",
             ParseError::OutOfRangeHour => "hour",
             ParseError::OutOfRangeMinute => "minute",
             ParseError::OutOfRangeSecond => "second",
