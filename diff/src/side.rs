@@ -93,7 +93,9 @@ fn displayed(value: impl Display + Debug) -> String {
 
 /// The unit and the behavior that a text names.
 fn names(text: &str) -> Value {
-    text_of((text.parse::<TimestampUnit>(), text.parse::<MicrosecondsPrecisionOverflowBehavior>()))
+    let unit = text.parse::<TimestampUnit>().map_err(|error| (error.to_string(), error));
+    let behavior = text.parse::<MicrosecondsPrecisionOverflowBehavior>().map_err(|error| (error.to_string(), error));
+    text_of((unit, behavior))
 }
 
 fn text_of(value: impl Debug) -> Value {
