@@ -48,7 +48,7 @@ impl Value for DateTime {
 /// The order of instants, as that of [`Time`].
 impl PartialOrd for DateTime {
     fn partial_cmp(&self, other: &Self) -> Option<Ordering> {
-        ffi::speedate_datetime_compare(self, other).ok()
+        ffi::speedate_datetime_compare(self, other).ok().map(|order: i32| order.cmp(&0))
     }
 }
 

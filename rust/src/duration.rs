@@ -58,7 +58,7 @@ impl Value for Duration {
 /// The order of lengths with their signs; negative zero is less than zero. A duration out of range has no order.
 impl PartialOrd for Duration {
     fn partial_cmp(&self, other: &Self) -> Option<Ordering> {
-        ffi::speedate_duration_compare(self, other).ok()
+        ffi::speedate_duration_compare(self, other).ok().map(|order: i32| order.cmp(&0))
     }
 }
 

@@ -1,7 +1,6 @@
 //! The functions of `c/speedate.h`, each declared beside the safe function that calls it. This is the one file with
 //! unsafe code.
 
-use core::cmp::Ordering;
 use core::ffi::c_int;
 use core::mem::{offset_of, size_of, MaybeUninit};
 use core::ptr::read_volatile;
@@ -29,6 +28,27 @@ impl From<Code> for ParseError {
     }
 }
 
+/// What C writes.
+trait Written {
+    /// The value, of which each number is loaded on its own. C has written a struct by small stores, and a wide load, into
+    /// which the compiler would join these, waits until all of them have left the processor's store buffer.
+    fn load(&self) -> Self;
+}
+
+macro_rules! numbers {
+    ($($kind:ty)*) => {$(
+        impl Written for $kind {
+            #[inline(always)]
+            fn load(&self) -> Self {
+                // SAFETY: a reference is aligned, and what it refers to is initialized.
+                unsafe { read_volatile(self) }
+            }
+        }
+    )*};
+}
+
+numbers!(u8 u16 u32 i32 i64 usize);
+
 /// Defines structs of the header, and asserts that their sizes and offsets are those that the C compiler gives them.
 macro_rules! structs {
     ($(struct $name:ident is $size:literal { $($field:ident: $kind:ty = $offset:literal),* })*) => {$(
@@ -39,6 +59,13 @@ macro_rules! structs {
         }
 
         const _: () = assert!(size_of::<$name>() == $size $(&& offset_of!($name, $field) == $offset)*);
+
+        impl Written for $name {
+            #[inline(always)]
+            fn load(&self) -> Self {
+                Self { $($field: self.$field.load()),* }
+            }
+        }
     )*};
 }
 
@@ -110,92 +137,37 @@ impl From<&Duration> for CDuration {
     }
 }
 
-/// What C writes, as another type or the same.
-trait Written {
-    type C;
-    fn written(from: &Self::C) -> Self;
-}
-
-impl Written for Date {
-    type C = CDate;
-
-    fn written(from: &CDate) -> Self {
-        Self { year: field(&from.year), month: field(&from.month), day: field(&from.day) }
+impl From<CDate> for Date {
+    fn from(CDate { year, month, day }: CDate) -> Self {
+        Self { year, month, day }
     }
 }
 
-impl Written for Time {
-    type C = CTime;
-
-    fn written(from: &CTime) -> Self {
-        Self {
-            hour: field(&from.hour),
-            minute: field(&from.minute),
-            second: field(&from.second),
-            microsecond: field(&from.microsecond),
-            tz_offset: (field(&from.has_offset) == 1).then_some(field(&from.offset)),
-        }
+impl From<CTime> for Time {
+    fn from(CTime { hour, minute, second, has_offset, microsecond, offset }: CTime) -> Self {
+        Self { hour, minute, second, microsecond, tz_offset: (has_offset == 1).then_some(offset) }
     }
 }
 
-impl Written for DateTime {
-    type C = CDateTime;
-
-    fn written(from: &CDateTime) -> Self {
-        Self { date: Date::written(&from.date), time: Time::written(&from.time) }
+impl From<CDateTime> for DateTime {
+    fn from(CDateTime { date, time }: CDateTime) -> Self {
+        Self { date: date.into(), time: time.into() }
     }
 }
 
-impl Written for Duration {
-    type C = CDuration;
-
-    fn written(from: &CDuration) -> Self {
-        Self {
-            positive: field(&from.negative) == 0,
-            day: field(&from.day),
-            second: field(&from.second),
-            microsecond: field(&from.microsecond),
-        }
+impl From<CDuration> for Duration {
+    fn from(CDuration { negative, day, second, microsecond }: CDuration) -> Self {
+        Self { positive: negative == 0, day, second, microsecond }
     }
-}
-
-impl Written for Ordering {
-    type C = i32;
-
-    fn written(from: &i32) -> Self {
-        from.cmp(&0)
-    }
-}
-
-macro_rules! written_as_it_is {
-    ($($kind:ty)*) => {$(
-        impl Written for $kind {
-            type C = Self;
-
-            fn written(from: &Self) -> Self {
-                *from
-            }
-        }
-    )*};
-}
-
-written_as_it_is!(i32 i64 u16 u32 usize);
-
-/// Reads a field on its own. C has written the struct by small stores, and a wide load, into which the compiler would join
-/// the loads of several fields, waits until all of these have left the processor's store buffer.
-#[inline(always)]
-fn field<T: Copy>(field: &T) -> T {
-    // SAFETY: a reference is aligned, and what it refers to is initialized.
-    unsafe { read_volatile(field) }
 }
 
 /// What a call writes, if it returns 0.
 #[inline(always)]
-fn written<T: Written>(call: impl FnOnce(*mut T::C) -> c_int) -> Result<T, Code> {
-    let mut out = MaybeUninit::uninit();
+fn written<C: Written, T: From<C>>(call: impl FnOnce(*mut C) -> c_int) -> Result<T, Code> {
+    let mut out = MaybeUninit::<C>::uninit();
     match call(out.as_mut_ptr()) {
         // SAFETY: a call that returns 0 has written all of its output.
-        0 => Ok(T::written(unsafe { out.assume_init_ref() })),
+        0 => Ok(unsafe { out.assume_init_ref() }.load().into()),
         code => Err(Code(code)),
     }
 }
@@ -204,11 +176,11 @@ fn written<T: Written>(call: impl FnOnce(*mut T::C) -> c_int) -> Result<T, Code>
 macro_rules! calls {
     ($(fn $name:ident($([$text:ident])? $($argument:ident: $kind:ty),*) -> $answer:ty;)*) => {$(
         #[inline]
-        pub(crate) fn $name($($text: &[u8],)? $($argument: impl Into<$kind>),*) -> Result<$answer, Code> {
+        pub(crate) fn $name<T: From<$answer>>(
+            $($text: &[u8],)? $($argument: impl Into<$kind>),*
+        ) -> Result<T, Code> {
             unsafe extern "C" {
-                fn $name(
-                    $($text: *const u8, size: usize,)? $($argument: $kind,)* out: *mut <$answer as Written>::C,
-                ) -> c_int;
+                fn $name($($text: *const u8, size: usize,)? $($argument: $kind,)* out: *mut $answer) -> c_int;
             }
             // SAFETY: the types are the header's; address and size are those of the text, and `out` is a variable's.
             written(|out| unsafe { $name($($text.as_ptr(), $text.len(),)? $($argument.into(),)* out) })
@@ -220,11 +192,12 @@ macro_rules! calls {
 macro_rules! fronts {
     ($(fn $name:ident([$text:ident] $($config:ident)?) -> $answer:ty;)*) => {$(
         #[inline]
-        pub(crate) fn $name($text: &[u8] $(, $config: impl Into<Config>)?) -> Result<($answer, usize), Code> {
+        pub(crate) fn $name<T: From<$answer>>(
+            $text: &[u8] $(, $config: impl Into<Config>)?
+        ) -> Result<(T, usize), Code> {
             unsafe extern "C" {
                 fn $name(
-                    $text: *const u8, size: usize, $($config: Config,)? out: *mut <$answer as Written>::C,
-                    taken: *mut usize,
+                    $text: *const u8, size: usize, $($config: Config,)? out: *mut $answer, taken: *mut usize,
                 ) -> c_int;
             }
             let mut taken = 0;
@@ -272,7 +245,7 @@ macro_rules! printers {
                 }
                 let text: *mut u8 = self.0.as_mut_ptr().cast();
                 // SAFETY: the types are the header's; address and size are the buffer's, and `length` is a variable's.
-                let length = written(|length| unsafe { $name($value.into(), text, self.0.len(), length) })?;
+                let length: usize = written(|length| unsafe { $name($value.into(), text, self.0.len(), length) })?;
                 // SAFETY: the call has written so many bytes into the buffer, and all are ASCII.
                 Ok(unsafe { from_utf8_unchecked(from_raw_parts(text, length)) })
             }
@@ -281,47 +254,47 @@ macro_rules! printers {
 }
 
 calls! {
-    fn speedate_date_parse([text] config: Config) -> Date;
-    fn speedate_date_parse_rfc3339([text]) -> Date;
-    fn speedate_date_from_timestamp(timestamp: i64, require_exact: u8, config: Config) -> Date;
+    fn speedate_date_parse([text] config: Config) -> CDate;
+    fn speedate_date_parse_rfc3339([text]) -> CDate;
+    fn speedate_date_from_timestamp(timestamp: i64, require_exact: u8, config: Config) -> CDate;
     fn speedate_date_timestamp(date: CDate) -> i64;
     fn speedate_date_timestamp_ms(date: CDate) -> i64;
     fn speedate_date_ordinal_day(date: CDate) -> u16;
-    fn speedate_date_add_days(date: CDate, days: i32) -> Date;
+    fn speedate_date_add_days(date: CDate, days: i32) -> CDate;
     fn speedate_date_days_since(date: CDate, earlier: CDate) -> i32;
-    fn speedate_time_parse([text] config: Config) -> Time;
-    fn speedate_time_parse_strict([text] config: Config) -> Time;
-    fn speedate_time_compare(first: CTime, second: CTime) -> Ordering;
-    fn speedate_time_from_timestamp(second: u32, microsecond: u32, config: Config) -> Time;
+    fn speedate_time_parse([text] config: Config) -> CTime;
+    fn speedate_time_parse_strict([text] config: Config) -> CTime;
+    fn speedate_time_compare(first: CTime, second: CTime) -> i32;
+    fn speedate_time_from_timestamp(second: u32, microsecond: u32, config: Config) -> CTime;
     fn speedate_time_total_seconds(time: CTime) -> u32;
     fn speedate_time_total_ms(time: CTime) -> u32;
-    fn speedate_time_in_timezone(time: CTime, offset: i32) -> Time;
-    fn speedate_datetime_parse([text] config: Config) -> DateTime;
-    fn speedate_datetime_parse_rfc3339([text] config: Config) -> DateTime;
-    fn speedate_datetime_parse_strict([text] config: Config) -> DateTime;
-    fn speedate_datetime_compare(first: CDateTime, second: CDateTime) -> Ordering;
-    fn speedate_datetime_from_timestamp(timestamp: i64, microsecond: u32, config: Config) -> DateTime;
+    fn speedate_time_in_timezone(time: CTime, offset: i32) -> CTime;
+    fn speedate_datetime_parse([text] config: Config) -> CDateTime;
+    fn speedate_datetime_parse_rfc3339([text] config: Config) -> CDateTime;
+    fn speedate_datetime_parse_strict([text] config: Config) -> CDateTime;
+    fn speedate_datetime_compare(first: CDateTime, second: CDateTime) -> i32;
+    fn speedate_datetime_from_timestamp(timestamp: i64, microsecond: u32, config: Config) -> CDateTime;
     fn speedate_datetime_timestamp(value: CDateTime) -> i64;
     fn speedate_datetime_timestamp_ms(value: CDateTime) -> i64;
     fn speedate_datetime_timestamp_tz(value: CDateTime) -> i64;
     fn speedate_datetime_timestamp_tz_ms(value: CDateTime) -> i64;
-    fn speedate_datetime_in_timezone(value: CDateTime, offset: i32) -> DateTime;
-    fn speedate_duration_parse([text] config: Config) -> Duration;
-    fn speedate_duration_normalize(numbers: CDuration) -> Duration;
-    fn speedate_duration_compare(first: CDuration, second: CDuration) -> Ordering;
+    fn speedate_datetime_in_timezone(value: CDateTime, offset: i32) -> CDateTime;
+    fn speedate_duration_parse([text] config: Config) -> CDuration;
+    fn speedate_duration_normalize(numbers: CDuration) -> CDuration;
+    fn speedate_duration_compare(first: CDuration, second: CDuration) -> i32;
     fn speedate_duration_signed_total_seconds(duration: CDuration) -> i64;
     fn speedate_duration_signed_total_ms(duration: CDuration) -> i64;
     fn speedate_duration_signed_microseconds(duration: CDuration) -> i32;
-    fn speedate_duration_between(earlier: CDateTime, later: CDateTime) -> Duration;
-    fn speedate_duration_after(duration: CDuration, start: CDateTime) -> DateTime;
-    fn speedate_duration_before(duration: CDuration, start: CDateTime) -> DateTime;
+    fn speedate_duration_between(earlier: CDateTime, later: CDateTime) -> CDuration;
+    fn speedate_duration_after(duration: CDuration, start: CDateTime) -> CDateTime;
+    fn speedate_duration_before(duration: CDuration, start: CDateTime) -> CDateTime;
     fn speedate_int_parse([text]) -> i64;
 }
 
 fronts! {
-    fn speedate_date_parse_front([text]) -> Date;
-    fn speedate_time_parse_front([text] config) -> Time;
-    fn speedate_datetime_parse_front([text] config) -> DateTime;
+    fn speedate_date_parse_front([text]) -> CDate;
+    fn speedate_time_parse_front([text] config) -> CTime;
+    fn speedate_datetime_parse_front([text] config) -> CDateTime;
 }
 
 checks! {

@@ -54,7 +54,7 @@ impl Value for Time {
 /// range has no order.
 impl PartialOrd for Time {
     fn partial_cmp(&self, other: &Self) -> Option<Ordering> {
-        ffi::speedate_time_compare(self, other).ok()
+        ffi::speedate_time_compare(self, other).ok().map(|order: i32| order.cmp(&0))
     }
 }
 
