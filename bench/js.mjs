@@ -1,25 +1,51 @@
-// What a call of the package takes beside what engines have: node bench/js.mjs, after bin/build_js, and before Node 24 with
-// --experimental-wasm-memory64. All take turns; of each the median of the nanoseconds, and of its ratios to the first two.
-import { parseDate, safeParseDate } from "../out/js/speedate.js";
+// What calls of the package take beside the engine's own, after bin/build_js: node bench/js.mjs [FILE], where FILE is another
+// speedate.js that takes turns with it. A row has 1,024 drawn inputs, and of 300 rounds the lowest counts: nanoseconds a call,
+// and how often that is the time of `new Date(text)`.
+import { pathToFileURL } from "node:url";
 
-const texts = Array.from({ length: 10000 }, (_, day) => new Date(day * 86400000).toISOString().slice(0, 10));
-const groups = /^(?<year>\d{4})-(?<month>\d{2})-(?<day>\d{2})$/;
-const matched = ({ groups: { year, month, day } }) => ({ year: +year, month: +month, day: +day });
+const files = [new URL("../out/js/speedate.js", import.meta.url), ...process.argv.slice(2).map(pathToFileURL)];
+const modules = await Promise.all(files.map((it) => import(it)));
+
+let state = 1;
+const below = (most) => (state = (state * 48271) % 2147483647) % most;
+const two = (number) => String(number).padStart(2, "0");
+const date = () => `${1900 + below(200)}-${two(1 + below(12))}-${two(1 + below(28))}`;
+const clock = () => `${two(below(24))}:${two(below(60))}:${two(below(60))}.${100 + below(900)}`;
+const draw = (make) => Array.from({ length: 1024 }, make);
+const TEXTS = {
+  Date: draw(date), Time: draw(() => `${clock()}+01:00`), DateTime: draw(() => `${date()}T${clock()}Z`),
+  Duration: draw(() => `${["", "-"][below(2)]}P${below(400)}DT${below(24)}H${below(60)}M${below(60)}.5S`),
+};
+const DAYS = draw(() => below(1000));
+const wrong = TEXTS.Date.map((it) => it.replace(/..$/, "32"));
+
+/** The values of texts that a module reads, and the same moved by one, for calls of two. */
+const values = (module, kind) => TEXTS[kind].map((it) => module[`parse${kind}`](it));
+const moved = ([first, ...others]) => [...others, first];
+const onTexts = (name, kind, texts = TEXTS[kind]) => [`${name}${kind}`, (module) => [module[`${name}${kind}`], texts, []]];
+const onValues = (name, kind, others = () => []) => [`${name}, ${kind}`, (module) => [module[name], values(module, kind), others(module)]];
+const onPairs = (name, kind) => onValues(name, kind, (module) => moved(values(module, kind)));
 const rows = [
-  ["new Date(Date.parse(text))", texts, (text) => new Date(Date.parse(text)).getTime()],
-  ["a regular expression with its groups", texts, (text) => matched(groups.exec(text)).day],
-  ["parseDate", texts, (text) => parseDate(text).day],
-  ["safeParseDate", texts, (text) => safeParseDate(text).value.day],
-  ["safeParseDate, refused", texts.map((it) => it.replace(/..$/, "32")), (text) => safeParseDate(text).code],
+  ["new Date(text)", () => [(text) => new Date(text), TEXTS.DateTime, []]],
+  ["toISOString", () => [(it) => it.toISOString(), TEXTS.DateTime.map((it) => new Date(it)), []]],
+  ...Object.keys(TEXTS).map((kind) => onTexts("parse", kind)), onTexts("safeParse", "DateTime"), onTexts("safeParse", "Date", wrong),
+  ["parseDateTimeFront", (module) => [module.parseDateTimeFront, TEXTS.DateTime, []]],
+  ...Object.keys(TEXTS).map((kind) => onValues("format", kind)), onValues("epochMilliseconds", "DateTime"),
+  ["dateTimeFromTimestamp", (module) => [module.dateTimeFromTimestamp, DAYS, DAYS.map(() => "s")]],
+  onPairs("compare", "Date"), onPairs("compare", "DateTime"), onValues("addDays", "Date", () => DAYS), onPairs("daysSince", "Date"),
+  onPairs("between", "DateTime"), onValues("after", "DateTime", (module) => values(module, "Duration")),
+  onValues("inTimezone", "DateTime", () => DAYS.map((it) => 60 * it)),
 ];
-let sum = 0;
-function timed([, all, call]) {
+
+let last;
+function timed([call, ones, others]) {
   const start = performance.now();
-  for (const text of all) sum += call(text);
-  return ((performance.now() - start) * 1e6) / all.length;
+  for (let i = 0; i < ones.length; i++) last = call(ones[i], others[i]);
+  return ((performance.now() - start) * 1e6) / ones.length;
 }
-const median = (numbers) => numbers.sort((one, other) => one - other)[numbers.length >> 1];
-const rounds = Array.from({ length: 101 }, () => rows.map(timed)).slice(10);
+const runs = rows.map(([, prepare]) => modules.map((it) => ({ prepared: prepare(it), lowest: Infinity })));
+for (let round = 0; round < 300; round++)
+  for (const run of runs.flat()) run.lowest = Math.min(run.lowest, timed(run.prepared));
 for (const [i, [name]] of rows.entries())
-  console.log(name.padEnd(36), median(rounds.map((it) => it[i])).toFixed(0).padStart(4), ...[0, 1].map((base) => median(rounds.map((it) => it[i] / it[base])).toFixed(2)));
-if (!(sum > 0)) throw new Error("no sum");
+  console.log(name.padEnd(24), ...runs[i].map(({ lowest }) => lowest.toFixed(0).padStart(6) + (lowest / runs[0][0].lowest).toFixed(2).padStart(7)));
+if (last === undefined) throw new Error("no answer");

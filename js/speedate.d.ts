@@ -106,6 +106,8 @@ export function compare<Value extends SpeedateValue>(first: Value, second: Value
 export function addDays(date: SpeedateDate, days: number): SpeedateDate;
 /** The days from `earlier` to `date`, negative where `earlier` is the later one. */
 export function daysSince(date: SpeedateDate, earlier: SpeedateDate): number;
+/** The day of the year, 1 to 366. */
+export function dayOfYear(date: SpeedateDate): number;
 /** The value so long after `start`, at the same offset. `date_not_exact` where a date would move by a part of a day;
  * `date_too_small` or `date_too_large` outside the years 0 to 9999. */
 export function after<Start extends SpeedateDate>(start: Start, duration: SpeedateDuration): Start;
@@ -113,6 +115,10 @@ export function after<Start extends SpeedateDate>(start: Start, duration: Speeda
 export function before<Start extends SpeedateDate>(start: Start, duration: SpeedateDuration): Start;
 /** The duration from one value to the other. A date-time without offset is taken to be in UTC. */
 export function between<Value extends SpeedateDate>(earlier: Value, later: Value): SpeedateDuration;
+/** The duration with the other sign. */
+export function negate(duration: SpeedateDuration): SpeedateDuration;
+/** The whole seconds of a duration, with its sign: -90 of `-PT1M30.5S`. */
+export function totalSeconds(duration: SpeedateDuration): number;
 /** The value at the same instant, as a clock at another offset shows it. `out_of_range_tz` from 24 hours on; `tz_required` without
  * an offset; `time_too_large` if a time would fall on another day; `date_too_small` or `date_too_large` as above. */
 export function inTimezone<Value extends SpeedateTime>(value: Value, offsetSeconds: number): Value;

@@ -3,7 +3,7 @@
 
 /** The functions of speedate.h: a WebAssembly module, in base64. */
 const MODULE = "@MODULE@";
-const NEEDED = "speedate needs WebAssembly with 64-bit memories: Node 24, Chrome 133, Firefox 134; Node 20 with --experimental-wasm-memory64";
+const NEEDED = "speedate needs WebAssembly, by the page's policy too, with BigInt and bulk memory: Node 16, Chrome 85, Firefox 79, Safari 15";
 
 /** Where what goes in and comes out stands in the memory, from the end of the module's own part. */
 const PLACE = { out: 0, taken: 16, config: 24, defaultConfig: 32, first: 40, second: 56, buffer: 72, text: 136 };
@@ -40,20 +40,10 @@ class Library {
   reserve(size) {
     const { memory } = this.calls;
     const missing = this.start + PLACE.text + size - memory.buffer.byteLength;
-    if (missing > 0) grow(memory, Math.ceil(missing / PAGE_SIZE));
+    if (missing > 0) memory.grow(Math.ceil(missing / PAGE_SIZE));
     if (this.view?.buffer === memory.buffer) return;
     this.bytes = new Uint8Array(memory.buffer, this.start);
     this.view = new DataView(memory.buffer, this.start);
-  }
-}
-
-/** Engines that have 64-bit memories by a flag alone take the number of pages as a number. */
-function grow(memory, pages) {
-  try {
-    memory.grow(BigInt(pages));
-  } catch (error) {
-    if (!(error instanceof TypeError)) throw error;
-    memory.grow(pages);
   }
 }
 
@@ -79,16 +69,25 @@ function accept(code) {
   if (code !== 0) throw new SpeedateError(refusal(code));
 }
 
+/** The library, if the call that has this code has written its answer there. */
+function written(code) {
+  accept(code);
+  return library;
+}
+
+/** The size that a call has written: C's 64 bits, of which a memory needs 32. */
+const takenOf = ({ view }) => view.getUint32(PLACE.taken, true);
+
 /** The text that a call has printed. */
 function printed(code) {
-  accept(code);
-  const size = Number(library.view.getBigUint64(PLACE.taken, true));
-  return String.fromCharCode(...library.bytes.subarray(PLACE.buffer, PLACE.buffer + size));
+  const { bytes } = written(code);
+  return decoder.decode(bytes.subarray(PLACE.buffer, PLACE.buffer + takenOf(library)));
 }
 
 // ---- Texts, numbers and options ----
 
 const encoder = new TextEncoder();
+const decoder = new TextDecoder();
 const typeName = Object.getOwnPropertyDescriptor(Object.getPrototypeOf(Uint8Array.prototype), Symbol.toStringTag).get;
 
 /** Puts a text into the memory, and gives its size. */
@@ -102,10 +101,11 @@ function putText(text) {
 /** The same of a short string of ASCII alone. */
 function putShort(text) {
   if (text.length >= SHORT_SIZES.length) return undefined;
+  const { bytes } = library;
   for (let i = 0; i < text.length; i++) {
     const unit = text.charCodeAt(i);
     if (unit > 127) return undefined;
-    library.bytes[PLACE.text + i] = unit;
+    bytes[PLACE.text + i] = unit;
   }
   return SHORT_SIZES[text.length];
 }
@@ -123,12 +123,16 @@ function integer(value, name) {
   return value;
 }
 
-function integer64(value, name, bits = 64) {
+function integer32(value, name) {
+  if ((integer(value, name) | 0) !== value) throw new RangeError(`${name} has to fit 32 bits`);
+  return value;
+}
+
+function integer64(value, name) {
   const it = typeof value === "bigint" ? value : BigInt(integer(value, name));
-  if (BigInt.asIntN(bits, it) !== it) throw new RangeError(`${name} has to fit ${bits} bits`);
+  if (BigInt.asIntN(64, it) !== it) throw new RangeError(`${name} has to fit 64 bits`);
   return it;
 }
-const integer32 = (value, name) => Number(integer64(integer(value, name), name, 32));
 
 const UNITS = ["infer", "s", "ms", "us"];
 const FLAG = [false, true];
@@ -142,7 +146,7 @@ function choiceOf(value, choices, name) {
   return number;
 }
 
-function offsetOf(value) {
+function offsetOption(value) {
   if (Number.isInteger(value) && Math.abs(value) < SECONDS_IN_DAY) return value;
   throw new TypeError("timestampOffset has to be an integer, less than 86400 either way");
 }
@@ -161,7 +165,7 @@ function numbersOf(options, names) {
     const value = options[name];
     if (value === undefined) continue;
     if (!names.includes(name)) throw new TypeError(`${String(name)} is no option of this call`);
-    numbers[name] = name === "timestampOffset" ? offsetOf(value) : choiceOf(value, CHOICES[name], name);
+    numbers[name] = name === "timestampOffset" ? offsetOption(value) : choiceOf(value, CHOICES[name], name);
   }
   if (numbers.strict === 1 && "timestamps" in numbers) throw new TypeError("strict and timestamps exclude each other");
   const isOffsetAlone = "timestampOffset" in numbers && names.includes("timestamps") && !("timestamps" in numbers);
@@ -174,99 +178,174 @@ function putConfig(numbers) {
   start();
   if (numbers === NO_OPTIONS) return address.defaultConfig;
   const { timestampOffset, timestamps = 0, overflow = 0, isoOrder = 0 } = numbers;
-  const flag = timestampOffset === undefined ? 0 : 1;
-  library.view.setInt32(PLACE.config, timestampOffset ?? 0, true);
-  [flag, timestamps, overflow, isoOrder].forEach((it, i) => library.view.setUint8(PLACE.config + 4 + i, it));
+  const { view } = library;
+  view.setInt32(PLACE.config, timestampOffset ?? 0, true);
+  view.setUint8(PLACE.config + 4, timestampOffset === undefined ? 0 : 1);
+  view.setUint8(PLACE.config + 5, timestamps);
+  view.setUint8(PLACE.config + 6, overflow);
+  view.setUint8(PLACE.config + 7, isoOrder);
   return address.config;
 }
 
 // ---- Values ----
 
-const dateAt = (view, at) => ({ year: view.getUint16(at, true), month: view.getUint8(at + 2), day: view.getUint8(at + 3) });
+/** Of a time at this place: what its microsecond is in milliseconds, the rest, and the offset. */
+const millisecondOf = (view, at) => Math.floor(view.getUint32(at + 4, true) / 1000);
+const microsecondOf = (view, at) => view.getUint32(at + 4, true) % 1000;
+const offsetOf = (view, at) => (view.getUint8(at + 3) === 1 ? view.getInt32(at + 8, true) : null);
+/** A number of 64 bits, which stands for no more than 53. */
+const wholeOf = ({ view }) => Number(view.getBigInt64(PLACE.out, true));
+/** Microseconds, or a number out of range where one of the two is not 0 to 999. */
+const joined = (milli, micro) => (milli >= 0 && milli < 1000 && micro >= 0 && micro < 1000 ? milli * 1000 + micro : -1);
 
-function timeAt(view, at) {
-  const [hour, minute, second] = [view.getUint8(at), view.getUint8(at + 1), view.getUint8(at + 2)];
-  const micro = view.getUint32(at + 4, true);
-  const offsetSeconds = view.getUint8(at + 3) === 1 ? view.getInt32(at + 8, true) : null;
-  return { hour, minute, second, millisecond: Math.floor(micro / 1000), microsecond: micro % 1000, offsetSeconds };
+/** A number that a field of C can hold. Any other becomes the largest one, which is out of range as well. */
+const fitting = (number, largest) => (number >= 0 && number <= largest ? number : largest);
+const integerOrNull = (value, name) => (value === null ? null : integer(value, name));
+
+/** A number of a duration with the sign, which no zero gets, and one without it. */
+const signed = (size, sign) => size * sign || 0;
+function sizeOf(number, sign, name) {
+  if (sign * number < 0) throw new RangeError(`${name} has another sign than sign`);
+  return Math.abs(number);
 }
 
-/** Microseconds, or a number out of range where one of the two is not 0 to 999. */
-const joined = (milli, micro) => ([milli, micro].every((it) => it >= 0 && it < 1000) ? milli * 1000 + micro : -1);
-
-// Kinds of values: the name in C, the fields, how one is read out of the memory, and how one is packed for C: of each field
-// of C's struct the bits, and the number.
+// Kinds of values: the name in C, the fields, what reads a value out of the memory, what looks at one that was given, at each
+// field once, and what puts that into the memory; then the calls of C. Fields and calls are written out, since loops over
+// fields and computed names take ten times as long.
 const DATE = {
   name: "date",
   fields: ["year", "month", "day"],
-  read: ({ view }) => Object.freeze(dateAt(view, PLACE.out)),
-  pack({ year, month, day }) {
+  read: ({ view }) =>
+    Object.freeze({
+      year: view.getUint16(PLACE.out, true), month: view.getUint8(PLACE.out + 2), day: view.getUint8(PLACE.out + 3),
+    }),
+  look: (it) => ({
+    kind: DATE,
+    year: integer(it.year, "year"), month: integer(it.month, "month"), day: integer(it.day, "day"),
+  }),
+  put(view, at, { year, month, day }) {
     if (year < 0) accept(CODE.dateTooSmall);
-    return [[16, year], [8, month], [8, day]];
+    view.setUint16(at, fitting(year, 0xffff), true);
+    view.setUint8(at + 2, fitting(month, 0xff));
+    view.setUint8(at + 3, fitting(day, 0xff));
   },
+  check: (it) => library.calls.speedate_date_check(it),
+  print: (it) => library.calls.speedate_date_to_text(it, address.buffer, BUFFER_SIZE, address.taken),
+  compare: (first, second) => library.calls.speedate_date_compare(first, second, address.out),
+  between: (earlier, later) => library.calls.speedate_duration_between_dates(earlier, later, address.out),
+  after: (duration, start) => library.calls.speedate_duration_after_date(duration, start, address.out),
+  before: (duration, start) => library.calls.speedate_duration_before_date(duration, start, address.out),
 };
 const TIME = {
   name: "time",
   fields: ["hour", "minute", "second", "millisecond", "microsecond", "offsetSeconds"],
-  read: ({ view }) => Object.freeze(timeAt(view, PLACE.out)),
-  pack({ hour, minute, second, millisecond, microsecond, offsetSeconds }) {
-    const flag = offsetSeconds === null ? 0 : 1;
-    const offset = Math.max(-SECONDS_IN_DAY, Math.min(offsetSeconds, SECONDS_IN_DAY));
-    return [[8, hour], [8, minute], [8, second], [8, flag], [32, joined(millisecond, microsecond)], [32, offset >>> 0]];
+  read: ({ view }) =>
+    Object.freeze({
+      hour: view.getUint8(PLACE.out), minute: view.getUint8(PLACE.out + 1), second: view.getUint8(PLACE.out + 2),
+      millisecond: millisecondOf(view, PLACE.out), microsecond: microsecondOf(view, PLACE.out),
+      offsetSeconds: offsetOf(view, PLACE.out),
+    }),
+  look: (it) => ({
+    kind: TIME,
+    hour: integer(it.hour, "hour"), minute: integer(it.minute, "minute"), second: integer(it.second, "second"),
+    millisecond: integer(it.millisecond, "millisecond"), microsecond: integer(it.microsecond, "microsecond"),
+    offsetSeconds: integerOrNull(it.offsetSeconds, "offsetSeconds"),
+  }),
+  put(view, at, { hour, minute, second, millisecond, microsecond, offsetSeconds }) {
+    view.setUint8(at, fitting(hour, 0xff));
+    view.setUint8(at + 1, fitting(minute, 0xff));
+    view.setUint8(at + 2, fitting(second, 0xff));
+    view.setUint8(at + 3, offsetSeconds === null ? 0 : 1);
+    view.setUint32(at + 4, fitting(joined(millisecond, microsecond), 0xffffffff), true);
+    view.setInt32(at + 8, Math.max(-SECONDS_IN_DAY, Math.min(offsetSeconds ?? 0, SECONDS_IN_DAY)), true);
   },
+  check: (it) => library.calls.speedate_time_check(it),
+  print: (it) => library.calls.speedate_time_to_text(it, address.buffer, BUFFER_SIZE, address.taken),
+  compare: (first, second) => library.calls.speedate_time_compare(first, second, address.out),
+  inTimezone: (it, offset) => library.calls.speedate_time_in_timezone(it, offset, address.out),
 };
 const DATE_TIME = {
   name: "datetime",
   fields: [...DATE.fields, ...TIME.fields],
-  read: ({ view }) => Object.freeze({ ...dateAt(view, PLACE.out), ...timeAt(view, PLACE.out + 4) }),
-  pack: (fields) => [...DATE.pack(fields), ...TIME.pack(fields)],
+  read: ({ view }) =>
+    Object.freeze({
+      year: view.getUint16(PLACE.out, true), month: view.getUint8(PLACE.out + 2), day: view.getUint8(PLACE.out + 3),
+      hour: view.getUint8(PLACE.out + 4), minute: view.getUint8(PLACE.out + 5), second: view.getUint8(PLACE.out + 6),
+      millisecond: millisecondOf(view, PLACE.out + 4), microsecond: microsecondOf(view, PLACE.out + 4),
+      offsetSeconds: offsetOf(view, PLACE.out + 4),
+    }),
+  look: (it) => ({
+    kind: DATE_TIME,
+    year: integer(it.year, "year"), month: integer(it.month, "month"), day: integer(it.day, "day"),
+    hour: integer(it.hour, "hour"), minute: integer(it.minute, "minute"), second: integer(it.second, "second"),
+    millisecond: integer(it.millisecond, "millisecond"), microsecond: integer(it.microsecond, "microsecond"),
+    offsetSeconds: integerOrNull(it.offsetSeconds, "offsetSeconds"),
+  }),
+  put(view, at, fields) {
+    DATE.put(view, at, fields);
+    TIME.put(view, at + 4, fields);
+  },
+  check: (it) => library.calls.speedate_datetime_check(it),
+  print: (it) => library.calls.speedate_datetime_to_text(it, address.buffer, BUFFER_SIZE, address.taken),
+  compare: (first, second) => library.calls.speedate_datetime_compare(first, second, address.out),
+  between: (earlier, later) => library.calls.speedate_duration_between(earlier, later, address.out),
+  after: (duration, start) => library.calls.speedate_duration_after(duration, start, address.out),
+  before: (duration, start) => library.calls.speedate_duration_before(duration, start, address.out),
+  inTimezone: (it, offset) => library.calls.speedate_datetime_in_timezone(it, offset, address.out),
 };
 const DURATION = {
   name: "duration",
   fields: ["sign", "days", "seconds", "milliseconds", "microseconds"],
   read({ view }) {
-    const [negative, ...sizes] = [0, 4, 8, 12].map((it) => view.getUint32(PLACE.out + it, true));
-    const sign = negative === 1 ? -1 : 1;
-    // No zero gets the sign.
-    const [days, seconds, micro] = sizes.map((it) => sign * it || 0);
-    return Object.freeze({ sign, days, seconds, milliseconds: Math.trunc(micro / 1000) || 0, microseconds: micro % 1000 || 0 });
+    const sign = view.getUint32(PLACE.out, true) === 1 ? -1 : 1;
+    return Object.freeze({
+      sign,
+      days: signed(view.getUint32(PLACE.out + 4, true), sign),
+      seconds: signed(view.getUint32(PLACE.out + 8, true), sign),
+      milliseconds: signed(millisecondOf(view, PLACE.out + 8), sign),
+      microseconds: signed(microsecondOf(view, PLACE.out + 8), sign),
+    });
   },
-  pack({ sign, ...fields }) {
-    const opposite = Object.keys(fields).find((it) => sign * fields[it] < 0);
-    if (opposite) throw new RangeError(`${opposite} has another sign than sign`);
-    const [days, seconds, milliseconds, microseconds] = Object.values(fields).map(Math.abs);
-    return [[32, [1, -1].indexOf(sign)], [32, days], [32, seconds], [32, joined(milliseconds, microseconds)]];
+  look: (it) => ({
+    kind: DURATION,
+    sign: integer(it.sign, "sign"), days: integer(it.days, "days"), seconds: integer(it.seconds, "seconds"),
+    milliseconds: integer(it.milliseconds, "milliseconds"), microseconds: integer(it.microseconds, "microseconds"),
+  }),
+  put(view, at, { sign, days, seconds, milliseconds, microseconds }) {
+    view.setUint32(at, sign === 1 ? 0 : sign === -1 ? 1 : 0xffffffff, true);
+    view.setUint32(at + 4, fitting(sizeOf(days, sign, "days"), 0xffffffff), true);
+    view.setUint32(at + 8, fitting(sizeOf(seconds, sign, "seconds"), 0xffffffff), true);
+    const micro = joined(sizeOf(milliseconds, sign, "milliseconds"), sizeOf(microseconds, sign, "microseconds"));
+    view.setUint32(at + 12, fitting(micro, 0xffffffff), true);
   },
+  check: (it) => library.calls.speedate_duration_check(it),
+  print: (it) => library.calls.speedate_duration_to_text(it, address.buffer, BUFFER_SIZE, address.taken),
+  compare: (first, second) => library.calls.speedate_duration_compare(first, second, address.out),
 };
 const ALL_KINDS = [DATE, TIME, DATE_TIME, DURATION];
+const WITH_DATE = [DATE, DATE_TIME];
 
-/** A value as it was given: its kind, and its fields, each looked at once. */
-function given(value, name, ...kinds) {
+/** Whether these are the names of a kind's fields, which mostly stand in their order. */
+const areFields = (names, { fields }) =>
+  names.length === fields.length && fields.every((it, i) => it === names[i] || names.includes(it));
+
+/** A value of one of these kinds as it was given: its kind, and its fields. */
+function given(value, name, kinds) {
   start();
-  const keys = Object(value) === value ? Reflect.ownKeys(value) : [];
-  const kind = kinds.find(({ fields }) => keys.length === fields.length && fields.every((it) => keys.includes(it)));
-  if (kind === undefined) throw new TypeError(`${name} has to be a ${kinds.map((it) => it.name).join(" or ")} with just its fields`);
-  const checked = (field, it) => (field === "offsetSeconds" && it === null ? null : integer(it, field));
-  return { kind, fields: Object.fromEntries(kind.fields.map((it) => [it, checked(it, value[it])])) };
+  const names = Object(value) === value ? Object.getOwnPropertyNames(value) : [];
+  const kind = kinds.find((it) => areFields(names, it));
+  if (kind === undefined || Object.getOwnPropertySymbols(value).length > 0)
+    throw new TypeError(`${name} has to be a ${kinds.map((it) => it.name).join(" or ")} with just its fields`);
+  return kind.look(value);
 }
 
-/** Puts a value that was given into the memory, and gives its address. A number that its field cannot hold becomes the
- * largest one, which is out of range as well. */
-function put({ kind, fields }, place) {
-  let at = PLACE[place];
-  for (const [bits, number] of kind.pack(fields)) {
-    library.view[`setUint${bits}`](at, number >= 0 && number < 2 ** bits ? number : 2 ** bits - 1, true);
-    at += bits / 8;
-  }
-  accept(library.calls[`speedate_${kind.name}_check`](address[place]));
-  return address[place];
-}
-
-/** Calls a function of C, whose arguments that are values go into the memory first, and gives the library with its answer. */
-function call(kind, name, ...args) {
-  const passed = args.map((it, i) => (typeof it === "object" ? put(it, i === 0 ? "first" : "second") : it));
-  accept(library.calls[`speedate_${kind.name}_${name}`](...passed, address.out));
-  return library;
+/** Puts a value that was given into the memory as the first or the second one, and gives its address. */
+const putFirst = (it) => put(it, PLACE.first, address.first);
+const putSecond = (it) => put(it, PLACE.second, address.second);
+function put(it, at, place) {
+  it.kind.put(library.view, at, it);
+  accept(it.kind.check(place));
+  return place;
 }
 
 // ---- Reading ----
@@ -290,42 +369,55 @@ function readers(read, names, call) {
 
 /** What reads a value at the front of a text. Of a string, U+2212 alone has another number of bytes there than units. */
 const frontOf = ({ read }) => (used, text) => {
-  const front = { value: read(used), size: Number(used.view.getBigUint64(PLACE.taken, true)) };
-  if (typeof text !== "string") return Object.freeze(front);
-  const bytes = used.bytes.subarray(PLACE.text, PLACE.text + front.size);
-  return Object.freeze({ ...front, length: bytes.filter((it) => (it & 0xc0) !== 0x80).length });
+  const [value, size] = [read(used), takenOf(used)];
+  return Object.freeze(typeof text === "string" ? { value, size, length: unitsOf(used, size) } : { value, size });
 };
 
-/** A call of C whose name depends on the options. It passes over arguments that it does not have. */
-const parsing = (nameOf) => (calls, size, it) =>
-  calls[`speedate_${nameOf(it)}`](address.text, size, putConfig(it), address.out, address.taken);
+/** The units of a string at the front of the text: bytes that go on with a character are none. */
+function unitsOf({ bytes }, size) {
+  let units = 0;
+  for (let at = PLACE.text; at < PLACE.text + size; at++) if ((bytes[at] & 0xc0) !== 0x80) units++;
+  return units;
+}
 
 export const [parseDate, safeParseDate] = readers(DATE.read, ["timestamps"], (calls, size, it) => {
   if (it.timestamps === undefined) return calls.speedate_date_parse_rfc3339(address.text, size, address.out);
   return calls.speedate_date_parse(address.text, size, putConfig(it), address.out);
 });
-export const [parseTime, safeParseTime] = readers(TIME.read, ["strict", "overflow"],
-  parsing((it) => (it.strict === 1 ? "time_parse_strict" : "time_parse")));
-export const [parseDateTime, safeParseDateTime] = readers(DATE_TIME.read, ["strict", "timestamps", "timestampOffset", "overflow"],
-  parsing((it) => `datetime_parse${it.strict === 1 ? "_strict" : it.timestamps === undefined ? "_rfc3339" : ""}`));
-export const [parseDuration, safeParseDuration] = readers(DURATION.read, ["overflow", "isoOrder"], parsing(() => "duration_parse"));
+export const [parseTime, safeParseTime] = readers(TIME.read, ["strict", "overflow"], (calls, size, it) => {
+  const parse = it.strict === 1 ? calls.speedate_time_parse_strict : calls.speedate_time_parse;
+  return parse(address.text, size, putConfig(it), address.out);
+});
+const DATE_TIME_OPTIONS = ["strict", "timestamps", "timestampOffset", "overflow"];
+export const [parseDateTime, safeParseDateTime] = readers(DATE_TIME.read, DATE_TIME_OPTIONS, (calls, size, it) => {
+  const withoutTimestamps = it.strict === 1 ? calls.speedate_datetime_parse_strict : calls.speedate_datetime_parse_rfc3339;
+  const parse = it.timestamps === undefined ? withoutTimestamps : calls.speedate_datetime_parse;
+  return parse(address.text, size, putConfig(it), address.out);
+});
+export const [parseDuration, safeParseDuration] = readers(DURATION.read, ["overflow", "isoOrder"], (calls, size, it) =>
+  calls.speedate_duration_parse(address.text, size, putConfig(it), address.out));
 export const [parseDateFront, safeParseDateFront] = readers(frontOf(DATE), [], (calls, size) =>
   calls.speedate_date_parse_front(address.text, size, address.out, address.taken));
-export const [parseTimeFront, safeParseTimeFront] = readers(frontOf(TIME), ["overflow"], parsing(() => "time_parse_front"));
-export const [parseDateTimeFront, safeParseDateTimeFront] = readers(frontOf(DATE_TIME), ["overflow"], parsing(() => "datetime_parse_front"));
+export const [parseTimeFront, safeParseTimeFront] = readers(frontOf(TIME), ["overflow"], (calls, size, it) =>
+  calls.speedate_time_parse_front(address.text, size, putConfig(it), address.out, address.taken));
+export const [parseDateTimeFront, safeParseDateTimeFront] = readers(frontOf(DATE_TIME), ["overflow"], (calls, size, it) =>
+  calls.speedate_datetime_parse_front(address.text, size, putConfig(it), address.out, address.taken));
 
 // ---- Timestamps ----
 
-/** The value of a timestamp: `more` is the number that C takes after it. */
-function fromTimestamp(kind, timestamp, more, unit, numbers) {
-  const config = putConfig({ timestamps: choiceOf(unit, UNITS, "unit"), ...numbers });
-  return kind.read(call(kind, "from_timestamp", integer64(timestamp, "timestamp"), more, config));
+export function dateFromTimestamp(timestamp, unit, options) {
+  const { exact = 1 } = numbersOf(options, ["exact"]);
+  const config = putConfig({ timestamps: choiceOf(unit, UNITS, "unit") });
+  const it = integer64(timestamp, "timestamp");
+  return DATE.read(written(library.calls.speedate_date_from_timestamp(it, exact, config, address.out)));
 }
 
-export const dateFromTimestamp = (timestamp, unit, options) =>
-  fromTimestamp(DATE, timestamp, numbersOf(options, ["exact"]).exact ?? 1, unit, NO_OPTIONS);
-export const dateTimeFromTimestamp = (timestamp, unit, options) =>
-  fromTimestamp(DATE_TIME, timestamp, 0, unit, numbersOf(options, ["timestampOffset"]));
+export function dateTimeFromTimestamp(timestamp, unit, options) {
+  const { timestampOffset } = numbersOf(options, ["timestampOffset"]);
+  const config = putConfig({ timestamps: choiceOf(unit, UNITS, "unit"), timestampOffset });
+  const it = integer64(timestamp, "timestamp");
+  return DATE_TIME.read(written(library.calls.speedate_datetime_from_timestamp(it, 0, config, address.out)));
+}
 
 export function timeFromTimestamp(timestamp, unit, options) {
   const it = integer64(timestamp, "timestamp");
@@ -333,14 +425,15 @@ export function timeFromTimestamp(timestamp, unit, options) {
   if (it < 0n || it / units >= 2n ** 32n) throw new RangeError("timestamp has to be seconds that fit 32 bits, and not negative");
   const microsecond = ((it % units) * 1000000n) / units;
   const config = putConfig(numbersOf(options, ["timestampOffset"]));
-  return TIME.read(call(TIME, "from_timestamp", Number(it / units), Number(microsecond), config));
+  const code = library.calls.speedate_time_from_timestamp(Number(it / units), Number(microsecond), config, address.out);
+  return TIME.read(written(code));
 }
 
 export function epochMilliseconds(value) {
-  const it = given(value, "value", DATE_TIME);
-  const { view } = call(DATE_TIME, "timestamp_tz_ms", it);
-  if (it.fields.offsetSeconds === null) accept(CODE.tzRequired);
-  return Number(view.getBigInt64(PLACE.out, true));
+  const it = given(value, "value", [DATE_TIME]);
+  const answer = written(library.calls.speedate_datetime_timestamp_tz_ms(putFirst(it), address.out));
+  if (it.offsetSeconds === null) accept(CODE.tzRequired);
+  return wholeOf(answer);
 }
 
 export const toDate = (value) => new Date(epochMilliseconds(value));
@@ -352,34 +445,62 @@ export function fromDate(date) {
 // ---- Printing and arithmetic ----
 
 export function format(value) {
-  const it = given(value, "value", ...ALL_KINDS);
-  const place = put(it, "first");
-  if (it.fields.offsetSeconds % 60) throw new RangeError("offsetSeconds has to be whole minutes in print");
-  return printed(library.calls[`speedate_${it.kind.name}_to_text`](place, address.buffer, BUFFER_SIZE, address.taken));
+  const it = given(value, "value", ALL_KINDS);
+  const place = putFirst(it);
+  if (it.offsetSeconds % 60) throw new RangeError("offsetSeconds has to be whole minutes in print");
+  return printed(it.kind.print(place));
 }
 
 export function compare(first, second) {
-  const it = given(first, "first", ...ALL_KINDS);
-  return call(it.kind, "compare", it, given(second, "second", it.kind)).view.getInt32(PLACE.out, true);
+  const one = given(first, "first", ALL_KINDS);
+  const other = given(second, "second", [one.kind]);
+  return written(one.kind.compare(putFirst(one), putSecond(other))).view.getInt32(PLACE.out, true);
 }
 
-export const addDays = (date, days) => DATE.read(call(DATE, "add_days", given(date, "date", DATE), integer32(days, "days")));
-export const daysSince = (date, earlier) =>
-  call(DATE, "days_since", given(date, "date", DATE), given(earlier, "earlier", DATE)).view.getInt32(PLACE.out, true);
+export function addDays(date, days) {
+  const it = given(date, "date", [DATE]);
+  const number = integer32(days, "days");
+  return DATE.read(written(library.calls.speedate_date_add_days(putFirst(it), number, address.out)));
+}
 
-const moving = (name) => (start, duration) => {
-  const it = given(start, "start", DATE, DATE_TIME);
-  return it.kind.read(call(DURATION, it.kind === DATE ? `${name}_date` : name, given(duration, "duration", DURATION), it));
+export function daysSince(date, earlier) {
+  const it = given(date, "date", [DATE]);
+  const since = given(earlier, "earlier", [DATE]);
+  const code = library.calls.speedate_date_days_since(putFirst(it), putSecond(since), address.out);
+  return written(code).view.getInt32(PLACE.out, true);
+}
+
+export function dayOfYear(date) {
+  const it = given(date, "date", [DATE]);
+  return written(library.calls.speedate_date_ordinal_day(putFirst(it), address.out)).view.getUint16(PLACE.out, true);
+}
+
+const moving = (move) => (start, duration) => {
+  const it = given(start, "start", WITH_DATE);
+  const by = putFirst(given(duration, "duration", [DURATION]));
+  return it.kind.read(written(move(it.kind, by, putSecond(it))));
 };
-export const after = moving("after");
-export const before = moving("before");
+export const after = moving((kind, duration, start) => kind.after(duration, start));
+export const before = moving((kind, duration, start) => kind.before(duration, start));
 
 export function between(earlier, later) {
-  const it = given(earlier, "earlier", DATE, DATE_TIME);
-  return DURATION.read(call(DURATION, it.kind === DATE ? "between_dates" : "between", it, given(later, "later", it.kind)));
+  const it = given(earlier, "earlier", WITH_DATE);
+  const end = given(later, "later", [it.kind]);
+  return DURATION.read(written(it.kind.between(putFirst(it), putSecond(end))));
+}
+
+export function negate(duration) {
+  const it = given(duration, "duration", [DURATION]);
+  return DURATION.read(written(library.calls.speedate_duration_negate(putFirst(it), address.out)));
+}
+
+export function totalSeconds(duration) {
+  const it = given(duration, "duration", [DURATION]);
+  return wholeOf(written(library.calls.speedate_duration_signed_total_seconds(putFirst(it), address.out)));
 }
 
 export function inTimezone(value, offsetSeconds) {
-  const it = given(value, "value", TIME, DATE_TIME);
-  return it.kind.read(call(it.kind, "in_timezone", it, integer32(offsetSeconds, "offsetSeconds")));
+  const it = given(value, "value", [TIME, DATE_TIME]);
+  const offset = integer32(offsetSeconds, "offsetSeconds");
+  return it.kind.read(written(it.kind.inTimezone(putFirst(it), offset)));
 }

@@ -2,6 +2,7 @@
 import assert from "node:assert/strict";
 import { readFileSync, writeFileSync } from "node:fs";
 import * as speedate from "speedate";
+import { scriptOf } from "./examples.mjs";
 
 const { addDays, dateFromTimestamp, format, fromDate, inTimezone, parseDate, parseDateFront, parseDateTime, parseDuration, parseTime, safeParseDate, toDate } = speedate;
 const date = parseDate("2020-02-29");
@@ -21,14 +22,16 @@ const noNumber = [undefined, ...noObject.filter((it) => typeof it !== "number"),
 const noUnit = [undefined, ...noObject, {}, "S", "", "seconds"];
 const ofTimestamp = [[0, noNumber.filter((it) => it !== 5n)], ["s", noUnit], [undefined, noOptions]];
 const ofDate = [date, [...noValue, time, dateTime, duration]];
+const ofDuration = [duration, [...noValue, date, time, dateTime]];
 const ofDateTime = [dateTime, [...noValue, date, time, duration]];
-const ofMove = [[dateTime, [...noValue, time, duration]], [duration, [...noValue, date, time, dateTime]]];
+const ofMove = [[dateTime, [...noValue, time, duration]], ofDuration];
 const CALLS = {
   ...Object.fromEntries(readers.map((it) => [it, [["x", noText], [undefined, noOptions]]])),
   dateFromTimestamp: ofTimestamp, timeFromTimestamp: ofTimestamp, dateTimeFromTimestamp: ofTimestamp,
   epochMilliseconds: [ofDateTime], toDate: [ofDateTime], fromDate: [[new Date(0), [undefined, ...noObject, {}, date]]],
   format: [[time, noValue]], compare: [ofDate, ofDate], between: [ofDate, ofDate], daysSince: [ofDate, ofDate],
-  addDays: [ofDate, [1, noNumber]], after: ofMove, before: ofMove, inTimezone: [[time, [...noValue, date, duration]], [0, noNumber]],
+  addDays: [ofDate, [1, noNumber]], dayOfYear: [ofDate], negate: [ofDuration], totalSeconds: [ofDuration],
+  after: ofMove, before: ofMove, inTimezone: [[time, [...noValue, date, duration]], [0, noNumber]],
 };
 assert.deepEqual([...Object.keys(CALLS), "SpeedateError"].sort(), Object.keys(speedate).sort());
 for (const [name, places] of Object.entries(CALLS))
@@ -93,15 +96,21 @@ for (let i = 0; i < 100; i++) assert.equal(safeParseDate(long).fault, "extra_cha
 for (let i = 0; i < 1000000; i++) safeParseDate(i % 2 ? "2020-02-29" : "2021-02-29");
 assert.ok(held() < atFirst + 200, `${atFirst} megabytes at first, and ${held()} in the end`);
 
+// ---- The documents of the package: each link leads to a place in one of them ----
+
+const documentOf = (name) => readFileSync(`node_modules/speedate/${name || "README.md"}`, "utf8");
+const places = (text) => [...text.matchAll(/^#+ (.*)$/gm)].map((it) => it[1].toLowerCase().replace(/[^\w ]/g, "").replaceAll(" ", "-"));
+for (const name of ["README.md", "GRAMMAR.md"])
+  for (const [, file, place] of documentOf(name).matchAll(/\]\(([^)#]*)#?([^)]*)\)/g))
+    assert.ok(place === "" ? documentOf(file) : places(documentOf(file || name)).includes(place), `${name}: ${file}#${place}`);
+
 // ---- The examples of the document, whose results stand after them ----
 
-const blocks = [...readFileSync(process.argv[2], "utf8").matchAll(/^```js\n(.*?)^```$/gms)].map((it) => it[1]).join("");
-const examples = blocks.match(/^(?!const ).*; \/\/ .*$/gm);
-assert.ok(examples.length > 5);
+const script = scriptOf(readFileSync(process.argv[2], "utf8"), "js", "");
+const count = script.match(/^(equals|fails)\(/gm).length;
+assert.ok(count > 5);
 const fails = (call, name) => assert.throws(call, (error) => (error.fault ?? error.name) === name);
 Object.assign(globalThis, { equals: assert.deepEqual, fails });
-writeFileSync("examples.mjs", blocks
-  .replace(/^(.*); \/\/ throws (\w+)$/gm, (_, call, name) => `fails(() => ${call}, "${name}");`)
-  .replace(/^(?!const )(.*); \/\/ (.*)$/gm, (_, call, result) => `equals(${call}, ${result});`));
-await import("./examples.mjs");
-console.log(`${Object.keys(CALLS).length} calls by wrong arguments, long texts, ${examples.length} examples`);
+writeFileSync("script.mjs", script);
+await import("./script.mjs");
+console.log(`${Object.keys(CALLS).length} calls by wrong arguments, long texts, ${count} examples`);

@@ -47,6 +47,8 @@ const CALLS = {
   to_text: (of, it) => format(of(it)),
   compare: (of, one, other) => compare(of(one), of(other)),
   add_days: (of, it, days) => speedate.addDays(of(it), Number(days)),
+  ordinal_day: (of, it) => speedate.dayOfYear(of(it)),
+  negate: (of, it) => speedate.negate(of(it)), signed_total_seconds: (of, it) => speedate.totalSeconds(of(it)),
   days_since: (of, it, from) => speedate.daysSince(of(it), of(from)),
   in_timezone: (of, it, offset) => inTimezone(of(it), Number(offset)),
   timestamp_tz: (of, it) => Math.floor(epochMilliseconds(of(it)) / 1000), timestamp_tz_ms: (of, it) => epochMilliseconds(of(it)),

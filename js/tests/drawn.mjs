@@ -1,0 +1,80 @@
+// Drawn texts and values, for Node and for the engines of browsers, which have to answer alike, and beside Temporal where it is.
+import * as speedate from "speedate";
+
+/** Forms of texts, by kind and by who reads them: `both` alike, or neither; one of the two alone; `different`: not alike. A `#` is
+ * any digit, a `%` one of 0 to 5. */
+const FORMS = [
+  ["date", "both", "####-##-##", "####-0#-2#"],
+  ["date", "Temporal", "####0#1#", "+00####-0#-1#", "####-0#-1#T0#:%#", "####-0#-1#[u-ca=iso8601]"],
+  ["time", "both", "##:%#", "##:%#:%#", "##:%#:%#.###", "##:%#:%#,######", "##:%#+0#:%#", "##:%#:%#-1#%#"],
+  ["time", "Temporal", "1#", "1#%#", "T1#:%#", "1#:%#:60", "1#:%#:%#.#######", "1#:%#+0#", "1#:%#-0#:%#:%#", "1#:%#[UTC]"],
+  ["time", "speedate", "1#:%#Z", "1#:%#z", "1#:%#\u22120#:%#"],
+  ["date-time", "both", "####-0#-##T##:%#", "####-1#-2#t##:%#:%#Z", "####-0#-1# ##:%#:%#.###+1#:%#", "####-0#-1# ##:%#:%#,######-0#%#"],
+  ["date-time", "Temporal", "####-0#-1#", "####0#1#T1#:%#", "+00####-0#-1#T1#:%#Z", "####-0#-1#T1#%#", "####-0#-1#T1#:%#:60"],
+  ["date-time", "Temporal", "####-0#-1#T1#:%#:%#.#######", "####-0#-1#T1#:%#+0#", "####-0#-1#T1#:%#Z[UTC]"],
+  ["date-time", "speedate", "####-0#-1#_1#:%#", "####-0#-1#T1#:%#\u22120#:%#"],
+  ["duration", "both", "PT##M", "P##DT##H", "-P##W##DT##S", "PT#####H##M##.######S", "+PT#,##H"],
+  ["duration", "Temporal", "p#d", "PT9#########S", "P1#########D"],
+  ["duration", "speedate", "##:%#", "-##:%#:%#.#", "# day", "# days, 0#:%#", "P#DT", "PT#.S", "P#.#D", "P#.#W", "P#D#Y"],
+  ["duration", "different", "P1#Y", "P1#M", "PT1#H1#H", "PT0.######1S"],
+];
+/** Whether the counts of a form are those of its group. */
+const IS_SO = {
+  both: ({ here, there, alike }) => alike > 0 && here === alike && there === alike, different: ({ here, alike }) => here > alike,
+  Temporal: ({ here, there }) => here === 0 && there > 0, speedate: ({ here, there }) => here > 0 && there === 0,
+};
+
+const isInstant = (text) => /(Z|[-+\u2212]\d\d(:?\d\d)?)(\[UTC\])?$/i.test(text.slice(10));
+const inDays = (it) => it.with({ years: 0, months: 0, weeks: 0, days: it.weeks * 7 + it.days }).round({ largestUnit: "days" });
+/** What reads a text, and what Temporal makes of a text, or of the value that was read from it. */
+const KINDS = {
+  date: [speedate.safeParseDate, (it) => Temporal.PlainDate.from(it)],
+  time: [speedate.safeParseTime, (it) => Temporal.PlainTime.from(it)],
+  "date-time": [
+    speedate.safeParseDateTime,
+    (it, text) => (isInstant(text) ? Temporal.Instant.from(it === text ? it : speedate.format(it)) : Temporal.PlainDateTime.from(it)),
+  ],
+  duration: [speedate.safeParseDuration, (text) => { const it = Temporal.Duration.from(text); return `${it.years} ${it.months} ${inDays(it)}`; }],
+};
+
+/** What Temporal makes of it as a text; nothing if it refuses that. */
+function taken(from, it, text) {
+  try {
+    return String(from(it, text));
+  } catch (error) {
+    if (!(error instanceof RangeError)) throw error;
+  }
+}
+
+/** What the package makes of a value, with the value before it. */
+function answers(value, last) {
+  const more = "sign" in value ? [speedate.negate, speedate.totalSeconds] : "day" in value ? [(it) => speedate.between(last, it)] : [];
+  return [speedate.format, (it) => speedate.compare(it, last), ...more].map((it) => it(value));
+}
+
+/** Reads 200 texts of each form, all that are drawn with this number. It gives the forms that are not as their group, and a
+ * number that stands for all answers. */
+export function readDrawn(state) {
+  const below = (most) => (state = (state * 48271) % 2147483647) % most;
+  const [wrong, hash] = [[], { all: 0 }];
+  for (const [kind, group, ...all] of FORMS) {
+    const [read, from] = KINDS[kind];
+    for (const form of all) {
+      const counts = { here: 0, there: 0, alike: 0 };
+      let last;
+      for (let i = 0; i < 200; i++) {
+        const text = form.replace(/[#%]/g, (it) => below(it === "#" ? 10 : 6));
+        const it = read(text);
+        if (it.ok) last ??= it.value;
+        for (const unit of JSON.stringify([it, it.ok && answers(it.value, last)])) hash.all = (hash.all * 31 + unit.charCodeAt(0)) | 0;
+        counts.here += it.ok;
+        if (typeof Temporal === "undefined") continue;
+        const other = taken(from, text, text);
+        counts.there += other !== undefined;
+        counts.alike += other !== undefined && it.ok && taken(from, it.value, text) === other;
+      }
+      if (typeof Temporal !== "undefined" && !IS_SO[group](counts)) wrong.push([kind, form, counts]);
+    }
+  }
+  return { hash: hash.all, wrong };
+}
