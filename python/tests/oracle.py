@@ -311,7 +311,7 @@ def date_time_from_timestamp(timestamp, microsecond=0, config=None):
 
 def _lines(texts):
     """The texts of a column: lines end with a line feed, which the last one may lack."""
-    if isinstance(texts, str) or not hasattr(texts, "__iter__"):
+    if isinstance(texts, str):
         raise TypeError(f"texts has to be an iterable of texts or bytes or bytearray or memoryview, not {type(texts).__name__}")
     if not isinstance(texts, (bytes, bytearray, memoryview)):
         return texts

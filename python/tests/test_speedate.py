@@ -11,6 +11,11 @@ import unittest
 
 import speedate
 
+try:
+    import numpy
+except ImportError:
+    numpy = None
+
 # An expression, and its value or its error.
 ROWS = r"""
 date("0001-01-01") -> datetime.date(1, 1, 1)
@@ -176,6 +181,12 @@ class Speedate(unittest.TestCase):
     def test_docstrings(self):
         self.assertEqual([it.__name__ for it in CALLS if ">>> " not in it.__doc__], [])
         self.assertEqual(doctest.testmod(speedate).failed, 0)
+
+    @unittest.skipUnless(numpy, "NumPy is not installed")
+    def test_numpy(self):
+        column = speedate.date_time_column(["2020-02-29T12:13:14.5Z", "never", "0000-01-01T00:00Z", "9999-12-31T23:59:59.999999Z"], faults="nat")
+        moments = numpy.frombuffer(column, "datetime64[us]")
+        self.assertEqual(moments.astype(str).tolist(), ["2020-02-29T12:13:14.500000", "NaT", "0000-01-01T00:00:00.000000", "9999-12-31T23:59:59.999999"])
 
     def test_beside_datetime(self):
         draw, config, both = random.Random(1), speedate.Config(overflow_behavior="truncate"), 0
