@@ -232,14 +232,20 @@ typedef struct {
     PyObject *owner;
 } Text;
 
-static int take_owned(PyObject *owner, const char *bytes, Py_ssize_t size, Text *text)
+static inline int give_bytes(const char *bytes, Py_ssize_t size, PyObject *owner, Text *text)
 {
     *text = (Text){bytes, (size_t)size, owner};
     return 0;
 }
 
-/* Takes the bytes that an object has. What may be written is copied, as is what has gaps: another thread could write it
- * while it is read. */
+/* Gives the bytes of an object of bytes that has just been made, or not. */
+static int give_made(PyObject *made, Text *text)
+{
+    return made == NULL ? -1 : give_bytes(PyBytes_AS_STRING(made), PyBytes_GET_SIZE(made), made, text);
+}
+
+/* Takes the bytes that an object has. What has gaps is copied, and what may be written: other programs may share it, and
+ * write it while it is read. */
 static int take_buffer(PyObject *object, Text *text)
 {
     PyObject *copy, *view = PyMemoryView_FromObject(object);
@@ -253,20 +259,17 @@ static int take_buffer(PyObject *object, Text *text)
         return -1;
     }
     if (buffer->readonly && PyBuffer_IsContiguous(buffer, 'C'))
-        return take_owned(view, buffer->buf, buffer->len, text);
+        return give_bytes(buffer->buf, buffer->len, view, text);
     copy = PyObject_CallMethod(view, "tobytes", NULL);
     Py_DECREF(view);
-    return copy == NULL ? -1 : take_owned(copy, PyBytes_AS_STRING(copy), PyBytes_GET_SIZE(copy), text);
+    return give_made(copy, text);
 }
 
 /* No method is called that a subclass may have. */
 static int take_other_text(PyObject *object, Text *text)
 {
-    PyObject *encoded;
-    if (PyUnicode_Check(object)) {
-        encoded = PyUnicode_AsEncodedString(object, "utf-8", "surrogatepass");
-        return encoded == NULL ? -1 : take_owned(encoded, PyBytes_AS_STRING(encoded), PyBytes_GET_SIZE(encoded), text);
-    }
+    if (PyUnicode_Check(object))
+        return give_made(PyUnicode_AsEncodedString(object, "utf-8", "surrogatepass"), text);
     if (PyBytes_Check(object) || PyByteArray_Check(object) || PyMemoryView_Check(object))
         return take_buffer(object, text);
     return wrong_type("text", "str or bytes or bytearray or memoryview", object);
@@ -275,15 +278,15 @@ static int take_other_text(PyObject *object, Text *text)
 static inline int take_text(PyObject *object, Text *text)
 {
     if (PyUnicode_CheckExact(object) && PyUnicode_IS_COMPACT_ASCII(object))
-        return take_owned(NULL, (const char *)PyUnicode_1BYTE_DATA(object), PyUnicode_GET_LENGTH(object), text);
+        return give_bytes((const char *)PyUnicode_1BYTE_DATA(object), PyUnicode_GET_LENGTH(object), NULL, text);
     if (PyBytes_CheckExact(object))
-        return take_owned(NULL, PyBytes_AS_STRING(object), PyBytes_GET_SIZE(object), text);
+        return give_bytes(PyBytes_AS_STRING(object), PyBytes_GET_SIZE(object), NULL, text);
     return take_other_text(object, text);
 }
 
-/* What is optional keeps its value where there is no argument. */
+/* The functions below leave *out as it is where there is no argument. */
 
-/* A plain integer in its range is taken here, and what else there is by the module. */
+/* Takes an integer. One in its range is taken here, and what else there is by the function of the package. */
 static int take_integer(const State *state, const char *name, PyObject *value, int64_t low, int64_t high, int64_t *out)
 {
     int overflow = 0;
@@ -313,7 +316,7 @@ static int take_flag(const char *name, PyObject *value, bool *out)
     return 0;
 }
 
-/* Whether a choice is the second of two. */
+/* Takes whether a choice is the second of two. */
 static int take_choice(const State *state, const char *name, PyObject *value, const char *first, const char *second,
                        bool *out)
 {
@@ -823,7 +826,7 @@ static PyObject *call_text(GIVEN)
     if (print != NULL)
         text = print(state, plain);
     else
-        wrong_type("value", "date, time, date-time or timedelta", plain);
+        wrong_type("value", "datetime or date or time or timedelta", plain);
     Py_DECREF(plain);
     return text;
 }
