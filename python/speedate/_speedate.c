@@ -644,6 +644,12 @@ static int take_size(PyObject *size, SpeedateTime *time) {
     return 0;
 }
 
+/* What the zone of a value tells. One of datetime's own has a single offset, which it is asked for without a detour. */
+static PyObject *utcoffset(const State *state, PyObject *value, PyObject *zone) {
+    bool fixed = Py_TYPE(zone) == Py_TYPE(state->datetime->TimeZone_UTC);
+    return PyObject_CallMethodObjArgs(fixed ? zone : value, state->held[UTCOFFSET], fixed ? Py_None : NULL, NULL);
+}
+
 /* Takes the offset of a time or a date-time, which its zone may tell by a call of Python. */
 static int take_offset(const State *state, PyObject *value, PyObject *zone, SpeedateTime *time) {
     int status = -1;
@@ -651,7 +657,7 @@ static int take_offset(const State *state, PyObject *value, PyObject *zone, Spee
     time->offset = 0;
     if (zone == Py_None || time->has_offset)
         return 0;
-    PyObject *size = PyObject_CallMethodObjArgs(value, state->held[UTCOFFSET], NULL);
+    PyObject *size = utcoffset(state, value, zone);
     if (!size)
         return -1;
     if (size == Py_None)
