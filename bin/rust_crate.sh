@@ -1,5 +1,5 @@
 # For bin/compare and bin/bench, which set `name` and `root`: builds a Cargo project with the Rust crate speedate and
-# out/libspeedate.a. Status 3: something that it needs is missing.
+# the package of rust/. Status 3: something that it needs is missing.
 # shellcheck shell=sh disable=SC2154
 
 fail() {
@@ -7,14 +7,27 @@ fail() {
     exit 3
 }
 
-# Builds out/libspeedate.a where it is missing, or older than a source.
+# Where the library is installed, for rust/build.rs.
+export SPEEDATE_DIR="$root/out/prefix"
+
+# Installs the library where it is missing, or older than a source.
 build_library() {
-    library=$root/out/libspeedate.a
+    library=$SPEEDATE_DIR/lib/libspeedate.a
     newer=$(find "$root/crates/speedate_base/src" "$root/crates/speedate_civil/src" "$root/crates/speedate/src" \
         "$root/crates/speedate_c/src" -newer "$library" 2>/dev/null)
     if [ ! -f "$library" ] || [ -n "$newer" ]; then
-        "$root/bin/build_c" >&2 || fail 'out/libspeedate.a could not be built'
+        "$root/bin/build_c" --prefix "$SPEEDATE_DIR" >&2 || fail 'the library could not be built'
     fi
+}
+
+# copy_crate INTO: copies the sources of the crate, with the paths that they name, and another version than that of
+# rust/Cargo.toml: cargo knows packages in folders by name and version alone.
+copy_crate() {
+    sources=$(readlink -f "$SPEEDATE_SOURCES")
+    [ -f "$sources/Cargo.toml" ] || fail "SPEEDATE_SOURCES: $SPEEDATE_SOURCES has no Cargo.toml"
+    rm -rf "$1" && mkdir -p "$1" && cp -R "$sources/." "$1" || fail "$1 cannot be written"
+    sed -e 's/^version = "0\.18\.0"/version = "0.18.0+crate"/' -e "s|path = \"\.\./|path = \"${sources%/*}/|" \
+        "$sources/Cargo.toml" >"$1/Cargo.toml"
 }
 
 # Where Debian's packages librust-*-dev put crates.
@@ -28,9 +41,8 @@ build() {
     command -v cc >/dev/null || fail 'there is no C compiler (cc), by which cargo links'
     build_library
     if [ -n "${SPEEDATE_SOURCES-}" ]; then
-        sources=$(readlink -f "$SPEEDATE_SOURCES")
-        [ -f "$sources/Cargo.toml" ] || fail "SPEEDATE_SOURCES: $SPEEDATE_SOURCES has no Cargo.toml"
-        set -- --offline --config "patch.crates-io.speedate.path=\"$sources\"" "$@"
+        copy_crate "$root/out/crate"
+        set -- --offline --config "patch.crates-io.speedate.path=\"$root/out/crate\"" "$@"
         [ ! -d "$debian" ] ||
             set -- --config 'source.crates-io.replace-with="debian"' --config "source.debian.directory=\"$debian\"" "$@"
     fi

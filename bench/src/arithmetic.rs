@@ -1,27 +1,24 @@
 //! Rows of calls without a text. Where the Rust crate has no such call, it is put together from those that it has.
 
 use speedate::{DateConfig, DateTime, DateTimeConfig, TimeConfig, TimestampUnit};
-use speedate_diff::ffi::{self, Config};
 
 use crate::peers::PeerMoments;
-use crate::row::{Table, side, written};
+use crate::row::{Table, side};
 use crate::texts::{date_time, microseconds, texts};
 
 /// Two date-times in UTC, as each library has them.
 pub struct Moments {
     rust: [DateTime; 2],
-    ours: [ffi::DateTime; 2],
+    ours: [proved::DateTime; 2],
     #[cfg_attr(not(any(feature = "chrono", feature = "time")), allow(dead_code))]
     pub others: PeerMoments,
 }
 
 impl Moments {
     fn of(texts: [&str; 2]) -> Self {
-        let ours =
-            |text: &str| ffi::written(|out| ffi::speedate_datetime_parse(text.as_bytes(), Config::default(), out));
         Moments {
             rust: texts.map(|text| DateTime::parse_str(text).expect("a date-time")),
-            ours: texts.map(|text| ours(text).expect("a date-time")),
+            ours: texts.map(|text| proved::DateTime::parse_str(text).expect("a date-time")),
             others: PeerMoments::of(texts),
         }
     }
@@ -42,7 +39,7 @@ fn date_rows(table: &mut Table, moments: &[Moments]) {
     });
     let ours = side("this library", |it: &Moments| {
         let [first, second] = it.ours.map(|value| value.date);
-        written(|out| ffi::speedate_date_days_since(second, first, out))
+        second.days_since(&first)
     });
     table.row("days since a date", moments, rust, ours, PeerMoments::days_since());
 
@@ -50,8 +47,7 @@ fn date_rows(table: &mut Table, moments: &[Moments]) {
     let rust = side("Rust crate", move |it: &Moments| {
         speedate::Date::from_timestamp(it.rust[0].date.timestamp() + 100 * 86_400, true, &config)
     });
-    let ours =
-        side("this library", |it: &Moments| written(|out| ffi::speedate_date_add_days(it.ours[0].date, 100, out)));
+    let ours = side("this library", |it: &Moments| it.ours[0].date.checked_add_days(100));
     table.row("days added to a date", moments, rust, ours, PeerMoments::add_days());
 }
 
@@ -60,8 +56,7 @@ fn date_time_rows(table: &mut Table, moments: &[Moments]) {
         let [first, second] = it.rust.map(|value| (value.timestamp_tz(), value.time.microsecond as i32));
         (second.0 - first.0, second.1 - first.1)
     });
-    let ours =
-        side("this library", |it: &Moments| written(|out| ffi::speedate_duration_between(it.ours[0], it.ours[1], out)));
+    let ours = side("this library", |it: &Moments| proved::Duration::between(&it.ours[0], &it.ours[1]));
     table.row("between date-times", moments, rust, ours, PeerMoments::between());
 
     let time_config = TimeConfig { unix_timestamp_offset: Some(0), ..TimeConfig::default() };
@@ -70,12 +65,11 @@ fn date_time_rows(table: &mut Table, moments: &[Moments]) {
         let value = &it.rust[0];
         DateTime::from_timestamp_with_config(value.timestamp() + 100_000, value.time.microsecond + 500_000, &config)
     });
-    let length = ffi::Duration { negative: 0, day: 1, second: 13_600, microsecond: 500_000 };
-    let ours =
-        side("this library", move |it: &Moments| written(|out| ffi::speedate_duration_after(length, it.ours[0], out)));
+    let length = proved::Duration { positive: true, day: 1, second: 13_600, microsecond: 500_000 };
+    let ours = side("this library", move |it: &Moments| length.after(&it.ours[0]));
     table.row("after a date-time", moments, rust, ours, PeerMoments::after());
 
     let rust = side("Rust crate", |it: &Moments| it.rust[0].timestamp_tz());
-    let ours = side("this library", |it: &Moments| written(|out| ffi::speedate_datetime_timestamp_tz(it.ours[0], out)));
+    let ours = side("this library", |it: &Moments| it.ours[0].timestamp_tz());
     table.row("timestamp of a date-time", moments, rust, ours, PeerMoments::timestamp());
 }

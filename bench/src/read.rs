@@ -1,28 +1,19 @@
 //! Rows of readers.
 
-use std::hint::black_box;
-
+use proved::{MicrosecondsPrecisionOverflowBehavior::Error, TimeConfig};
 use speedate::{Date, DateTime, Duration, Time};
 use speedate_diff::draw::Draw;
-use speedate_diff::ffi::{self, Code, Config};
 
 use crate::peers;
-use crate::row::{Side, Table, side, written};
+use crate::row::{Side, Table, side};
 use crate::texts::*;
-
-const DEFAULT: Config = Config {
-    timestamp_offset: 0,
-    has_timestamp_offset: 0,
-    timestamp_unit: 0,
-    overflow_behavior: 0,
-    iso_order: 0,
-};
 
 pub fn rows(table: &mut Table) {
     date_rows(table);
     time_rows(table);
     date_time_rows(table);
     timestamp_rows(table);
+    number_rows(table);
     duration_rows(table);
     front_rows(table);
 }
@@ -37,7 +28,7 @@ fn ours<T: 'static>(read: impl Fn(&[u8]) -> T + 'static) -> Side<String> {
 
 fn date_rows(table: &mut Table) {
     let mut row = |name: &str, text: fn(&mut Draw) -> String| {
-        let ours = ours(|text| written(|out| ffi::speedate_date_parse_rfc3339(text, out)));
+        let ours = ours(proved::Date::parse_bytes_rfc3339);
         table.row(name, &texts(text), rust(Date::parse_bytes_rfc3339), ours, peers::date());
     };
     row("date", date);
@@ -46,7 +37,7 @@ fn date_rows(table: &mut Table) {
 
 fn time_rows(table: &mut Table) {
     let mut row = |name: &str, text: fn(&mut Draw) -> String, others: Vec<Side<String>>| {
-        let ours = ours(|text| written(|out| ffi::speedate_time_parse(text, DEFAULT, out)));
+        let ours = ours(proved::Time::parse_bytes);
         table.row(name, &texts(text), rust(Time::parse_bytes), ours, others);
     };
     row("time", clock, peers::time());
@@ -58,13 +49,13 @@ fn time_rows(table: &mut Table) {
     row("time, 1 to 5 digits", one_to_five_digits, peers::time_with_fraction());
     row("time, fraction, offset", |draw| clock(draw) + &microseconds(draw) + &offset(draw), vec![]);
     row("time, refused", refused_clock, peers::time());
-    let strict = ours(|text| written(|out| ffi::speedate_time_parse_strict(text, DEFAULT, out)));
+    let strict = ours(|text| proved::Time::parse_bytes_strict(text, Error));
     table.row("time, Z, strict", &texts(|draw| clock(draw) + "Z"), rust(Time::parse_bytes), strict, vec![]);
 }
 
 fn date_time_rows(table: &mut Table) {
     let mut row = |name: &str, text: fn(&mut Draw) -> String, others: Vec<Side<String>>| {
-        let ours = ours(|text| written(|out| ffi::speedate_datetime_parse(text, DEFAULT, out)));
+        let ours = ours(proved::DateTime::parse_bytes);
         table.row(name, &texts(text), rust(DateTime::parse_bytes), ours, others);
     };
     row("date-time, Z", z, peers::date_time_in_utc());
@@ -74,7 +65,7 @@ fn date_time_rows(table: &mut Table) {
     row("date-time, fraction, offset", fraction_and_offset, peers::date_time());
     row("date-time, refused", refused_date_time, peers::date_time_in_utc());
     let mut row = |name: &str, text: fn(&mut Draw) -> String| {
-        let strict = ours(|text| written(|out| ffi::speedate_datetime_parse_strict(text, DEFAULT, out)));
+        let strict = ours(|text| proved::DateTime::parse_bytes_strict(text, Error));
         table.row(name, &texts(text), rust(DateTime::parse_bytes_rfc3339), strict, vec![]);
     };
     row("date-time, Z, strict", z);
@@ -83,7 +74,7 @@ fn date_time_rows(table: &mut Table) {
 
 fn timestamp_rows(table: &mut Table) {
     let mut row = |name: &str, text: fn(&mut Draw) -> String| {
-        let ours = ours(|text| written(|out| ffi::speedate_datetime_parse(text, DEFAULT, out)));
+        let ours = ours(proved::DateTime::parse_bytes);
         table.row(name, &texts(text), rust(DateTime::parse_bytes), ours, vec![]);
     };
     row("timestamp, seconds", |draw| draw.within(1_000_000_000..=3_000_000_000).to_string());
@@ -94,9 +85,19 @@ fn timestamp_rows(table: &mut Table) {
     });
 }
 
+fn number_rows(table: &mut Table) {
+    let numbers = texts(|draw| draw.within(1_000_000_000..=3_000_000_000).to_string());
+    table.row("whole number", &numbers, rust(speedate::int_parse_bytes), ours(proved::int_parse_bytes), vec![]);
+    let floats: Vec<f64> = numbers.iter().map(|number| number.parse::<f64>().expect("a number") / 7.0).collect();
+    let rust = side("Rust crate", |float: &f64| DateTime::from_float_with_config(*float, &Default::default()));
+    let ours =
+        side("this library", |float: &f64| proved::DateTime::from_float_with_config(*float, &Default::default()));
+    table.row("timestamp, float", &floats, rust, ours, vec![]);
+}
+
 fn duration_rows(table: &mut Table) {
     let mut row = |name: &str, text: fn(&mut Draw) -> String, others: Vec<Side<String>>| {
-        let ours = ours(|text| written(|out| ffi::speedate_duration_parse(text, DEFAULT, out)));
+        let ours = ours(proved::Duration::parse_bytes);
         table.row(name, &texts(text), rust(Duration::parse_bytes), ours, others);
     };
     row("duration, clock", clock, vec![]);
@@ -114,35 +115,19 @@ fn lines(value: fn(&mut Draw) -> String) -> Vec<Line> {
     texts(value).into_iter().map(|value| (value.clone() + " GET /index.html 200", value)).collect()
 }
 
-/// The code of a reader of the front, whose value and size stay where it wrote them.
-fn front<T: Default>(call: impl FnOnce(&mut T, &mut usize) -> Code) -> Code {
-    let mut taken = 0;
-    let code = written(|out| call(out, &mut taken));
-    black_box(&taken);
-    code
-}
-
 fn front_rows(table: &mut Table) {
     let rust = side("Rust crate", |(_, value): &Line| Date::parse_bytes_rfc3339(value.as_bytes()));
-    let ours = side("this library", |(line, _): &Line| {
-        front(|out, taken| ffi::speedate_date_parse_front(line.as_bytes(), out, taken))
-    });
-    let whole =
-        side("alone", |(_, value): &Line| written(|out| ffi::speedate_date_parse_rfc3339(value.as_bytes(), out)));
+    let ours = side("this library", |(line, _): &Line| proved::Date::parse_front(line.as_bytes()));
+    let whole = side("alone", |(_, value): &Line| proved::Date::parse_bytes_rfc3339(value.as_bytes()));
     table.row("date at the front", &lines(date), rust, ours, vec![whole]);
+    let config = TimeConfig::default();
     let rust = side("Rust crate", |(_, value): &Line| Time::parse_bytes(value.as_bytes()));
-    let ours = side("this library", |(line, _): &Line| {
-        front(|out, taken| ffi::speedate_time_parse_front(line.as_bytes(), DEFAULT, out, taken))
-    });
-    let whole =
-        side("alone", |(_, value): &Line| written(|out| ffi::speedate_time_parse(value.as_bytes(), DEFAULT, out)));
+    let ours = side("this library", move |(line, _): &Line| proved::Time::parse_front(line.as_bytes(), &config));
+    let whole = side("alone", |(_, value): &Line| proved::Time::parse_bytes(value.as_bytes()));
     table.row("time at the front", &lines(|draw| clock(draw) + "Z"), rust, ours, vec![whole]);
+    let config = TimeConfig::default();
     let rust = side("Rust crate", |(_, value): &Line| DateTime::parse_bytes_rfc3339(value.as_bytes()));
-    let ours = side("this library", |(line, _): &Line| {
-        front(|out, taken| ffi::speedate_datetime_parse_front(line.as_bytes(), DEFAULT, out, taken))
-    });
-    let whole = side("alone", |(_, value): &Line| {
-        written(|out| ffi::speedate_datetime_parse_rfc3339(value.as_bytes(), DEFAULT, out))
-    });
+    let ours = side("this library", move |(line, _): &Line| proved::DateTime::parse_front(line.as_bytes(), &config));
+    let whole = side("alone", |(_, value): &Line| proved::DateTime::parse_bytes_rfc3339(value.as_bytes()));
     table.row("date-time at the front", &lines(z), rust, ours, vec![whole]);
 }

@@ -3,8 +3,6 @@
 use std::hint::black_box;
 use std::time::Instant;
 
-use speedate_diff::ffi::Code;
-
 const ROUNDS: usize = 300;
 
 /// One library's call of a row.
@@ -23,15 +21,6 @@ pub fn side<I: 'static, T: 'static>(name: &'static str, call: impl Fn(&I) -> T +
         start.elapsed().as_nanos() as f64 / items.len() as f64
     };
     Side { name, round: Box::new(round) }
-}
-
-/// The code of a call of this library, whose value stays where the call wrote it.
-#[inline(always)]
-pub fn written<T: Default>(call: impl FnOnce(&mut T) -> Code) -> Code {
-    let mut out = T::default();
-    let code = call(&mut out);
-    black_box(&out);
-    code
 }
 
 /// A call that is not drawn into the loop around it.

@@ -10,7 +10,9 @@ pub enum Value {
     DateTime(DateTime),
     Duration(Duration),
     Numbers(Vec<i64>),
-    Text(Vec<u8>),
+    Text(String),
+    /// The bits of a float.
+    Float(u64),
     /// A value at the front of a text, and how many bytes it takes.
     Front(Box<Value>, usize),
 }

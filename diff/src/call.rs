@@ -5,7 +5,7 @@ use std::ops::Deref;
 
 use crate::answer::Value;
 use crate::draw::Draw;
-use crate::ffi::{Config, Date, DateTime, Duration, ORDER_STRICT, Time};
+use crate::ffi::{Config, Date, DateTime, Duration, ORDER_LAX, ORDER_STRICT, Time};
 use crate::text::{FIRST_SECOND, KINDS, Kind, LAST_SECOND};
 
 /// A text, which shows its bytes escaped and in hex.
@@ -41,11 +41,27 @@ pub enum Call {
         text: Bytes,
         config: Config,
     },
+    /// The duration of a text, in the order of the configuration.
+    ReadInOrder {
+        text: Bytes,
+        config: Config,
+    },
+    /// What Debug shows of the answer to a text.
+    Debug {
+        kind: Kind,
+        text: Bytes,
+        config: Config,
+    },
+    WholeNumber(Bytes),
+    Number(Bytes),
+    /// The unit and the behavior of a name.
+    Names(String),
     Print(Value),
     Compare(Value, Value),
     /// The timestamps of a date or a date-time, the totals of a time or a duration.
     Totals(Value),
     InTimezone(Value, i32),
+    WithOffset(Value, Option<i32>),
     DateFromTimestamp {
         timestamp: i64,
         is_exact: bool,
@@ -61,7 +77,13 @@ pub enum Call {
         microsecond: u32,
         config: Config,
     },
+    FromFloat {
+        timestamp: f64,
+        config: Config,
+    },
     NewDuration(Duration),
+    CompareDates(Date, Date),
+    DayNumber(Date),
     FromDayNumber(u32),
     AddDays(Date, i32),
     DaysSince(Date, Date),
@@ -78,7 +100,8 @@ impl Call {
     /// A call: three in four read a text.
     pub fn drawn(draw: &mut Draw) -> Self {
         match draw.below(16) {
-            0..=11 => Self::read(draw),
+            0..=10 => Self::read(draw),
+            11 => Self::read_number(draw),
             12 => Self::read_front(draw),
             13 => Self::from_timestamp(draw),
             14 => Self::of_values(draw),
@@ -87,12 +110,25 @@ impl Call {
     }
 
     fn read(draw: &mut Draw) -> Self {
-        let kind = draw.pick(&KINDS);
-        let mut config = config(draw);
-        if kind == Kind::Duration && draw.once_in(8) {
-            config.iso_order = ORDER_STRICT;
+        let (kind, config) = (draw.pick(&KINDS), config(draw));
+        let text = Bytes(draw.text(kind));
+        match kind {
+            Kind::Duration if draw.once_in(8) => {
+                let iso_order = draw.pick(&[ORDER_LAX, ORDER_STRICT]);
+                Call::ReadInOrder { text, config: Config { iso_order, ..config } }
+            }
+            // The others differ by rows, which explain values.
+            Kind::Date | Kind::Time | Kind::DateTimeRfc3339 if draw.once_in(16) => Call::Debug { kind, text, config },
+            _ => Call::Read { kind, text, config },
         }
-        Call::Read { kind, text: Bytes(draw.text(kind)), config }
+    }
+
+    fn read_number(draw: &mut Draw) -> Self {
+        match draw.below(5) {
+            0 => Call::Names(draw.name()),
+            1 | 2 => Call::WholeNumber(Bytes(draw.number_text())),
+            _ => Call::Number(Bytes(draw.number_text())),
+        }
     }
 
     fn read_front(draw: &mut Draw) -> Self {
@@ -107,29 +143,28 @@ impl Call {
     fn from_timestamp(draw: &mut Draw) -> Self {
         let (timestamp, config) = (draw.timestamp(), config(draw));
         let microsecond = draw.inside(0..=u32::MAX.into()) as u32 >> draw.below(16);
-        match draw.below(3) {
+        match draw.below(4) {
             0 => Call::DateFromTimestamp { timestamp, is_exact: draw.once_in(2), config },
             1 => Call::TimeFromTimestamp { second: draw.near(0..=86_400).max(0) as u32, microsecond, config },
-            _ => Call::DateTimeFromTimestamp { timestamp, microsecond, config },
+            2 => Call::DateTimeFromTimestamp { timestamp, microsecond, config },
+            _ => Call::FromFloat { timestamp: draw.float(), config },
         }
     }
 
     fn of_values(draw: &mut Draw) -> Self {
         let first = value(draw);
-        match draw.below(4) {
+        match draw.below(5) {
             0 => Call::Print(first),
             1 => Call::Totals(first),
             2 => Call::Compare(first.clone(), if draw.once_in(8) { first } else { value_like(draw, &first) }),
-            _ => Call::InTimezone(
-                if draw.once_in(2) { Value::Time(time(draw)) } else { Value::DateTime(date_time(draw)) },
-                new_offset(draw),
-            ),
+            3 => Call::WithOffset(value_with_offset(draw), (!draw.once_in(8)).then(|| new_offset(draw))),
+            _ => Call::InTimezone(value_with_offset(draw), new_offset(draw)),
         }
     }
 
     /// Calls that stand in the Rust crate for several.
     fn composed(draw: &mut Draw) -> Self {
-        match draw.below(11) {
+        match draw.below(13) {
             0 => Call::NewDuration(duration_numbers(draw)),
             1 => Call::FromDayNumber(draw.near(0..=3_652_424).max(0) as u32),
             2 => Call::AddDays(date(draw), draw.inside(-4_000_000..=4_000_000) as i32),
@@ -140,6 +175,8 @@ impl Call {
             7 => Call::BetweenDates(date(draw), date(draw)),
             8 => Call::AfterDate(whole_days(draw), date(draw)),
             9 => Call::BeforeDate(whole_days(draw), date(draw)),
+            10 => Call::CompareDates(date(draw), date(draw)),
+            11 => Call::DayNumber(date(draw)),
             _ => Call::Negated(duration(draw)),
         }
     }
@@ -147,11 +184,15 @@ impl Call {
     /// The word under which the call is counted.
     pub fn group(&self) -> &'static str {
         match self {
-            Call::Read { kind: Kind::Date | Kind::DateRfc3339, .. } => "texts of dates",
-            Call::Read { kind: Kind::Time, .. } => "texts of times",
-            Call::Read { kind: Kind::DateTime | Kind::DateTimeRfc3339, .. } => "texts of date-times",
-            Call::Read { kind: Kind::Duration, .. } => "texts of durations",
+            Call::Read { kind, .. } | Call::Debug { kind, .. } => match kind {
+                Kind::Date | Kind::DateRfc3339 => "texts of dates",
+                Kind::Time => "texts of times",
+                Kind::DateTime | Kind::DateTimeRfc3339 => "texts of date-times",
+                Kind::Duration => "texts of durations",
+            },
+            Call::ReadInOrder { .. } => "texts of durations",
             Call::ReadFront { .. } => "texts with a value at their front",
+            Call::WholeNumber(_) | Call::Number(_) | Call::Names(_) => "texts of numbers and names",
             _ => "calls without a text",
         }
     }
@@ -161,9 +202,12 @@ impl Call {
         match self {
             Call::Read { config, .. }
             | Call::ReadFront { config, .. }
+            | Call::ReadInOrder { config, .. }
+            | Call::Debug { config, .. }
             | Call::DateFromTimestamp { config, .. }
             | Call::TimeFromTimestamp { config, .. }
-            | Call::DateTimeFromTimestamp { config, .. } => Some(config),
+            | Call::DateTimeFromTimestamp { config, .. }
+            | Call::FromFloat { config, .. } => Some(config),
             _ => None,
         }
     }
@@ -230,6 +274,10 @@ fn duration(draw: &mut Draw) -> Duration {
         second: draw.inside(0..=86_399) as u32,
         microsecond: draw.inside(0..=999_999) as u32,
     }
+}
+
+fn value_with_offset(draw: &mut Draw) -> Value {
+    if draw.once_in(2) { Value::Time(time(draw)) } else { Value::DateTime(date_time(draw)) }
 }
 
 /// A duration, mostly of whole days.

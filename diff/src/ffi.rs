@@ -1,5 +1,6 @@
-//! The functions of `c/speedate.h`, each with its C name. This is the one module with unsafe code: each call gets the
-//! addresses of variables of its types. Each answers a code, and writes to `out` if and only if the code is 0.
+//! The structs of `c/speedate.h`, and those of its functions that the package for Rust does not call, each with its C
+//! name. This is the one module with unsafe code: each call gets the addresses of variables of its types. Each answers a
+//! code, and writes to `out` if and only if the code is 0.
 
 use std::ffi::{c_char, c_int};
 
@@ -65,6 +66,7 @@ pub const UNIT_SECOND: u8 = 1;
 pub const UNIT_MILLISECOND: u8 = 2;
 pub const OVERFLOW_ERROR: u8 = 0;
 pub const OVERFLOW_TRUNCATE: u8 = 1;
+pub const ORDER_LAX: u8 = 0;
 pub const ORDER_STRICT: u8 = 1;
 
 impl Config {
@@ -86,26 +88,16 @@ pub fn written<T: Default>(call: impl FnOnce(&mut T) -> Code) -> Result<T, Code>
     }
 }
 
-/// Room for every text that is printed, with its zero byte.
-const TEXT_SIZE: usize = 64;
-
-/// A printed text.
-#[derive(Clone, Copy)]
-pub struct Text {
-    bytes: [u8; TEXT_SIZE],
-    length: usize,
-}
-
-impl Default for Text {
-    fn default() -> Self {
-        Text { bytes: [0; TEXT_SIZE], length: 0 }
+/// The name of a code.
+pub fn name(code: Code) -> String {
+    unsafe extern "C" {
+        fn speedate_code_name(code: Code, buffer: *mut c_char, size: usize, length: *mut usize) -> Code;
     }
-}
-
-impl Text {
-    /// The bytes, without the zero byte after them.
-    pub fn as_bytes(&self) -> &[u8] {
-        &self.bytes[..self.length]
+    let (mut buffer, mut length) = ([0_u8; 64], 0);
+    // SAFETY: the address and the size are those of the buffer, and `length` is a variable of its type.
+    match unsafe { speedate_code_name(code, buffer.as_mut_ptr().cast(), buffer.len(), &mut length) } {
+        0 => String::from_utf8_lossy(&buffer[..length]).into_owned(),
+        _ => format!("code {code}"),
     }
 }
 
@@ -125,112 +117,20 @@ macro_rules! values {
     };
 }
 
-/// Readers of a text, which write one value.
-macro_rules! readers {
-    ($(fn $name:ident(text $(, $config:ident: $kind:ty)?) -> $answer:ty;)*) => {
-        $(
-            #[inline]
-            pub fn $name(text: &[u8] $(, $config: $kind)?, out: &mut $answer) -> Code {
-                unsafe extern "C" {
-                    fn $name(text: *const c_char, size: usize, $($config: $kind,)? out: *mut $answer) -> Code;
-                }
-                // SAFETY: the address and the size are those of the text, and `out` is a variable of its type.
-                unsafe { $name(text.as_ptr().cast(), text.len(), $($config,)? out) }
-            }
-        )*
-    };
-}
-
-/// Readers of the value at the front of a text, which write how many bytes it takes, too.
-macro_rules! front_readers {
-    ($(fn $name:ident(text $(, $config:ident: $kind:ty)?) -> $answer:ty;)*) => {
-        $(
-            #[inline]
-            pub fn $name(text: &[u8] $(, $config: $kind)?, out: &mut $answer, taken: &mut usize) -> Code {
-                unsafe extern "C" {
-                    fn $name(
-                        text: *const c_char, size: usize, $($config: $kind,)? out: *mut $answer, taken: *mut usize,
-                    ) -> Code;
-                }
-                // SAFETY: as for a reader; `taken` is a variable of its type.
-                unsafe { $name(text.as_ptr().cast(), text.len(), $($config,)? out, taken) }
-            }
-        )*
-    };
-}
-
-/// Printers of a value.
-macro_rules! printers {
-    ($(fn $name:ident($value:ident: $kind:ty);)*) => {
-        $(
-            #[inline]
-            pub fn $name($value: $kind, out: &mut Text) -> Code {
-                unsafe extern "C" {
-                    fn $name($value: $kind, buffer: *mut c_char, size: usize, length: *mut usize) -> Code;
-                }
-                // SAFETY: the address and the size are those of the buffer, and `length` is a variable of its type.
-                unsafe { $name($value, out.bytes.as_mut_ptr().cast(), TEXT_SIZE, &mut out.length) }
-            }
-        )*
-    };
-}
-
-readers! {
-    fn speedate_date_parse(text, config: Config) -> Date;
-    fn speedate_date_parse_rfc3339(text) -> Date;
-    fn speedate_time_parse(text, config: Config) -> Time;
-    fn speedate_time_parse_strict(text, config: Config) -> Time;
-    fn speedate_datetime_parse(text, config: Config) -> DateTime;
-    fn speedate_datetime_parse_rfc3339(text, config: Config) -> DateTime;
-    fn speedate_datetime_parse_strict(text, config: Config) -> DateTime;
-    fn speedate_duration_parse(text, config: Config) -> Duration;
-}
-
-front_readers! {
-    fn speedate_date_parse_front(text) -> Date;
-    fn speedate_time_parse_front(text, config: Config) -> Time;
-    fn speedate_datetime_parse_front(text, config: Config) -> DateTime;
-}
-
-printers! {
-    fn speedate_code_name(code: Code);
-    fn speedate_date_to_text(date: Date);
-    fn speedate_time_to_text(time: Time);
-    fn speedate_datetime_to_text(value: DateTime);
-    fn speedate_duration_to_text(duration: Duration);
+#[inline]
+pub fn speedate_duration_parse(text: &[u8], config: Config, out: &mut Duration) -> Code {
+    unsafe extern "C" {
+        fn speedate_duration_parse(text: *const c_char, size: usize, config: Config, out: *mut Duration) -> Code;
+    }
+    // SAFETY: the address and the size are those of the text, and `out` is a variable of its type.
+    unsafe { speedate_duration_parse(text.as_ptr().cast(), text.len(), config, out) }
 }
 
 values! {
     fn speedate_date_compare(first: Date, second: Date) -> i32;
-    fn speedate_date_from_timestamp(timestamp: i64, require_exact: u8, config: Config) -> Date;
-    fn speedate_date_timestamp(date: Date) -> i64;
-    fn speedate_date_timestamp_ms(date: Date) -> i64;
     fn speedate_date_day_number(date: Date) -> u32;
     fn speedate_date_from_day_number(number: u32) -> Date;
-    fn speedate_date_ordinal_day(date: Date) -> u16;
-    fn speedate_date_add_days(date: Date, days: i32) -> Date;
-    fn speedate_date_days_since(date: Date, earlier: Date) -> i32;
-    fn speedate_time_compare(first: Time, second: Time) -> i32;
-    fn speedate_time_from_timestamp(second: u32, microsecond: u32, config: Config) -> Time;
-    fn speedate_time_total_seconds(time: Time) -> u32;
-    fn speedate_time_total_ms(time: Time) -> u32;
-    fn speedate_time_in_timezone(time: Time, offset: i32) -> Time;
-    fn speedate_datetime_compare(first: DateTime, second: DateTime) -> i32;
-    fn speedate_datetime_from_timestamp(timestamp: i64, microsecond: u32, config: Config) -> DateTime;
-    fn speedate_datetime_timestamp(value: DateTime) -> i64;
-    fn speedate_datetime_timestamp_ms(value: DateTime) -> i64;
-    fn speedate_datetime_timestamp_tz(value: DateTime) -> i64;
-    fn speedate_datetime_timestamp_tz_ms(value: DateTime) -> i64;
-    fn speedate_datetime_in_timezone(value: DateTime, offset: i32) -> DateTime;
-    fn speedate_duration_normalize(numbers: Duration) -> Duration;
-    fn speedate_duration_compare(first: Duration, second: Duration) -> i32;
-    fn speedate_duration_signed_total_seconds(duration: Duration) -> i64;
-    fn speedate_duration_signed_total_ms(duration: Duration) -> i64;
-    fn speedate_duration_signed_microseconds(duration: Duration) -> i32;
     fn speedate_duration_negate(duration: Duration) -> Duration;
-    fn speedate_duration_between(earlier: DateTime, later: DateTime) -> Duration;
-    fn speedate_duration_after(duration: Duration, start: DateTime) -> DateTime;
-    fn speedate_duration_before(duration: Duration, start: DateTime) -> DateTime;
     fn speedate_duration_between_dates(earlier: Date, later: Date) -> Duration;
     fn speedate_duration_after_date(duration: Duration, start: Date) -> Date;
     fn speedate_duration_before_date(duration: Duration, start: Date) -> Date;

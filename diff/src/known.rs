@@ -3,9 +3,7 @@
 use crate::answer::{Answer, PANIC, Value, is_fault};
 use crate::call::Call;
 use crate::exact::{Decimal, IsoFraction, split_sign};
-use crate::ffi::{
-    Config, ORDER_STRICT, OVERFLOW_TRUNCATE, Time, UNIT_INFER, UNIT_MILLISECOND, UNIT_SECOND,
-};
+use crate::ffi::{Config, ORDER_STRICT, OVERFLOW_TRUNCATE, Time, UNIT_INFER, UNIT_MILLISECOND, UNIT_SECOND};
 use crate::rust;
 use crate::text::{Kind, LARGEST_SECOND};
 
@@ -19,12 +17,13 @@ pub struct Known {
     explains: fn(&Call, &Answer, &Answer) -> bool,
 }
 
-pub const KNOWN: [Known; 10] = [
+pub const KNOWN: [Known; 11] = [
     Known { row: "fractions of ISO 8601 durations", explains: is_iso_fraction },
     Known { row: "the order of components in an ISO 8601 duration", explains: is_iso_order },
     Known { row: "a clock of a duration, with `Truncate`", explains: is_cut_clock },
     Known { row: "exponents of decimals", explains: is_exponent },
     Known { row: "decimal timestamps, `from_float_with_config`", explains: is_decimal_timestamp },
+    Known { row: "`from_float_with_config` in Rust", explains: is_float },
     Known { row: "the inferred unit of a decimal timestamp", explains: is_inferred_unit },
     Known { row: "`in_timezone` and `now` of `DateTime`", explains: is_late_date_time },
     Known { row: "`in_timezone` of `Time`", explains: is_moved_time },
@@ -47,7 +46,7 @@ impl Known {
 
 /// Every digit counts here; there a float is off by no more than its rounding, or has lost the fraction.
 fn is_iso_fraction(call: &Call, rust: &Answer, ours: &Answer) -> bool {
-    let Call::Read { kind: Kind::Duration, text, config } = call else {
+    let (Call::Read { kind: Kind::Duration, text, config } | Call::ReadInOrder { text, config }) = call else {
         return false;
     };
     let Some(fraction) = IsoFraction::of(text) else {
@@ -66,7 +65,7 @@ fn is_iso_fraction(call: &Call, rust: &Answer, ours: &Answer) -> bool {
 /// The strict order refuses components that are out of order or repeated. Up to there the text has no other fault,
 /// but that it may be too long a duration.
 fn is_iso_order(call: &Call, _rust: &Answer, ours: &Answer) -> bool {
-    let Call::Read { kind: Kind::Duration, text, config } = call else {
+    let Call::ReadInOrder { text, config } = call else {
         return false;
     };
     let Some(place) = place_out_of_order(text) else {
@@ -97,7 +96,7 @@ fn place_out_of_order(text: &[u8]) -> Option<usize> {
 
 /// There what follows the sixth digit is cut, whatever it is; here it has to be digits.
 fn is_cut_clock(call: &Call, _rust: &Answer, ours: &Answer) -> bool {
-    let Call::Read { kind: Kind::Duration, text, config } = call else {
+    let (Call::Read { kind: Kind::Duration, text, config } | Call::ReadInOrder { text, config }) = call else {
         return false;
     };
     let Some(colon) = text.iter().position(|&byte| byte == b':') else {
@@ -137,6 +136,19 @@ fn is_decimal_timestamp(call: &Call, rust: &Answer, ours: &Answer) -> bool {
     let exact = decimal.exact(config);
     let rounding = 1 + (exact.microseconds.abs() >> 52);
     *ours == exact.answer && exact.gap(rust).is_some_and(|gap| gap <= rounding)
+}
+
+/// The value of the float counts exactly here; there its fraction is rounded as a float.
+fn is_float(call: &Call, rust: &Answer, ours: &Answer) -> bool {
+    let Call::FromFloat { timestamp, config } = call else {
+        return false;
+    };
+    let digits = format!("{timestamp:.1074}");
+    let Some(decimal) = Decimal::of(digits.as_bytes()) else {
+        return false;
+    };
+    let exact = decimal.exact(&Config { overflow_behavior: OVERFLOW_TRUNCATE, ..*config });
+    *ours == exact.answer && exact.gap(rust).is_some_and(|gap| gap <= 1)
 }
 
 /// The decimal is over the largest second here; there the float is equal to it, and seconds.
@@ -199,13 +211,19 @@ fn moved_time(time: &Time, seconds: i32, offset: i32) -> Answer {
 
 /// The offset overflows there.
 fn is_smallest_offset(call: &Call, rust: &Answer, ours: &Answer) -> bool {
-    matches!(call, Call::InTimezone(_, i32::MIN)) && is_fault(rust, PANIC) && is_fault(ours, "out_of_range_tz")
+    matches!(call, Call::InTimezone(_, i32::MIN) | Call::WithOffset(_, Some(i32::MIN)))
+        && is_fault(rust, PANIC)
+        && is_fault(ours, "out_of_range_tz")
 }
 
-/// A configured offset of a day or more is refused here.
+/// A configured offset of a day or more is refused here by a call that takes timestamps, and by the C functions.
 fn is_timestamp_offset(call: &Call, _rust: &Answer, ours: &Answer) -> bool {
+    let fault = match call {
+        Call::ReadInOrder { .. } => "config_out_of_range",
+        _ => "out_of_range_tz",
+    };
     let offset = call.config().and_then(Config::offset);
-    offset.is_some_and(|offset| !is_offset(offset)) && is_fault(ours, "config_out_of_range")
+    offset.is_some_and(|offset| !is_offset(offset)) && is_fault(ours, fault)
 }
 
 /// Whether a text has a digit where the pattern has `0`, and elsewhere the pattern's byte.

@@ -158,6 +158,53 @@ impl Draw {
         self.whole_number() + "." + &digits + &exponent
     }
 
+    /// A whole number or a decimal, now and then one that begins or ends with its point, or a word of floats.
+    pub fn number_text(&mut self) -> Vec<u8> {
+        let mut text = match self.below(8) {
+            0..=2 => self.whole_number(),
+            3 => self.pick(&["", "+", "-", "."]).to_owned() + &self.long_digits(),
+            4 => self.long_digits() + "." + &self.long_digits(),
+            5 => self.pick(&["inf", "-inf", "nan", "infinity", ".", "+", "1e5", "-.5", "+.5e3", "5."]).to_owned(),
+            _ => self.decimal(),
+        }
+        .into_bytes();
+        while self.once_in(4) {
+            self.change(&mut text);
+        }
+        text
+    }
+
+    fn long_digits(&mut self) -> String {
+        let count = self.below(24);
+        self.digits(count)
+    }
+
+    /// The name of a unit or of a behavior, with letters of any case, now and then changed.
+    pub fn name(&mut self) -> String {
+        let name = self.pick(&["s", "ms", "us", "infer", "error", "truncate", ""]);
+        let case = |letter: char| if self.once_in(3) { letter.to_ascii_uppercase() } else { letter };
+        let mut name: Vec<u8> = name.chars().map(case).collect::<String>().into_bytes();
+        if self.once_in(4) {
+            self.change(&mut name);
+        }
+        String::from_utf8_lossy(&name).into_owned()
+    }
+
+    /// A timestamp: near one in whole numbers, half a microsecond after one or nearly so, or any float.
+    pub fn float(&mut self) -> f64 {
+        let whole = self.timestamp() as f64;
+        let float = match self.below(8) {
+            0 => whole,
+            1 => whole + self.below(128) as f64 / 128.0,
+            2 => whole + self.below(1_000_000) as f64 / 1e6,
+            5 => (self.within(-2_000_000..=2_000_000) as f64 + 0.5) / 1e6,
+            3 => self.within(-2_000_000..=2_000_000) as f64 / (1_u64 << self.below(64)) as f64,
+            4 => self.within(-253_402_300_800_000..=253_402_300_800_000) as f64 / 1024.0,
+            _ => return f64::from_bits(self.number()),
+        };
+        f64::from_bits(float.to_bits().wrapping_add_signed(self.within(-1..=1)))
+    }
+
     fn exponent(&mut self) -> String {
         let (letter, sign) = (self.pick(&["e", "E"]), self.pick(&["", "-", "+"]));
         letter.to_owned() + sign + &self.below(30).to_string()

@@ -1,6 +1,6 @@
 //! A scheduler: when a job runs next.
 
-ghost use Rattle.std.specs.Prelude.{◌≡◌, ◌↔◌, ◌*◌, ◌<◌, ◌≤◌, ◌^◌, ◌<ℤ◌, ◌≤ℤ◌, IfOk, IfSome, IsTrue, None, Ok, int_lt, option_map, pos};
+ghost use Rattle.std.specs.Prelude.{◌≡◌, ◌↔◌, ◌*◌, ◌<◌, ◌≤◌, ◌<ℤ◌, ◌≤ℤ◌, IfOk, IfSome, None, Ok, int_lt, option_map, pos, unsigned_abs};
 ghost use Rattle.speedate.specs.DateTime.{utc_microsecond, date_and_time};
 ghost use Rattle.speedate.specs.Duration.{duration_numbers, signed_amount};
 ghost use Rattle.speedate.specs.DurationNumbers.{amount_microseconds};
@@ -40,12 +40,11 @@ pub fn next_run(
 fn is_positive(every: &Duration) -> bool
     ensures { result ≡ int_lt (pos 0) (signed_amount (duration_numbers every.now)) }
 {
-    every.cmp(&of_microseconds(0)).is_gt()
+    every.signed_total_microseconds() > 0
 }
 
 /// How long after its last run a job runs next, where so much time has gone by since: the first whole
 /// number of times `every` that is longer.
-#[tactic(auto, using(crate::proofs::ScheduleLemmas::waiting))]
 fn next_wait(gone: &Duration, every: &Duration) -> Duration
     requires positive { pos 0 <ℤ signed_amount (duration_numbers every.now) }
     requires days { gone.now.day ≤ 3652426 }
@@ -53,33 +52,21 @@ fn next_wait(gone: &Duration, every: &Duration) -> Duration
         signed_amount (duration_numbers result)
         ≡ pos (next_count every (signed_amount (duration_numbers gone.now)) * every) }
 {
-    if every.cmp(gone).is_gt() {
-        return *every;
-    }
-    let (gone, every) = (microseconds(gone), microseconds(every));
-    of_microseconds(gone - gone % every + every)
+    let wait = next_multiple(
+        gone.signed_total_microseconds(),
+        every.signed_total_microseconds(),
+    );
+    Duration::from_signed_microseconds(wait).unwrap()
 }
 
-fn microseconds(duration: &Duration) -> u64
-    requires { amount_microseconds (duration_numbers duration.now) < 2 ^ 63 }
-    ensures { result ≡ amount_microseconds (duration_numbers duration.now) }
+/// The first positive multiple of `every` that is larger than `gone`.
+fn next_multiple(gone: i128, every: i128) -> i128
+    requires positive { pos 0 <ℤ every }
+    requires gone { unsigned_abs gone < 86400000000000000000 }
+    requires every { unsigned_abs every < 86400000000000000000 }
+    ensures { result ≡ pos (next_count (unsigned_abs every) gone * unsigned_abs every) }
 {
-    let seconds = 86_400 * u64::from(duration.day) + u64::from(duration.second);
-    1_000_000 * seconds + u64::from(duration.microsecond)
-}
-
-fn of_microseconds(length: u64) -> Duration
-    requires { length < 2 ^ 63 }
-    ensures positive { IsTrue result.positive }
-    ensures length { signed_amount (duration_numbers result) ≡ pos length }
-{
-    let seconds = length / 1_000_000;
-    Duration {
-        positive: true,
-        day: (seconds / 86_400) as u32,
-        second: (seconds % 86_400) as u32,
-        microsecond: (length % 1_000_000) as u32,
-    }
+    (gone.max(0) / every + 1) * every
 }
 
 #[cfg(test)]

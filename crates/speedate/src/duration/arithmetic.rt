@@ -88,7 +88,8 @@ impl Duration {
             duration_between (date_and_time end) (date_and_time start.now)
             ≡ with_positive_zero (duration_numbers self.now)) }
         ensures order { (other : Duration) → IfOk result (λ end. IfOk
-            (date_time_after (neg_ℤ (signed_amount (duration_numbers other))) (date_and_time start.now))
+            (date_time_after (neg_ℤ (signed_amount (duration_numbers other)))
+            (date_and_time start.now))
             (λ next. int_cmp (utc_microsecond (date_and_time end)) (utc_microsecond next)
             ≡ int_cmp (signed_amount (duration_numbers other))
             (signed_amount (duration_numbers self.now)))) }
@@ -114,9 +115,11 @@ impl Duration {
     }
 
     /// The duration in microseconds, with the sign: -1,500,000 for -PT1.5S, and 0 for PT0S and -PT0S.
-    /// [`Duration::from_signed_microseconds`] leads back, from 0 to PT0S.
+    /// There are fewer than in 1,000,000,000 days. [`Duration::from_signed_microseconds`] leads back,
+    /// from 0 to PT0S.
     pub fn signed_total_microseconds(&self) -> i128
         ensures microsecond { result ≡ signed_amount (duration_numbers self.now) }
+        ensures small { unsigned_abs result < 86400000000000000000 }
         ensures leads_back { amount_answer result
             ≡ Ok (with_positive_zero (duration_numbers self.now)) }
     {

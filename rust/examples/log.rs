@@ -1,0 +1,34 @@
+//! Reads the lines of a log, each of which begins with a date-time, and prints them with that date-time in UTC. Its last
+//! line says how long the log lasts. Lines without a date-time are reported on standard error.
+//!
+//! ```text
+//! cargo run --example log < LOG
+//! ```
+
+use std::error::Error;
+use std::io::{stdin, BufRead};
+
+use speedate::{DateTime, Duration, ParseError, TimeConfig};
+
+fn main() -> Result<(), Box<dyn Error>> {
+    let mut moments = Vec::new();
+    for (place, line) in stdin().lock().split(b'\n').enumerate() {
+        match entry(&line?) {
+            Ok((moment, rest)) => {
+                println!("{moment}{rest}");
+                moments.push(moment);
+            }
+            Err(error) => eprintln!("line {}: {error}: {}", place + 1, error.get_documentation().unwrap_or_default()),
+        }
+    }
+    if let [first, .., last] = &moments[..] {
+        println!("{} lines in {}", moments.len(), Duration::between(first, last));
+    }
+    Ok(())
+}
+
+/// The date-time of a line in UTC, and what follows it.
+fn entry(line: &[u8]) -> Result<(DateTime, String), ParseError> {
+    let (moment, size) = DateTime::parse_front(line, &TimeConfig::default())?;
+    Ok((moment.in_timezone(0)?, String::from_utf8_lossy(&line[size..]).into_owned()))
+}

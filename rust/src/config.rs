@@ -1,0 +1,120 @@
+use core::str::FromStr;
+
+use crate::{ConfigError, MicrosecondsPrecisionOverflowBehavior};
+
+/// The unit of timestamps.
+///
+/// ```
+/// use speedate::TimestampUnit::{Infer, Millisecond, Second};
+///
+/// assert_eq!(["s", "MS", "infer"].map(str::parse), [Ok(Second), Ok(Millisecond), Ok(Infer)]);
+/// ```
+#[derive(Debug, Clone, Copy, Default, PartialEq)]
+pub enum TimestampUnit {
+    /// Seconds.
+    Second,
+    /// Milliseconds.
+    Millisecond,
+    /// Seconds if the timestamp without its sign is at most 20,000,000,000, otherwise milliseconds.
+    #[default]
+    Infer,
+}
+
+/// The unit of a name, in letters of any case: `s`, `ms` or `infer`.
+impl FromStr for TimestampUnit {
+    type Err = ConfigError;
+
+    fn from_str(value: &str) -> Result<Self, ConfigError> {
+        match value {
+            _ if value.eq_ignore_ascii_case("s") => Ok(Self::Second),
+            _ if value.eq_ignore_ascii_case("ms") => Ok(Self::Millisecond),
+            _ if value.eq_ignore_ascii_case("infer") => Ok(Self::Infer),
+            _ => Err(ConfigError::UnknownTimestampUnitString),
+        }
+    }
+}
+
+/// Defines a configuration, and its builder, which has a call for each field, and what was chosen of it, if anything was.
+macro_rules! config {
+    ($(#[$about:meta])* $name:ident by $builder:ident { $($(#[$is:meta])* $field:ident: $kind:ty as $chosen:ty,)* }) => {
+        $(#[$about])*
+        #[derive(Debug, Clone, Default, PartialEq)]
+        pub struct $name {
+            $($(#[$is])* pub $field: $kind,)*
+        }
+
+        impl $name {
+            /// A builder of the default.
+            pub fn builder() -> $builder {
+                $builder::new()
+            }
+        }
+
+        #[doc = concat!("Builds a [`", stringify!($name), "`].")]
+        #[derive(Debug, Clone, Default)]
+        pub struct $builder {
+            $($field: $chosen,)*
+        }
+
+        impl $builder {
+            /// A builder of the default.
+            pub fn new() -> Self {
+                Self::default()
+            }
+
+            $(
+                #[doc = concat!("Sets `", stringify!($field), "`.")]
+                pub fn $field(mut self, $field: $kind) -> Self {
+                    self.$field = $field.into();
+                    self
+                }
+            )*
+
+            /// The configuration.
+            pub fn build(self) -> $name {
+                $name { $($field: self.$field.map_or_else(Default::default, Into::into),)* }
+            }
+        }
+    };
+}
+
+config! {
+    /// How dates are parsed.
+    DateConfig by DateConfigBuilder {
+        /// The unit of timestamps.
+        timestamp_unit: TimestampUnit as Option<TimestampUnit>,
+    }
+}
+
+config! {
+    /// How date-times are parsed.
+    ///
+    /// ```
+    /// use speedate::{DateTime, DateTimeConfig, TimeConfig, TimestampUnit};
+    ///
+    /// let time_config = TimeConfig::builder().unix_timestamp_offset(Some(0)).build();
+    /// let unit = TimestampUnit::Second;
+    /// let config = DateTimeConfig::builder().timestamp_unit(unit).time_config(time_config).build();
+    /// let value = DateTime::parse_str_with_config("86400.5", &config).unwrap();
+    /// assert_eq!(value.to_string(), "1970-01-02T00:00:00.500000Z");
+    /// ```
+    DateTimeConfig by DateTimeConfigBuilder {
+        /// The unit of timestamps.
+        timestamp_unit: TimestampUnit as Option<TimestampUnit>,
+        /// How the time is parsed, and the offset of timestamps.
+        time_config: TimeConfig as Option<TimeConfig>,
+    }
+}
+
+config! {
+    /// How times and durations are parsed.
+    TimeConfig by TimeConfigBuilder {
+        /// What happens to digits past the microsecond.
+        microseconds_precision_overflow_behavior: MicrosecondsPrecisionOverflowBehavior
+            as Option<MicrosecondsPrecisionOverflowBehavior>,
+        /// The offset that the value of a timestamp gets, in seconds: `Some(0)` for Unix time. It is attached, and shifts
+        /// nothing. One of a day or more fails with [`OutOfRangeTz`](crate::ParseError::OutOfRangeTz) in a call that takes
+        /// timestamps, and is not looked at by any other.
+        unix_timestamp_offset: Option<i32> as Option<i32>,
+    }
+}

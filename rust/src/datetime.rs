@@ -1,0 +1,208 @@
+use core::cmp::Ordering;
+#[cfg(feature = "std")]
+use std::time::SystemTime;
+
+use crate::ffi::{self, Config};
+use crate::value::{value, Value};
+use crate::{Date, DateTimeConfig, MicrosecondsPrecisionOverflowBehavior, ParseError, Time, TimeConfig, TimestampUnit};
+
+/// A date and a time of day, as a clock at the offset of the time shows them. Its text is that of the [`Date`], then `T`,
+/// `t`, `_` or a space, and that of the [`Time`].
+///
+/// ```
+/// use speedate::{Date, DateTime, Time};
+///
+/// let value = DateTime::parse_str("2020-02-29T12:13:14-08:30").unwrap();
+/// let date = Date { year: 2020, month: 2, day: 29 };
+/// let time = Time { hour: 12, minute: 13, second: 14, microsecond: 0, tz_offset: Some(-30_600) };
+/// assert_eq!(value, DateTime { date, time });
+/// assert_eq!(value.to_string(), "2020-02-29T12:13:14-08:30");
+/// ```
+#[derive(Debug, PartialEq, Eq, Clone, Copy)]
+pub struct DateTime {
+    /// The date.
+    pub date: Date,
+    /// The time of day.
+    pub time: Time,
+}
+
+value! {
+    /// The date-time of a text, or of a timestamp, whole or decimal. Every number is a timestamp, `20200229` too, but for
+    /// one with an exponent, which is refused.
+    ///
+    /// ```
+    /// use speedate::{DateTime, ParseError};
+    ///
+    /// assert_eq!(DateTime::parse_str("2020-02-29 12:13:14.5"), DateTime::parse_str("1582978394.5"));
+    /// assert_eq!(DateTime::parse_str("2020-02-29"), Err(ParseError::InvalidCharDateTimeSep));
+    /// ```
+    DateTime by speedate_datetime_parse under DateTimeConfig, speedate_datetime_to_text
+}
+
+impl Value for DateTime {
+    fn check(&self) -> Result<(), ParseError> {
+        ffi::speedate_datetime_check(self)
+    }
+}
+
+/// The order of instants, as that of [`Time`].
+impl PartialOrd for DateTime {
+    fn partial_cmp(&self, other: &Self) -> Option<Ordering> {
+        ffi::speedate_datetime_compare(self, other).ok().map(|order: i32| order.cmp(&0))
+    }
+}
+
+impl DateTime {
+    /// The date-time of a text. A timestamp is refused.
+    pub fn parse_str_rfc3339(str: &str) -> Result<Self, ParseError> {
+        Self::parse_bytes_rfc3339(str.as_bytes())
+    }
+
+    /// [`parse_str`](Self::parse_str) with a configuration.
+    pub fn parse_str_with_config(str: &str, config: &DateTimeConfig) -> Result<Self, ParseError> {
+        Self::parse_bytes_with_config(str.as_bytes(), config)
+    }
+
+    /// [`parse_str_rfc3339`](Self::parse_str_rfc3339) of bytes.
+    pub fn parse_bytes_rfc3339(bytes: &[u8]) -> Result<Self, ParseError> {
+        Self::parse_bytes_rfc3339_with_config(bytes, &TimeConfig::default())
+    }
+
+    /// [`parse_str_rfc3339`](Self::parse_str_rfc3339) of bytes, with a configuration, of which the behavior matters.
+    pub fn parse_bytes_rfc3339_with_config(bytes: &[u8], config: &TimeConfig) -> Result<Self, ParseError> {
+        Ok(ffi::speedate_datetime_parse_rfc3339(bytes, config)?)
+    }
+
+    /// The date-time of an input that is RFC 3339 alone, without a second 60.
+    pub fn parse_bytes_strict(
+        bytes: &[u8],
+        behavior: MicrosecondsPrecisionOverflowBehavior,
+    ) -> Result<Self, ParseError> {
+        Ok(ffi::speedate_datetime_parse_strict(bytes, Config::default().behavior(behavior))?)
+    }
+
+    /// The date-time at the front of an input, whatever follows it, and its size in bytes. A timestamp is refused, and so is
+    /// a date alone.
+    ///
+    /// ```
+    /// let line = b"2026-11-22T12:13:14Z GET /";
+    /// let (value, size) = speedate::DateTime::parse_front(line, &Default::default()).unwrap();
+    /// assert_eq!((value.to_string().as_str(), size), ("2026-11-22T12:13:14Z", 20));
+    /// ```
+    pub fn parse_front(bytes: &[u8], config: &TimeConfig) -> Result<(Self, usize), ParseError> {
+        Ok(ffi::speedate_datetime_parse_front(bytes, config)?)
+    }
+
+    /// [`from_timestamp`](Self::from_timestamp), in the unit and with the offset of a configuration.
+    pub fn from_timestamp_with_config(
+        timestamp: i64,
+        timestamp_microsecond: u32,
+        config: &DateTimeConfig,
+    ) -> Result<Self, ParseError> {
+        Ok(ffi::speedate_datetime_from_timestamp(timestamp, timestamp_microsecond, config)?)
+    }
+
+    /// The date-time of a timestamp in the unit and with the offset of a configuration. The exact value of the float is
+    /// rounded to the nearest microsecond, a tie to the later one. Not-a-number counts as 0.
+    pub fn from_float_with_config(timestamp: f64, mode: &DateTimeConfig) -> Result<Self, ParseError> {
+        let is_second = match mode.timestamp_unit {
+            TimestampUnit::Second => true,
+            TimestampUnit::Millisecond => false,
+            TimestampUnit::Infer => (-2e10..=2e10).contains(&timestamp),
+        };
+        let microseconds = microseconds(timestamp, if is_second { 1_000_000 } else { 1_000 });
+        let (second, microsecond) = (microseconds.div_euclid(1_000_000), microseconds.rem_euclid(1_000_000));
+        let config = Config::from(mode).unit(TimestampUnit::Second);
+        Ok(ffi::speedate_datetime_from_timestamp(second, microsecond as u32, config)?)
+    }
+
+    /// The date-time so many microseconds after a timestamp, whose unit is inferred: seconds if without its sign it is at
+    /// most 20,000,000,000, otherwise milliseconds.
+    ///
+    /// ```
+    /// let value = speedate::DateTime::from_timestamp(1_582_978_394, 123).unwrap();
+    /// assert_eq!(value.to_string(), "2020-02-29T12:13:14.000123");
+    /// ```
+    pub fn from_timestamp(timestamp: i64, timestamp_microsecond: u32) -> Result<Self, ParseError> {
+        Self::from_timestamp_with_config(timestamp, timestamp_microsecond, &DateTimeConfig::default())
+    }
+
+    /// What a clock at an offset from UTC, in seconds, now shows, by [`SystemTime`].
+    ///
+    /// ```
+    /// let [utc, paris] = [0, 3_600].map(|offset| speedate::DateTime::now(offset).unwrap());
+    /// assert!(utc <= paris && paris.time.tz_offset == Some(3_600));
+    /// ```
+    #[cfg(feature = "std")]
+    pub fn now(tz_offset: i32) -> Result<Self, ParseError> {
+        let since = SystemTime::UNIX_EPOCH.elapsed().map_err(|_| ParseError::SystemTimeError)?;
+        let second = i64::try_from(since.as_secs()).map_err(|_| ParseError::DateTooLarge)?;
+        let config = Config::default().unit(TimestampUnit::Second).offset(Some(0));
+        let now: Self = ffi::speedate_datetime_from_timestamp(second, since.subsec_micros(), config)?;
+        now.in_timezone(tz_offset)
+    }
+
+    /// The same clock with another offset, in seconds: mostly another instant. A date-time out of range is refused.
+    pub fn with_timezone_offset(&self, tz_offset: Option<i32>) -> Result<Self, ParseError> {
+        let value = Self { time: Time { tz_offset, ..self.time }, ..*self };
+        value.check().map(|()| value)
+    }
+
+    /// The same instant, as a clock at another offset, in seconds, shows it. A date-time without an offset is refused, and
+    /// so is one out of range.
+    ///
+    /// ```
+    /// let value = speedate::DateTime::parse_str("2020-02-29T23:00Z").unwrap();
+    /// assert_eq!(value.in_timezone(7_200).unwrap().to_string(), "2020-03-01T01:00:00+02:00");
+    /// assert_eq!(value.with_timezone_offset(Some(7_200)).unwrap().to_string(), "2020-02-29T23:00:00+02:00");
+    /// ```
+    pub fn in_timezone(&self, tz_offset: i32) -> Result<Self, ParseError> {
+        self.checked(ffi::speedate_datetime_in_timezone(self, tz_offset))
+    }
+
+    /// The seconds since 1970-01-01T00:00:00, as if the clock were in UTC. It panics if the date-time is out of range.
+    pub fn timestamp(&self) -> i64 {
+        self.total(ffi::speedate_datetime_timestamp(self))
+    }
+
+    /// [`timestamp`](Self::timestamp) in milliseconds, rounded down.
+    pub fn timestamp_ms(&self) -> i64 {
+        self.total(ffi::speedate_datetime_timestamp_ms(self))
+    }
+
+    /// Unix time: the seconds since 1970-01-01T00:00:00 in UTC, where a date-time without an offset is taken to be. It
+    /// panics if the date-time is out of range.
+    ///
+    /// ```
+    /// assert_eq!(speedate::DateTime::parse_str("1970-01-02T00:00+01:00").unwrap().timestamp_tz(), 82_800);
+    /// ```
+    pub fn timestamp_tz(&self) -> i64 {
+        self.total(ffi::speedate_datetime_timestamp_tz(self))
+    }
+
+    /// [`timestamp_tz`](Self::timestamp_tz) in milliseconds, rounded down.
+    pub fn timestamp_tz_ms(&self) -> i64 {
+        self.total(ffi::speedate_datetime_timestamp_tz_ms(self))
+    }
+}
+
+impl From<&DateTimeConfig> for Config {
+    fn from(config: &DateTimeConfig) -> Self {
+        Self::from(&config.time_config).unit(config.timestamp_unit).offset(config.time_config.unix_timestamp_offset)
+    }
+}
+
+/// The microseconds nearest to a timestamp whose unit has so many; of two that are as near, the later.
+fn microseconds(timestamp: f64, unit: i64) -> i64 {
+    /// More microseconds than any date-time has, in either direction.
+    const END: f64 = 1e18;
+    /// A fraction times 2^106 is whole, unless the fraction is less than 2^-53, which is rounded to nothing.
+    const PLACES: u32 = 106;
+
+    let end = END / unit as f64;
+    let timestamp = timestamp.clamp(-end, end);
+    let whole = timestamp as i64;
+    let fraction = ((timestamp - whole as f64) * (1_u128 << PLACES) as f64) as i128 * i128::from(unit);
+    let nearest = (fraction + (1 << (PLACES - 1))) >> PLACES;
+    whole * unit + nearest as i64
+}

@@ -1,0 +1,117 @@
+use core::cmp::Ordering;
+
+use crate::ffi;
+use crate::value::{value, Value};
+use crate::{DateTime, ParseError, TimeConfig};
+
+/// A length of time, with a sign, which zero has too.
+///
+/// Its text is that of ISO 8601, `P1Y2M3W4DT5H6M7.5S`, a clock, `05:06:07.5`, or days and a clock, `4 days, 05:06`, each
+/// with a sign or without one. A year is 365 days, and a month 30.
+///
+/// ```
+/// use speedate::Duration;
+///
+/// let duration = Duration::parse_str("P1DT90M").unwrap();
+/// assert_eq!(duration, Duration { positive: true, day: 1, second: 5_400, microsecond: 0 });
+/// assert_eq!(duration.to_string(), "P1DT1H30M");
+/// ```
+#[derive(Debug, PartialEq, Eq, Clone)]
+pub struct Duration {
+    /// Whether it is not negative.
+    pub positive: bool,
+    /// 0 to 999,999,999, each of 86,400 seconds.
+    pub day: u32,
+    /// 0 to 86,399.
+    pub second: u32,
+    /// 0 to 999,999.
+    pub microsecond: u32,
+}
+
+value! {
+    /// The duration of a text.
+    ///
+    /// ```
+    /// use speedate::{Duration, ParseError};
+    ///
+    /// assert_eq!(Duration::parse_str("2 days, 10:20"), Duration::parse_str("P2DT10H20M"));
+    /// assert_eq!(Duration::parse_str("P1"), Err(ParseError::DurationInvalidDateUnit));
+    /// ```
+    Duration by speedate_duration_parse under TimeConfig, speedate_duration_to_text
+}
+
+impl Value for Duration {
+    fn check(&self) -> Result<(), ParseError> {
+        ffi::speedate_duration_check(self)
+    }
+
+    /// Second and microsecond have one error.
+    fn field(&self, error: &ParseError) -> &'static str {
+        match error {
+            ParseError::DurationDaysTooLarge => "day",
+            _ if Self { microsecond: 0, ..self.clone() }.check().is_err() => "second",
+            _ => "microsecond",
+        }
+    }
+}
+
+/// The order of lengths with their signs; negative zero is less than zero. A duration out of range has no order.
+impl PartialOrd for Duration {
+    fn partial_cmp(&self, other: &Self) -> Option<Ordering> {
+        ffi::speedate_duration_compare(self, other).ok().map(|order: i32| order.cmp(&0))
+    }
+}
+
+impl Duration {
+    /// The duration of days, seconds and microseconds of any size, up to 999,999,999 days in all.
+    ///
+    /// ```
+    /// use speedate::Duration;
+    ///
+    /// let duration = Duration { positive: false, day: 2, second: 101, microsecond: 123 };
+    /// assert_eq!(Duration::new(false, 1, 86_500, 1_000_123), Ok(duration));
+    /// ```
+    pub fn new(positive: bool, day: u32, second: u32, microsecond: u32) -> Result<Self, ParseError> {
+        Ok(ffi::speedate_duration_normalize(&Self { positive, day, second, microsecond })?)
+    }
+
+    /// The duration from one date-time to another, by their instants, which is negative if the other is the earlier one. A
+    /// date-time without an offset is taken to be in UTC. It panics if one is out of range.
+    ///
+    /// ```
+    /// use speedate::{DateTime, Duration};
+    ///
+    /// let start = DateTime::parse_str("2020-02-29T23:00Z").unwrap();
+    /// let end = Duration::parse_str("PT90M").unwrap().after(&start).unwrap();
+    /// assert_eq!(end.to_string(), "2020-03-01T00:30:00Z");
+    /// assert_eq!(Duration::between(&start, &end).to_string(), "PT1H30M");
+    /// ```
+    pub fn between(earlier: &DateTime, later: &DateTime) -> Self {
+        (earlier, later).total(ffi::speedate_duration_between(earlier, later))
+    }
+
+    /// The date-time that is this duration after another, at its offset. What is out of range is refused.
+    pub fn after(&self, start: &DateTime) -> Result<DateTime, ParseError> {
+        (self, start).checked(ffi::speedate_duration_after(self, start))
+    }
+
+    /// The date-time that is this duration before another, at its offset. What is out of range is refused.
+    pub fn before(&self, start: &DateTime) -> Result<DateTime, ParseError> {
+        (self, start).checked(ffi::speedate_duration_before(self, start))
+    }
+
+    /// The whole seconds, cut toward zero, with the sign. It panics if the duration is out of range.
+    pub fn signed_total_seconds(&self) -> i64 {
+        self.total(ffi::speedate_duration_signed_total_seconds(self))
+    }
+
+    /// The whole milliseconds, cut toward zero, with the sign. It panics if the duration is out of range.
+    pub fn signed_total_ms(&self) -> i64 {
+        self.total(ffi::speedate_duration_signed_total_ms(self))
+    }
+
+    /// The microseconds that the whole seconds leave, with the sign. It panics if the duration is out of range.
+    pub fn signed_microseconds(&self) -> i32 {
+        self.total(ffi::speedate_duration_signed_microseconds(self))
+    }
+}

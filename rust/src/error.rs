@@ -1,0 +1,142 @@
+use core::error::Error;
+use core::fmt;
+
+/// Defines [`ParseError`]: of each variant the number in C, the name and the documentation text, each once.
+macro_rules! parse_errors {
+    ($($variant:ident = $number:literal, $name:literal, $text:literal;)*) => {
+        /// Why an input, or a value, is refused.
+        ///
+        /// ```
+        /// let error = speedate::Date::parse_str("2021-02-29").unwrap_err();
+        /// assert_eq!(error, speedate::ParseError::OutOfRangeDay);
+        /// assert_eq!(error.to_string(), "out_of_range_day");
+        /// assert_eq!(error.get_documentation(), Some("day value is outside expected range"));
+        /// ```
+        #[derive(Debug, PartialEq, Eq, Clone)]
+        pub enum ParseError {
+            $(#[doc = $text] $variant,)*
+        }
+
+        impl ParseError {
+            /// The sentence that explains the error. Every error has one.
+            pub fn get_documentation(&self) -> Option<&'static str> {
+                Some(match self {
+                    $(Self::$variant => $text,)*
+                })
+            }
+
+            fn name(&self) -> &'static str {
+                match self {
+                    $(Self::$variant => $name,)*
+                }
+            }
+
+            /// The error that has this number in `c/speedate.h`.
+            pub(crate) fn numbered(number: i32) -> Option<Self> {
+                match number {
+                    $($number => Some(Self::$variant),)*
+                    _ => None,
+                }
+            }
+        }
+    };
+}
+
+parse_errors! {
+    TooShort = 1, "too_short", "input is too short";
+    ExtraCharacters = 2, "extra_characters", "unexpected extra characters at the end of the input";
+    InvalidCharDateTimeSep = 3, "invalid_char_date_time_sep",
+        "invalid datetime separator, expected `T`, `t`, `_` or space";
+    InvalidCharDateSep = 4, "invalid_char_date_sep", "invalid date separator, expected `-`";
+    DateNotExact = 5, "date_not_exact", "Timestamp is not an exact date";
+    InvalidCharYear = 6, "invalid_char_year", "invalid character in year";
+    InvalidCharMonth = 7, "invalid_char_month", "invalid character in month";
+    InvalidCharDay = 8, "invalid_char_day", "invalid character in day";
+    InvalidCharTimeSep = 9, "invalid_char_time_sep", "invalid time separator, expected `:`";
+    InvalidCharHour = 10, "invalid_char_hour", "invalid character in hour";
+    InvalidCharMinute = 11, "invalid_char_minute", "invalid character in minute";
+    InvalidCharSecond = 12, "invalid_char_second", "invalid character in second";
+    InvalidCharSecondFraction = 13, "invalid_char_second_fraction", "invalid character in second fraction";
+    InvalidCharTzSign = 14, "invalid_char_tz_sign", "invalid timezone sign";
+    InvalidCharTzHour = 15, "invalid_char_tz_hour", "invalid timezone hour";
+    InvalidCharTzMinute = 16, "invalid_char_tz_minute", "invalid timezone minute";
+    OutOfRangeTzMinute = 17, "out_of_range_tz_minute", "timezone minute value is outside expected range of 0-59";
+    OutOfRangeTz = 18, "out_of_range_tz", "timezone offset must be less than 24 hours";
+    TzRequired = 19, "tz_required", "timezone is required to adjust to a new timezone";
+    SystemTimeError = 20, "system_time_error", "Error getting system time";
+    OutOfRangeMonth = 21, "out_of_range_month", "month value is outside expected range of 1-12";
+    OutOfRangeDay = 22, "out_of_range_day", "day value is outside expected range";
+    OutOfRangeHour = 23, "out_of_range_hour", "hour value is outside expected range of 0-23";
+    OutOfRangeMinute = 24, "out_of_range_minute", "minute value is outside expected range of 0-59";
+    OutOfRangeSecond = 25, "out_of_range_second", "second value is outside expected range of 0-59";
+    SecondFractionTooLong = 26, "second_fraction_too_long", "second fraction value is more than 6 digits long";
+    SecondFractionMissing = 27, "second_fraction_missing", "second fraction digits missing after `.`";
+    MillisecondFractionTooLong = 28, "millisecond_fraction_too_long",
+        "millisecond fraction value is more than 3 digits long";
+    DurationInvalidNumber = 29, "duration_invalid_number", "invalid digit in duration";
+    DurationTRepeated = 30, "duration_t_repeated", "`t` character repeated in duration";
+    DurationInvalidFraction = 31, "duration_invalid_fraction", "quantity fraction invalid in duration";
+    DurationInvalidTimeUnit = 32, "duration_invalid_time_unit", "quantity invalid in time part of duration";
+    DurationInvalidDateUnit = 33, "duration_invalid_date_unit", "quantity invalid in date part of duration";
+    DurationInvalidDays = 34, "duration_invalid_days", "\"day\" identifier in duration not correctly formatted";
+    DurationValueTooLarge = 35, "duration_value_too_large", "a numeric value in the duration is too large";
+    DurationHourValueTooLarge = 36, "duration_hour_value_too_large", "durations may not exceed 999,999,999 hours";
+    DurationDaysTooLarge = 37, "duration_days_too_large", "durations may not exceed 999,999,999 days";
+    DateTooSmall = 38, "date_too_small", "dates before 0000 are not supported as unix timestamps";
+    DateTooLarge = 39, "date_too_large", "dates after 9999 are not supported as unix timestamps";
+    TimeTooLarge = 40, "time_too_large", "numeric times may not exceed 86,399 seconds";
+}
+
+/// Writes the name of the error: `too_short`.
+impl fmt::Display for ParseError {
+    fn fmt(&self, f: &mut fmt::Formatter<'_>) -> fmt::Result {
+        f.pad(self.name())
+    }
+}
+
+impl Error for ParseError {}
+
+/// Why the name of a choice is refused.
+#[derive(Debug, PartialEq, Eq, Clone)]
+pub enum ConfigError {
+    /// A behavior is `error` or `truncate`.
+    UnknownMicrosecondsPrecisionOverflowBehaviorString,
+    /// A unit is `s`, `ms` or `infer`.
+    UnknownTimestampUnitString,
+}
+
+impl ConfigError {
+    /// None: these errors have no sentences.
+    pub fn get_documentation(&self) -> Option<&'static str> {
+        None
+    }
+}
+
+/// Writes the name of the error: `unknown_timestamp_unit_string`.
+impl fmt::Display for ConfigError {
+    fn fmt(&self, f: &mut fmt::Formatter<'_>) -> fmt::Result {
+        f.pad(match self {
+            Self::UnknownMicrosecondsPrecisionOverflowBehaviorString => {
+                "unknown_microseconds_precision_overflow_behavior_string"
+            }
+            Self::UnknownTimestampUnitString => "unknown_timestamp_unit_string",
+        })
+    }
+}
+
+impl Error for ConfigError {}
+
+#[cfg(test)]
+mod tests {
+    use super::*;
+    use crate::ffi::Buffer;
+
+    #[test]
+    fn names_and_texts_are_those_of_c() {
+        for number in 1..=40 {
+            let error = ParseError::numbered(number).unwrap();
+            assert_eq!(Buffer::new().speedate_code_name(number), Ok(error.name()));
+            assert_eq!(Buffer::new().speedate_code_documentation(number).ok(), error.get_documentation());
+        }
+    }
+}

@@ -1,0 +1,318 @@
+//! The functions of `c/speedate.h`, each declared beside the safe function that calls it. This is the one file with
+//! unsafe code.
+
+use core::ffi::c_int;
+use core::mem::{offset_of, size_of, MaybeUninit};
+use core::ptr::read_volatile;
+use core::slice::from_raw_parts;
+use core::str::from_utf8_unchecked;
+
+use crate::{Date, DateTime, Duration, MicrosecondsPrecisionOverflowBehavior, ParseError, Time, TimestampUnit};
+
+/// Why a call fails.
+#[derive(Clone, Copy, Debug, PartialEq, Eq)]
+pub(crate) struct Code(c_int);
+
+impl Code {
+    pub(crate) const VALUE_OUT_OF_RANGE: Self = Self(101);
+    const CONFIG_OUT_OF_RANGE: Self = Self(102);
+}
+
+impl From<Code> for ParseError {
+    fn from(code: Code) -> Self {
+        match code {
+            // Of a configuration only the offset can be out of range.
+            Code::CONFIG_OUT_OF_RANGE => Self::OutOfRangeTz,
+            Code(number) => Self::numbered(number).unwrap_or_else(|| unreachable!("no call here fails with {number}")),
+        }
+    }
+}
+
+/// What C writes.
+trait Written {
+    /// The value, of which each number is loaded on its own. C has written a struct by small stores, and a wide load, into
+    /// which the compiler would join these, waits until all of them have left the processor's store buffer.
+    fn load(&self) -> Self;
+}
+
+macro_rules! numbers {
+    ($($kind:ty)*) => {$(
+        impl Written for $kind {
+            #[inline(always)]
+            fn load(&self) -> Self {
+                // SAFETY: a reference is aligned, and what it refers to is initialized.
+                unsafe { read_volatile(self) }
+            }
+        }
+    )*};
+}
+
+numbers!(u8 u16 u32 i32 i64 usize);
+
+/// Defines structs of the header, and asserts that their sizes and offsets are those that the C compiler gives them.
+macro_rules! structs {
+    ($(struct $name:ident is $size:literal { $($field:ident: $kind:ty = $offset:literal),* })*) => {$(
+        #[repr(C)]
+        #[derive(Clone, Copy, Default)]
+        pub(crate) struct $name {
+            $($field: $kind),*
+        }
+
+        const _: () = assert!(size_of::<$name>() == $size $(&& offset_of!($name, $field) == $offset)*);
+
+        impl Written for $name {
+            #[inline(always)]
+            fn load(&self) -> Self {
+                Self { $($field: self.$field.load()),* }
+            }
+        }
+    )*};
+}
+
+structs! {
+    struct CDate is 4 { year: u16 = 0, month: u8 = 2, day: u8 = 3 }
+    struct CTime is 12 {
+        hour: u8 = 0, minute: u8 = 1, second: u8 = 2, has_offset: u8 = 3, microsecond: u32 = 4, offset: i32 = 8
+    }
+    struct CDateTime is 16 { date: CDate = 0, time: CTime = 4 }
+    struct CDuration is 16 { negative: u32 = 0, day: u32 = 4, second: u32 = 8, microsecond: u32 = 12 }
+    struct Config is 8 {
+        timestamp_offset: i32 = 0, has_timestamp_offset: u8 = 4, timestamp_unit: u8 = 5, overflow_behavior: u8 = 6,
+        iso_order: u8 = 7
+    }
+}
+
+/// The default has 0 in each field.
+impl Config {
+    pub(crate) fn unit(self, unit: TimestampUnit) -> Self {
+        let timestamp_unit = match unit {
+            TimestampUnit::Infer => 0,
+            TimestampUnit::Second => 1,
+            TimestampUnit::Millisecond => 2,
+        };
+        Self { timestamp_unit, ..self }
+    }
+
+    pub(crate) fn behavior(self, behavior: MicrosecondsPrecisionOverflowBehavior) -> Self {
+        let overflow_behavior = match behavior {
+            MicrosecondsPrecisionOverflowBehavior::Error => 0,
+            MicrosecondsPrecisionOverflowBehavior::Truncate => 1,
+        };
+        Self { overflow_behavior, ..self }
+    }
+
+    pub(crate) fn offset(self, offset: Option<i32>) -> Self {
+        let (has_timestamp_offset, timestamp_offset) = flagged(offset);
+        Self { has_timestamp_offset, timestamp_offset, ..self }
+    }
+}
+
+/// Whether there is an offset, and the offset.
+fn flagged(offset: Option<i32>) -> (u8, i32) {
+    (offset.is_some().into(), offset.unwrap_or_default())
+}
+
+impl From<&Date> for CDate {
+    fn from(&Date { year, month, day }: &Date) -> Self {
+        Self { year, month, day }
+    }
+}
+
+impl From<&Time> for CTime {
+    fn from(&Time { hour, minute, second, microsecond, tz_offset }: &Time) -> Self {
+        let (has_offset, offset) = flagged(tz_offset);
+        Self { hour, minute, second, has_offset, microsecond, offset }
+    }
+}
+
+impl From<&DateTime> for CDateTime {
+    fn from(DateTime { date, time }: &DateTime) -> Self {
+        Self { date: date.into(), time: time.into() }
+    }
+}
+
+impl From<&Duration> for CDuration {
+    fn from(&Duration { positive, day, second, microsecond }: &Duration) -> Self {
+        Self { negative: (!positive).into(), day, second, microsecond }
+    }
+}
+
+impl From<CDate> for Date {
+    fn from(CDate { year, month, day }: CDate) -> Self {
+        Self { year, month, day }
+    }
+}
+
+impl From<CTime> for Time {
+    fn from(CTime { hour, minute, second, has_offset, microsecond, offset }: CTime) -> Self {
+        Self { hour, minute, second, microsecond, tz_offset: (has_offset == 1).then_some(offset) }
+    }
+}
+
+impl From<CDateTime> for DateTime {
+    fn from(CDateTime { date, time }: CDateTime) -> Self {
+        Self { date: date.into(), time: time.into() }
+    }
+}
+
+impl From<CDuration> for Duration {
+    fn from(CDuration { negative, day, second, microsecond }: CDuration) -> Self {
+        Self { positive: negative == 0, day, second, microsecond }
+    }
+}
+
+/// What a call writes, if it returns 0.
+#[inline(always)]
+fn written<C: Written, T: From<C>>(call: impl FnOnce(*mut C) -> c_int) -> Result<T, Code> {
+    let mut out = MaybeUninit::<C>::uninit();
+    match call(out.as_mut_ptr()) {
+        // SAFETY: a call that returns 0 has written all of its output.
+        0 => Ok(unsafe { out.assume_init_ref() }.load().into()),
+        code => Err(Code(code)),
+    }
+}
+
+/// Functions that write a value, of a text or of other values.
+macro_rules! calls {
+    ($(fn $name:ident($([$text:ident])? $($argument:ident: $kind:ty),*) -> $answer:ty;)*) => {$(
+        #[inline]
+        pub(crate) fn $name<T: From<$answer>>(
+            $($text: &[u8],)? $($argument: impl Into<$kind>),*
+        ) -> Result<T, Code> {
+            unsafe extern "C" {
+                fn $name($($text: *const u8, size: usize,)? $($argument: $kind,)* out: *mut $answer) -> c_int;
+            }
+            // SAFETY: the types are the header's; address and size are those of the text, and `out` is a variable's.
+            written(|out| unsafe { $name($($text.as_ptr(), $text.len(),)? $($argument.into(),)* out) })
+        }
+    )*};
+}
+
+/// Functions that write the value at the front of a text, and its size.
+macro_rules! fronts {
+    ($(fn $name:ident([$text:ident] $($config:ident)?) -> $answer:ty;)*) => {$(
+        #[inline]
+        pub(crate) fn $name<T: From<$answer>>(
+            $text: &[u8] $(, $config: impl Into<Config>)?
+        ) -> Result<(T, usize), Code> {
+            unsafe extern "C" {
+                fn $name(
+                    $text: *const u8, size: usize, $($config: Config,)? out: *mut $answer, taken: *mut usize,
+                ) -> c_int;
+            }
+            let mut taken = 0;
+            // SAFETY: as for the calls above; `taken` is a variable's address too.
+            let value = written(|out| unsafe { $name($text.as_ptr(), $text.len(), $($config.into(),)? out, &mut taken) })?;
+            Ok((value, taken))
+        }
+    )*};
+}
+
+/// Functions that say whether a value is in range.
+macro_rules! checks {
+    ($(fn $name:ident($value:ident: $kind:ty);)*) => {$(
+        #[inline]
+        pub(crate) fn $name($value: impl Into<$kind>) -> Result<(), ParseError> {
+            unsafe extern "C" {
+                fn $name($value: $kind) -> c_int;
+            }
+            // SAFETY: the type is the header's.
+            match unsafe { $name($value.into()) } {
+                0 => Ok(()),
+                code => Err(Code(code).into()),
+            }
+        }
+    )*};
+}
+
+/// Room for each text that is printed.
+pub(crate) struct Buffer([MaybeUninit<u8>; 64]);
+
+impl Buffer {
+    pub(crate) fn new() -> Self {
+        Self([MaybeUninit::uninit(); 64])
+    }
+}
+
+/// Functions that print a value.
+macro_rules! printers {
+    ($(fn $name:ident($value:ident: $kind:ty);)*) => {
+        impl Buffer {$(
+            #[inline]
+            pub(crate) fn $name(&mut self, $value: impl Into<$kind>) -> Result<&str, Code> {
+                unsafe extern "C" {
+                    fn $name($value: $kind, buffer: *mut u8, size: usize, length: *mut usize) -> c_int;
+                }
+                let text: *mut u8 = self.0.as_mut_ptr().cast();
+                // SAFETY: the types are the header's; address and size are the buffer's, and `length` is a variable's.
+                let length: usize = written(|length| unsafe { $name($value.into(), text, self.0.len(), length) })?;
+                // SAFETY: the call has written so many bytes into the buffer, and all are ASCII.
+                Ok(unsafe { from_utf8_unchecked(from_raw_parts(text, length)) })
+            }
+        )*}
+    };
+}
+
+calls! {
+    fn speedate_date_parse([text] config: Config) -> CDate;
+    fn speedate_date_parse_rfc3339([text]) -> CDate;
+    fn speedate_date_from_timestamp(timestamp: i64, require_exact: u8, config: Config) -> CDate;
+    fn speedate_date_timestamp(date: CDate) -> i64;
+    fn speedate_date_timestamp_ms(date: CDate) -> i64;
+    fn speedate_date_ordinal_day(date: CDate) -> u16;
+    fn speedate_date_add_days(date: CDate, days: i32) -> CDate;
+    fn speedate_date_days_since(date: CDate, earlier: CDate) -> i32;
+    fn speedate_time_parse([text] config: Config) -> CTime;
+    fn speedate_time_parse_strict([text] config: Config) -> CTime;
+    fn speedate_time_compare(first: CTime, second: CTime) -> i32;
+    fn speedate_time_from_timestamp(second: u32, microsecond: u32, config: Config) -> CTime;
+    fn speedate_time_total_seconds(time: CTime) -> u32;
+    fn speedate_time_total_ms(time: CTime) -> u32;
+    fn speedate_time_in_timezone(time: CTime, offset: i32) -> CTime;
+    fn speedate_datetime_parse([text] config: Config) -> CDateTime;
+    fn speedate_datetime_parse_rfc3339([text] config: Config) -> CDateTime;
+    fn speedate_datetime_parse_strict([text] config: Config) -> CDateTime;
+    fn speedate_datetime_compare(first: CDateTime, second: CDateTime) -> i32;
+    fn speedate_datetime_from_timestamp(timestamp: i64, microsecond: u32, config: Config) -> CDateTime;
+    fn speedate_datetime_timestamp(value: CDateTime) -> i64;
+    fn speedate_datetime_timestamp_ms(value: CDateTime) -> i64;
+    fn speedate_datetime_timestamp_tz(value: CDateTime) -> i64;
+    fn speedate_datetime_timestamp_tz_ms(value: CDateTime) -> i64;
+    fn speedate_datetime_in_timezone(value: CDateTime, offset: i32) -> CDateTime;
+    fn speedate_duration_parse([text] config: Config) -> CDuration;
+    fn speedate_duration_normalize(numbers: CDuration) -> CDuration;
+    fn speedate_duration_compare(first: CDuration, second: CDuration) -> i32;
+    fn speedate_duration_signed_total_seconds(duration: CDuration) -> i64;
+    fn speedate_duration_signed_total_ms(duration: CDuration) -> i64;
+    fn speedate_duration_signed_microseconds(duration: CDuration) -> i32;
+    fn speedate_duration_between(earlier: CDateTime, later: CDateTime) -> CDuration;
+    fn speedate_duration_after(duration: CDuration, start: CDateTime) -> CDateTime;
+    fn speedate_duration_before(duration: CDuration, start: CDateTime) -> CDateTime;
+    fn speedate_int_parse([text]) -> i64;
+}
+
+fronts! {
+    fn speedate_date_parse_front([text]) -> CDate;
+    fn speedate_time_parse_front([text] config) -> CTime;
+    fn speedate_datetime_parse_front([text] config) -> CDateTime;
+}
+
+checks! {
+    fn speedate_date_check(date: CDate);
+    fn speedate_time_check(time: CTime);
+    fn speedate_datetime_check(value: CDateTime);
+    fn speedate_duration_check(duration: CDuration);
+}
+
+printers! {
+    fn speedate_date_to_text(date: CDate);
+    fn speedate_time_to_text(time: CTime);
+    fn speedate_datetime_to_text(value: CDateTime);
+    fn speedate_duration_to_text(duration: CDuration);
+}
+
+#[cfg(test)]
+printers! {
+    fn speedate_code_name(code: c_int);
+    fn speedate_code_documentation(code: c_int);
+}

@@ -1,0 +1,167 @@
+use core::cmp::Ordering;
+use core::str::FromStr;
+
+use crate::ffi::{self, Config};
+use crate::value::{value, Value};
+use crate::{ConfigError, ParseError, TimeConfig};
+
+/// A time of day, with an offset from UTC or without one.
+///
+/// Its text is `HH:MM`, `HH:MM:SS` or `HH:MM:SS.F`, where `F` is one to six digits, and then `Z`, `+HH:MM`, `-HH:MM` or
+/// nothing.
+///
+/// ```
+/// use speedate::Time;
+///
+/// let time = Time::parse_str("12:13:14.5+01:30").unwrap();
+/// assert_eq!(time, Time { hour: 12, minute: 13, second: 14, microsecond: 500_000, tz_offset: Some(5_400) });
+/// assert_eq!(time.to_string(), "12:13:14.500000+01:30");
+/// ```
+#[derive(Debug, PartialEq, Eq, Clone, Copy)]
+pub struct Time {
+    /// 0 to 23.
+    pub hour: u8,
+    /// 0 to 59.
+    pub minute: u8,
+    /// 0 to 59.
+    pub second: u8,
+    /// 0 to 999,999.
+    pub microsecond: u32,
+    /// In seconds, positive east of UTC: -86,399 to 86,399.
+    pub tz_offset: Option<i32>,
+}
+
+value! {
+    /// The time of a text.
+    ///
+    /// ```
+    /// use speedate::{ParseError, Time};
+    ///
+    /// assert!(Time::parse_str("15:00Z").unwrap() > Time::parse_str("15:00+01:00").unwrap());
+    /// assert_eq!(Time::parse_str("24:00"), Err(ParseError::OutOfRangeHour));
+    /// ```
+    Time by speedate_time_parse under TimeConfig, speedate_time_to_text
+}
+
+impl Value for Time {
+    fn check(&self) -> Result<(), ParseError> {
+        ffi::speedate_time_check(self)
+    }
+}
+
+/// The order of instants: in UTC if both times have an offset, otherwise as clocks show them. So times at different offsets
+/// can be neither `<`, `>` nor `==`, and only those sort well that all have an offset, or all have none. A time out of
+/// range has no order.
+impl PartialOrd for Time {
+    fn partial_cmp(&self, other: &Self) -> Option<Ordering> {
+        ffi::speedate_time_compare(self, other).ok().map(|order: i32| order.cmp(&0))
+    }
+}
+
+impl Time {
+    /// The time of an input that is RFC 3339 alone, without a second 60.
+    ///
+    /// ```
+    /// use speedate::{MicrosecondsPrecisionOverflowBehavior::Error, ParseError, Time};
+    ///
+    /// assert_eq!(Time::parse_bytes_strict(b"12:13:14", Error), Err(ParseError::TzRequired));
+    /// ```
+    pub fn parse_bytes_strict(
+        bytes: &[u8],
+        behavior: MicrosecondsPrecisionOverflowBehavior,
+    ) -> Result<Self, ParseError> {
+        Ok(ffi::speedate_time_parse_strict(bytes, Config::default().behavior(behavior))?)
+    }
+
+    /// The time at the front of an input, whatever follows it, and its size in bytes.
+    ///
+    /// ```
+    /// let (time, size) = speedate::Time::parse_front(b"12:13, noon", &Default::default()).unwrap();
+    /// assert_eq!((time.minute, size), (13, 5));
+    /// ```
+    pub fn parse_front(bytes: &[u8], config: &TimeConfig) -> Result<(Self, usize), ParseError> {
+        Ok(ffi::speedate_time_parse_front(bytes, config)?)
+    }
+
+    /// The time so many seconds and microseconds after midnight, on the same day.
+    ///
+    /// ```
+    /// assert_eq!(speedate::Time::from_timestamp(3_740, 123).unwrap().to_string(), "01:02:20.000123");
+    /// ```
+    pub fn from_timestamp(timestamp_second: u32, timestamp_microsecond: u32) -> Result<Self, ParseError> {
+        Self::from_timestamp_with_config(timestamp_second, timestamp_microsecond, &TimeConfig::default())
+    }
+
+    /// [`from_timestamp`](Self::from_timestamp), with the offset of a configuration.
+    pub fn from_timestamp_with_config(
+        timestamp_second: u32,
+        timestamp_microsecond: u32,
+        config: &TimeConfig,
+    ) -> Result<Self, ParseError> {
+        let config = Config::default().offset(config.unix_timestamp_offset);
+        Ok(ffi::speedate_time_from_timestamp(timestamp_second, timestamp_microsecond, config)?)
+    }
+
+    /// The seconds since midnight, whatever the offset. It panics if the time is out of range.
+    pub fn total_seconds(&self) -> u32 {
+        self.total(ffi::speedate_time_total_seconds(self))
+    }
+
+    /// The milliseconds since midnight, rounded down, whatever the offset. It panics if the time is out of range.
+    pub fn total_ms(&self) -> u32 {
+        self.total(ffi::speedate_time_total_ms(self))
+    }
+
+    /// The same clock with another offset, in seconds: mostly another instant. A time out of range is refused.
+    pub fn with_timezone_offset(&self, tz_offset: Option<i32>) -> Result<Self, ParseError> {
+        let time = Self { tz_offset, ..*self };
+        time.check().map(|()| time)
+    }
+
+    /// The same instant, as a clock at another offset, in seconds, shows it on the same day. A time without an offset is
+    /// refused, and so is one out of range.
+    ///
+    /// ```
+    /// let time = speedate::Time::parse_str("15:00Z").unwrap();
+    /// assert_eq!(time.in_timezone(7_200).unwrap().to_string(), "17:00:00+02:00");
+    /// assert_eq!(time.with_timezone_offset(Some(7_200)).unwrap().to_string(), "15:00:00+02:00");
+    /// ```
+    pub fn in_timezone(&self, tz_offset: i32) -> Result<Self, ParseError> {
+        self.checked(ffi::speedate_time_in_timezone(self, tz_offset))
+    }
+}
+
+impl From<&TimeConfig> for Config {
+    fn from(config: &TimeConfig) -> Self {
+        Self::default().behavior(config.microseconds_precision_overflow_behavior)
+    }
+}
+
+/// What happens to digits past the microsecond. ISO 8601 durations are rounded to the nearest microsecond under both.
+///
+/// ```
+/// use speedate::MicrosecondsPrecisionOverflowBehavior::{Error, Truncate};
+///
+/// assert_eq!(["error", "Truncate"].map(str::parse), [Ok(Error), Ok(Truncate)]);
+/// ```
+#[derive(Debug, Clone, Default, Copy, PartialEq)]
+pub enum MicrosecondsPrecisionOverflowBehavior {
+    /// They are dropped, and a timestamp is rounded to the nearest microsecond.
+    Truncate,
+    /// The input is refused.
+    #[default]
+    Error,
+}
+
+/// The behavior of a name, in letters of any case: `truncate` or `error`.
+impl FromStr for MicrosecondsPrecisionOverflowBehavior {
+    type Err = ConfigError;
+
+    fn from_str(value: &str) -> Result<Self, ConfigError> {
+        match value {
+            _ if value.eq_ignore_ascii_case("truncate") => Ok(Self::Truncate),
+            _ if value.eq_ignore_ascii_case("error") => Ok(Self::Error),
+            _ => Err(ConfigError::UnknownMicrosecondsPrecisionOverflowBehaviorString),
+        }
+    }
+}

@@ -1,0 +1,100 @@
+//! Values whose fields are out of range, and configured offsets of a day or more.
+
+use std::panic::catch_unwind;
+
+use speedate::{Date, DateTime, DateTimeConfig, Duration, ParseError, Time, TimeConfig};
+
+const DATE: Date = Date { year: 2020, month: 2, day: 29 };
+const TIME: Time = Time { hour: 12, minute: 13, second: 14, microsecond: 0, tz_offset: Some(0) };
+const DURATION: Duration = Duration { positive: true, day: 1, second: 2, microsecond: 3 };
+
+const DATES: [(Date, ParseError, &str); 4] = [
+    (Date { year: 10_000, ..DATE }, ParseError::DateTooLarge, "year"),
+    (Date { month: 0, ..DATE }, ParseError::OutOfRangeMonth, "month"),
+    (Date { month: 13, ..DATE }, ParseError::OutOfRangeMonth, "month"),
+    (Date { year: 2021, ..DATE }, ParseError::OutOfRangeDay, "day"),
+];
+
+const TIMES: [(Time, ParseError, &str); 6] = [
+    (Time { hour: 24, ..TIME }, ParseError::OutOfRangeHour, "hour"),
+    (Time { minute: 60, ..TIME }, ParseError::OutOfRangeMinute, "minute"),
+    (Time { second: 60, ..TIME }, ParseError::OutOfRangeSecond, "second"),
+    (Time { microsecond: 1_000_000, ..TIME }, ParseError::TimeTooLarge, "microsecond"),
+    (Time { tz_offset: Some(86_400), ..TIME }, ParseError::OutOfRangeTz, "tz_offset"),
+    (Time { tz_offset: Some(i32::MIN), ..TIME }, ParseError::OutOfRangeTz, "tz_offset"),
+];
+
+const DURATIONS: [(Duration, ParseError, &str); 4] = [
+    (Duration { day: 1_000_000_000, ..DURATION }, ParseError::DurationDaysTooLarge, "day"),
+    (Duration { second: 86_400, ..DURATION }, ParseError::DurationValueTooLarge, "second"),
+    (Duration { microsecond: 1_000_000, ..DURATION }, ParseError::DurationValueTooLarge, "microsecond"),
+    (Duration { second: 86_400, microsecond: 1_000_000, ..DURATION }, ParseError::DurationValueTooLarge, "second"),
+];
+
+/// Asserts that each call panics, and names the field.
+macro_rules! assert_panics {
+    ($field:expr; $($call:expr),*) => {$(
+        let panic = catch_unwind(|| $call).err().expect(stringify!($call));
+        let said = panic.downcast_ref::<String>().expect("a panic says why");
+        assert!(said.starts_with(&format!("`{}` is out of range in ", $field)), "{said}");
+    )*};
+}
+
+#[test]
+fn dates() {
+    for (date, _, field) in DATES {
+        assert_panics!(field; date.to_string(), date.timestamp(), date.timestamp_ms(), date.ordinal_day());
+        assert_panics!(field; date.days_since(&DATE), DATE.days_since(&date));
+        assert_eq!(date.checked_add_days(1), None);
+    }
+}
+
+#[test]
+fn times() {
+    for (time, error, field) in TIMES {
+        assert_panics!(field; time.to_string(), time.total_seconds(), time.total_ms());
+        assert_eq!([time.in_timezone(0), time.with_timezone_offset(time.tz_offset)], [Err(error.clone()), Err(error)]);
+        assert!(time.eq(&time) && time.partial_cmp(&TIME).is_none() && TIME.partial_cmp(&time).is_none());
+    }
+}
+
+#[test]
+fn date_times() {
+    let good = DateTime { date: DATE, time: TIME };
+    let dates = DATES.map(|(date, error, field)| (DateTime { date, ..good }, error, field));
+    let times = TIMES.map(|(time, error, field)| (DateTime { time, ..good }, error, field));
+    for (it, error, field) in dates.into_iter().chain(times) {
+        assert_panics!(field; it.to_string(), it.timestamp(), it.timestamp_ms(), it.timestamp_tz(), it.timestamp_tz_ms());
+        assert_panics!(field; Duration::between(&it, &good), Duration::between(&good, &it));
+        let moved = [it.in_timezone(0), it.with_timezone_offset(it.time.tz_offset)];
+        assert_eq!(moved, [Err(error.clone()), Err(error.clone())]);
+        assert_eq!([DURATION.after(&it), DURATION.before(&it)], [Err(error.clone()), Err(error)]);
+        assert!(it.eq(&it) && it.partial_cmp(&good).is_none() && good.partial_cmp(&it).is_none());
+    }
+}
+
+#[test]
+fn durations() {
+    let start = DateTime { date: DATE, time: TIME };
+    for (it, error, field) in DURATIONS {
+        assert_panics!(field; it.to_string(), it.signed_total_seconds(), it.signed_total_ms(), it.signed_microseconds());
+        assert_eq!([it.after(&start), it.before(&start)], [Err(error.clone()), Err(error)]);
+        assert!(it.eq(&it) && it.partial_cmp(&DURATION).is_none());
+    }
+}
+
+#[test]
+fn configured_offsets() {
+    for offset in [86_400, -86_400, i32::MIN] {
+        let time_config = TimeConfig::builder().unix_timestamp_offset(Some(offset)).build();
+        let config = DateTimeConfig::builder().time_config(time_config.clone()).build();
+        assert_eq!(Time::from_timestamp_with_config(1, 0, &time_config), Err(ParseError::OutOfRangeTz));
+        assert_eq!(DateTime::from_timestamp_with_config(1, 0, &config), Err(ParseError::OutOfRangeTz));
+        assert_eq!(DateTime::from_float_with_config(1.5, &config), Err(ParseError::OutOfRangeTz));
+        assert_eq!(DateTime::parse_str_with_config("1", &config), Err(ParseError::OutOfRangeTz));
+        assert_eq!(Time::parse_bytes_with_config(b"12:13:14Z", &time_config), Ok(TIME));
+        assert_eq!(Time::parse_front(b"12:13:14Z x", &time_config), Ok((TIME, 9)));
+        assert!(DateTime::parse_bytes_rfc3339_with_config(b"2020-02-29T12:13", &time_config).is_ok());
+        assert!(Duration::parse_bytes_with_config(b"00:00:01", &time_config).is_ok());
+    }
+}

@@ -1,0 +1,206 @@
+//! The rows of `c/tests/rows.txt` whose call, value and configuration the API has.
+
+use std::panic::{catch_unwind, set_hook, take_hook};
+
+use speedate::{
+    int_parse_str, Date, DateConfig, DateTime, DateTimeConfig, Duration, MicrosecondsPrecisionOverflowBehavior,
+    ParseError, Time, TimeConfig, TimestampUnit,
+};
+
+const ROWS: &str = include_str!("../../c/tests/rows.txt");
+
+#[test]
+fn rows() {
+    // What a panic says is tested in `out_of_range.rs`.
+    set_hook(Box::new(|_| {}));
+    let tried: Vec<_> = ROWS.lines().filter_map(|row| Some((row, is_right(row)?))).collect();
+    let _ = take_hook();
+    let wrong: Vec<_> = tried.iter().filter(|(_, is_right)| !is_right).collect();
+    assert!(wrong.is_empty(), "{wrong:#?}");
+    assert!(tried.len() > 200, "only {} rows", tried.len());
+}
+
+/// Whether a row tells what its call answers, if the API has the call. One that panics has a value out of range.
+fn is_right(row: &str) -> Option<bool> {
+    let fields: Vec<&str> = row.split('|').collect();
+    catch_unwind(|| Row(&fields).is_right()).unwrap_or(Some(row.ends_with("|value_out_of_range")))
+}
+
+/// The fields of a row: the call, its arguments, the name of its code, and what it writes.
+struct Row<'a>(&'a [&'a str]);
+
+impl Row<'_> {
+    fn is_right(&self) -> Option<bool> {
+        let config = |place| self.get::<DateTimeConfig>(place);
+        let time_config = |place| Some(config(place)?.time_config);
+        let behavior = |place| Some(time_config(place)?.microseconds_precision_overflow_behavior);
+        let text = |place: usize| self.0[place].as_bytes();
+        Some(match self.0[0] {
+            "int_parse" => self.has(2, int_parse_str(self.0[1]).ok_or("value_out_of_range")),
+            "date_parse" => self.has(3, Date::parse_bytes_with_config(text(2), &self.get(1)?)),
+            "date_parse_rfc3339" => self.has(2, Date::parse_bytes_rfc3339(text(1))),
+            "date_parse_front" => self.has_front(2, Date::parse_front(text(1))),
+            "date_to_text" => self.has_text(2, self.get::<Date>(1)?),
+            "date_from_timestamp" => {
+                let is_exact = *[false, true].get(self.get::<i64>(2)? as usize)?;
+                self.has(4, Date::from_timestamp(self.get(1)?, is_exact, &self.get(3)?))
+            }
+            "date_timestamp" => self.has_total(self.get::<Date>(1)?.timestamp()),
+            "date_timestamp_ms" => self.has_total(self.get::<Date>(1)?.timestamp_ms()),
+            "date_ordinal_day" => self.has_total(self.get::<Date>(1)?.ordinal_day()),
+            "date_add_days" => match self.get::<Date>(1)?.checked_add_days(self.get(2)?) {
+                None => matches!(self.0[3], "no_such_date" | "value_out_of_range"),
+                date => self.get(4) == date,
+            },
+            "date_days_since" => self.get(4) == Some(self.get::<Date>(1)?.days_since(&self.get(2)?)),
+            "time_parse" => self.has(3, Time::parse_bytes_with_config(text(2), &time_config(1)?)),
+            "time_parse_strict" => self.has(3, Time::parse_bytes_strict(text(2), behavior(1)?)),
+            "time_parse_front" => self.has_front(3, Time::parse_front(text(2), &time_config(1)?)),
+            "time_to_text" => self.has_text(2, self.get::<Time>(1)?),
+            "time_compare" => self.has_order::<Time>()?,
+            "time_from_timestamp" => {
+                self.has(4, Time::from_timestamp_with_config(self.get(1)?, self.get(2)?, &time_config(3)?))
+            }
+            "time_total_seconds" => self.has_total(self.get::<Time>(1)?.total_seconds()),
+            "time_total_ms" => self.has_total(self.get::<Time>(1)?.total_ms()),
+            "time_in_timezone" => self.has(3, self.get::<Time>(1)?.in_timezone(self.get(2)?)),
+            "datetime_parse" => self.has(3, DateTime::parse_bytes_with_config(text(2), &config(1)?)),
+            "datetime_parse_rfc3339" => {
+                self.has(3, DateTime::parse_bytes_rfc3339_with_config(text(2), &time_config(1)?))
+            }
+            "datetime_parse_strict" => self.has(3, DateTime::parse_bytes_strict(text(2), behavior(1)?)),
+            "datetime_parse_front" => self.has_front(3, DateTime::parse_front(text(2), &time_config(1)?)),
+            "datetime_to_text" => self.has_text(2, self.get::<DateTime>(1)?),
+            "datetime_compare" => self.has_order::<DateTime>()?,
+            "datetime_from_timestamp" => {
+                self.has(4, DateTime::from_timestamp_with_config(self.get(1)?, self.get(2)?, &config(3)?))
+            }
+            "datetime_timestamp" => self.has_total(self.get::<DateTime>(1)?.timestamp()),
+            "datetime_timestamp_ms" => self.has_total(self.get::<DateTime>(1)?.timestamp_ms()),
+            "datetime_timestamp_tz" => self.has_total(self.get::<DateTime>(1)?.timestamp_tz()),
+            "datetime_timestamp_tz_ms" => self.has_total(self.get::<DateTime>(1)?.timestamp_tz_ms()),
+            "datetime_in_timezone" => self.has(3, self.get::<DateTime>(1)?.in_timezone(self.get(2)?)),
+            "duration_parse" => self.has(3, Duration::parse_bytes_with_config(text(2), &time_config(1)?)),
+            "duration_normalize" => {
+                let Duration { positive, day, second, microsecond } = self.get(1)?;
+                self.has(2, Duration::new(positive, day, second, microsecond))
+            }
+            "duration_to_text" => self.has_text(2, self.get::<Duration>(1)?),
+            "duration_compare" => self.has_order::<Duration>()?,
+            "duration_signed_total_seconds" => self.has_total(self.get::<Duration>(1)?.signed_total_seconds()),
+            "duration_signed_total_ms" => self.has_total(self.get::<Duration>(1)?.signed_total_ms()),
+            "duration_signed_microseconds" => self.has_total(self.get::<Duration>(1)?.signed_microseconds()),
+            "duration_between" => self.get(4) == Some(Duration::between(&self.get(1)?, &self.get(2)?)),
+            "duration_after" => self.has(3, self.get::<Duration>(1)?.after(&self.get(2)?)),
+            "duration_before" => self.has(3, self.get::<Duration>(1)?.before(&self.get(2)?)),
+            _ => return None,
+        })
+    }
+
+    fn get<T: Field>(&self, place: usize) -> Option<T> {
+        T::of(self.0.get(place)?)
+    }
+
+    /// Whether the code and what is written have these places. A value out of range has the error of its field.
+    fn has<T: Field + PartialEq>(&self, place: usize, answer: Result<T, impl ToString>) -> bool {
+        match answer {
+            Ok(value) => self.0[place] == "ok" && self.get(place + 1) == Some(value),
+            Err(error) => self.0[place] == error.to_string() || self.0[place] == "value_out_of_range",
+        }
+    }
+
+    fn has_front<T: Field + PartialEq>(&self, place: usize, answer: Result<(T, usize), ParseError>) -> bool {
+        let size = answer.as_ref().map_or(0, |front| front.1);
+        self.has(place, answer.map(|front| front.0)) && self.get::<i64>(place + 2).unwrap_or(0) == size as i64
+    }
+
+    fn has_text(&self, place: usize, value: impl ToString) -> bool {
+        self.0.get(place + 1) == Some(&value.to_string().as_str())
+    }
+
+    fn has_total(&self, total: impl Into<i64>) -> bool {
+        self.get(3) == Some(total.into())
+    }
+
+    fn has_order<T: Field + PartialOrd>(&self) -> Option<bool> {
+        let order = self.get::<T>(1)?.partial_cmp(&self.get(2)?);
+        Some(order.map_or(self.0[3] == "value_out_of_range", |order| self.get(4) == Some(order as i32)))
+    }
+}
+
+/// What a field says, if the API has it.
+trait Field: Sized {
+    fn of(field: &str) -> Option<Self>;
+}
+
+fn numbers<const N: usize>(field: &str) -> Option<[i64; N]> {
+    field.split(' ').map(|it| it.parse().ok()).collect::<Option<Vec<_>>>()?.try_into().ok()
+}
+
+macro_rules! number_field {
+    ($($kind:ty)*) => {$(
+        impl Field for $kind {
+            fn of(field: &str) -> Option<Self> {
+                field.parse().ok()
+            }
+        }
+    )*};
+}
+
+number_field!(i64 i32 u32);
+
+impl Field for DateTimeConfig {
+    fn of(field: &str) -> Option<Self> {
+        let field = if field == "default" { "0 0 0 0 0" } else { field };
+        let [offset, flag, unit, behavior, 0] = numbers(field)? else { return None };
+        let units = [TimestampUnit::Infer, TimestampUnit::Second, TimestampUnit::Millisecond];
+        let behaviors = ["error", "truncate"].map(|it| it.parse::<MicrosecondsPrecisionOverflowBehavior>().unwrap());
+        let microseconds_precision_overflow_behavior = *behaviors.get(behavior as usize)?;
+        let unix_timestamp_offset = flagged(flag, offset)?;
+        let time_config = TimeConfig { microseconds_precision_overflow_behavior, unix_timestamp_offset };
+        Some(DateTimeConfig { timestamp_unit: *units.get(unit as usize)?, time_config })
+    }
+}
+
+/// It has no offset.
+impl Field for DateConfig {
+    fn of(field: &str) -> Option<Self> {
+        let DateTimeConfig { timestamp_unit, time_config } = Field::of(field)?;
+        time_config.unix_timestamp_offset.is_none().then_some(DateConfig { timestamp_unit })
+    }
+}
+
+impl Field for Date {
+    fn of(field: &str) -> Option<Self> {
+        let [year, month, day] = numbers(field)?;
+        Some(Date { year: year as u16, month: month as u8, day: day as u8 })
+    }
+}
+
+impl Field for Time {
+    fn of(field: &str) -> Option<Self> {
+        let [hour, minute, second, flag, microsecond, offset] = numbers(field)?;
+        let [hour, minute, second] = [hour, minute, second].map(|it| it as u8);
+        Some(Time { hour, minute, second, microsecond: microsecond as u32, tz_offset: flagged(flag, offset)? })
+    }
+}
+
+impl Field for DateTime {
+    fn of(field: &str) -> Option<Self> {
+        let (place, _) = field.match_indices(' ').nth(2)?;
+        Some(DateTime { date: Field::of(&field[..place])?, time: Field::of(&field[place + 1..])? })
+    }
+}
+
+impl Field for Duration {
+    fn of(field: &str) -> Option<Self> {
+        let [negative @ 0..=1, numbers @ ..] = numbers::<4>(field)? else { return None };
+        let [day, second, microsecond] = numbers.map(|it| it as u32);
+        Some(Duration { positive: negative == 0, day, second, microsecond })
+    }
+}
+
+/// An offset, or none, if the flag says either.
+fn flagged(flag: i64, offset: i64) -> Option<Option<i32>> {
+    [None, Some(offset as i32)].get(flag as usize).copied()
+}
