@@ -1,22 +1,20 @@
 """Tests of the module that is installed: its docstrings, the rows below, arguments of wrong types, texts that `datetime`
-reads too, and a library that does not load."""
-import _ctypes
+reads too, and an extension that does not load."""
 import array
-import ctypes
 import datetime
 import doctest
 import importlib.metadata
 import inspect
-import pathlib
 import pickle
 import random
-import shutil
-import subprocess
-import sys
-import tempfile
 import unittest
 
 import speedate
+
+try:
+    import numpy
+except ImportError:
+    numpy = None
 
 # An expression, and its value or its error.
 ROWS = r"""
@@ -51,6 +49,29 @@ time_front("12:13\u221200:30 \u00e9") == (time("12:13-00:30"), 11) -> True
 time_front("12:13\u221200:30 \u00e9".encode()) == (time("12:13-00:30"), 13) -> True
 date_front("0000-01-01 x") -> Unrepresentable: year_zero
 date_time_front("2020-02-29") -> Fault: invalid_char_date_time_sep
+date_time("2020-01-01T00:00Z").tzinfo is datetime.timezone.utc -> True
+date_time_column([]) -> array('q')
+date_time_column(b"") -> array('q')
+date_time_column(b"\n") -> Fault: too_short
+date_time_column(b"1970-01-01T00:00:01Z\r\n") -> Fault: extra_characters
+date_time_column(bytearray(b"1970-01-01T00:00:00.000001Z\n1969-12-31T23:59:59Z")) -> array('q', [1, -1000000])
+date_time_column(memoryview(b"1970-01-01T00:00Z\n\n"), faults="nat") -> array('q', [0, -9223372036854775808])
+date_time_column(it for it in ["0000-01-01T00:00Z", b"9999-12-31T23:59:59.999999-23:59"]) -> array('q', [-62167219200000000, 253402387139999999])
+date_time_column("1970-01-01T00:00Z") -> TypeError: texts has to be an iterable of texts or bytes or bytearray or memoryview, not str
+date_time_column(["1970-01-01T00:00Z", 5], faults="nat") -> TypeError: text has to be str or bytes or bytearray or memoryview, not int
+date_time_column(["1970-01-01T00:00:01"]) -> Fault: tz_required
+date_time_column(["1970-01-01T00:00:01"], naive="utc") -> array('q', [1000000])
+date_time_column(["1970-01-01T00:00:01"], naive="utc", strict=True) -> Fault: tz_required
+date_time_column(["1970-01-01 00:00Z"], strict=True, faults="nat") -> array('q', [-9223372036854775808])
+date_time_column(["1", "1.5"], timestamps=True) -> Fault: tz_required
+date_time_column(["1", "1.5"], Config(timestamp_offset=0), timestamps=True) -> array('q', [1000000, 1500000])
+date_time_column(["1"], Config("us", 3600), timestamps=True) -> array('q', [-3599999999])
+date_time_column(["1"], Config(timestamp_offset=0)) -> TypeError: config has a timestamp_offset, which is not read here: date and date_time do with timestamps=True
+date_time_column([], strict=True, timestamps=True) -> ValueError: strict and timestamps exclude each other
+date_time_column([], naive="local") -> ValueError: naive has to be error or utc
+date_time_column([], faults="coerce") -> ValueError: faults has to be raise or nat
+faulty(["1970-01-01T00:00Z", "1970-01-01T00:00"]) -> ('tz_required', 1, 1)
+Fault(1).index -> None
 date_from_timestamp(1) -> Fault: date_not_exact
 date_from_timestamp(2**63 - 1) -> Fault: date_too_large
 date_from_timestamp(2**63) -> ValueError: timestamp has to be from -9223372036854775808 to 9223372036854775807
@@ -97,6 +118,14 @@ def offset(**size):
     return datetime.timezone(datetime.timedelta(**size))
 
 
+def faulty(texts):
+    """The name and the index of the fault of a column, and its index after pickling."""
+    try:
+        speedate.date_time_column(texts)
+    except speedate.Fault as fault:
+        return fault.name, fault.index, pickle.loads(pickle.dumps(fault)).index
+
+
 def subclass(kind, **members):
     return type("Other", (kind,), members)
 
@@ -108,9 +137,10 @@ ARGUMENTS = {
     "text": ("2020-02-29", str, bytes), "config": (None, type(None), speedate.Config), "timestamps": FLAG, "exact": FLAG,
     "timestamp": NUMBER, "second": NUMBER, "microsecond": NUMBER, "code": NUMBER, "value": (None, datetime.date),
     "timestamp_unit": NAME, "timestamp_offset": (0, int, type(None)), "overflow_behavior": NAME, "iso_order": NAME,
+    "texts": ([], bytes, list, dict), "strict": FLAG, "naive": ("utc", str), "faults": ("nat", str),
 }
-WRONG = [None, True, 0, 1.0, 3j, "1", b"1", [], {}, object(), speedate.date, array.array("d", [1]), memoryview(b"12345678").cast("d"),
-         ctypes.c_int(1), datetime.date(2020, 2, 29), speedate._Config(), speedate.Config, speedate.Config()]
+WRONG = [None, True, 0, 1.0, 3j, "1", b"1", [], {}, object(), speedate.text, array.array("d", [1]), memoryview(b"12345678").cast("d"),
+         datetime.date(2020, 2, 29), speedate.Config, speedate.Config()]
 
 
 def drawn(draw):
@@ -152,6 +182,12 @@ class Speedate(unittest.TestCase):
         self.assertEqual([it.__name__ for it in CALLS if ">>> " not in it.__doc__], [])
         self.assertEqual(doctest.testmod(speedate).failed, 0)
 
+    @unittest.skipUnless(numpy, "NumPy is not installed")
+    def test_numpy(self):
+        column = speedate.date_time_column(["2020-02-29T12:13:14.5Z", "never", "0000-01-01T00:00Z", "9999-12-31T23:59:59.999999Z"], faults="nat")
+        moments = numpy.frombuffer(column, "datetime64[us]")
+        self.assertEqual(moments.astype(str).tolist(), ["2020-02-29T12:13:14.500000", "NaT", "0000-01-01T00:00:00.000000", "9999-12-31T23:59:59.999999"])
+
     def test_beside_datetime(self):
         draw, config, both = random.Random(1), speedate.Config(overflow_behavior="truncate"), 0
         kinds = ((datetime.date, speedate.date), (datetime.time, speedate.time), (datetime.datetime, speedate.date_time))
@@ -164,18 +200,6 @@ class Speedate(unittest.TestCase):
                 both += 1
                 self.assertEqual(repr(value), repr(wanted), text)
         self.assertGreater(both, 10_000)
-
-    def test_library(self):
-        other_version = "import ctypes, unittest.mock; ctypes.PyDLL = lambda path: unittest.mock.MagicMock(); "
-        for before, library in ("", None), ("", b"no library"), ("", pathlib.Path(_ctypes.__file__).read_bytes()), (other_version, None):
-            with self.subTest(before, library=library and library[:9]), tempfile.TemporaryDirectory() as folder:
-                package = shutil.copytree(pathlib.Path(speedate.__file__).parent, pathlib.Path(folder, "speedate"))
-                path = package / "libspeedate.so"
-                path.unlink()
-                if library:
-                    path.write_bytes(library)
-                run = subprocess.run([sys.executable, "-c", f"{before}import speedate"], cwd=folder, stderr=subprocess.PIPE, text=True)
-                self.assertIn(f"ImportError: the library of speedate was looked for at {path}: ", run.stderr)
 
 
 if __name__ == "__main__":

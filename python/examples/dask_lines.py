@@ -1,0 +1,39 @@
+"""Answers the lines of a file on a cluster of processes: python3 dask_lines.py FILE [PROGRAM], where dask and distributed are.
+
+With PROGRAM, bin/speedate_lines of the repository or the program that it has built, each line is a kind and a text, as
+`date 2020-02-29`, and what is printed is the program's answers, in their order. Without it each line is a date-time, and
+what is printed is its microseconds from 1970-01-01T00:00Z, or NaT.
+"""
+import subprocess
+import sys
+
+import dask.bag
+import distributed
+import speedate
+
+NOT_A_TIME = -(2**63)
+
+
+def answered(program, lines):
+    """What the program answers to the lines of a part of the file."""
+    run = subprocess.run([program], input="".join(lines).encode(errors="surrogateescape"), stdout=subprocess.PIPE, check=True)
+    return run.stdout.decode().splitlines()
+
+
+def numbered(lines):
+    """The numbers of the lines of a part of the file. A line of a bag has its line feed, which is no part of a text."""
+    column = speedate.date_time_column((it.rstrip("\n") for it in lines), naive="utc", faults="nat")
+    return ["NaT" if it == NOT_A_TIME else it for it in column]
+
+
+def main(file, program=None):
+    with distributed.LocalCluster(n_workers=4, threads_per_worker=1, dashboard_address=None) as cluster, distributed.Client(cluster):
+        # A line feed alone ends a line, and bytes that are no UTF-8 are kept.
+        lines = dask.bag.read_text(file, blocksize="4MiB", linedelimiter="\n", errors="surrogateescape")
+        answers = lines.map_partitions(lambda part: answered(program, part) if program else numbered(part))
+        for answer in answers.compute():
+            print(answer)
+
+
+if __name__ == "__main__":
+    main(*sys.argv[1:])

@@ -1,0 +1,387 @@
+"""The calls of the module in another way: by `ctypes`, over the shared library that bin/build_python leaves in out/.
+
+It has the same calls, errors and words, and nothing in common with the extension but the library: the second opinion in
+tests. `Config` and the errors are its own.
+"""
+import array
+import ctypes
+import dataclasses
+import datetime
+import functools
+import operator
+import pathlib
+import struct
+
+
+class Fault(ValueError):
+    index = None
+
+    def __init__(self, code):
+        self.code = _integer("code", code, 0, 2**31 - 1)
+        self.name, self.documentation = _words(self.code)
+        super().__init__(self.name)
+
+    def __reduce__(self):
+        return type(self), (self.code,), vars(self)
+
+
+class Unrepresentable(ValueError):
+    def __init__(self, name):
+        super().__init__(name)
+        self.name = name
+
+
+# ---- The library: the structs and calls of its header ----
+
+
+class _Config(ctypes.Structure):
+    _fields_ = [("timestamp_offset", ctypes.c_int32)] + [
+        (name, ctypes.c_uint8) for name in ("has_timestamp_offset", "timestamp_unit", "overflow_behavior", "iso_order")]
+
+
+class _Date(ctypes.Structure):
+    _fields_ = [("year", ctypes.c_uint16), ("month", ctypes.c_uint8), ("day", ctypes.c_uint8)]
+    numbers = struct.Struct("=HBB").unpack
+
+    def value(self):
+        year, month, day = self.numbers(self)
+        if year == 0:
+            raise Unrepresentable("year_zero")
+        return datetime.date(year, month, day)
+
+
+class _Time(ctypes.Structure):
+    _fields_ = [(name, ctypes.c_uint8) for name in ("hour", "minute", "second", "has_offset")] + [
+        ("microsecond", ctypes.c_uint32), ("offset", ctypes.c_int32)]
+    numbers = struct.Struct("=BBBBIi").unpack
+
+    def value(self):
+        hour, minute, second, has_offset, microsecond, offset = self.numbers(self)
+        return datetime.time(hour, minute, second, microsecond, _zone(offset) if has_offset else None)
+
+
+class _DateTime(ctypes.Structure):
+    _fields_ = _Date._fields_ + _Time._fields_
+    numbers = struct.Struct("=HBBBBBBIi").unpack
+
+    def value(self):
+        year, month, day, hour, minute, second, has_offset, microsecond, offset = self.numbers(self)
+        if year == 0:
+            raise Unrepresentable("year_zero")
+        zone = _zone(offset) if has_offset else None
+        return datetime.datetime(year, month, day, hour, minute, second, microsecond, zone)
+
+
+class _Duration(ctypes.Structure):
+    _fields_ = [(name, ctypes.c_uint32) for name in ("negative", "day", "second", "microsecond")]
+    numbers = struct.Struct("=IIII").unpack
+
+    def value(self):
+        negative, day, second, microsecond = self.numbers(self)
+        size = datetime.timedelta(day, second, microsecond)
+        try:
+            return -size if negative else size
+        except OverflowError:
+            raise Unrepresentable("duration_too_small") from None
+
+
+@functools.lru_cache(maxsize=None)
+def _zone(offset):
+    return datetime.timezone(datetime.timedelta(seconds=offset))
+
+
+_TEXT = [ctypes.c_char_p, ctypes.c_size_t]
+_SIZE = ctypes.POINTER(ctypes.c_size_t)
+_PRINTED = [ctypes.POINTER(ctypes.c_char), ctypes.c_size_t, _SIZE]
+_TO_DATE, _TO_TIME, _TO_DATE_TIME, _TO_DURATION = map(ctypes.POINTER, (_Date, _Time, _DateTime, _Duration))
+_CALLS = {
+    "code_name": [ctypes.c_int, *_PRINTED],
+    "code_documentation": [ctypes.c_int, *_PRINTED],
+    "date_parse": [*_TEXT, _Config, _TO_DATE],
+    "date_parse_rfc3339": [*_TEXT, _TO_DATE],
+    "date_parse_front": [*_TEXT, _TO_DATE, _SIZE],
+    "date_from_timestamp": [ctypes.c_int64, ctypes.c_uint8, _Config, _TO_DATE],
+    "date_to_text": [_Date, *_PRINTED],
+    "time_parse": [*_TEXT, _Config, _TO_TIME],
+    "time_parse_strict": [*_TEXT, _Config, _TO_TIME],
+    "time_parse_front": [*_TEXT, _Config, _TO_TIME, _SIZE],
+    "time_from_timestamp": [ctypes.c_uint32, ctypes.c_uint32, _Config, _TO_TIME],
+    "time_to_text": [_Time, *_PRINTED],
+    "datetime_parse": [*_TEXT, _Config, _TO_DATE_TIME],
+    "datetime_parse_rfc3339": [*_TEXT, _Config, _TO_DATE_TIME],
+    "datetime_parse_strict": [*_TEXT, _Config, _TO_DATE_TIME],
+    "datetime_parse_front": [*_TEXT, _Config, _TO_DATE_TIME, _SIZE],
+    "datetime_from_timestamp": [ctypes.c_int64, ctypes.c_uint32, _Config, _TO_DATE_TIME],
+    "datetime_timestamp_tz": [_DateTime, ctypes.POINTER(ctypes.c_int64)],
+    "datetime_to_text": [_DateTime, *_PRINTED],
+    "duration_parse": [*_TEXT, _Config, _TO_DURATION],
+    "duration_to_text": [_Duration, *_PRINTED],
+}
+
+
+def _load(path):
+    """The library, with the types of its calls."""
+    library = ctypes.PyDLL(str(path))
+    for name, types in _CALLS.items():
+        call = getattr(library, f"speedate_{name}")
+        call.argtypes, call.restype = types, ctypes.c_int
+    return library
+
+
+_library = _load(pathlib.Path(__file__).resolve().parents[2] / "out/libspeedate.so")
+_Buffer = ctypes.c_char * 64
+
+
+def _printed(call, value):
+    """The text that a call prints of a value."""
+    buffer = _Buffer()
+    code = call(value, buffer, len(buffer), ctypes.c_size_t())
+    if code:
+        raise Fault(code)
+    return buffer.value.decode("ascii")
+
+
+@functools.lru_cache(maxsize=None)
+def _words(code):
+    return _printed(_library.speedate_code_name, code), _printed(_library.speedate_code_documentation, code)
+
+
+# ---- Arguments ----
+
+
+def _wrong(name, value, *kinds):
+    return TypeError(f"{name} has to be {' or '.join(kind.__name__ for kind in kinds)}, not {type(value).__name__}")
+
+
+def _bytes(text):
+    """The bytes of a text. No method is called that a subclass may have."""
+    if isinstance(text, str):
+        return str.encode(text, "utf-8", "surrogatepass")
+    if type(text) is bytes:
+        return text
+    if not isinstance(text, (bytes, bytearray, memoryview)):
+        raise _wrong("text", text, str, bytes, bytearray, memoryview)
+    view = memoryview(text)
+    if view.format != "B":
+        raise TypeError(f"text has to be a memoryview of bytes, not of format {view.format}")
+    return view.tobytes()
+
+
+def _integer(name, value, low, high):
+    if isinstance(value, bool) or not hasattr(value, "__index__"):
+        raise _wrong(name, value, int)
+    number = operator.index(value)
+    if not low <= number <= high:
+        raise ValueError(f"{name} has to be from {low} to {high}")
+    return number
+
+
+def _flag(name, value):
+    if type(value) is not bool:
+        raise _wrong(name, value, bool)
+    return value
+
+
+def _choice(name, value, *choices):
+    """The number of a choice."""
+    if not isinstance(value, str):
+        raise _wrong(name, value, str)
+    if value not in choices:
+        raise ValueError(f"{name} has to be {' or '.join(choices)}")
+    return choices.index(value)
+
+
+@dataclasses.dataclass(frozen=True)
+class Config:
+    timestamp_unit: str = "infer"
+    timestamp_offset: int = None
+    overflow_behavior: str = "error"
+    iso_order: str = "lax"
+
+    def __post_init__(self):
+        offset = self.timestamp_offset
+        vars(self)["_numbers"] = _Config(
+            0 if offset is None else _integer("timestamp_offset", offset, -86_399, 86_399),
+            offset is not None,
+            _choice("timestamp_unit", self.timestamp_unit, "infer", "s", "ms", "us"),
+            _choice("overflow_behavior", self.overflow_behavior, "error", "truncate"),
+            _choice("iso_order", self.iso_order, "lax", "strict"))
+
+
+_DEFAULT = Config()
+_OF_TIMESTAMPS = ["timestamp_unit", "timestamp_offset"]
+
+
+def _configured(config, read=()):
+    """The numbers of a configuration, for a call that reads some of its fields of timestamps."""
+    if config is None:
+        return _DEFAULT._numbers
+    if type(config) is not Config:
+        raise _wrong("config", config, Config)
+    for name in _OF_TIMESTAMPS:
+        if name not in read and getattr(config, name) != getattr(_DEFAULT, name):
+            raise TypeError(f"config has a {name}, which is not read here: date and date_time do with timestamps=True")
+    return config._numbers
+
+
+# ---- Calls ----
+
+
+def _value(out, code):
+    """The value that a call has written."""
+    if code:
+        raise Fault(code)
+    return out.value()
+
+
+def _read(call, out, text, config, read=()):
+    """The value that a call reads from a text."""
+    text, numbers = _bytes(text), _configured(config, read)
+    return _value(out, call(text, len(text), numbers, out))
+
+
+def _read_front(call, out, text, *numbers):
+    """The value that a call reads at the front of a text, and its size."""
+    whole, size = _bytes(text), ctypes.c_size_t()
+    value = _value(out, call(whole, len(whole), *numbers, out, size))
+    return value, len(whole[: size.value].decode()) if isinstance(text, str) else size.value
+
+
+def date(text, config=None, *, timestamps=False):
+    if timestamps is False:
+        text, out = _bytes(text), _Date()
+        _configured(config)
+        return _value(out, _library.speedate_date_parse_rfc3339(text, len(text), out))
+    _flag("timestamps", timestamps)
+    return _read(_library.speedate_date_parse, _Date(), text, config, _OF_TIMESTAMPS)
+
+
+def time(text, config=None):
+    return _read(_library.speedate_time_parse, _Time(), text, config)
+
+
+def date_time(text, config=None, *, timestamps=False):
+    if timestamps is False:
+        return _read(_library.speedate_datetime_parse_rfc3339, _DateTime(), text, config)
+    _flag("timestamps", timestamps)
+    return _read(_library.speedate_datetime_parse, _DateTime(), text, config, _OF_TIMESTAMPS)
+
+
+def duration(text, config=None):
+    return _read(_library.speedate_duration_parse, _Duration(), text, config)
+
+
+def time_strict(text, config=None):
+    return _read(_library.speedate_time_parse_strict, _Time(), text, config)
+
+
+def date_time_strict(text, config=None):
+    return _read(_library.speedate_datetime_parse_strict, _DateTime(), text, config)
+
+
+def date_front(text):
+    return _read_front(_library.speedate_date_parse_front, _Date(), text)
+
+
+def time_front(text, config=None):
+    return _read_front(_library.speedate_time_parse_front, _Time(), text, _configured(config))
+
+
+def date_time_front(text, config=None):
+    return _read_front(_library.speedate_datetime_parse_front, _DateTime(), text, _configured(config))
+
+
+def date_from_timestamp(timestamp, config=None, *, exact=True):
+    timestamp, out = _integer("timestamp", timestamp, -(2**63), 2**63 - 1), _Date()
+    exact, numbers = _flag("exact", exact), _configured(config, _OF_TIMESTAMPS)
+    return _value(out, _library.speedate_date_from_timestamp(timestamp, exact, numbers, out))
+
+
+def time_from_timestamp(second, microsecond=0, config=None):
+    second, microsecond = _integer("second", second, 0, 2**32 - 1), _integer("microsecond", microsecond, 0, 2**32 - 1)
+    numbers, out = _configured(config, ["timestamp_offset"]), _Time()
+    return _value(out, _library.speedate_time_from_timestamp(second, microsecond, numbers, out))
+
+
+def date_time_from_timestamp(timestamp, microsecond=0, config=None):
+    timestamp, out = _integer("timestamp", timestamp, -(2**63), 2**63 - 1), _DateTime()
+    microsecond, numbers = _integer("microsecond", microsecond, 0, 2**32 - 1), _configured(config, _OF_TIMESTAMPS)
+    return _value(out, _library.speedate_datetime_from_timestamp(timestamp, microsecond, numbers, out))
+
+
+def _lines(texts):
+    """The texts of a column: lines end with a line feed, which the last one may lack."""
+    if isinstance(texts, str):
+        raise TypeError(f"texts has to be an iterable of texts or bytes or bytearray or memoryview, not {type(texts).__name__}")
+    if not isinstance(texts, (bytes, bytearray, memoryview)):
+        return texts
+    lines = _bytes(texts).split(b"\n")
+    return lines if lines[-1] else lines[:-1]
+
+
+def date_time_column(texts, config=None, *, strict=False, timestamps=False, naive="error", faults="raise"):
+    _flag("strict", strict), _flag("timestamps", timestamps)
+    _choice("naive", naive, "error", "utc"), _choice("faults", faults, "raise", "nat")
+    numbers = _configured(config, _OF_TIMESTAMPS if timestamps else ())
+    if strict and timestamps:
+        raise ValueError("strict and timestamps exclude each other")
+    name = "datetime_parse_strict" if strict else "datetime_parse" if timestamps else "datetime_parse_rfc3339"
+    column = array.array("q")
+    for index, text in enumerate(_lines(texts)):
+        whole, out, second = _bytes(text), _DateTime(), ctypes.c_int64()
+        code = getattr(_library, f"speedate_{name}")(whole, len(whole), numbers, out)
+        if not code and not out.has_offset and naive == "error":
+            code = 19  # tz_required
+        if not code:
+            _library.speedate_datetime_timestamp_tz(out, second)
+            column.append(second.value * 1_000_000 + out.microsecond)
+        elif faults == "nat":
+            column.append(-(2**63))
+        else:
+            fault = Fault(code)
+            fault.index = index
+            raise fault
+    return column
+
+
+_DAY, _CLOCK = ("year", "month", "day"), ("hour", "minute", "second", "microsecond", "tzinfo", "fold")
+_FIELDS = {datetime.datetime: _DAY + _CLOCK, datetime.date: _DAY, datetime.time: _CLOCK,
+           datetime.timedelta: ("days", "seconds", "microseconds")}
+
+
+def _plain(value):
+    """The value of the base class that a value of a subclass is equal to."""
+    for kind, names in _FIELDS.items():
+        if issubclass(type(value), kind):
+            plain = kind(**{name: getattr(value, name) for name in names})
+            if not plain == value:
+                raise ValueError(f"the {type(value).__name__} is not equal to {plain!r}: it may have nanoseconds")
+            return plain
+    raise _wrong("value", value, *_FIELDS)
+
+
+def _clock(value):
+    """The numbers of the time of day of a value."""
+    offset, seconds = value.utcoffset(), 0
+    if offset is None and value.tzinfo is not None:
+        raise ValueError(f"the zone {value.tzinfo} has no offset at {value}")
+    if offset is not None:
+        seconds = offset.days * 86_400 + offset.seconds
+        if seconds % 60 or offset.microseconds:
+            raise ValueError(f"the offset {offset} is not whole minutes")
+    return value.hour, value.minute, value.second, offset is not None, value.microsecond, seconds
+
+
+def text(value):
+    if type(value) not in _FIELDS:
+        value = _plain(value)
+    if isinstance(value, datetime.datetime):
+        numbers = _DateTime(value.year, value.month, value.day, *_clock(value))
+        return _printed(_library.speedate_datetime_to_text, numbers)
+    if isinstance(value, datetime.date):
+        return _printed(_library.speedate_date_to_text, _Date(value.year, value.month, value.day))
+    if isinstance(value, datetime.time):
+        return _printed(_library.speedate_time_to_text, _Time(*_clock(value)))
+    size = abs(value)
+    numbers = _Duration(value.days < 0, size.days, size.seconds, size.microseconds)
+    return _printed(_library.speedate_duration_to_text, numbers)

@@ -1,0 +1,448 @@
+"""Tests of the extension, beside the module over ctypes of oracle.py: drawn calls, wrong types, tampered configurations,
+references, interpreters and threads. An argument is how many calls are drawn."""
+import array
+import collections
+import copy
+import datetime
+import gc
+import importlib.util
+import inspect
+import pathlib
+import random
+import sys
+import threading
+import types
+import unittest
+
+sys.path.insert(0, str(pathlib.Path(__file__).resolve().parent))
+import oracle
+import speedate
+from speedate import _speedate
+
+COUNT = 100_000
+SIDES = (speedate, oracle)
+CALLS = [name for name in speedate.__all__ if inspect.isbuiltin(getattr(speedate, name))]
+DAY = datetime.date(2020, 2, 29)
+
+
+# ---- Drawn arguments: each of them as a function of a side, since each side has its own Config ----
+
+
+def same(value):
+    return lambda side: value
+
+
+def configured(*fields):
+    return lambda side: side.Config(*fields)
+
+
+CONFIGS = [*[same(None)] * 16, *(
+    configured(unit, offset, overflow, order)
+    for unit in ("infer", "s", "ms", "us") for offset in (None, 0, -3600, 86_399)
+    for overflow in ("error", "truncate") for order in ("lax", "strict"))]
+
+
+class Other(str):
+    def encode(self, *_):
+        raise AssertionError
+
+
+class Zone(datetime.tzinfo):
+    """A zone whose offset depends on the date, or is none, or no offset at all."""
+
+    def __init__(self, offsets):
+        self.offsets = offsets
+
+    def utcoffset(self, moment):
+        return self.offsets[getattr(moment, "month", 0) % len(self.offsets)]
+
+    def __repr__(self):
+        return "Zone"
+
+
+class Moment(datetime.datetime):
+    pass
+
+
+class Size(datetime.timedelta):
+    def __eq__(self, other):
+        return False
+
+
+def drawn_clock(draw):
+    second = f":{draw.randrange(61):02}" + draw.choice(["", ".5", ",250", f".{draw.randrange(10**6):06}", ".1234567"])
+    zone = f"{draw.choice(['+', '-', chr(0x2212)])}{draw.randrange(25):02}{draw.choice([':', ''])}{draw.randrange(61):02}"
+    return f"{draw.randrange(25):02}:{draw.randrange(60):02}" + draw.choice(["", second, second]) + draw.choice(["", "Z", zone, zone])
+
+
+def drawn_number(draw):
+    return draw.choice(["", "-", "+"]) + str(draw.randrange(10 ** draw.randrange(1, 20))) + draw.choice(["", "", ".5", f".{draw.randrange(10**8)}"])
+
+
+def drawn_duration(draw):
+    parts = "".join(f"{draw.randrange(10 ** draw.randrange(1, 11))}{unit}" for unit in "YMWD" if draw.random() < 0.4)
+    clock = "".join(f"{draw.randrange(100)}{unit}" for unit in ("H", "M", ".5S") if draw.random() < 0.4)
+    return draw.choice(["", "-", "+"]) + draw.choice([f"P{parts}{'T' * bool(clock)}{clock}", f"{draw.randrange(10**9)} days", f"{draw.randrange(30)} day, {drawn_clock(draw)}"])
+
+
+def drawn_text(draw, name):
+    """A text that is mostly one that a call reads, or one but for a character, as one of the types of texts."""
+    day = f"{draw.choice([0, draw.randrange(10_000)]):04}-{draw.randrange(1, 13):02}-{draw.randrange(1, 32):02}"
+    kinds = {
+        "date_time": lambda: day + draw.choice("TTT _") + drawn_clock(draw), "date": lambda: day, "time": lambda: drawn_clock(draw),
+        "duration": lambda: drawn_duration(draw), "number": lambda: drawn_number(draw), "": lambda: ""}
+    own = next(kind for kind in kinds if name.startswith(kind))
+    text = kinds[own if draw.random() < 0.7 else draw.choice(list(kinds))]()
+    if draw.random() < 0.2:
+        place = draw.randrange(len(text) + 1)
+        text = text[:place] + draw.choice("0123456789-:.,+TZ \n\0\u00e9\u2212\ud800\U0001f552") + text[place + draw.randrange(2):]
+    if draw.random() < 0.2:
+        text += draw.choice([" GET /", " \u00e9\u2212", "\n"])
+    data = text.encode("utf-8", "surrogatepass")
+    return draw.choice([
+        lambda: text, lambda: text, lambda: text, lambda: data, lambda: bytearray(data), lambda: memoryview(data), lambda: Other(text),
+        lambda: memoryview(bytearray(data)), lambda: memoryview(b"x".join(data[i:i + 1] for i in range(len(data))))[::2]])()
+
+
+def drawn_value(draw, name):
+    """A value that has a text, mostly."""
+    zones = [None, datetime.timezone.utc, Zone([None]), Zone([datetime.timedelta(0), datetime.timedelta(hours=1), None])]
+    zone = draw.choice([*zones, *(datetime.timezone(datetime.timedelta(seconds=unit * draw.randrange(-86_399 // unit + 1, 86_399 // unit + 1))) for unit in (1, 60, 900))])
+    clock = draw.randrange(24), draw.randrange(60), draw.randrange(60), draw.choice([0, draw.randrange(10**6)]), zone
+    day = draw.randrange(1, 10_000), draw.randrange(1, 13), draw.randrange(1, 29)
+    size = draw.randrange(-(10**9) + 1, 10**9), draw.randrange(86_400), draw.choice([0, draw.randrange(10**6)])
+    return draw.choice([
+        lambda: datetime.date(*day), lambda: datetime.time(*clock), lambda: datetime.datetime(*day, *clock), lambda: Moment(*day, *clock),
+        lambda: datetime.timedelta(*size), lambda: Size(*size), lambda: datetime.time(*clock, fold=1)])()
+
+
+def drawn_integer(draw, name):
+    return draw.choice([0, 1, -1, 86_400, 2**32 - 1, 2**32, 2**63 - 1, 2**63, -(2**63), -(2**63) - 1, 10**30, draw.randrange(-(10**12), 10**12), draw.randrange(10**5)])
+
+
+def drawn_column(draw, name):
+    texts = [drawn_text(draw, name) for _ in range(draw.randrange(4))]
+    lines = b"\n".join(bytes(it) if not isinstance(it, str) else str.encode(it, "utf-8", "surrogatepass") for it in texts)
+    return draw.choice([lambda: texts, lambda: tuple(texts), lambda: lines, lambda: bytearray(lines), lambda: memoryview(lines + b"\n")])()
+
+
+# The drawn values of a parameter. An iterator would be used up by the first side.
+DRAWN = {
+    "text": drawn_text, "value": drawn_value, "timestamp": drawn_integer, "second": drawn_integer, "microsecond": drawn_integer, "texts": drawn_column,
+    **dict.fromkeys(["timestamps", "exact", "strict"], lambda draw, name: draw.random() < 0.5),
+    "naive": lambda draw, name: draw.choice(["error", "utc"]), "faults": lambda draw, name: draw.choice(["raise", "nat"])}
+PARAMETERS = {name: list(inspect.signature(getattr(speedate, name)).parameters.values()) for name in CALLS}
+
+
+def drawn_call(draw):
+    """A call of a function by its name, as one of a side. What is optional is given sometimes, by position or by name."""
+    name, positional, named = draw.choice(CALLS), [], {}
+    for place, it in enumerate(PARAMETERS[name]):
+        if it.default is not it.empty and draw.random() < 0.5:
+            continue
+        value = draw.choice(CONFIGS) if it.name == "config" else same(DRAWN[it.name](draw, name))
+        if it.kind is not it.KEYWORD_ONLY and len(positional) == place and draw.random() < 0.8:
+            positional.append(value)
+        else:
+            named[it.name] = value
+    return name, positional, named
+
+
+def outcome(side, name, positional=(), named={}):
+    """What a call answers, told so that both sides tell the same."""
+    try:
+        value = getattr(side, name)(*(it(side) for it in positional), **{word: it(side) for word, it in named.items()})
+    except Exception as error:
+        return type(error).__name__, str(error), {word: it for word, it in vars(error).items()}
+    return type(value).__name__, repr(value)
+
+
+# ---- Wrong types ----
+
+
+class Index:
+    def __init__(self, number):
+        self.number = number
+
+    def __index__(self):
+        if self.number is None:
+            raise ValueError("no number")
+        return self.number
+
+
+class Iterates:
+    def __init__(self, *items):
+        self.items = items
+
+    def __iter__(self):
+        yield from self.items
+        if len(self.items) > 1:
+            raise OSError("cut off")
+
+
+class Nameless(type):
+    @property
+    def __name__(self):
+        raise KeyError("no name")
+
+
+def released():
+    view = memoryview(b"2020-02-29")
+    view.release()
+    return view
+
+
+ODD = list(map(same, [
+    None, True, False, 0, 1, -1, 2**31, 2**64, -(2**70), 1.5, float("nan"), 3j, "", "1", "utc", "nat", "\ud800", b"", b"1", bytearray(b"1"), [], {}, (), set(),
+    object(), object, int, str, type, len, DAY, datetime.date, datetime.time(1), datetime.timedelta(1), datetime.timezone.utc, array.array("d", [1]),
+    array.array("B", [50]), memoryview(b"12345678").cast("d"), memoryview(b"12345678").cast("B", [2, 2, 2]), memoryview(b"12345678").cast("c"), memoryview(b""),
+    Index(5), Index(2**70), Index(None), Iterates("2020-02-29T00:00Z"), Iterates(5), Iterates("2020-02-29T00:00Z", "2020-02-29T00:00Z"), Nameless("N", (), {})(),
+    Other("2020-02-29"), type("Bytes", (bytes,), {})(b"12:13"), collections.UserString("1"), Ellipsis, NotImplemented, ValueError("x"), types,
+])) + [lambda side: released(), lambda side: side.Config, lambda side: side.Config("ms", 0), lambda side: side, lambda side: side.Fault]
+RIGHT = {"text": "12:13", "value": DAY, "timestamp": 0, "second": 1, "texts": []}
+
+
+def wrong_calls():
+    """Each of the objects for each argument of each call, the others right; and the words that no call has."""
+    for name in CALLS:
+        needed = {it.name: same(RIGHT[it.name]) for it in PARAMETERS[name] if it.default is it.empty}
+        for it in PARAMETERS[name]:
+            for wrong in ODD:
+                yield name, (), {**needed, it.name: wrong}
+        yield name, (), {**needed, "other": same(1)}
+        yield name, [same("12:13")], {PARAMETERS[name][0].name: same("12:13")}
+        yield name, (), {}
+
+
+# ---- References ----
+
+
+def blocks():
+    """How many references there are, or, if only a debug Python tells, how many blocks of memory."""
+    gc.collect()
+    return sys.gettotalrefcount() if hasattr(sys, "gettotalrefcount") else sys.getallocatedblocks()
+
+
+def growth(call, times):
+    """How much each of some calls leaves, in the best of four rounds, since Python keeps things of its own."""
+    rounds = []
+    for _ in range(4):
+        before = blocks()
+        for _ in range(times):
+            call()
+        rounds.append(blocks() - before)
+    return min(rounds) / times
+
+
+def import_anew():
+    """Imports the module once more, and drops it."""
+    kept = {name: sys.modules.pop(name) for name in list(sys.modules) if name.partition(".")[0] == "speedate"}
+    try:
+        importlib.import_module("speedate").date("2020-02-29")
+    finally:
+        sys.modules.update(kept)
+
+
+def fail_import(module, **names):
+    """Loads the extension where a module that it takes something from has other names."""
+    real, spec = sys.modules[module], _speedate.__spec__
+    fake = types.ModuleType(module)
+    vars(fake).update(vars(real), **names)
+    for name in [name for name, value in names.items() if value is None]:
+        delattr(fake, name)
+    sys.modules[module] = fake
+    try:
+        made = importlib.util.module_from_spec(spec)
+        spec.loader.exec_module(made)
+    except ImportError as error:
+        return str(error)
+    finally:
+        sys.modules[module] = real
+
+
+# ---- Interpreters ----
+
+INTERPRETER = """
+import speedate, datetime
+assert speedate.date_time("2020-02-29T12:13Z").tzinfo is datetime.timezone.utc
+assert speedate.date_time("2020-02-29T12:13+05:53").utcoffset().seconds == 353 * 60
+assert list(speedate.date_time_column(b"1970-01-01T00:00:01Z")) == [1000000]
+try:
+    speedate.time("24:00")
+except speedate.Fault as fault:
+    assert fault.name == "out_of_range_hour"
+"""
+
+
+def interpreters():
+    """The module of interpreters, if there is one."""
+    for name in ("_interpreters", "_xxsubinterpreters"):
+        try:
+            return importlib.import_module(name)
+        except ImportError:
+            pass
+
+
+def run_interpreter(module, own_lock):
+    """What an interpreter that is made, and closed at once, says of a program."""
+    if module.__name__ == "_interpreters":
+        number = module.create("isolated" if own_lock else "legacy")
+    else:
+        number = module.create(**({"isolated": own_lock} if sys.version_info >= (3, 9) else {}))
+    try:
+        return module.run_string(number, INTERPRETER)
+    finally:
+        module.destroy(number)
+
+
+def in_threads(call, count=8):
+    failed = []
+
+    def run():
+        try:
+            call()
+        except BaseException as error:
+            failed.append(error)
+    threads = [threading.Thread(target=run) for _ in range(count)]
+    for it in threads:
+        it.start()
+    for it in threads:
+        it.join()
+    return failed
+
+
+class Extension(unittest.TestCase):
+    maxDiff = None
+
+    def test_drawn_calls(self):
+        draw, kinds = random.Random(COUNT), collections.Counter()
+        for _ in range(COUNT):
+            call = drawn_call(draw)
+            wanted, told = outcome(oracle, *call), outcome(speedate, *call)
+            if told != wanted:
+                self.fail(f"{call[0]} {[it(speedate) for it in call[1]]} { {word: it(speedate) for word, it in call[2].items()} } answers {told}, and not {wanted}")
+            kinds[wanted[0]] += 1
+        print(dict(kinds.most_common()))
+
+    def test_wrong_types(self):
+        for name, positional, named in wrong_calls():
+            wanted, told = (outcome(side, name, positional, named) for side in (oracle, speedate))
+            with self.subTest(name, named={word: it(speedate) for word, it in named.items() if word != "text"}):
+                self.assertEqual(told, wanted)
+
+    def test_drawn_wrong_types(self):
+        draw = random.Random(1)
+        for _ in range(COUNT // 5):
+            name = draw.choice(CALLS)
+            values = [draw.choice(ODD) for _ in range(draw.randrange(4))]
+            named = {it.name: draw.choice(ODD) for it in PARAMETERS[name] if draw.random() < 0.4}
+            try:
+                getattr(speedate, name)(*(it(speedate) for it in values), **{word: it(speedate) for word, it in named.items()})
+            except (ArithmeticError, LookupError, OSError, TypeError, ValueError):
+                pass
+
+    def test_tampered_config(self):
+        numbers = [None, 5, "x" * 8, b"", b"x" * 7, b"x" * 9, bytearray(8), type("Bytes", (bytes,), {})(8), [1]]
+        calls = [(name, RIGHT[PARAMETERS[name][0].name]) for name in CALLS if any(it.name == "config" for it in PARAMETERS[name])]
+        for name, right in calls:
+            for it in numbers:
+                config = speedate.Config()
+                vars(config)["_numbers"] = it
+                with self.subTest(name, it=it), self.assertRaisesRegex(TypeError, "config is not as Config made it"):
+                    getattr(speedate, name)(right, config=config)
+            config = speedate.Config()
+            for byte in range(8):
+                vars(config)["_numbers"] = bytes(0xFF if it == byte else 0 for it in range(8))
+                try:
+                    getattr(speedate, name)(right, config=config)
+                except speedate.Fault as fault:
+                    self.assertNotEqual(fault.name, "ok")
+                except TypeError as error:
+                    self.assertIn("which is not read here", str(error))
+            del vars(config)["_numbers"]
+            with self.assertRaises(AttributeError):
+                getattr(speedate, name)(right, config=config)
+
+    def test_functions(self):
+        for name in CALLS:
+            call = getattr(speedate, name)
+            self.assertIs(copy.deepcopy(call), call)
+            self.assertEqual((call.__module__, call.__qualname__, call.__name__), ("speedate", name, name))
+            wanted = inspect.signature(getattr(oracle, name))
+            self.assertEqual(str(inspect.signature(call)), str(wanted))
+
+    def test_references(self):
+        text, odd, config = "2020-02-29T12:13:14.5+05:53", "2020-02-29T12:13\u221200:30", speedate.Config()
+        watched = [text, odd, config, None, True, datetime.timezone.utc, speedate.Config, speedate.Fault, DAY]
+        calls = [(name, positional, named) for name, positional, named in wrong_calls()]
+        calls += [drawn_call(random.Random(seed)) for seed in range(1500)]
+        calls += [("date_time", [same(it)], {"config": same(config)}) for it in (text, odd, odd.encode(), bytearray(odd.encode()))]
+        for name, positional, named in calls:
+            positional, named = [it(speedate) for it in positional], {word: it(speedate) for word, it in named.items()}
+            call = getattr(speedate, name)
+
+            def once():
+                try:
+                    call(*positional, **named)
+                except Exception:
+                    pass
+            once()
+            before = [sys.getrefcount(it) for it in [*watched, *positional, *named.values()]]
+            for _ in range(20):
+                once()
+            after = [sys.getrefcount(it) for it in [*watched, *positional, *named.values()]]
+            grown = [more - fewer for more, fewer in zip(after, before) if abs(more - fewer) >= 20]
+            self.assertEqual(grown, [], (name, positional, named))
+
+        def each():
+            for name, positional, named in calls:
+                outcome(speedate, name, positional, named)
+        self.assertLess(growth(each, 20), len(calls) / 200)
+
+    def test_imports(self):
+        # What is left behind by an import that leaks are all its zones, faults and functions.
+        self.assertLess(growth(import_anew, 20), 20)
+        failing = [("datetime", {"datetime_CAPI": None}), ("speedate", {"Config": None}), ("speedate", {"_plain": None}), ("speedate", {"Fault": KeyError}), ("speedate", {"Fault": 5})]
+        for module, names in failing:
+            with self.subTest(module, names=names):
+                self.assertRegex(fail_import(module, **names), "^speedate needs|^speedate.Fault is no ValueError")
+                self.assertLess(growth(lambda: fail_import(module, **names), 20), 20)
+        with self.assertRaises(ValueError):
+            fail_import("datetime", datetime_CAPI=5)
+
+    def test_interpreters(self):
+        module = interpreters()
+        if module is None:
+            self.skipTest("this Python has no module of interpreters")
+        for own_lock in (False, True):
+            for _ in range(3):
+                try:
+                    told = run_interpreter(module, own_lock)
+                except Exception as error:
+                    told = error
+                if told is not None and own_lock and sys.version_info < (3, 13):
+                    self.assertRegex(str(told), "ImportError|ModuleNotFoundError|does not support loading in subinterpreters")
+                else:
+                    self.assertIsNone(told)
+        if sys.version_info >= (3, 13):
+            self.assertEqual(in_threads(lambda: [run_interpreter(module, True) for _ in range(3)], 4), [])
+
+    def test_threads(self):
+        draw = random.Random(2)
+        calls = [drawn_call(draw) for _ in range(500)]
+        made = [(name, [it(speedate) for it in positional], {word: it(speedate) for word, it in named.items()}) for name, positional, named in calls]
+
+        def told(name, positional, named):
+            return outcome(speedate, name, map(same, positional), {word: same(it) for word, it in named.items()})
+        wanted = [told(*it) for it in made]
+
+        def run():
+            for _ in range(5):
+                assert [told(*it) for it in made] == wanted
+        self.assertEqual(in_threads(run), [])
+
+
+if __name__ == "__main__":
+    if sys.argv[1:] and sys.argv[1].isdigit():
+        COUNT = int(sys.argv.pop(1))
+    unittest.main()
