@@ -828,15 +828,12 @@ static int traverse(PyObject *module, visitproc visit, void *arg) {
     return 0;
 }
 
-static int clear(PyObject *module) {
+/* The state lives as long as its module, so that a call finds it even while garbage is collected: there is no m_clear.
+ * The cycles over the package end with the dicts of the modules. */
+static void release(void *module) {
     State *state = PyModule_GetState(module);
     for (int i = 0; state && i < ALL; i++)
         Py_CLEAR(state->held[i]);
-    return 0;
-}
-
-static void release(void *module) {
-    clear(module);
 }
 
 #define METHOD(name, parameters, documentation) \
@@ -944,7 +941,6 @@ static struct PyModuleDef definition = {
     .m_methods = methods,
     .m_slots = slots,
     .m_traverse = traverse,
-    .m_clear = clear,
     .m_free = release,
 };
 
