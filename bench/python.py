@@ -93,10 +93,12 @@ def read_rows():
 
 def text_rows():
     text = speedate.text
-    for name, kind in {"naive": lambda: f"{date()}T{clock()}", "Z": lambda: f"{date()}T{clock()}Z", "mixed": mixed}.items():
+    kinds = {"naive": lambda: f"{date()}T{clock()}", "Z": lambda: f"{date()}T{clock()}Z", "quarter hours": quarters, "mixed": mixed}
+    for name, kind in kinds.items():
         yield f"text of a date-time, {name}", [speedate.date_time(it) for it in drawn(kind)], [text, datetime.datetime.isoformat, None, None]
     yield "text of a date", [speedate.date(it) for it in drawn(date)], [text, datetime.date.isoformat, None, None]
-    yield "text of a time", [speedate.time(it) for it in drawn(clock)], [text, datetime.time.isoformat, None, None]
+    for name, kind in {"naive": clock, "quarter hours": lambda: quarters()[11:]}.items():
+        yield f"text of a time, {name}", [speedate.time(it) for it in drawn(kind)], [text, datetime.time.isoformat, None, None]
     yield "text of a duration", [speedate.duration(it) for it in drawn(duration)], [text, str, None, None]
 
 
