@@ -36,7 +36,7 @@ extern "C" {
 #define SPEEDATE_VERSION 1
 #define SPEEDATE_VERSION_MINOR 0
 
-/* The version and the minor version of the library that is called. They return these numbers, and no code. A library
+/* The version and the minor version of the library that is called. They return the number itself, not a code. A library
  * with another version than this header's, or with a lower minor version, does not fit the header. */
 int speedate_version(void);
 int speedate_version_minor(void);
@@ -101,7 +101,8 @@ enum SpeedateCode {
     SPEEDATE_OUT_OF_RANGE_MINUTE = 24,
     /* The second is over 59. */
     SPEEDATE_OUT_OF_RANGE_SECOND = 25,
-    /* A fraction of a second has more than six digits, which the configuration refuses. */
+    /* A fraction of a second has more than six digits, or more than twelve bytes follow the first `:` in the clock of a
+     * duration, which the configuration refuses. */
     SPEEDATE_SECOND_FRACTION_TOO_LONG = 26,
     /* No digit follows the decimal mark after a second. */
     SPEEDATE_SECOND_FRACTION_MISSING = 27,
@@ -141,8 +142,9 @@ enum SpeedateCode {
 
     /* From 101 on: mistakes of the caller. */
 
-    /* A value that was passed is out of range, such as month 13 or a flag of 2; or a number is not a code, or a text
-     * not a whole number. */
+    /* A value that was passed is out of range, such as month 13 or a flag of 2; or, from speedate_code_name and
+     * speedate_code_documentation, the number is no code; or, from speedate_int_parse, the text is no whole number that
+     * fits 64 bits. */
     SPEEDATE_VALUE_OUT_OF_RANGE = 101,
     /* A field of the configuration is out of range. */
     SPEEDATE_CONFIG_OUT_OF_RANGE = 102,
@@ -187,7 +189,7 @@ static inline const char *speedate_code_string(int code) {
 int speedate_code_name(int code, char *buffer, size_t size, size_t *length);
 
 /* Prints the documentation text of a code: "input is too short" for 1. It fails when speedate_code_name does. The texts
- * of 1 to 40 are the Rust crate's, and may name another cause than the real one, so log the name too. */
+ * of 1 to 40 were written for the Rust crate and can mention the wrong cause, so log the name too. */
 int speedate_code_documentation(int code, char *buffer, size_t size, size_t *length);
 
 /* ---- Configurations ---- */
@@ -281,7 +283,7 @@ typedef struct SpeedateDuration {
 /* ---- Dates ---- */
 
 /* Reads a date, "2020-02-29", or in its place a timestamp, "1582934400", in the unit of the configuration. Every whole
- * number is a timestamp, 20200229 too. A timestamp has to be a midnight. */
+ * number is a timestamp, 20200229 too, and has to be a midnight. speedate_date_parse_rfc3339 refuses timestamps. */
 int speedate_date_parse(const char *text, size_t size, SpeedateConfig config, SpeedateDate *out);
 
 /* Reads a date and no timestamp. */
@@ -371,10 +373,12 @@ int speedate_time_in_timezone(SpeedateTime time, int32_t offset, SpeedateTime *o
 /* ---- Date-times ---- */
 
 /* Reads a date-time, "2020-02-29T12:13:14.5+01:00", or in its place a timestamp, "1582978394.5", in the unit and with
- * the offset of the configuration. Every number is a timestamp, 20200229 too. */
+ * the offset of the configuration, and without one if that has none. Every number is a timestamp, 20200229 too:
+ * speedate_datetime_parse_rfc3339 refuses them. */
 int speedate_datetime_parse(const char *text, size_t size, SpeedateConfig config, SpeedateDateTime *out);
 
-/* Reads the same texts as speedate_datetime_parse, without timestamps. */
+/* Reads the same texts as speedate_datetime_parse, without timestamps. Despite its name it is otherwise as relaxed:
+ * RFC 3339 alone is speedate_datetime_parse_strict. */
 int speedate_datetime_parse_rfc3339(const char *text, size_t size, SpeedateConfig config, SpeedateDateTime *out);
 
 /* Reads the date-times of RFC 3339 and no others, as speedate_time_parse_strict reads times. */
@@ -391,10 +395,13 @@ int speedate_datetime_parse_front(const char *text, size_t size, SpeedateConfig 
  * the date is in range, what speedate_time_check returns for the time. */
 int speedate_datetime_check(SpeedateDateTime value);
 
-/* Prints a date-time: "2020-02-29T12:13:14.500000+01:30". The text reads back as that of a time does. */
+/* Prints a date-time: "2020-02-29T12:13:14.500000+01:30". The text reads back as the date-time
+ * under the condition of speedate_time_to_text. */
 int speedate_datetime_to_text(SpeedateDateTime value, char *buffer, size_t size, size_t *length);
 
-/* Compares date-times as speedate_time_compare does times. What is said there of sorting holds here too. */
+/* Compares date-times as speedate_time_compare does times. What is said there of sorting holds here too. An offset that
+ * is missing is not taken as UTC, as it is by speedate_duration_between and speedate_datetime_timestamp_tz: 12:00
+ * without one comes before 12:30+01:00 of the same day, and the duration from it to that is minus 30 minutes. */
 int speedate_datetime_compare(SpeedateDateTime first, SpeedateDateTime second, int32_t *out);
 
 /* The date-time `microsecond` microseconds after a timestamp in the unit of the configuration, with the offset of the
@@ -442,17 +449,18 @@ int speedate_duration_to_text(SpeedateDuration duration, char *buffer, size_t si
  * zero. */
 int speedate_duration_compare(SpeedateDuration first, SpeedateDuration second, int32_t *out);
 
-/* The whole seconds and the whole milliseconds, both cut toward zero, and the microseconds that the whole seconds
- * leave, each with the sign of the duration. */
+/* The whole seconds of a duration, cut toward zero, with its sign. */
 int speedate_duration_signed_total_seconds(SpeedateDuration duration, int64_t *out);
+/* The whole milliseconds of a duration, cut toward zero, with its sign. */
 int speedate_duration_signed_total_ms(SpeedateDuration duration, int64_t *out);
+/* The microseconds of a duration beyond its whole seconds, with its sign. */
 int speedate_duration_signed_microseconds(SpeedateDuration duration, int32_t *out);
 
 /* The duration with the other sign. */
 int speedate_duration_negate(SpeedateDuration duration, SpeedateDuration *out);
 
-/* The duration from one date-time to another, by their instants. A date-time without an offset is taken to be in UTC.
- * The duration is negative if `later` is the earlier one. */
+/* The duration from one date-time to another, by their instants. A date-time without an offset is taken to be in UTC,
+ * unlike in speedate_datetime_compare. The duration is negative if `later` is the earlier one. */
 int speedate_duration_between(SpeedateDateTime earlier, SpeedateDateTime later, SpeedateDuration *out);
 
 /* Add a duration to a date-time, and subtract one; the offset stays. They fail with SPEEDATE_DATE_TOO_SMALL or

@@ -3,7 +3,8 @@
 // of another type or name, or an option has another value; and a RangeError for a number that an argument cannot be,
 // such as 1.5 days.
 
-/** A day of the Gregorian calendar, carried back to the year 0: `year` 0 to 9999, `month` 1 to 12, `day` 1 to its length. */
+/** A day of the Gregorian calendar, carried back to the year 0: `year` 0 to 9999, `month` 1 to 12, `day` 1 to the length of
+ * the month. */
 export type SpeedateDate = { readonly year: number; readonly month: number; readonly day: number };
 /** A time of day: `hour` 0 to 23, `minute` and `second` 0 to 59, `millisecond` and `microsecond` 0 to 999 each, and
  * `offsetSeconds`, the offset from UTC, -86399 to 86399, positive east of it, or null. */
@@ -13,8 +14,8 @@ export type SpeedateTime = {
 };
 /** A date and a time of day, as a clock at the offset shows them. */
 export type SpeedateDateTime = SpeedateDate & SpeedateTime;
-/** A length of time: up to 999999999 days of 86400 seconds, 86399 `seconds`, and 999 `milliseconds` and `microseconds` each. All
- * have the sign, and zero may be negative: `-PT0S` is no `PT0S`. */
+/** A length of time: up to 999999999 days of 86400 seconds, 86399 `seconds`, and 999 `milliseconds` and `microseconds` each. Each
+ * is 0 or has the sign. Zero may be negative too: `-PT0S` and `PT0S` differ. */
 export type SpeedateDuration = {
   readonly sign: 1 | -1; readonly days: number; readonly seconds: number; readonly milliseconds: number; readonly microseconds: number;
 };
@@ -28,7 +29,7 @@ export class SpeedateError extends RangeError {
   readonly fault: Fault;
   /** The number of the fault in C. */ readonly code: number;
 }
-/** What a `safe` call answers, which throws no SpeedateError. */
+/** The result of a `safe` call, which returns a refusal where another throws it. */
 export type Answer<Value> = { readonly ok: true; readonly value: Value } | Refusal;
 export type Refusal = { readonly ok: false; readonly fault: Fault; readonly code: number; readonly message: string };
 /** The value at the front of a text, and its size in bytes of UTF-8, and in units of a string: 10 of `2020-02-29 rent`. */
@@ -40,14 +41,15 @@ export type TimestampUnit = "infer" | "s" | "ms" | "us";
 /** Timestamps are read too, in this unit: every whole number, 20200229 as well, and of date-times every decimal. A date's has
  * to be a midnight. */
 export type TimestampOptions = { timestamps?: TimestampUnit };
-/** The offset that the value of a timestamp gets, in seconds: 0 for Unix time. It is attached, and shifts nothing. */
+/** The offset that the value of a timestamp gets, in seconds: 0 for Unix time. It is attached, and shifts nothing. Without
+ * it the value has no offset. */
 export type OffsetOptions = { timestampOffset?: number };
 /** What happens to digits past the microsecond: `error`, the default, refuses the text; `truncate` drops them, and rounds a
  * timestamp to the nearest microsecond. An ISO 8601 duration is rounded under both. */
 export type OverflowOptions = { overflow?: "error" | "truncate" };
 /** Only the texts of RFC 3339 are read, without a second 60. */
 export type StrictOptions = OverflowOptions & { strict?: boolean };
-/** Timestamps and the texts of RFC 3339 alone exclude each other. */
+/** `timestamps` and `strict` cannot be combined. */
 export type DateTimeOptions =
   | (StrictOptions & { timestamps?: undefined; timestampOffset?: undefined })
   | (OverflowOptions & Required<TimestampOptions> & OffsetOptions & { strict?: false });
@@ -74,7 +76,7 @@ export const parseDateFront: FrontReader<SpeedateDate, Record<string, never>>;
 export const parseTimeFront: FrontReader<SpeedateTime, OverflowOptions>;
 /** The same of a date-time: `2020-02-29T12:13:14Z` of `2020-02-29T12:13:14Z GET /`. */
 export const parseDateTimeFront: FrontReader<SpeedateDateTime, OverflowOptions>;
-// They answer a fault where the readers above throw it.
+// As above, but a refusal is returned, not thrown.
 export const safeParseDate: Reader<Answer<SpeedateDate>, TimestampOptions>, safeParseTime: Reader<Answer<SpeedateTime>, StrictOptions>;
 export const safeParseDateTime: Reader<Answer<SpeedateDateTime>, DateTimeOptions>;
 export const safeParseDuration: Reader<Answer<SpeedateDuration>, DurationOptions>;
@@ -85,7 +87,7 @@ export const safeParseDateTimeFront: SafeFrontReader<SpeedateDateTime, OverflowO
 /** The date of a timestamp: 1970-01-02 of 86400 seconds. `date_not_exact` where that is no midnight, unless `exact` is false;
  * `date_too_small` or `date_too_large` outside the years 0 to 9999. */
 export function dateFromTimestamp(timestamp: number | bigint, unit: TimestampUnit, options?: { exact?: boolean }): SpeedateDate;
-/** The time so long after midnight: 01:00:00 of 3600 seconds. `time_too_large` from 24 hours on. */
+/** The time that is `timestamp` units after midnight: 01:00:00 of 3600 seconds. `time_too_large` from 24 hours on. */
 export function timeFromTimestamp(timestamp: number | bigint, unit: "s" | "ms" | "us", options?: OffsetOptions): SpeedateTime;
 /** The date-time of a timestamp. `date_too_small` or `date_too_large` outside the years 0 to 9999. */
 export function dateTimeFromTimestamp(timestamp: number | bigint, unit: TimestampUnit, options?: OffsetOptions): SpeedateDateTime;
@@ -99,8 +101,9 @@ export function fromDate(date: Date): SpeedateDateTime;
 /** The one text of a value: `PT1H30M` of 90 minutes. A RangeError where an offset is not whole minutes, since it would read back
  * as another. */
 export function format(value: SpeedateValue): string;
-/** -1 if the first value is the smaller one, 0 if they are equal, otherwise 1. Times and date-times compare by instant if both
- * have an offset, otherwise as clocks show them: sort values that all have one, or that all have none. */
+/** The order of two values, for `sort`: -1 if the first is the smaller one, 0 if they are equal, otherwise 1. Times and
+ * date-times compare by instant if both have an offset, otherwise as clocks show them, unlike in `between`: sort values that
+ * all have one, or that all have none. */
 export function compare<Value extends SpeedateValue>(first: Value, second: Value): -1 | 0 | 1;
 /** The date so many days later. `no_such_date` outside the years 0 to 9999. */
 export function addDays(date: SpeedateDate, days: number): SpeedateDate;
@@ -108,17 +111,19 @@ export function addDays(date: SpeedateDate, days: number): SpeedateDate;
 export function daysSince(date: SpeedateDate, earlier: SpeedateDate): number;
 /** The day of the year, 1 to 366. */
 export function dayOfYear(date: SpeedateDate): number;
-/** The value so long after `start`, at the same offset. `date_not_exact` where a date would move by a part of a day;
+/** The value `duration` after `start`, at the same offset. `date_not_exact` where a date would move by a part of a day;
  * `date_too_small` or `date_too_large` outside the years 0 to 9999. */
 export function after<Start extends SpeedateDate>(start: Start, duration: SpeedateDuration): Start;
-/** The value so long before it. */
+/** The value `duration` before `start`, or the faults of `after`. */
 export function before<Start extends SpeedateDate>(start: Start, duration: SpeedateDuration): Start;
-/** The duration from one value to the other. A date-time without offset is taken to be in UTC. */
+/** The duration from one value to the other. A date-time without offset is taken to be in UTC, unlike in `compare`: 12:00
+ * without one comes before 12:30+01:00 of the same day, and the duration from it to that is minus 30 minutes. */
 export function between<Value extends SpeedateDate>(earlier: Value, later: Value): SpeedateDuration;
 /** The duration with the other sign. */
 export function negate(duration: SpeedateDuration): SpeedateDuration;
 /** The whole seconds of a duration, with its sign: -90 of `-PT1M30.5S`. */
 export function totalSeconds(duration: SpeedateDuration): number;
 /** The value at the same instant, as a clock at another offset shows it. `out_of_range_tz` from 24 hours on; `tz_required` without
- * an offset; `time_too_large` if a time would fall on another day; `date_too_small` or `date_too_large` as above. */
+ * an offset; `time_too_large` if a time would fall on another day; `date_too_small` or `date_too_large` if a date-time
+ * would fall outside the years 0 to 9999. */
 export function inTimezone<Value extends SpeedateTime>(value: Value, offsetSeconds: number): Value;

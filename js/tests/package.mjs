@@ -106,7 +106,7 @@ assert.ok(held() < atFirst + 200, `${atFirst} megabytes at first, and ${held()} 
 // ---- The documents of the package: each link leads to a place in one of them ----
 
 const documentOf = (name) => readFileSync(`node_modules/speedate/${name || "README.md"}`, "utf8");
-const places = (text) => [...text.matchAll(/^#+ (.*)$/gm)].map((it) => it[1].toLowerCase().replace(/[^\w ]/g, "").replaceAll(" ", "-"));
+const places = (text) => [...text.matchAll(/^#+ (.*)$/gm)].map((it) => it[1].toLowerCase().replace(/[^\w -]/g, "").replaceAll(" ", "-"));
 for (const name of ["README.md", "GRAMMAR.md"])
   for (const [, file, place] of documentOf(name).matchAll(/\]\(([^)#]*)#?([^)]*)\)/g))
     assert.ok(place === "" ? documentOf(file) : places(documentOf(file || name)).includes(place), `${name}: ${file}#${place}`);
