@@ -1,8 +1,9 @@
 """The time of a call of the module beside others: python3 bench/python.py, where the wheel of bin/build_python is installed.
 
-Each row has 1,024 drawn texts, or their values. All calls of a row take turns, and of each the lowest of many rounds counts,
-in nanoseconds for each text; behind it stands its ratio to the standard library's call. Calls of `ciso8601`, `pydantic` and
-`pandas` are there where these are installed. Run it on a quiet machine, more than once, and compare ratios.
+Each row has 1,024 drawn texts, or their values. All calls of a row take turns, and of each the lowest of 300 rounds counts, or
+of as many as the argument says, in nanoseconds for each text. Behind the others stands the ratio to them: below 1 this module
+took less. `ciso8601`, `pydantic` and `pandas` are there where they are installed. Run it on a quiet machine, more than once,
+and compare ratios.
 """
 import datetime
 import itertools
@@ -23,7 +24,7 @@ def installed(name):
         return None
 
 
-ciso8601, numpy, pandas, pydantic = map(installed, ("ciso8601", "numpy", "pandas", "pydantic"))
+ciso8601, pandas, pydantic = map(installed, ("ciso8601", "pandas", "pydantic"))
 
 
 def validator(kind):
@@ -63,7 +64,7 @@ def duration():
 
 
 def refused(read):
-    """A call that fails, and the price of telling so."""
+    """A call that has to fail."""
     def call(text):
         try:
             read(text)
@@ -93,10 +94,12 @@ def read_rows():
 
 def text_rows():
     text = speedate.text
-    for name, kind in {"naive": lambda: f"{date()}T{clock()}", "Z": lambda: f"{date()}T{clock()}Z", "mixed": mixed}.items():
+    kinds = {"naive": lambda: f"{date()}T{clock()}", "Z": lambda: f"{date()}T{clock()}Z", "quarter hours": quarters, "mixed": mixed}
+    for name, kind in kinds.items():
         yield f"text of a date-time, {name}", [speedate.date_time(it) for it in drawn(kind)], [text, datetime.datetime.isoformat, None, None]
     yield "text of a date", [speedate.date(it) for it in drawn(date)], [text, datetime.date.isoformat, None, None]
-    yield "text of a time", [speedate.time(it) for it in drawn(clock)], [text, datetime.time.isoformat, None, None]
+    for name, kind in {"naive": clock, "quarter hours": lambda: quarters()[11:]}.items():
+        yield f"text of a time, {name}", [speedate.time(it) for it in drawn(kind)], [text, datetime.time.isoformat, None, None]
     yield "text of a duration", [speedate.duration(it) for it in drawn(duration)], [text, str, None, None]
 
 
@@ -113,7 +116,7 @@ def times(calls, inputs, rounds):
     return [it / len(inputs) for it in lowest]
 
 
-def show(name, numbers, base):
+def show(name, numbers):
     cells = (f"{it:9.0f} ({numbers[0] / it:4.2f})" if it < float("inf") else " " * 16 for it in numbers[1:])
     print(f"{name:32}{numbers[0]:7.0f}{''.join(cells)}", flush=True)
 
@@ -133,10 +136,10 @@ def column_rows():
 def main():
     print(f"{'':32}{'here':>7}{'datetime':>10}{'ciso8601':>16}{'pydantic':>16}")
     for name, inputs, calls in itertools.chain(read_rows(), text_rows()):
-        show(name, times(calls, inputs, ROUNDS), 1)
+        show(name, times(calls, inputs, ROUNDS))
     print(f"\n{'milliseconds':32}{'lines':>7}{'list':>10}{'pandas':>16}")
     for name, numbers in column_rows():
-        show(name, numbers, 0)
+        show(name, numbers)
 
 
 if __name__ == "__main__":

@@ -145,11 +145,10 @@ def _plain(value):
 
 
 # The extension takes what stands above from this module, so it is loaded only now.
-from . import _speedate
 from ._speedate import (
     _words, date, date_from_timestamp, date_front, date_time, date_time_column, date_time_from_timestamp, date_time_front,
     date_time_strict, duration, text, time, time_from_timestamp, time_front, time_strict)
 
-for _call in vars(_speedate).values():
+for _call in map(globals().get, __all__):
     if isinstance(_call, types.BuiltinFunctionType):
         _call.__module__ = __name__

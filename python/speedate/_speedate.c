@@ -1,7 +1,7 @@
 /* The calls of the module, over the C functions of the library.
  *
- * Objects become the structs of speedate.h, and structs objects. What is read and printed is up to the library, and what
- * is rare is left to __init__.py. All state belongs to the module object, so each interpreter has its own. */
+ * Objects become the structs of speedate.h, and structs objects. What is read and printed is up to the library, and
+ * what is rare is left to __init__.py. All state belongs to the module object, so each interpreter has its own. */
 #define PY_SSIZE_T_CLEAN
 #include <Python.h>
 #include <datetime.h>
@@ -47,10 +47,11 @@ static const struct {
 
 /* ---- Errors ---- */
 
-static int wrong_type(const char *name, const char *kinds, PyObject *value)
-{
+#define type_error(...) (PyErr_Format(PyExc_TypeError, __VA_ARGS__), -1)
+
+static int wrong_type(const char *name, const char *kinds, PyObject *value) {
     PyObject *type = PyObject_GetAttrString((PyObject *)Py_TYPE(value), "__name__");
-    if (type != NULL) {
+    if (type) {
         PyErr_Format(PyExc_TypeError, "%s has to be %s, not %S", name, kinds, type);
         Py_DECREF(type);
     }
@@ -58,37 +59,29 @@ static int wrong_type(const char *name, const char *kinds, PyObject *value)
 }
 
 /* A Fault without a call of its __init__, which would take longer than all the rest. */
-static PyObject *new_fault(const State *state, int code)
-{
-    PyTypeObject *base = (PyTypeObject *)PyExc_ValueError;
-    PyObject *fault;
+static PyObject *new_fault(const State *state, int code) {
     if (code < 1 || code > LAST_FAULT)
         return PyObject_CallFunction(state->held[FAULT], "i", code);
-    fault = base->tp_new((PyTypeObject *)state->held[FAULT], state->held[ARGUMENTS + code], NULL);
-    if (fault != NULL) {
-        ((PyBaseExceptionObject *)fault)->dict = PyDict_Copy(state->held[ATTRIBUTES + code]);
-        if (((PyBaseExceptionObject *)fault)->dict == NULL)
-            Py_CLEAR(fault);
-    }
+    PyTypeObject *type = (PyTypeObject *)state->held[FAULT], *base = (PyTypeObject *)PyExc_ValueError;
+    PyObject *fault = base->tp_new(type, state->held[ARGUMENTS + code], NULL);
+    if (fault && !(((PyBaseExceptionObject *)fault)->dict = PyDict_Copy(state->held[ATTRIBUTES + code])))
+        Py_CLEAR(fault);
     return fault;
 }
 
-static PyObject *raise_error(PyObject *error)
-{
-    if (error != NULL) {
+static PyObject *raise_error(PyObject *error) {
+    if (error) {
         PyErr_SetObject((PyObject *)Py_TYPE(error), error);
         Py_DECREF(error);
     }
     return NULL;
 }
 
-static PyObject *raise_fault(const State *state, int code)
-{
+static PyObject *raise_fault(const State *state, int code) {
     return raise_error(new_fault(state, code));
 }
 
-static PyObject *raise_unrepresentable(const State *state, const char *name)
-{
+static PyObject *raise_unrepresentable(const State *state, const char *name) {
     return raise_error(PyObject_CallFunction(state->held[UNREPRESENTABLE], "s", name));
 }
 
@@ -101,11 +94,10 @@ typedef union {
     SpeedateDuration duration;
 } Value;
 
-static PyObject *new_zone(const State *state, int offset)
-{
+static PyObject *new_zone(const State *state, int offset) {
     PyDateTime_CAPI *api = state->datetime;
     PyObject *zone = NULL, *size = api->Delta_FromDelta(0, offset, 0, 1, api->DeltaType);
-    if (size != NULL) {
+    if (size) {
         zone = api->TimeZone_FromTimeZone(size, NULL);
         Py_DECREF(size);
     }
@@ -113,8 +105,7 @@ static PyObject *new_zone(const State *state, int offset)
 }
 
 /* The zone of a time: a new reference. */
-static inline PyObject *zone_of(const State *state, const SpeedateTime *time)
-{
+static inline PyObject *zone_of(const State *state, const SpeedateTime *time) {
     PyObject *zone = Py_None;
     if (time->has_offset && time->offset % QUARTER != 0)
         return new_zone(state, time->offset);
@@ -124,51 +115,46 @@ static inline PyObject *zone_of(const State *state, const SpeedateTime *time)
     return zone;
 }
 
-static PyObject *make_date(const State *state, const Value *value)
-{
+static PyObject *make_date(const State *state, const Value *value) {
     SpeedateDate it = value->date;
     if (it.year == 0)
         return raise_unrepresentable(state, "year_zero");
     return state->datetime->Date_FromDate(it.year, it.month, it.day, state->datetime->DateType);
 }
 
-static PyObject *make_time(const State *state, const Value *value)
-{
+static PyObject *make_time(const State *state, const Value *value) {
     PyDateTime_CAPI *api = state->datetime;
     SpeedateTime it = value->time;
     PyObject *made = NULL, *zone = zone_of(state, &it);
-    if (zone != NULL) {
+    if (zone) {
         made = api->Time_FromTime(it.hour, it.minute, it.second, (int)it.microsecond, zone, api->TimeType);
         Py_DECREF(zone);
     }
     return made;
 }
 
-static PyObject *make_date_time(const State *state, const Value *value)
-{
+static PyObject *make_date_time(const State *state, const Value *value) {
     PyDateTime_CAPI *api = state->datetime;
     SpeedateDate day = value->date_time.date;
     SpeedateTime it = value->date_time.time;
-    PyObject *made, *zone;
     if (day.year == 0)
         return raise_unrepresentable(state, "year_zero");
-    zone = zone_of(state, &it);
-    if (zone == NULL)
+    PyObject *zone = zone_of(state, &it);
+    if (!zone)
         return NULL;
-    made = api->DateTime_FromDateAndTime(day.year, day.month, day.day, it.hour, it.minute, it.second,
-                                         (int)it.microsecond, zone, api->DateTimeType);
+    PyObject *made = api->DateTime_FromDateAndTime(day.year, day.month, day.day, it.hour, it.minute, it.second,
+                                                   (int)it.microsecond, zone, api->DateTimeType);
     Py_DECREF(zone);
     return made;
 }
 
-static PyObject *make_duration(const State *state, const Value *value)
-{
+static PyObject *make_duration(const State *state, const Value *value) {
     PyDateTime_CAPI *api = state->datetime;
     SpeedateDuration it = value->duration;
     int sign = it.negative ? -1 : 1;
     PyObject *made = api->Delta_FromDelta(sign * (int)it.day, sign * (int)it.second, sign * (int)it.microsecond, 1,
                                           api->DeltaType);
-    if (made == NULL && PyErr_ExceptionMatches(PyExc_OverflowError)) {
+    if (!made && PyErr_ExceptionMatches(PyExc_OverflowError)) {
         PyErr_Clear();
         return raise_unrepresentable(state, "duration_too_small");
     }
@@ -187,41 +173,32 @@ typedef struct {
 /* What a call gets: the arguments by position, then those of the keywords. */
 #define GIVEN PyObject *module, PyObject *const *arguments, Py_ssize_t count, PyObject *keywords
 
-static int bind_keyword(const Signature *signature, PyObject *keyword, PyObject *argument, PyObject **bound)
-{
-    for (int i = 0; signature->parameters[i] != NULL; i++) {
+static int bind_keyword(const Signature *signature, PyObject *keyword, PyObject *argument, PyObject **bound) {
+    for (int i = 0; signature->parameters[i]; i++) {
         if (PyUnicode_CompareWithASCIIString(keyword, signature->parameters[i]) != 0)
             continue;
-        if (bound[i] != NULL) {
-            PyErr_Format(PyExc_TypeError, "%s() got multiple values for argument '%U'", signature->name, keyword);
-            return -1;
-        }
+        if (bound[i])
+            return type_error("%s() got multiple values for argument '%U'", signature->name, keyword);
         bound[i] = argument;
         return 0;
     }
-    PyErr_Format(PyExc_TypeError, "%s() got an unexpected keyword argument '%U'", signature->name, keyword);
-    return -1;
+    return type_error("%s() got an unexpected keyword argument '%U'", signature->name, keyword);
 }
 
 /* Puts each argument at the place of its parameter, and NULL where there is none. */
 static inline int bind(const Signature *signature, PyObject *const *arguments, Py_ssize_t count, PyObject *keywords,
-                       PyObject **bound)
-{
-    for (Py_ssize_t i = 0; signature->parameters[i] != NULL; i++)
+                       PyObject **bound) {
+    for (Py_ssize_t i = 0; signature->parameters[i]; i++)
         bound[i] = i < count && i < signature->positional ? arguments[i] : NULL;
-    for (Py_ssize_t i = 0; keywords != NULL && i < PyTuple_GET_SIZE(keywords); i++)
+    for (Py_ssize_t i = 0; keywords && i < PyTuple_GET_SIZE(keywords); i++)
         if (bind_keyword(signature, PyTuple_GET_ITEM(keywords, i), arguments[count + i], bound) < 0)
             return -1;
-    if (count > signature->positional) {
-        PyErr_Format(PyExc_TypeError, "%s() takes at most %zd positional arguments but %zd were given", signature->name,
-                     signature->positional, count);
-        return -1;
-    }
-    if (bound[0] == NULL) {
-        PyErr_Format(PyExc_TypeError, "%s() missing 1 required positional argument: '%s'", signature->name,
-                     signature->parameters[0]);
-        return -1;
-    }
+    if (count > signature->positional)
+        return type_error("%s() takes at most %zd positional arguments but %zd were given", signature->name,
+                          signature->positional, count);
+    if (!bound[0])
+        return type_error("%s() missing 1 required positional argument: '%s'", signature->name,
+                          signature->parameters[0]);
     return 0;
 }
 
@@ -232,80 +209,71 @@ typedef struct {
     PyObject *owner;
 } Text;
 
-static int take_owned(PyObject *owner, const char *bytes, Py_ssize_t size, Text *text)
-{
+static inline int give_bytes(const char *bytes, Py_ssize_t size, PyObject *owner, Text *text) {
     *text = (Text){bytes, (size_t)size, owner};
     return 0;
 }
 
-/* Takes the bytes that an object has. What may be written is copied, as is what has gaps: another thread could write it
- * while it is read. */
-static int take_buffer(PyObject *object, Text *text)
-{
-    PyObject *copy, *view = PyMemoryView_FromObject(object);
-    const Py_buffer *buffer;
-    if (view == NULL)
+/* Gives the bytes of an object of bytes that has just been made, or not. */
+static int give_made(PyObject *made, Text *text) {
+    return !made ? -1 : give_bytes(PyBytes_AS_STRING(made), PyBytes_GET_SIZE(made), made, text);
+}
+
+/* Takes the bytes that an object has. What has gaps is copied, and what may be written: other programs may share it, and
+ * write it while it is read. */
+static int take_buffer(PyObject *object, Text *text) {
+    PyObject *view = PyMemoryView_FromObject(object);
+    if (!view)
         return -1;
-    buffer = PyMemoryView_GET_BUFFER(view);
-    if (strcmp(buffer->format, "B") != 0) {
-        PyErr_Format(PyExc_TypeError, "text has to be a memoryview of bytes, not of format %s", buffer->format);
-        Py_DECREF(view);
-        return -1;
-    }
-    if (buffer->readonly && PyBuffer_IsContiguous(buffer, 'C'))
-        return take_owned(view, buffer->buf, buffer->len, text);
-    copy = PyObject_CallMethod(view, "tobytes", NULL);
+    const Py_buffer *buffer = PyMemoryView_GET_BUFFER(view);
+    bool bytes = strcmp(buffer->format, "B") == 0;
+    if (bytes && buffer->readonly && PyBuffer_IsContiguous(buffer, 'C'))
+        return give_bytes(buffer->buf, buffer->len, view, text);
+    int status = bytes ? give_made(PyObject_CallMethod(view, "tobytes", NULL), text)
+                       : type_error("text has to be a memoryview of bytes, not of format %s", buffer->format);
     Py_DECREF(view);
-    return copy == NULL ? -1 : take_owned(copy, PyBytes_AS_STRING(copy), PyBytes_GET_SIZE(copy), text);
+    return status;
 }
 
 /* No method is called that a subclass may have. */
-static int take_other_text(PyObject *object, Text *text)
-{
-    PyObject *encoded;
-    if (PyUnicode_Check(object)) {
-        encoded = PyUnicode_AsEncodedString(object, "utf-8", "surrogatepass");
-        return encoded == NULL ? -1 : take_owned(encoded, PyBytes_AS_STRING(encoded), PyBytes_GET_SIZE(encoded), text);
-    }
+static int take_other_text(PyObject *object, Text *text) {
+    if (PyUnicode_Check(object))
+        return give_made(PyUnicode_AsEncodedString(object, "utf-8", "surrogatepass"), text);
     if (PyBytes_Check(object) || PyByteArray_Check(object) || PyMemoryView_Check(object))
         return take_buffer(object, text);
     return wrong_type("text", "str or bytes or bytearray or memoryview", object);
 }
 
-static inline int take_text(PyObject *object, Text *text)
-{
+static inline int take_text(PyObject *object, Text *text) {
     if (PyUnicode_CheckExact(object) && PyUnicode_IS_COMPACT_ASCII(object))
-        return take_owned(NULL, (const char *)PyUnicode_1BYTE_DATA(object), PyUnicode_GET_LENGTH(object), text);
+        return give_bytes((const char *)PyUnicode_1BYTE_DATA(object), PyUnicode_GET_LENGTH(object), NULL, text);
     if (PyBytes_CheckExact(object))
-        return take_owned(NULL, PyBytes_AS_STRING(object), PyBytes_GET_SIZE(object), text);
+        return give_bytes(PyBytes_AS_STRING(object), PyBytes_GET_SIZE(object), NULL, text);
     return take_other_text(object, text);
 }
 
-/* What is optional keeps its value where there is no argument. */
+/* The functions below leave *out as it is where there is no argument. */
 
-/* A plain integer in its range is taken here, and what else there is by the module. */
-static int take_integer(const State *state, const char *name, PyObject *value, int64_t low, int64_t high, int64_t *out)
-{
+/* Takes an integer. One in its range is taken here, and what else there is by the function of the package. */
+static int take_integer(const State *state, const char *name, PyObject *value, int64_t low, int64_t high, int64_t *out) {
     int overflow = 0;
-    PyObject *number;
-    if (value == NULL)
+    if (!value)
         return 0;
     if (PyLong_CheckExact(value)) {
         *out = PyLong_AsLongLongAndOverflow(value, &overflow);
         if (!overflow && low <= *out && *out <= high)
             return 0;
     }
-    number = PyObject_CallFunction(state->held[INTEGER], "sOLL", name, value, (long long)low, (long long)high);
-    if (number == NULL)
+    PyObject *number = PyObject_CallFunction(state->held[INTEGER], "sOLL", name, value, (long long)low, (long long)high);
+    if (!number)
         return -1;
     *out = PyLong_AsLongLong(number);
     Py_DECREF(number);
     return *out == -1 && PyErr_Occurred() ? -1 : 0;
 }
 
-static int take_flag(const char *name, PyObject *value, bool *out)
-{
-    if (value == NULL)
+static int take_flag(const char *name, PyObject *value, bool *out) {
+    if (!value)
         return 0;
     if (!PyBool_Check(value))
         return wrong_type(name, "bool", value);
@@ -313,15 +281,13 @@ static int take_flag(const char *name, PyObject *value, bool *out)
     return 0;
 }
 
-/* Whether a choice is the second of two. */
+/* Takes whether a choice is the second of two. */
 static int take_choice(const State *state, const char *name, PyObject *value, const char *first, const char *second,
-                       bool *out)
-{
-    PyObject *place;
-    if (value == NULL)
+                       bool *out) {
+    if (!value)
         return 0;
-    place = PyObject_CallFunction(state->held[CHOICE], "sOss", name, value, first, second);
-    if (place == NULL)
+    PyObject *place = PyObject_CallFunction(state->held[CHOICE], "sOss", name, value, first, second);
+    if (!place)
         return -1;
     *out = PyObject_IsTrue(place) == 1;
     Py_DECREF(place);
@@ -331,34 +297,32 @@ static int take_choice(const State *state, const char *name, PyObject *value, co
 /* Which fields of timestamps a call reads. */
 enum { READS_NONE, READS_OFFSET, READS_ALL };
 
-static int take_config(const State *state, PyObject *config, int reads, SpeedateConfig *out)
-{
-    const char *unread = NULL;
-    PyObject *numbers;
-    memset(out, 0, sizeof *out);
-    if (config == NULL || config == Py_None)
+/* Takes the struct that a Config carries as bytes. */
+static int take_numbers(const State *state, PyObject *config, SpeedateConfig *out) {
+    PyObject *numbers = PyObject_GetAttr(config, state->held[NUMBERS]);
+    if (!numbers)
+        return -1;
+    bool whole = PyBytes_CheckExact(numbers) && PyBytes_GET_SIZE(numbers) == sizeof *out;
+    if (whole)
+        memcpy(out, PyBytes_AS_STRING(numbers), sizeof *out);
+    Py_DECREF(numbers);
+    return whole ? 0 : type_error("config is not as Config made it");
+}
+
+static int take_config(const State *state, PyObject *config, int reads, SpeedateConfig *out) {
+    *out = (SpeedateConfig)SPEEDATE_CONFIG_DEFAULT;
+    if (!config || config == Py_None)
         return 0;
     if (Py_TYPE(config) != (PyTypeObject *)state->held[CONFIG])
         return wrong_type("config", "Config", config);
-    numbers = PyObject_GetAttr(config, state->held[NUMBERS]);
-    if (numbers == NULL)
+    if (take_numbers(state, config, out) < 0)
         return -1;
-    if (!PyBytes_CheckExact(numbers) || PyBytes_GET_SIZE(numbers) != sizeof *out) {
-        Py_DECREF(numbers);
-        PyErr_SetString(PyExc_TypeError, "config is not as Config made it");
-        return -1;
-    }
-    memcpy(out, PyBytes_AS_STRING(numbers), sizeof *out);
-    Py_DECREF(numbers);
-    if (out->has_timestamp_offset && reads < READS_OFFSET)
-        unread = "timestamp_offset";
-    if (out->timestamp_unit != SPEEDATE_UNIT_INFER && reads < READS_ALL)
-        unread = "timestamp_unit";
-    if (unread == NULL)
-        return 0;
-    PyErr_Format(PyExc_TypeError,
-                 "config has a %s, which is not read here: date and date_time do with timestamps=True", unread);
-    return -1;
+    const char *unread = out->timestamp_unit != SPEEDATE_UNIT_INFER && reads < READS_ALL ? "timestamp_unit"
+                         : out->has_timestamp_offset && reads < READS_OFFSET             ? "timestamp_offset"
+                                                                                         : NULL;
+    return !unread ? 0
+                   : type_error("config has a %s, which is not read here: date and date_time do with timestamps=True",
+                                unread);
 }
 
 /* ---- Reading ---- */
@@ -366,8 +330,7 @@ static int take_config(const State *state, PyObject *config, int reads, Speedate
 typedef int Parse(const Text *text, SpeedateConfig config, Value *out, size_t *taken);
 
 #define PARSE(name, call) \
-    static int name(const Text *text, SpeedateConfig config, Value *out, size_t *taken) \
-    { \
+    static int name(const Text *text, SpeedateConfig config, Value *out, size_t *taken) { \
         (void)config, (void)taken; \
         return call; \
     }
@@ -390,27 +353,21 @@ typedef struct {
     Parse *parse, *parse_timestamp; /* the second with timestamps=True */
 } Reader;
 
-static inline PyObject *read_text(const Reader *reader, GIVEN)
-{
+static inline PyObject *read_text(const Reader *reader, GIVEN) {
     const State *state = PyModule_GetState(module);
-    PyObject *bound[3], *made;
+    PyObject *bound[3], *made = NULL;
     bool timestamps = false;
-    Parse *parse = reader->parse;
     SpeedateConfig config;
     Text text;
     Value value;
-    int code;
     if (bind(&reader->signature, arguments, count, keywords, bound) < 0)
         return NULL;
-    if (reader->parse_timestamp != NULL && take_flag("timestamps", bound[2], &timestamps) < 0)
+    if (reader->parse_timestamp && take_flag("timestamps", bound[2], &timestamps) < 0)
         return NULL;
-    if (timestamps)
-        parse = reader->parse_timestamp;
     if (take_text(bound[0], &text) < 0)
         return NULL;
-    made = NULL;
     if (take_config(state, bound[1], timestamps ? READS_ALL : READS_NONE, &config) == 0) {
-        code = parse(&text, config, &value, NULL);
+        int code = (timestamps ? reader->parse_timestamp : reader->parse)(&text, config, &value, NULL);
         made = code == SPEEDATE_OK ? reader->make(state, &value) : raise_fault(state, code);
     }
     Py_XDECREF(text.owner);
@@ -418,8 +375,7 @@ static inline PyObject *read_text(const Reader *reader, GIVEN)
 }
 
 /* How much of a text a size in bytes is: of a str in characters, which begin with any byte but 10xxxxxx. */
-static Py_ssize_t size_in(PyObject *object, const Text *text, size_t taken)
-{
+static Py_ssize_t size_in(PyObject *object, const Text *text, size_t taken) {
     Py_ssize_t size = 0;
     if (!PyUnicode_Check(object))
         return (Py_ssize_t)taken;
@@ -428,33 +384,28 @@ static Py_ssize_t size_in(PyObject *object, const Text *text, size_t taken)
     return size;
 }
 
-static PyObject *with_size(PyObject *made, Py_ssize_t size)
-{
-    PyObject *pair, *number;
-    if (made == NULL)
+static PyObject *with_size(PyObject *made, Py_ssize_t size) {
+    if (!made)
         return NULL;
-    number = PyLong_FromSsize_t(size);
-    pair = number == NULL ? NULL : PyTuple_Pack(2, made, number);
+    PyObject *number = PyLong_FromSsize_t(size), *pair = number ? PyTuple_Pack(2, made, number) : NULL;
     Py_XDECREF(number);
     Py_DECREF(made);
     return pair;
 }
 
-static inline PyObject *read_front(const Reader *reader, GIVEN)
-{
+static inline PyObject *read_front(const Reader *reader, GIVEN) {
     const State *state = PyModule_GetState(module);
-    PyObject *bound[2] = {NULL}, *pair;
+    PyObject *bound[2] = {NULL};
     SpeedateConfig config;
     Text text;
     Value value;
     size_t taken;
-    int code;
     if (bind(&reader->signature, arguments, count, keywords, bound) < 0 ||
         take_config(state, bound[1], READS_NONE, &config) < 0 || take_text(bound[0], &text) < 0)
         return NULL;
-    code = reader->parse(&text, config, &value, &taken);
-    pair = code == SPEEDATE_OK ? with_size(reader->make(state, &value), size_in(bound[0], &text, taken))
-                               : raise_fault(state, code);
+    int code = reader->parse(&text, config, &value, &taken);
+    PyObject *pair = code == SPEEDATE_OK ? with_size(reader->make(state, &value), size_in(bound[0], &text, taken))
+                                         : raise_fault(state, code);
     Py_XDECREF(text.owner);
     return pair;
 }
@@ -475,8 +426,7 @@ static const Reader date_time_front_reader = {
     {"date_time_front", {"text", "config"}, 2}, make_date_time, parse_date_time_front, NULL};
 
 #define CALL(name, read) \
-    static PyObject *call_##name(GIVEN) \
-    { \
+    static PyObject *call_##name(GIVEN) { \
         return read(&name##_reader, module, arguments, count, keywords); \
     }
 CALL(date, read_text)
@@ -491,8 +441,7 @@ CALL(date_time_front, read_front)
 
 /* ---- Timestamps ---- */
 
-static PyObject *call_date_from_timestamp(GIVEN)
-{
+static PyObject *call_date_from_timestamp(GIVEN) {
     static const Signature signature = {"date_from_timestamp", {"timestamp", "config", "exact"}, 2};
     const State *state = PyModule_GetState(module);
     PyObject *bound[3];
@@ -500,48 +449,43 @@ static PyObject *call_date_from_timestamp(GIVEN)
     bool exact = true;
     SpeedateConfig config;
     Value value;
-    int code;
     if (bind(&signature, arguments, count, keywords, bound) < 0 ||
         take_integer(state, "timestamp", bound[0], INT64_MIN, INT64_MAX, &timestamp) < 0 ||
         take_flag("exact", bound[2], &exact) < 0 || take_config(state, bound[1], READS_ALL, &config) < 0)
         return NULL;
-    code = speedate_date_from_timestamp(timestamp, exact, config, &value.date);
+    int code = speedate_date_from_timestamp(timestamp, exact, config, &value.date);
     return code == SPEEDATE_OK ? make_date(state, &value) : raise_fault(state, code);
 }
 
-static PyObject *call_time_from_timestamp(GIVEN)
-{
+static PyObject *call_time_from_timestamp(GIVEN) {
     static const Signature signature = {"time_from_timestamp", {"second", "microsecond", "config"}, 3};
     const State *state = PyModule_GetState(module);
     PyObject *bound[3];
     int64_t second, microsecond = 0;
     SpeedateConfig config;
     Value value;
-    int code;
     if (bind(&signature, arguments, count, keywords, bound) < 0 ||
         take_integer(state, "second", bound[0], 0, UINT32_MAX, &second) < 0 ||
         take_integer(state, "microsecond", bound[1], 0, UINT32_MAX, &microsecond) < 0 ||
         take_config(state, bound[2], READS_OFFSET, &config) < 0)
         return NULL;
-    code = speedate_time_from_timestamp((uint32_t)second, (uint32_t)microsecond, config, &value.time);
+    int code = speedate_time_from_timestamp((uint32_t)second, (uint32_t)microsecond, config, &value.time);
     return code == SPEEDATE_OK ? make_time(state, &value) : raise_fault(state, code);
 }
 
-static PyObject *call_date_time_from_timestamp(GIVEN)
-{
+static PyObject *call_date_time_from_timestamp(GIVEN) {
     static const Signature signature = {"date_time_from_timestamp", {"timestamp", "microsecond", "config"}, 3};
     const State *state = PyModule_GetState(module);
     PyObject *bound[3];
     int64_t timestamp, microsecond = 0;
     SpeedateConfig config;
     Value value;
-    int code;
     if (bind(&signature, arguments, count, keywords, bound) < 0 ||
         take_integer(state, "timestamp", bound[0], INT64_MIN, INT64_MAX, &timestamp) < 0 ||
         take_integer(state, "microsecond", bound[1], 0, UINT32_MAX, &microsecond) < 0 ||
         take_config(state, bound[2], READS_ALL, &config) < 0)
         return NULL;
-    code = speedate_datetime_from_timestamp(timestamp, (uint32_t)microsecond, config, &value.date_time);
+    int code = speedate_datetime_from_timestamp(timestamp, (uint32_t)microsecond, config, &value.date_time);
     return code == SPEEDATE_OK ? make_date_time(state, &value) : raise_fault(state, code);
 }
 
@@ -560,13 +504,10 @@ typedef struct {
     bool naive_is_utc, faults_are_nat;
 } Column;
 
-static int add_number(Column *column, int64_t number)
-{
+static int add_number(Column *column, int64_t number) {
     if (column->count == column->room) {
-        if (column->room > PY_SSIZE_T_MAX / 2 / (Py_ssize_t)sizeof number) {
-            PyErr_NoMemory();
-            return -1;
-        }
+        if (column->room > PY_SSIZE_T_MAX / 2 / (Py_ssize_t)sizeof number)
+            return PyErr_NoMemory(), -1;
         if (_PyBytes_Resize(&column->bytes, column->room * 2 * (Py_ssize_t)sizeof number) < 0)
             return -1;
         column->room *= 2;
@@ -575,10 +516,9 @@ static int add_number(Column *column, int64_t number)
     return 0;
 }
 
-static int raise_in_column(const Column *column, int code)
-{
+static int raise_in_column(const Column *column, int code) {
     PyObject *fault = new_fault(column->state, code), *index = PyLong_FromSsize_t(column->count);
-    if (fault != NULL && index != NULL && PyObject_SetAttr(fault, column->state->held[INDEX], index) == 0) {
+    if (fault && index && PyObject_SetAttr(fault, column->state->held[INDEX], index) == 0) {
         Py_INCREF(fault);
         raise_error(fault);
     }
@@ -587,8 +527,7 @@ static int raise_in_column(const Column *column, int code)
     return -1;
 }
 
-static inline int add_text(Column *column, const Text *text)
-{
+static inline int add_text(Column *column, const Text *text) {
     Value value;
     int64_t second;
     int code = column->parse(text, column->config, &value, NULL);
@@ -596,6 +535,7 @@ static inline int add_text(Column *column, const Text *text)
         code = SPEEDATE_TZ_REQUIRED;
     if (code == SPEEDATE_OK)
         code = speedate_datetime_timestamp_tz(value.date_time, &second);
+    /* The library counts seconds; the microsecond is the rest, also before 1970. */
     if (code == SPEEDATE_OK)
         return add_number(column, second * MICROSECONDS + value.date_time.time.microsecond);
     if (column->faults_are_nat && code <= LAST_FAULT)
@@ -603,31 +543,25 @@ static inline int add_text(Column *column, const Text *text)
     return raise_in_column(column, code);
 }
 
-static int add_lines(Column *column, PyObject *lines)
-{
+static int add_lines(Column *column, PyObject *lines) {
     Text whole, line = {0};
-    const char *end, *feed;
     int status = 0;
     if (take_text(lines, &whole) < 0)
         return -1;
-    end = whole.bytes + whole.size;
-    for (const char *at = whole.bytes; at < end && status == 0; at = feed + 1) {
-        feed = memchr(at, '\n', (size_t)(end - at));
-        if (feed == NULL)
-            feed = end;
-        line.bytes = at;
-        line.size = (size_t)(feed - at);
+    for (size_t at = 0; at < whole.size && status == 0; at += line.size + 1) {
+        line.bytes = whole.bytes + at;
+        const char *feed = memchr(line.bytes, '\n', whole.size - at);
+        line.size = feed ? (size_t)(feed - line.bytes) : whole.size - at;
         status = add_text(column, &line);
     }
     Py_XDECREF(whole.owner);
     return status;
 }
 
-static int add_items(Column *column, PyObject *items)
-{
+static int add_items(Column *column, PyObject *items) {
     PyObject *item, *iterator = PyObject_GetIter(items);
     int status = 0;
-    if (iterator == NULL)
+    if (!iterator)
         return -1;
     while (status == 0 && (item = PyIter_Next(iterator)) != NULL) {
         Text text;
@@ -642,8 +576,7 @@ static int add_items(Column *column, PyObject *items)
     return status < 0 || PyErr_Occurred() ? -1 : 0;
 }
 
-static int add_texts(Column *column, PyObject *texts)
-{
+static int add_texts(Column *column, PyObject *texts) {
     if (PyBytes_Check(texts) || PyByteArray_Check(texts) || PyMemoryView_Check(texts))
         return add_lines(column, texts);
     if (PyUnicode_Check(texts))
@@ -651,20 +584,18 @@ static int add_texts(Column *column, PyObject *texts)
     return add_items(column, texts);
 }
 
-static PyObject *column_of(Column *column, PyObject *texts)
-{
+static PyObject *column_of(Column *column, PyObject *texts) {
     PyObject *made = NULL;
     column->room = 64;
     column->bytes = PyBytes_FromStringAndSize(NULL, column->room * (Py_ssize_t)sizeof(int64_t));
-    if (column->bytes != NULL && add_texts(column, texts) == 0 &&
+    if (column->bytes && add_texts(column, texts) == 0 &&
         _PyBytes_Resize(&column->bytes, column->count * (Py_ssize_t)sizeof(int64_t)) == 0)
         made = PyObject_CallFunction(column->state->held[ARRAY], "sO", "q", column->bytes);
     Py_XDECREF(column->bytes);
     return made;
 }
 
-static PyObject *call_date_time_column(GIVEN)
-{
+static PyObject *call_date_time_column(GIVEN) {
     static const Signature signature = {
         "date_time_column", {"texts", "config", "strict", "timestamps", "naive", "faults"}, 2};
     Column column = {.state = PyModule_GetState(module)};
@@ -686,40 +617,48 @@ static PyObject *call_date_time_column(GIVEN)
 
 /* ---- Printing ---- */
 
-/* Room for any text of a value. */
-typedef char Printed[64];
+/* A printed text, and room for any. */
+typedef struct {
+    char bytes[64];
+    size_t length;
+} Printed;
 
-static PyObject *printed(const State *state, int code, const Printed buffer, size_t length)
-{
-    PyObject *text = code == SPEEDATE_OK ? PyUnicode_New((Py_ssize_t)length, 127) : raise_fault(state, code);
-    if (text != NULL)
-        memcpy(PyUnicode_1BYTE_DATA(text), buffer, length);
+static PyObject *text_of(const State *state, int code, const Printed *printed) {
+    PyObject *text = code == SPEEDATE_OK ? PyUnicode_New((Py_ssize_t)printed->length, 127) : raise_fault(state, code);
+    if (text)
+        memcpy(PyUnicode_1BYTE_DATA(text), printed->bytes, printed->length);
     return text;
 }
 
-static int take_size(PyObject *size, SpeedateTime *time)
-{
+#define PRINTED(call, value) \
+    Printed printed; \
+    int code = call(value, printed.bytes, sizeof printed.bytes, &printed.length); \
+    return text_of(state, code, &printed)
+
+static int take_size(PyObject *size, SpeedateTime *time) {
     int seconds = PyDateTime_DELTA_GET_DAYS(size) * 86400 + PyDateTime_DELTA_GET_SECONDS(size);
-    if (seconds % 60 != 0 || PyDateTime_DELTA_GET_MICROSECONDS(size) != 0) {
-        PyErr_Format(PyExc_ValueError, "the offset %S is not whole minutes", size);
-        return -1;
-    }
+    if (seconds % 60 != 0 || PyDateTime_DELTA_GET_MICROSECONDS(size) != 0)
+        return PyErr_Format(PyExc_ValueError, "the offset %S is not whole minutes", size), -1;
     time->has_offset = 1;
     time->offset = seconds;
     return 0;
 }
 
+/* What the zone of a value tells. One of datetime's own has a single offset, which it is asked for without a detour. */
+static PyObject *utcoffset(const State *state, PyObject *value, PyObject *zone) {
+    bool fixed = Py_TYPE(zone) == Py_TYPE(state->datetime->TimeZone_UTC);
+    return PyObject_CallMethodObjArgs(fixed ? zone : value, state->held[UTCOFFSET], fixed ? Py_None : NULL, NULL);
+}
+
 /* Takes the offset of a time or a date-time, which its zone may tell by a call of Python. */
-static int take_offset(const State *state, PyObject *value, PyObject *zone, SpeedateTime *time)
-{
-    PyObject *size;
+static int take_offset(const State *state, PyObject *value, PyObject *zone, SpeedateTime *time) {
     int status = -1;
     time->has_offset = zone == state->datetime->TimeZone_UTC;
     time->offset = 0;
     if (zone == Py_None || time->has_offset)
         return 0;
-    size = PyObject_CallMethodObjArgs(value, state->held[UTCOFFSET], NULL);
-    if (size == NULL)
+    PyObject *size = utcoffset(state, value, zone);
+    if (!size)
         return -1;
     if (size == Py_None)
         PyErr_Format(PyExc_ValueError, "the zone %S has no offset at %S", zone, value);
@@ -729,74 +668,53 @@ static int take_offset(const State *state, PyObject *value, PyObject *zone, Spee
     return status;
 }
 
-static SpeedateDate date_of(PyObject *value)
-{
+static SpeedateDate date_of(PyObject *value) {
     return (SpeedateDate){PyDateTime_GET_YEAR(value), PyDateTime_GET_MONTH(value), PyDateTime_GET_DAY(value)};
 }
 
-static PyObject *print_date(const State *state, PyObject *value)
-{
-    Printed buffer;
-    size_t length = 0;
-    int code = speedate_date_to_text(date_of(value), buffer, sizeof buffer, &length);
-    return printed(state, code, buffer, length);
+static PyObject *print_date(const State *state, PyObject *value) {
+    PRINTED(speedate_date_to_text, date_of(value));
 }
 
-static PyObject *print_time(const State *state, PyObject *value)
-{
+static PyObject *print_time(const State *state, PyObject *value) {
     PyDateTime_Time *it = (PyDateTime_Time *)value;
     SpeedateTime time = {.hour = PyDateTime_TIME_GET_HOUR(it),
                          .minute = PyDateTime_TIME_GET_MINUTE(it),
                          .second = PyDateTime_TIME_GET_SECOND(it),
                          .microsecond = PyDateTime_TIME_GET_MICROSECOND(it)};
-    Printed buffer;
-    size_t length = 0;
-    int code;
     if (take_offset(state, value, it->hastzinfo ? it->tzinfo : Py_None, &time) < 0)
         return NULL;
-    code = speedate_time_to_text(time, buffer, sizeof buffer, &length);
-    return printed(state, code, buffer, length);
+    PRINTED(speedate_time_to_text, time);
 }
 
-static PyObject *print_date_time(const State *state, PyObject *value)
-{
+static PyObject *print_date_time(const State *state, PyObject *value) {
     PyDateTime_DateTime *it = (PyDateTime_DateTime *)value;
     SpeedateDateTime moment = {date_of(value),
                                {.hour = PyDateTime_DATE_GET_HOUR(it),
                                 .minute = PyDateTime_DATE_GET_MINUTE(it),
                                 .second = PyDateTime_DATE_GET_SECOND(it),
                                 .microsecond = PyDateTime_DATE_GET_MICROSECOND(it)}};
-    Printed buffer;
-    size_t length = 0;
-    int code;
     if (take_offset(state, value, it->hastzinfo ? it->tzinfo : Py_None, &moment.time) < 0)
         return NULL;
-    code = speedate_datetime_to_text(moment, buffer, sizeof buffer, &length);
-    return printed(state, code, buffer, length);
+    PRINTED(speedate_datetime_to_text, moment);
 }
 
-static PyObject *print_duration(const State *state, PyObject *value)
-{
+static PyObject *print_duration(const State *state, PyObject *value) {
     SpeedateDuration it = {.negative = PyDateTime_DELTA_GET_DAYS(value) < 0};
     PyObject *size = PyNumber_Absolute(value);
-    Printed buffer;
-    size_t length = 0;
-    int code;
-    if (size == NULL)
+    if (!size)
         return NULL;
     it.day = (uint32_t)PyDateTime_DELTA_GET_DAYS(size);
     it.second = (uint32_t)PyDateTime_DELTA_GET_SECONDS(size);
     it.microsecond = (uint32_t)PyDateTime_DELTA_GET_MICROSECONDS(size);
     Py_DECREF(size);
-    code = speedate_duration_to_text(it, buffer, sizeof buffer, &length);
-    return printed(state, code, buffer, length);
+    PRINTED(speedate_duration_to_text, it);
 }
 
 typedef PyObject *Print(const State *state, PyObject *value);
 
 /* How values of a type are printed, or NULL: those of a subclass may say more. */
-static Print *print_of(const State *state, const PyTypeObject *type)
-{
+static Print *print_of(const State *state, const PyTypeObject *type) {
     const PyDateTime_CAPI *api = state->datetime;
     return type == api->DateTimeType ? print_date_time
            : type == api->DateType   ? print_date
@@ -805,25 +723,22 @@ static Print *print_of(const State *state, const PyTypeObject *type)
                                      : NULL;
 }
 
-static PyObject *call_text(GIVEN)
-{
+static PyObject *call_text(GIVEN) {
     static const Signature signature = {"text", {"value"}, 1};
     const State *state = PyModule_GetState(module);
-    PyObject *bound[1], *plain, *text = NULL;
-    Print *print;
+    PyObject *bound[1], *text = NULL;
     if (bind(&signature, arguments, count, keywords, bound) < 0)
         return NULL;
-    print = print_of(state, Py_TYPE(bound[0]));
-    if (print != NULL)
+    Print *print = print_of(state, Py_TYPE(bound[0]));
+    if (print)
         return print(state, bound[0]);
-    plain = PyObject_CallFunctionObjArgs(state->held[PLAIN], bound[0], NULL);
-    if (plain == NULL)
+    PyObject *plain = PyObject_CallFunctionObjArgs(state->held[PLAIN], bound[0], NULL);
+    if (!plain)
         return NULL;
-    print = print_of(state, Py_TYPE(plain));
-    if (print != NULL)
+    if ((print = print_of(state, Py_TYPE(plain))))
         text = print(state, plain);
     else
-        wrong_type("value", "date, time, date-time or timedelta", plain);
+        wrong_type("value", "datetime or date or time or timedelta", plain);
     Py_DECREF(plain);
     return text;
 }
@@ -831,8 +746,7 @@ static PyObject *call_text(GIVEN)
 /* ---- The module ---- */
 
 /* The name and the documentation of a fault. */
-static PyObject *words_of(const State *state, int code)
-{
+static PyObject *words_of(const State *state, int code) {
     char name[SPEEDATE_CODE_TEXT_SIZE], documentation[SPEEDATE_CODE_TEXT_SIZE];
     size_t length;
     int failed = speedate_code_name(code, name, sizeof name, &length);
@@ -841,29 +755,26 @@ static PyObject *words_of(const State *state, int code)
     return failed == SPEEDATE_OK ? Py_BuildValue("ss", name, documentation) : raise_fault(state, failed);
 }
 
-static PyObject *call_words(PyObject *module, PyObject *code)
-{
+static PyObject *call_words(PyObject *module, PyObject *code) {
     long number = PyLong_AsLong(code);
     if (number == -1 && PyErr_Occurred())
         return NULL;
     return words_of(PyModule_GetState(module), (int)number);
 }
 
-static int hold(State *state, int place, PyObject *object)
-{
+static int hold(State *state, int place, PyObject *object) {
     state->held[place] = object;
-    return object == NULL ? -1 : 0;
+    return !object ? -1 : 0;
 }
 
-static int hold_imports(State *state)
-{
+static int hold_imports(State *state) {
     for (size_t i = 0; i < sizeof imports / sizeof imports[0]; i++) {
         PyObject *module = PyImport_ImportModule(imports[i].module);
-        if (module == NULL)
+        if (!module)
             return -1;
         hold(state, imports[i].place, PyObject_GetAttrString(module, imports[i].name));
         Py_DECREF(module);
-        if (state->held[imports[i].place] == NULL) {
+        if (!state->held[imports[i].place]) {
             /* So it is where datetime is the one that is written in Python. */
             if (PyErr_ExceptionMatches(PyExc_AttributeError))
                 PyErr_Format(PyExc_ImportError, "speedate needs %s.%s", imports[i].module, imports[i].name);
@@ -873,7 +784,7 @@ static int hold_imports(State *state)
     /* The pointer of datetime.h, which stays NULL, would be one for all interpreters. */
     (void)PyDateTimeAPI;
     state->datetime = PyCapsule_GetPointer(state->held[DATETIME], PyDateTime_CAPSULE_NAME);
-    if (state->datetime == NULL)
+    if (!state->datetime)
         return -1;
     if (PyExceptionClass_Check(state->held[FAULT]) &&
         PyType_IsSubtype((PyTypeObject *)state->held[FAULT], (PyTypeObject *)PyExc_ValueError))
@@ -882,11 +793,10 @@ static int hold_imports(State *state)
     return -1;
 }
 
-static int hold_fault(State *state, int code)
-{
+static int hold_fault(State *state, int code) {
     PyObject *words = words_of(state, code);
     int status = -1;
-    if (words == NULL)
+    if (!words)
         return -1;
     if (hold(state, ARGUMENTS + code, PyTuple_GetSlice(words, 0, 1)) == 0)
         status = hold(state, ATTRIBUTES + code,
@@ -896,8 +806,7 @@ static int hold_fault(State *state, int code)
     return status;
 }
 
-static int start(PyObject *module)
-{
+static int start(PyObject *module) {
     State *state = PyModule_GetState(module);
     if (hold_imports(state) < 0 || hold(state, NUMBERS, PyUnicode_InternFromString("_numbers")) < 0 ||
         hold(state, INDEX, PyUnicode_InternFromString("index")) < 0 ||
@@ -912,24 +821,21 @@ static int start(PyObject *module)
     return 0;
 }
 
-static int traverse(PyObject *module, visitproc visit, void *arg)
-{
+static int traverse(PyObject *module, visitproc visit, void *arg) {
     State *state = PyModule_GetState(module);
-    for (int i = 0; state != NULL && i < ALL; i++)
+    for (int i = 0; state && i < ALL; i++)
         Py_VISIT(state->held[i]);
     return 0;
 }
 
-static int clear(PyObject *module)
-{
+static int clear(PyObject *module) {
     State *state = PyModule_GetState(module);
-    for (int i = 0; state != NULL && i < ALL; i++)
+    for (int i = 0; state && i < ALL; i++)
         Py_CLEAR(state->held[i]);
     return 0;
 }
 
-static void release(void *module)
-{
+static void release(void *module) {
     clear(module);
 }
 
@@ -1042,7 +948,6 @@ static struct PyModuleDef definition = {
     .m_free = release,
 };
 
-PyMODINIT_FUNC PyInit__speedate(void)
-{
+PyMODINIT_FUNC PyInit__speedate(void) {
     return PyModuleDef_Init(&definition);
 }

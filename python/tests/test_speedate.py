@@ -11,10 +11,15 @@ import unittest
 
 import speedate
 
-try:
-    import numpy
-except ImportError:
-    numpy = None
+
+def installed(name):
+    try:
+        return importlib.import_module(name)
+    except ImportError:
+        return None
+
+
+numpy, pandas = map(installed, ("numpy", "pandas"))
 
 # An expression, and its value or its error.
 ROWS = r"""
@@ -187,6 +192,15 @@ class Speedate(unittest.TestCase):
         column = speedate.date_time_column(["2020-02-29T12:13:14.5Z", "never", "0000-01-01T00:00Z", "9999-12-31T23:59:59.999999Z"], faults="nat")
         moments = numpy.frombuffer(column, "datetime64[us]")
         self.assertEqual(moments.astype(str).tolist(), ["2020-02-29T12:13:14.500000", "NaT", "0000-01-01T00:00:00.000000", "9999-12-31T23:59:59.999999"])
+
+    @unittest.skipUnless(pandas, "pandas is not installed")
+    def test_pandas(self):
+        texts = ["1677-09-22T00:00Z", "2020-02-29T12:13:14.5+01:00", "2262-04-11T23:47:16Z"]
+        series = pandas.Series(numpy.frombuffer(speedate.date_time_column(texts), "datetime64[us]"))
+        self.assertEqual(series.tolist(), [pandas.Timestamp(it).tz_convert(None) for it in texts])
+        if int(pandas.__version__.partition(".")[0]) < 2:
+            with self.assertRaises(ValueError):
+                pandas.Series(numpy.frombuffer(speedate.date_time_column(["2262-04-12T00:00Z"]), "datetime64[us]"))
 
     def test_beside_datetime(self):
         draw, config, both = random.Random(1), speedate.Config(overflow_behavior="truncate"), 0
