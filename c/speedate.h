@@ -17,7 +17,8 @@
  *   buffer or one another.
  * - No call allocates memory or keeps anything for the next one. Any thread may make any call at any time.
  *
- * docs/GRAMMAR.md lists the texts and their faults; docs/C.md shows how to build the library and to call it.
+ * GRAMMAR.md, which is installed in share/doc/speedate, lists the texts and their faults. Of the repository's documents
+ * it is docs/GRAMMAR.md, and docs/C.md shows how to build the library and to call it.
  */
 #ifndef SPEEDATE_H
 #define SPEEDATE_H

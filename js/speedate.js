@@ -55,6 +55,8 @@ function start() {
     throw new Error(NEEDED, { cause });
   }
   library = kept = new Library(SHORT_SIZES.length);
+  for (const { calls } of ALL_KINDS)
+    for (const [name, inC] of Object.entries(calls)) calls[name] = kept.calls[`speedate_${inC}`];
   address = Object.fromEntries(Object.entries(PLACE).map(([name, place]) => [name, BigInt(kept.start + place)]));
 }
 
@@ -65,23 +67,19 @@ function refusal(code) {
   return (refusals[code] ??= Object.freeze({ ok: false, fault: told("name"), code, message: told("documentation") }));
 }
 
+/** Throws if this is the code of a call that refused. Otherwise it gives the library, where the call has written. */
 function accept(code) {
   if (code !== 0) throw new SpeedateError(refusal(code));
-}
-
-/** The library, if the call that has this code has written its answer there. */
-function written(code) {
-  accept(code);
   return library;
 }
 
-/** The size that a call has written: C's 64 bits, of which a memory needs 32. */
+/** The size that a call has written: of its 64 bits a memory needs 32. */
 const takenOf = ({ view }) => view.getUint32(PLACE.taken, true);
 
 /** The text that a call has printed. */
 function printed(code) {
-  const { bytes } = written(code);
-  return decoder.decode(bytes.subarray(PLACE.buffer, PLACE.buffer + takenOf(library)));
+  const used = accept(code);
+  return decoder.decode(used.bytes.subarray(PLACE.buffer, PLACE.buffer + takenOf(used)));
 }
 
 // ---- Texts, numbers and options ----
@@ -193,8 +191,9 @@ function putConfig(numbers) {
 const millisecondOf = (view, at) => Math.floor(view.getUint32(at + 4, true) / 1000);
 const microsecondOf = (view, at) => view.getUint32(at + 4, true) % 1000;
 const offsetOf = (view, at) => (view.getUint8(at + 3) === 1 ? view.getInt32(at + 8, true) : null);
-/** A number of 64 bits, which stands for no more than 53. */
-const wholeOf = ({ view }) => Number(view.getBigInt64(PLACE.out, true));
+/** The number that a call has written. One of 64 bits is no larger than 53 hold. */
+const int32Of = ({ view }) => view.getInt32(PLACE.out, true);
+const int64Of = ({ view }) => Number(view.getBigInt64(PLACE.out, true));
 /** Microseconds, or a number out of range where one of the two is not 0 to 999. */
 const joined = (milli, micro) => (milli >= 0 && milli < 1000 && micro >= 0 && micro < 1000 ? milli * 1000 + micro : -1);
 
@@ -209,42 +208,37 @@ function sizeOf(number, sign, name) {
   return Math.abs(number);
 }
 
-// Kinds of values: the name in C, the fields, what reads a value out of the memory, what looks at one that was given, at each
-// field once, and what puts that into the memory; then the calls of C. Fields and calls are written out, since loops over
-// fields and computed names take ten times as long.
+// Kinds of values: the name in C, the calls, by their names there until `start` puts the functions into their place, the fields,
+// what reads a value out of the memory, what looks at one that was given, at each field once, and what puts that into the
+// memory. The fields are written out: loops over them take ten times as long.
 const DATE = {
   name: "date",
+  calls: {
+    check: "date_check", print: "date_to_text", compare: "date_compare",
+    addDays: "date_add_days", daysSince: "date_days_since", dayOfYear: "date_ordinal_day",
+    between: "duration_between_dates", after: "duration_after_date", before: "duration_before_date",
+  },
   fields: ["year", "month", "day"],
-  read: ({ view }) =>
-    Object.freeze({
-      year: view.getUint16(PLACE.out, true), month: view.getUint8(PLACE.out + 2), day: view.getUint8(PLACE.out + 3),
-    }),
-  look: (it) => ({
-    kind: DATE,
-    year: integer(it.year, "year"), month: integer(it.month, "month"), day: integer(it.day, "day"),
+  read: ({ view }) => Object.freeze({
+    year: view.getUint16(PLACE.out, true), month: view.getUint8(PLACE.out + 2), day: view.getUint8(PLACE.out + 3),
   }),
+  look: (it) => ({ kind: DATE, year: integer(it.year, "year"), month: integer(it.month, "month"), day: integer(it.day, "day") }),
   put(view, at, { year, month, day }) {
     if (year < 0) accept(CODE.dateTooSmall);
     view.setUint16(at, fitting(year, 0xffff), true);
     view.setUint8(at + 2, fitting(month, 0xff));
     view.setUint8(at + 3, fitting(day, 0xff));
   },
-  check: (it) => library.calls.speedate_date_check(it),
-  print: (it) => library.calls.speedate_date_to_text(it, address.buffer, BUFFER_SIZE, address.taken),
-  compare: (first, second) => library.calls.speedate_date_compare(first, second, address.out),
-  between: (earlier, later) => library.calls.speedate_duration_between_dates(earlier, later, address.out),
-  after: (duration, start) => library.calls.speedate_duration_after_date(duration, start, address.out),
-  before: (duration, start) => library.calls.speedate_duration_before_date(duration, start, address.out),
 };
 const TIME = {
   name: "time",
+  calls: { check: "time_check", print: "time_to_text", compare: "time_compare", inTimezone: "time_in_timezone" },
   fields: ["hour", "minute", "second", "millisecond", "microsecond", "offsetSeconds"],
-  read: ({ view }) =>
-    Object.freeze({
-      hour: view.getUint8(PLACE.out), minute: view.getUint8(PLACE.out + 1), second: view.getUint8(PLACE.out + 2),
-      millisecond: millisecondOf(view, PLACE.out), microsecond: microsecondOf(view, PLACE.out),
-      offsetSeconds: offsetOf(view, PLACE.out),
-    }),
+  read: ({ view }) => Object.freeze({
+    hour: view.getUint8(PLACE.out), minute: view.getUint8(PLACE.out + 1), second: view.getUint8(PLACE.out + 2),
+    millisecond: millisecondOf(view, PLACE.out), microsecond: microsecondOf(view, PLACE.out),
+    offsetSeconds: offsetOf(view, PLACE.out),
+  }),
   look: (it) => ({
     kind: TIME,
     hour: integer(it.hour, "hour"), minute: integer(it.minute, "minute"), second: integer(it.second, "second"),
@@ -259,21 +253,20 @@ const TIME = {
     view.setUint32(at + 4, fitting(joined(millisecond, microsecond), 0xffffffff), true);
     view.setInt32(at + 8, Math.max(-SECONDS_IN_DAY, Math.min(offsetSeconds ?? 0, SECONDS_IN_DAY)), true);
   },
-  check: (it) => library.calls.speedate_time_check(it),
-  print: (it) => library.calls.speedate_time_to_text(it, address.buffer, BUFFER_SIZE, address.taken),
-  compare: (first, second) => library.calls.speedate_time_compare(first, second, address.out),
-  inTimezone: (it, offset) => library.calls.speedate_time_in_timezone(it, offset, address.out),
 };
 const DATE_TIME = {
   name: "datetime",
+  calls: {
+    check: "datetime_check", print: "datetime_to_text", compare: "datetime_compare",
+    between: "duration_between", after: "duration_after", before: "duration_before", inTimezone: "datetime_in_timezone",
+  },
   fields: [...DATE.fields, ...TIME.fields],
-  read: ({ view }) =>
-    Object.freeze({
-      year: view.getUint16(PLACE.out, true), month: view.getUint8(PLACE.out + 2), day: view.getUint8(PLACE.out + 3),
-      hour: view.getUint8(PLACE.out + 4), minute: view.getUint8(PLACE.out + 5), second: view.getUint8(PLACE.out + 6),
-      millisecond: millisecondOf(view, PLACE.out + 4), microsecond: microsecondOf(view, PLACE.out + 4),
-      offsetSeconds: offsetOf(view, PLACE.out + 4),
-    }),
+  read: ({ view }) => Object.freeze({
+    year: view.getUint16(PLACE.out, true), month: view.getUint8(PLACE.out + 2), day: view.getUint8(PLACE.out + 3),
+    hour: view.getUint8(PLACE.out + 4), minute: view.getUint8(PLACE.out + 5), second: view.getUint8(PLACE.out + 6),
+    millisecond: millisecondOf(view, PLACE.out + 4), microsecond: microsecondOf(view, PLACE.out + 4),
+    offsetSeconds: offsetOf(view, PLACE.out + 4),
+  }),
   look: (it) => ({
     kind: DATE_TIME,
     year: integer(it.year, "year"), month: integer(it.month, "month"), day: integer(it.day, "day"),
@@ -285,26 +278,21 @@ const DATE_TIME = {
     DATE.put(view, at, fields);
     TIME.put(view, at + 4, fields);
   },
-  check: (it) => library.calls.speedate_datetime_check(it),
-  print: (it) => library.calls.speedate_datetime_to_text(it, address.buffer, BUFFER_SIZE, address.taken),
-  compare: (first, second) => library.calls.speedate_datetime_compare(first, second, address.out),
-  between: (earlier, later) => library.calls.speedate_duration_between(earlier, later, address.out),
-  after: (duration, start) => library.calls.speedate_duration_after(duration, start, address.out),
-  before: (duration, start) => library.calls.speedate_duration_before(duration, start, address.out),
-  inTimezone: (it, offset) => library.calls.speedate_datetime_in_timezone(it, offset, address.out),
 };
 const DURATION = {
   name: "duration",
+  calls: {
+    check: "duration_check", print: "duration_to_text", compare: "duration_compare",
+    negate: "duration_negate", totalSeconds: "duration_signed_total_seconds",
+  },
   fields: ["sign", "days", "seconds", "milliseconds", "microseconds"],
   read({ view }) {
     const sign = view.getUint32(PLACE.out, true) === 1 ? -1 : 1;
-    return Object.freeze({
-      sign,
-      days: signed(view.getUint32(PLACE.out + 4, true), sign),
-      seconds: signed(view.getUint32(PLACE.out + 8, true), sign),
-      milliseconds: signed(millisecondOf(view, PLACE.out + 8), sign),
-      microseconds: signed(microsecondOf(view, PLACE.out + 8), sign),
-    });
+    const days = signed(view.getUint32(PLACE.out + 4, true), sign);
+    const seconds = signed(view.getUint32(PLACE.out + 8, true), sign);
+    const milliseconds = signed(millisecondOf(view, PLACE.out + 8), sign);
+    const microseconds = signed(microsecondOf(view, PLACE.out + 8), sign);
+    return Object.freeze({ sign, days, seconds, milliseconds, microseconds });
   },
   look: (it) => ({
     kind: DURATION,
@@ -318,22 +306,15 @@ const DURATION = {
     const micro = joined(sizeOf(milliseconds, sign, "milliseconds"), sizeOf(microseconds, sign, "microseconds"));
     view.setUint32(at + 12, fitting(micro, 0xffffffff), true);
   },
-  check: (it) => library.calls.speedate_duration_check(it),
-  print: (it) => library.calls.speedate_duration_to_text(it, address.buffer, BUFFER_SIZE, address.taken),
-  compare: (first, second) => library.calls.speedate_duration_compare(first, second, address.out),
 };
 const ALL_KINDS = [DATE, TIME, DATE_TIME, DURATION];
-const WITH_DATE = [DATE, DATE_TIME];
 
-/** Whether these are the names of a kind's fields, which mostly stand in their order. */
-const areFields = (names, { fields }) =>
-  names.length === fields.length && fields.every((it, i) => it === names[i] || names.includes(it));
-
-/** A value of one of these kinds as it was given: its kind, and its fields. */
+/** A value of one of these kinds as it was given: its kind, and its fields, whose names mostly come in their order. */
 function given(value, name, kinds) {
   start();
   const names = Object(value) === value ? Object.getOwnPropertyNames(value) : [];
-  const kind = kinds.find((it) => areFields(names, it));
+  const fits = ({ fields }) => fields.length === names.length && fields.every((it, i) => it === names[i] || names.includes(it));
+  const kind = kinds.find(fits);
   if (kind === undefined || Object.getOwnPropertySymbols(value).length > 0)
     throw new TypeError(`${name} has to be a ${kinds.map((it) => it.name).join(" or ")} with just its fields`);
   return kind.look(value);
@@ -344,7 +325,7 @@ const putFirst = (it) => put(it, PLACE.first, address.first);
 const putSecond = (it) => put(it, PLACE.second, address.second);
 function put(it, at, place) {
   it.kind.put(library.view, at, it);
-  accept(it.kind.check(place));
+  accept(it.kind.calls.check(place));
   return place;
 }
 
@@ -369,7 +350,8 @@ function readers(read, names, call) {
 
 /** What reads a value at the front of a text. Of a string, U+2212 alone has another number of bytes there than units. */
 const frontOf = ({ read }) => (used, text) => {
-  const [value, size] = [read(used), takenOf(used)];
+  const value = read(used);
+  const size = takenOf(used);
   return Object.freeze(typeof text === "string" ? { value, size, length: unitsOf(used, size) } : { value, size });
 };
 
@@ -409,14 +391,14 @@ export function dateFromTimestamp(timestamp, unit, options) {
   const { exact = 1 } = numbersOf(options, ["exact"]);
   const config = putConfig({ timestamps: choiceOf(unit, UNITS, "unit") });
   const it = integer64(timestamp, "timestamp");
-  return DATE.read(written(library.calls.speedate_date_from_timestamp(it, exact, config, address.out)));
+  return DATE.read(accept(library.calls.speedate_date_from_timestamp(it, exact, config, address.out)));
 }
 
 export function dateTimeFromTimestamp(timestamp, unit, options) {
   const { timestampOffset } = numbersOf(options, ["timestampOffset"]);
   const config = putConfig({ timestamps: choiceOf(unit, UNITS, "unit"), timestampOffset });
   const it = integer64(timestamp, "timestamp");
-  return DATE_TIME.read(written(library.calls.speedate_datetime_from_timestamp(it, 0, config, address.out)));
+  return DATE_TIME.read(accept(library.calls.speedate_datetime_from_timestamp(it, 0, config, address.out)));
 }
 
 export function timeFromTimestamp(timestamp, unit, options) {
@@ -426,14 +408,14 @@ export function timeFromTimestamp(timestamp, unit, options) {
   const microsecond = ((it % units) * 1000000n) / units;
   const config = putConfig(numbersOf(options, ["timestampOffset"]));
   const code = library.calls.speedate_time_from_timestamp(Number(it / units), Number(microsecond), config, address.out);
-  return TIME.read(written(code));
+  return TIME.read(accept(code));
 }
 
 export function epochMilliseconds(value) {
   const it = given(value, "value", [DATE_TIME]);
-  const answer = written(library.calls.speedate_datetime_timestamp_tz_ms(putFirst(it), address.out));
+  const used = accept(library.calls.speedate_datetime_timestamp_tz_ms(putFirst(it), address.out));
   if (it.offsetSeconds === null) accept(CODE.tzRequired);
-  return wholeOf(answer);
+  return int64Of(used);
 }
 
 export const toDate = (value) => new Date(epochMilliseconds(value));
@@ -448,59 +430,38 @@ export function format(value) {
   const it = given(value, "value", ALL_KINDS);
   const place = putFirst(it);
   if (it.offsetSeconds % 60) throw new RangeError("offsetSeconds has to be whole minutes in print");
-  return printed(it.kind.print(place));
+  return printed(it.kind.calls.print(place, address.buffer, BUFFER_SIZE, address.taken));
 }
 
-export function compare(first, second) {
-  const one = given(first, "first", ALL_KINDS);
-  const other = given(second, "second", [one.kind]);
-  return written(one.kind.compare(putFirst(one), putSecond(other))).view.getInt32(PLACE.out, true);
-}
-
-export function addDays(date, days) {
-  const it = given(date, "date", [DATE]);
-  const number = integer32(days, "days");
-  return DATE.read(written(library.calls.speedate_date_add_days(putFirst(it), number, address.out)));
-}
-
-export function daysSince(date, earlier) {
-  const it = given(date, "date", [DATE]);
-  const since = given(earlier, "earlier", [DATE]);
-  const code = library.calls.speedate_date_days_since(putFirst(it), putSecond(since), address.out);
-  return written(code).view.getInt32(PLACE.out, true);
-}
-
-export function dayOfYear(date) {
-  const it = given(date, "date", [DATE]);
-  return written(library.calls.speedate_date_ordinal_day(putFirst(it), address.out)).view.getUint16(PLACE.out, true);
-}
-
-const moving = (move) => (start, duration) => {
-  const it = given(start, "start", WITH_DATE);
-  const by = putFirst(given(duration, "duration", [DURATION]));
-  return it.kind.read(written(move(it.kind, by, putSecond(it))));
+/** A call of one value, a call of a value and a number, and one of two values of a kind: what may be the first one, the names
+ * of the arguments, the function of C, and what reads its answer. */
+const ofOne = (kind, name, inC, read) => (value) => {
+  const it = given(value, name, [kind]);
+  return read(accept(inC(kind.calls)(putFirst(it), address.out)));
 };
-export const after = moving((kind, duration, start) => kind.after(duration, start));
-export const before = moving((kind, duration, start) => kind.before(duration, start));
+const ofNumber = (kinds, name, numberName, inC) => (value, number) => {
+  const it = given(value, name, kinds);
+  const checked = integer32(number, numberName);
+  return it.kind.read(accept(inC(it.kind.calls)(putFirst(it), checked, address.out)));
+};
+const ofTwo = (kinds, firstName, secondName, inC, read) => (first, second) => {
+  const one = given(first, firstName, kinds);
+  const other = given(second, secondName, [one.kind]);
+  return read(accept(inC(one.kind.calls)(putFirst(one), putSecond(other), address.out)));
+};
+const moving = (inC) => (start, duration) => {
+  const it = given(start, "start", [DATE, DATE_TIME]);
+  const by = putFirst(given(duration, "duration", [DURATION]));
+  return it.kind.read(accept(inC(it.kind.calls)(by, putSecond(it), address.out)));
+};
 
-export function between(earlier, later) {
-  const it = given(earlier, "earlier", WITH_DATE);
-  const end = given(later, "later", [it.kind]);
-  return DURATION.read(written(it.kind.between(putFirst(it), putSecond(end))));
-}
-
-export function negate(duration) {
-  const it = given(duration, "duration", [DURATION]);
-  return DURATION.read(written(library.calls.speedate_duration_negate(putFirst(it), address.out)));
-}
-
-export function totalSeconds(duration) {
-  const it = given(duration, "duration", [DURATION]);
-  return wholeOf(written(library.calls.speedate_duration_signed_total_seconds(putFirst(it), address.out)));
-}
-
-export function inTimezone(value, offsetSeconds) {
-  const it = given(value, "value", [TIME, DATE_TIME]);
-  const offset = integer32(offsetSeconds, "offsetSeconds");
-  return it.kind.read(written(it.kind.inTimezone(putFirst(it), offset)));
-}
+export const compare = ofTwo(ALL_KINDS, "first", "second", ({ compare }) => compare, int32Of);
+export const addDays = ofNumber([DATE], "date", "days", ({ addDays }) => addDays);
+export const daysSince = ofTwo([DATE], "date", "earlier", ({ daysSince }) => daysSince, int32Of);
+export const dayOfYear = ofOne(DATE, "date", ({ dayOfYear }) => dayOfYear, ({ view }) => view.getUint16(PLACE.out, true));
+export const after = moving(({ after }) => after);
+export const before = moving(({ before }) => before);
+export const between = ofTwo([DATE, DATE_TIME], "earlier", "later", ({ between }) => between, DURATION.read);
+export const negate = ofOne(DURATION, "duration", ({ negate }) => negate, DURATION.read);
+export const totalSeconds = ofOne(DURATION, "duration", ({ totalSeconds }) => totalSeconds, int64Of);
+export const inTimezone = ofNumber([TIME, DATE_TIME], "value", "offsetSeconds", ({ inTimezone }) => inTimezone);

@@ -30,11 +30,12 @@ const inDays = (it) => it.with({ years: 0, months: 0, weeks: 0, days: it.weeks *
 const KINDS = {
   date: [speedate.safeParseDate, (it) => Temporal.PlainDate.from(it)],
   time: [speedate.safeParseTime, (it) => Temporal.PlainTime.from(it)],
-  "date-time": [
-    speedate.safeParseDateTime,
-    (it, text) => (isInstant(text) ? Temporal.Instant.from(it === text ? it : speedate.format(it)) : Temporal.PlainDateTime.from(it)),
-  ],
-  duration: [speedate.safeParseDuration, (text) => { const it = Temporal.Duration.from(text); return `${it.years} ${it.months} ${inDays(it)}`; }],
+  "date-time": [speedate.safeParseDateTime, (it, text) =>
+    isInstant(text) ? Temporal.Instant.from(it === text ? it : speedate.format(it)) : Temporal.PlainDateTime.from(it)],
+  duration: [speedate.safeParseDuration, (text) => {
+    const it = Temporal.Duration.from(text);
+    return `${it.years} ${it.months} ${inDays(it)}`;
+  }],
 };
 
 /** What Temporal makes of it as a text; nothing if it refuses that. */
@@ -46,35 +47,33 @@ function taken(from, it, text) {
   }
 }
 
-/** What the package makes of a value, with the value before it. */
-function answers(value, last) {
-  const more = "sign" in value ? [speedate.negate, speedate.totalSeconds] : "day" in value ? [(it) => speedate.between(last, it)] : [];
-  return [speedate.format, (it) => speedate.compare(it, last), ...more].map((it) => it(value));
+/** What the package makes of a value, and of it and another one. */
+function answers(value, other) {
+  const more = "sign" in value ? speedate.totalSeconds(value) : "day" in value ? speedate.between(other, value) : 0;
+  return [speedate.format(value), speedate.compare(value, other), more];
 }
 
-/** Reads 200 texts of each form, all that are drawn with this number. It gives the forms that are not as their group, and a
- * number that stands for all answers. */
-export function readDrawn(state) {
+/** Reads 200 texts of each form. It gives the forms that are not as their group, and a number that stands for all answers. */
+export function readDrawn() {
+  let [state, hash] = [1, 0];
   const below = (most) => (state = (state * 48271) % 2147483647) % most;
-  const [wrong, hash] = [[], { all: 0 }];
-  for (const [kind, group, ...all] of FORMS) {
+  const hasTemporal = typeof Temporal !== "undefined";
+  const wrong = [];
+  for (const [kind, group, form] of FORMS.flatMap(([kind, group, ...all]) => all.map((it) => [kind, group, it]))) {
     const [read, from] = KINDS[kind];
-    for (const form of all) {
-      const counts = { here: 0, there: 0, alike: 0 };
-      let last;
-      for (let i = 0; i < 200; i++) {
-        const text = form.replace(/[#%]/g, (it) => below(it === "#" ? 10 : 6));
-        const it = read(text);
-        if (it.ok) last ??= it.value;
-        for (const unit of JSON.stringify([it, it.ok && answers(it.value, last)])) hash.all = (hash.all * 31 + unit.charCodeAt(0)) | 0;
-        counts.here += it.ok;
-        if (typeof Temporal === "undefined") continue;
-        const other = taken(from, text, text);
-        counts.there += other !== undefined;
-        counts.alike += other !== undefined && it.ok && taken(from, it.value, text) === other;
-      }
-      if (typeof Temporal !== "undefined" && !IS_SO[group](counts)) wrong.push([kind, form, counts]);
+    const counts = { here: 0, there: 0, alike: 0 };
+    let last;
+    for (let i = 0; i < 200; i++) {
+      const text = form.replace(/[#%]/g, (it) => below(it === "#" ? 10 : 6));
+      const it = read(text);
+      if (it.ok) last ??= it.value;
+      for (const unit of JSON.stringify([it, it.ok && answers(it.value, last)])) hash = (hash * 31 + unit.charCodeAt(0)) | 0;
+      const other = hasTemporal ? taken(from, text, text) : undefined;
+      counts.here += it.ok;
+      counts.there += other !== undefined;
+      counts.alike += other !== undefined && it.ok && taken(from, it.value, text) === other;
     }
+    if (hasTemporal && !IS_SO[group](counts)) wrong.push([kind, form, counts]);
   }
-  return { hash: hash.all, wrong };
+  return { hash, wrong };
 }

@@ -2,9 +2,7 @@
  * example gives stands behind it. */
 export function scriptOf(document, tag, word) {
   const blocks = [...document.matchAll(/^```(\w+)\n(.*?)^```$/gms)].filter((it) => it[1] === tag && it[2].includes(word));
-  return blocks
-    .map((it) => it[2])
-    .join("")
+  return blocks.map((it) => it[2]).join("")
     .replace(/^(.*); \/\/ throws (\w+)$/gm, (_, call, name) => `fails(() => ${call}, "${name}");`)
     .replace(/^(?!const )(.*); \/\/ (.*)$/gm, (_, call, result) => `equals(${call}, ${result});`);
 }

@@ -1,6 +1,8 @@
 // Wrong arguments, options, values, long texts, many calls, and the examples of a document: node package.mjs DOCUMENT.
 import assert from "node:assert/strict";
 import { readFileSync, writeFileSync } from "node:fs";
+import { setFlagsFromString } from "node:v8";
+import { runInNewContext } from "node:vm";
 import * as speedate from "speedate";
 import { scriptOf } from "./examples.mjs";
 
@@ -83,13 +85,18 @@ assert.deepEqual(duration, { sign: -1, days: -1, seconds: 0, milliseconds: -1, m
 assert.deepEqual(safeParseDate("x"), { ok: false, fault: "too_short", code: 1, message: "input is too short" });
 assert.equal(safeParseDate("x"), speedate.safeParseTime("x"));
 assert.deepEqual(fromDate(toDate(dateTime)), dateTime);
+const seen = [];
+format(new Proxy(dateTime, { get: (it, name) => (seen.push(name), it[name]) }));
+assert.deepEqual(seen, Object.keys(dateTime), "each field is looked at once");
 assert.equal(speedate.compare({ ...date, get day() { return format(time) && 29; } }, date), 0, "what a getter calls changes nothing");
 for (const size of [63, 64, 65, 65000, 66000, 2 ** 24, 2 ** 24 + 1]) {
   const text = `PT0.${"0".repeat(size)}S`;
   for (const it of [text, Buffer.from(text)]) assert.equal(parseDuration(it).sign, 1);
   assert.deepEqual(parseDateFront(`2020-02-29${"\u2212".repeat(size)}`), { value: date, size: 10, length: 10 });
 }
-const held = () => (gc(), process.memoryUsage().rss / 2 ** 20);
+setFlagsFromString("--expose-gc");
+const collect = runInNewContext("gc");
+const held = () => (collect(), process.memoryUsage().rss / 2 ** 20);
 const atFirst = held();
 const long = Buffer.alloc(2 ** 25, "2020-02-29");
 for (let i = 0; i < 100; i++) assert.equal(safeParseDate(long).fault, "extra_characters");

@@ -7,7 +7,7 @@ const moment: SpeedateDateTime = speedate.after(speedate.parseDateTime(new Uint8
 const answer: Answer<SpeedateDate> = speedate.safeParseDate("2020-02-29");
 const fault: Fault | number = answer.ok ? answer.value.year : answer.fault;
 const length: number = speedate.parseTimeFront("12:13 x").length;
-export const used = [date, length, fault, speedate.toDate(moment), speedate.dateTimeFromTimestamp(1n, "us", { timestampOffset: 0 })];
+export const used = [date, length, fault, speedate.toDate(moment), speedate.dayOfYear(date), speedate.dateTimeFromTimestamp(1n, "us", { timestampOffset: 0 })];
 
 // @ts-expect-error
 ["2020-02-29"].map(speedate.parseDate);

@@ -1,6 +1,6 @@
 """Answers the lines of a file on a cluster of processes: python3 dask_lines.py FILE [PROGRAM], where dask and distributed are.
 
-With PROGRAM, bin/speedate_lines of the repository or the program that it has built, each line is a kind and a text, as
+With PROGRAM, the bin/speedate_lines that bin/build_program installs, each line is a kind and a text, as
 `date 2020-02-29`, and what is printed is the program's answers, in their order. Without it each line is a date-time, and
 what is printed is its microseconds from 1970-01-01T00:00Z, or NaT.
 """

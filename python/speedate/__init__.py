@@ -9,8 +9,8 @@
     Traceback (most recent call last):
     speedate.Fault: out_of_range_day
 
-A text is a `str`, or UTF-8 in `bytes`, a `bytearray` or a `memoryview`. docs/GRAMMAR.md of the repository
-says which are accepted, and why any other is refused. A value with an offset is aware, one without is naive.
+A text is a `str`, or UTF-8 in `bytes`, a `bytearray` or a `memoryview`. GRAMMAR.md, in the folder of this
+module, says which are accepted, and why any other is refused. A value with an offset is aware, one without is naive.
 
 A refusal is a `ValueError`: a `Fault` from the library, an `Unrepresentable` where Python has no such value. An
 argument of a wrong type is a `TypeError`. So is a `Config` with a unit or an offset of timestamps in a call that reads

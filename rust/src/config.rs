@@ -3,6 +3,12 @@ use core::str::FromStr;
 use crate::{ConfigError, MicrosecondsPrecisionOverflowBehavior};
 
 /// The unit of timestamps.
+///
+/// ```
+/// use speedate::TimestampUnit::{Infer, Millisecond, Second};
+///
+/// assert_eq!(["s", "MS", "infer"].map(str::parse), [Ok(Second), Ok(Millisecond), Ok(Infer)]);
+/// ```
 #[derive(Debug, Clone, Copy, Default, PartialEq)]
 pub enum TimestampUnit {
     /// Seconds.

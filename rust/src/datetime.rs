@@ -128,6 +128,11 @@ impl DateTime {
     }
 
     /// What a clock at an offset from UTC, in seconds, now shows, by [`SystemTime`].
+    ///
+    /// ```
+    /// let [utc, paris] = [0, 3_600].map(|offset| speedate::DateTime::now(offset).unwrap());
+    /// assert!(utc <= paris && paris.time.tz_offset == Some(3_600));
+    /// ```
     #[cfg(feature = "std")]
     pub fn now(tz_offset: i32) -> Result<Self, ParseError> {
         let since = SystemTime::UNIX_EPOCH.elapsed().map_err(|_| ParseError::SystemTimeError)?;

@@ -37,6 +37,8 @@ impl IntFloat {
 ///
 /// ```
 /// assert!(matches!(speedate::float_parse_str("12.5"), speedate::IntFloat::Float(12.5)));
+/// assert!(matches!(speedate::float_parse_str("1.5e3"), speedate::IntFloat::Float(1500.0)));
+/// assert!(["1e3", "inf", "1.5 "].iter().all(|text| speedate::float_parse_str(text).is_err()));
 /// ```
 pub fn float_parse_str(s: &str) -> IntFloat {
     float_parse_bytes(s.as_bytes())

@@ -138,6 +138,12 @@ impl From<&TimeConfig> for Config {
 }
 
 /// What happens to digits past the microsecond. ISO 8601 durations are rounded to the nearest microsecond under both.
+///
+/// ```
+/// use speedate::MicrosecondsPrecisionOverflowBehavior::{Error, Truncate};
+///
+/// assert_eq!(["error", "Truncate"].map(str::parse), [Ok(Error), Ok(Truncate)]);
+/// ```
 #[derive(Debug, Clone, Default, Copy, PartialEq)]
 pub enum MicrosecondsPrecisionOverflowBehavior {
     /// They are dropped, and a timestamp is rounded to the nearest microsecond.

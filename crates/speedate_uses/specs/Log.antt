@@ -1,9 +1,10 @@
 -- The lines of a log, each of which begins with a date-time.
-use Rattle.std.specs.Prelude.{ℕ, Bool, false, ◌&&◌, List, Result, Ok, Err}
-use Rattle.std.specs.Ordering.{is_le}
+use Rattle.std.specs.declared.cmp.Ordering.{Ordering}
+use Rattle.std.specs.Prelude.{ℕ, ℤ, Bool, false, ◌&&◌, List, Result, Ok, Err}
+use Rattle.std.specs.Ordering.{int_cmp, is_le, nat_cmp, ordering_then}
 use Rattle.speedate.specs.declared.MicrosecondsPrecisionOverflowBehavior.{MicrosecondsPrecisionOverflowBehavior}
 use Rattle.speedate.specs.declared.ParseError.{ParseError}
-use Rattle.speedate.specs.DateTime.{DateAndTime, date_time_front, date_time_instant_order}
+use Rattle.speedate.specs.DateTime.{DateAndTime, date_time_front, date_time_instant_order, utc_second}
 
 -- a date-time that was read lies between two others by instant, both among them; what was refused does not
 abbrev pub lies_between : DateAndTime → DateAndTime → Result (DateAndTime × ℕ) ParseError → Bool
@@ -13,3 +14,11 @@ lies_between first last (Err fault) = false
 -- a line begins with such a date-time
 abbrev pub is_between : MicrosecondsPrecisionOverflowBehavior → DateAndTime → DateAndTime → List ℕ → Bool
 is_between behavior first last line = lies_between first last (date_time_front behavior line)
+
+-- what tells the instant of a date-time: its second in UTC, as which a clock without an offset counts, and its microsecond
+abbrev pub instant_key : DateAndTime → ℤ × ℕ
+instant_key value = (utc_second value, value.time.microsecond)
+
+-- the order of such keys: by second, then by microsecond
+abbrev pub instant_key_order : ℤ × ℕ → ℤ × ℕ → Ordering
+instant_key_order first second = ordering_then (int_cmp first.0 second.0) (nat_cmp first.1 second.1)

@@ -1,10 +1,11 @@
 //! A log: lines that begin with date-times, taken apart and chosen.
 
-ghost use Rattle.std.specs.Prelude.{◌≡◌, ℕ, IfOk, List, drop, filter};
+ghost use Rattle.std.specs.Prelude.{◌≡◌, ℕ, IfOk, List, OnErr, OnOk, drop, filter};
+ghost use Rattle.std.specs.List.Sorted.{IsPermutation, IsSortedByKey, IsStableByKey};
 ghost use Rattle.speedate.specs.Config.{time_choices};
 ghost use Rattle.speedate.specs.DateTime.{DateAndTime, date_and_time, date_time_front};
 ghost use Rattle.speedate.specs.Requirement.{result_map};
-ghost use Rattle.speedate_uses.specs.Log.{is_between};
+ghost use Rattle.speedate_uses.specs.Log.{instant_key, instant_key_order, is_between};
 
 use speedate::{DateTime, ParseError, TimeConfig};
 use std::alloc::{AllocError, Allocator};
@@ -55,9 +56,25 @@ pub fn lines_between<'a, A: Allocator>(
         .collect(alloc)
 }
 
+/// Sorts the date-times of a log by instant, the earliest first; those of one instant stay in their
+/// order. One without an offset is taken to be in UTC.
+///
+/// The key, the second in UTC and the microsecond, has an order whatever the offsets are.
+/// `DateTime::cmp_instant` has none over date-times with and without an offset.
+pub fn sort_by_instant<A: Allocator>(alloc: A, times: &mut [DateTime]) -> Result<(), AllocError>
+    ensures same { IsPermutation times.old times.new }
+    ensures sorted { OnOk result (IsSortedByKey (λ time. instant_key (date_and_time time))
+        instant_key_order times.new) }
+    ensures stable { IsStableByKey (λ time. instant_key (date_and_time time)) instant_key_order
+        times.old times.new }
+    ensures err { OnErr result (times.new ≡ times.old) }
+{
+    times.sort_by_key(alloc, |time| (time.timestamp_tz(), time.time.microsecond))
+}
+
 #[cfg(test)]
 mod tests {
-    use super::{lines_between, log_entry};
+    use super::{lines_between, log_entry, sort_by_instant};
     use crate::checks::{same, value};
     use speedate::{DateTime, TimeConfig};
 
@@ -86,5 +103,15 @@ mod tests {
         let (value, rest) = entry.ok().expect(&rt, "an entry");
         same(&rt, value, first, "an entry");
         same(&rt, rest, b" GET /".as_slice(), "an entry");
+    }
+
+    #[test]
+    fn date_times_by_instant(rt: HostRuntime) {
+        let noon: DateTime = value(&rt, "2026-11-22T12:00:00");
+        let east: DateTime = value(&rt, "2026-11-22T12:30:00+01:00");
+        let later: DateTime = value(&rt, "2026-11-22T12:00:00.000001Z");
+        let mut times = [later, noon, east];
+        let sorted = sort_by_instant(rt.alloc(), &mut times);
+        assert!(rt; sorted.is_ok() && times == [east, noon, later]);
     }
 }
