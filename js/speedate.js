@@ -3,7 +3,7 @@
 
 /** The functions of speedate.h: a WebAssembly module, in base64. */
 const MODULE = "@MODULE@";
-const NEEDED = "speedate needs WebAssembly, by the page's policy too, with BigInt and bulk memory: Node 16, Chrome 85, Firefox 79, Safari 15";
+const NEEDED = "speedate needs WebAssembly with BigInt and bulk memory (Node 16, Chrome 115, Firefox 79, Safari 15) that a policy allows";
 
 /** Where what goes in and comes out stands in the memory, from the end of the module's own part. */
 const PLACE = { out: 0, taken: 16, config: 24, defaultConfig: 32, first: 40, second: 56, buffer: 72, text: 136 };
