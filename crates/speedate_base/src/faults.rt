@@ -68,8 +68,8 @@ pub enum ParseError {
     OutOfRangeMinute,
     /// The second is over 59.
     OutOfRangeSecond,
-    /// A fraction of a second has more than six digits, and the configuration refuses them; or what follows the
-    /// hours in the clock of a duration has more than twelve bytes.
+    /// A fraction of a second has more than six digits, or more than twelve bytes follow the first `:` in
+    /// the clock of a duration, which the configuration refuses.
     SecondFractionTooLong,
     /// No digit follows the decimal mark after a second.
     SecondFractionMissing,
@@ -85,7 +85,7 @@ pub enum ParseError {
     DurationInvalidTimeUnit,
     /// A component before `T` has no designator of years, months, weeks or days.
     DurationInvalidDateUnit,
-    /// The days of a duration are not followed by `d`, `day` or `days`, or these not by a clock or the end.
+    /// The days of a duration are not followed by a form of `d`, `day` or `days`.
     DurationInvalidDays,
     /// A number or a sum of a duration is over 4,294,967,295.
     DurationValueTooLarge,

@@ -87,9 +87,7 @@ impl Date {
     /// The errors, in the order in which they are looked for:
     ///
     /// - `DateTooLarge` if the year is over 9999;
-
     /// - `OutOfRangeMonth` if the month is not 1 to 12;
-
     /// - `OutOfRangeDay` if the month has no such day.
     pub fn new(year: u16, month: u8, day: u8) -> Result<Self, ParseError>
         ensures answer { result gives new_date_answer year month day }
@@ -106,22 +104,7 @@ impl Date {
         Ok(Date { year, month, day })
     }
 
-    /// Parses a date from a text, and no timestamp: 29 February 2020 from `"2020-02-29"`.
-    ///
-    /// The form is RFC 3339's full-date, `YYYY-MM-DD`. The errors, in the order in which they are
-    /// looked for:
-    ///
-    /// - `TooShort` if the text has fewer than ten bytes;
-
-    /// - `InvalidCharYear`, `InvalidCharDateSep`, `InvalidCharMonth`, `InvalidCharDateSep` and
-    ///   `InvalidCharDay`, from the left, for the first part that is not digits, or not a `-`;
-
-    /// - `OutOfRangeMonth` if the month is not 1 to 12;
-
-    /// - `OutOfRangeDay` if the month has no such day;
-
     /// The canonical text, `YYYY-MM-DD`: `2020-02-29` for 29 February 2020. It is not allocated;
-
     /// `.as_str()` is the text. It reads back as the date under every configuration, and at the front
     /// of a text too, whatever follows it. No other date has the same text.
     pub fn to_text(&self) -> ArrayString<TEXT_LENGTH>

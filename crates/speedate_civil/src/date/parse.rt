@@ -59,6 +59,16 @@ impl Date {
         }
     }
 
+    /// Parses a date from a text, and no timestamp: 29 February 2020 from `"2020-02-29"`.
+    ///
+    /// The form is RFC 3339's full-date, `YYYY-MM-DD`. The errors, in the order in which they are
+    /// looked for:
+    ///
+    /// - `TooShort` if the text has fewer than ten bytes;
+    /// - `InvalidCharYear`, `InvalidCharDateSep`, `InvalidCharMonth`, `InvalidCharDateSep` and
+    ///   `InvalidCharDay`, from the left, for the first part that is not digits, or not a `-`;
+    /// - `OutOfRangeMonth` if the month is not 1 to 12;
+    /// - `OutOfRangeDay` if the month has no such day;
     /// - `ExtraCharacters` if the text has more than ten bytes.
     pub fn parse_str_rfc3339(text: &str) -> Result<Self, ParseError>
         ensures answer { result gives date_answer text.now }

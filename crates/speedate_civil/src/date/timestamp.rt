@@ -23,9 +23,7 @@ impl Date {
     ///
     /// - `DateTooSmall` if the unit of `i64::MIN` is to be inferred, or if the timestamp lies before
     ///   the year 0000;
-
     /// - `DateTooLarge` if it lies after the year 9999;
-
     /// - `DateNotExact` if an exact date is required, and the timestamp is not a midnight.
     #[inline(always)]
     pub fn from_timestamp(

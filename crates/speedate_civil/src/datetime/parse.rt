@@ -25,6 +25,17 @@ use std::str::FromStr;
 const TIME_PLACE: usize = 11;
 
 impl DateTime {
+    /// Parses a date-time from a text, which may be a timestamp: 12:13:14 on 29 February 2020 from
+    /// `"2020-02-29T12:13:14"`, and midnight on 7 June 2022 from `"1654560000"`.
+    ///
+    /// A text that is no date-time but a number, whole or decimal as `"1654560000.5"`, is a Unix
+    /// timestamp: in seconds if the number without its sign is at most 20,000,000,000, otherwise in
+    /// milliseconds. The errors are:
+    ///
+    /// - of a whole number: those of [`DateTime::from_timestamp`];
+    /// - of a decimal: `SecondFractionTooLong` if more than six digits follow the point of seconds, or
+    ///   `MillisecondFractionTooLong` if more than three follow that of milliseconds; then those of
+    ///   [`DateTime::from_decimal_with_config`];
     /// - of any other text: those of [`DateTime::parse_str_rfc3339`].
     #[inline(always)]
     pub fn parse_str(text: &str) -> Result<Self, ParseError>
@@ -84,6 +95,14 @@ impl DateTime {
         }
     }
 
+    /// Parses a date-time from a text, and no timestamp: 12:13:14 on 29 February 2020 in UTC from
+    /// `"2020-02-29T12:13:14Z"`.
+    ///
+    /// The form is RFC 3339's date-time, relaxed: a date, a separator, which is `T`, `t`, a space or
+    /// `_`, and a time. The errors, in the order in which they are looked for:
+    ///
+    /// - those of [`Date::parse_str_rfc3339`] except `ExtraCharacters`;
+    /// - `InvalidCharDateTimeSep` if no separator follows the date;
     /// - those of [`Time::parse_str`] for what follows the separator.
     #[inline(always)]
     pub fn parse_str_rfc3339(text: &str) -> Result<Self, ParseError>

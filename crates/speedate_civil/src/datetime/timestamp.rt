@@ -21,19 +21,6 @@ use speedate_base::util::{
 };
 
 impl DateTime {
-    /// Parses a date-time from a text, which may be a timestamp: 12:13:14 on 29 February 2020 from
-    /// `"2020-02-29T12:13:14"`, and midnight on 7 June 2022 from `"1654560000"`.
-    ///
-    /// A text that is no date-time but a number, whole or decimal as `"1654560000.5"`, is a Unix
-    /// timestamp: in seconds if the number without its sign is at most 20,000,000,000, otherwise in
-    /// milliseconds. The errors are:
-    ///
-    /// - of a whole number: those of [`DateTime::from_timestamp`];
-
-    /// - of a decimal: `SecondFractionTooLong` if more than six digits follow the point of seconds, or
-    ///   `MillisecondFractionTooLong` if more than three follow that of milliseconds; then those of
-    ///   [`DateTime::from_decimal_with_config`];
-
     /// The date-time of a Unix timestamp, whose unit is inferred, and additional microseconds, without
     /// an offset: 1970-01-01T00:00:00.667444 for -1 and 1,667,444 microseconds. The errors are those of
     /// [`DateTime::from_timestamp_with_config`].
@@ -54,12 +41,9 @@ impl DateTime {
     /// order in which they are looked for:
     ///
     /// - `DateTooSmall` if the unit of `i64::MIN` is to be inferred;
-
     /// - `TimeTooLarge` if the microseconds of the timestamp and the additional ones exceed `u32::MAX`
     ///   together, or if the seconds and those carried exceed `i64::MAX`;
-
     /// - `DateTooSmall` if the sum lies before the year 0000;
-
     /// - `DateTooLarge` if it lies after the year 9999.
     #[inline(always)]
     pub fn from_timestamp_with_config(
