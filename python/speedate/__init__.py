@@ -1,4 +1,4 @@
-"""Reads dates, times of day, date-times and durations from texts, and prints them, as the types of `datetime`.
+"""Parses dates, times of day, date-times and durations into the types of `datetime`, and prints such values.
 
     >>> import speedate
     >>> speedate.date_time("2020-02-29T12:13:14.5+01:00")
@@ -10,11 +10,13 @@
     speedate.Fault: out_of_range_day
 
 A text is a `str`, or UTF-8 in `bytes`, a `bytearray` or a `memoryview`. GRAMMAR.md, in the folder of this
-module, says which are accepted, and why any other is refused. A value with an offset is aware, one without is naive.
+module, says which are accepted, and why any other is refused. A value with an offset is aware, one without is naive,
+and `datetime` refuses to compare the two.
 
-A refusal is a `ValueError`: a `Fault` from the library, an `Unrepresentable` where Python has no such value. An
-argument of a wrong type is a `TypeError`. So is a `Config` with a unit or an offset of timestamps in a call that reads
-none: `date`, `date_time` and `date_time_column` read timestamps only with `timestamps=True`.
+A refusal is a `ValueError`: a `Fault` from the library, an `Unrepresentable` where Python has no such value, a plain
+one for an argument that is out of range. An argument of a wrong type is a `TypeError`. So is a `Config` with a unit or
+an offset of timestamps in a call that reads none: `date`, `date_time` and `date_time_column` read timestamps only with
+`timestamps=True`.
 """
 import dataclasses
 import datetime
@@ -100,9 +102,9 @@ class Config:
     """How texts and timestamps are read.
 
     - `timestamp_unit`: the unit of timestamps, `s`, `ms` or `us`. With `infer`, the default, they are seconds up to
-      20,000,000,000 either way, and milliseconds past that.
+      20,000,000,000 in absolute value, and milliseconds above.
     - `timestamp_offset`: the offset that the value of a timestamp gets, in seconds, less than 24 hours either way. It
-      is attached, and shifts nothing: for Unix time it is 0. With `None`, the default, the value is naive.
+      is attached, and shifts nothing: for Unix time it is 0. With `None`, the default, a timestamp's value is naive.
     - `overflow_behavior`: digits past the microsecond are refused with `error`, the default. With `truncate` they are
       dropped, and a decimal timestamp is rounded to the nearest microsecond.
     - `iso_order`: the components of an ISO 8601 duration come in any order with `lax`, the default. With `strict` they

@@ -863,12 +863,12 @@ static PyMethodDef methods[] = {
            ">>> duration(\"-1 day, 23:59:59\")\n"
            "datetime.timedelta(days=-2, seconds=1)\n"),
     METHOD(time_strict, "(text, config=None)",
-           "The time that a text is, which has to be one of RFC 3339.\n\n"
+           "The time that a text is; only RFC 3339 is accepted.\n\n"
            ">>> time_strict(\"12:13+01:00\")\n"
            "Traceback (most recent call last):\n"
            "speedate.Fault: invalid_char_time_sep\n"),
     METHOD(date_time_strict, "(text, config=None)",
-           "The date-time that a text is, which has to be one of RFC 3339.\n\n"
+           "The date-time that a text is; only RFC 3339 is accepted.\n\n"
            ">>> date_time_strict(\"2020-02-29T12:13:14\")\n"
            "Traceback (most recent call last):\n"
            "speedate.Fault: tz_required\n"),
@@ -886,7 +886,7 @@ static PyMethodDef methods[] = {
            ">>> \"2026-11-22T12:13:14Z GET /\"[size:]\n"
            "' GET /'\n"),
     METHOD(date_from_timestamp, "(timestamp, config=None, *, exact=True)",
-           "The date of a timestamp of 64 bits, which has to be a midnight. With `exact=False` it may be any moment.\n\n"
+           "The date of a timestamp of 64 bits, which has to be a midnight unless `exact` is False.\n\n"
            ">>> date_from_timestamp(1582978394, exact=False)\n"
            "datetime.date(2020, 2, 29)\n"),
     METHOD(time_from_timestamp, "(second, microsecond=0, config=None)",
