@@ -1,16 +1,17 @@
 """The calls of the module in another way: by `ctypes`, over the shared library that bin/build_python leaves in out/.
 
-It has the same calls, errors and words, and nothing in common with the extension but the library: the second opinion in
-tests. `Config` and the errors are its own.
+It has the same calls, errors and words, and nothing in common with the extension but the library and the checks of
+arguments that are written in Python: the second opinion in tests. `Config` and the errors are its own.
 """
 import array
 import ctypes
 import dataclasses
 import datetime
 import functools
-import operator
 import pathlib
 import struct
+
+from speedate import _FIELDS, _choice, _integer, _plain, _wrong
 
 
 class Fault(ValueError):
@@ -149,10 +150,6 @@ def _words(code):
 # ---- Arguments ----
 
 
-def _wrong(name, value, *kinds):
-    return TypeError(f"{name} has to be {' or '.join(kind.__name__ for kind in kinds)}, not {type(value).__name__}")
-
-
 def _bytes(text):
     """The bytes of a text. No method is called that a subclass may have."""
     if isinstance(text, str):
@@ -167,28 +164,10 @@ def _bytes(text):
     return view.tobytes()
 
 
-def _integer(name, value, low, high):
-    if isinstance(value, bool) or not hasattr(value, "__index__"):
-        raise _wrong(name, value, int)
-    number = operator.index(value)
-    if not low <= number <= high:
-        raise ValueError(f"{name} has to be from {low} to {high}")
-    return number
-
-
 def _flag(name, value):
     if type(value) is not bool:
         raise _wrong(name, value, bool)
     return value
-
-
-def _choice(name, value, *choices):
-    """The number of a choice."""
-    if not isinstance(value, str):
-        raise _wrong(name, value, str)
-    if value not in choices:
-        raise ValueError(f"{name} has to be {' or '.join(choices)}")
-    return choices.index(value)
 
 
 @dataclasses.dataclass(frozen=True)
@@ -342,22 +321,6 @@ def date_time_column(texts, config=None, *, strict=False, timestamps=False, naiv
             fault.index = index
             raise fault
     return column
-
-
-_DAY, _CLOCK = ("year", "month", "day"), ("hour", "minute", "second", "microsecond", "tzinfo", "fold")
-_FIELDS = {datetime.datetime: _DAY + _CLOCK, datetime.date: _DAY, datetime.time: _CLOCK,
-           datetime.timedelta: ("days", "seconds", "microseconds")}
-
-
-def _plain(value):
-    """The value of the base class that a value of a subclass is equal to."""
-    for kind, names in _FIELDS.items():
-        if issubclass(type(value), kind):
-            plain = kind(**{name: getattr(value, name) for name in names})
-            if not plain == value:
-                raise ValueError(f"the {type(value).__name__} is not equal to {plain!r}: it may have nanoseconds")
-            return plain
-    raise _wrong("value", value, *_FIELDS)
 
 
 def _clock(value):
