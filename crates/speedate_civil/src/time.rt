@@ -224,13 +224,11 @@ impl Time {
         ensures answer { result gives time_answer behavior bytes.now }
         ensures minutes { IfOk result (λ time. IsWholeMinutes time.tz_offset) }
     {
-        let clock = PureTime::parse(bytes, 0, behavior)?;
-        let (tz_offset, size) = parse_offset(bytes, clock.size)?;
-        // A time that is built before this test goes through memory.
-        if clock.size + size != bytes.len() {
-            return Err(end_fault(tz_offset));
+        let (time, size) = Self::front(bytes, behavior)?;
+        if size != bytes.len() {
+            return Err(end_fault(time.tz_offset));
         }
-        Ok(clock.at_offset(tz_offset))
+        Ok(time)
     }
 
     /// Parses the time at the front of a text, and how many bytes it takes, whatever follows it.

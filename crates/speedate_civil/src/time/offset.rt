@@ -65,13 +65,14 @@ fn is_plus_or_minus(byte: u8) -> bool
 
 /// Whether the three bytes of U+2212, the minus sign, begin at `place`.
 #[inline(always)]
-#[tactic(auto, using(std::proofs::lemmas::List::take_rest))]
 pub(super) fn has_minus_sign(bytes: &[u8], place: usize) -> bool
     requires { place ≤ length bytes.now }
     ensures value { result ≡ has_minus_sign (drop place bytes.now) }
     ensures there { IsTrue result → place + 3 ≤ length bytes.now }
 {
-    matches!(&bytes[place..], [0xe2, 0x88, 0x92, ..])
+    byte_at(bytes, place) == 0xe2
+        && byte_at(bytes, place + 1) == 0x88
+        && byte_at(bytes, place + 2) == 0x92
 }
 
 /// Whether a byte is UTC itself, `Z` or `z`.

@@ -1,13 +1,13 @@
 //! Times of day without their offsets, at the front of a text.
 
-ghost use Rattle.std.specs.Prelude.{◌≡◌, ◌+◌, ◌≤◌, IfOk, IsTrue, Ok, length, drop, codes};
+ghost use Rattle.std.specs.Prelude.{◌≡◌, ◌+◌, ◌≤◌, ◌==◌, ◌||◌, IfOk, IsTrue, Ok, length, drop, codes};
 ghost use Rattle.speedate_base.specs.Digits.{run_length, run_digits, fraction_value, two_digit_value, fit_length};
 
 use super::Time;
 use speedate_base::config::MicrosecondsPrecisionOverflowBehavior as Behavior;
 use speedate_base::faults::ParseError;
 use speedate_base::numbers::{
-    Fraction, LANES, byte_at, eight_bytes, fitting, is_decimal_mark, pairs, takes_digits,
+    Fraction, byte_at, eight_bytes, fitting, is_decimal_mark, pairs, takes_digits,
 };
 use std::simd::prelude::*;
 
@@ -94,7 +94,8 @@ impl PureTime {
         if minute > 59 {
             return Err(ParseError::OutOfRangeMinute);
         }
-        let after = Self::after_minute(Second::in_front(front, fits), text, 3, behavior)?;
+        let second = Second::in_front(front, fits, 3);
+        let after = Self::after_minute(second, text, 3, behavior)?;
         Ok(PureTime {
             hour,
             minute,
@@ -127,15 +128,11 @@ impl PureTime {
         if fits < 2 {
             return Err(ParseError::InvalidCharMinute);
         }
-        let [minute, _, _, second, _, _, _, _] = pairs(front, pattern, fits);
+        let [minute, _, _, _, _, _, _, _] = pairs(front, pattern, 2);
         if minute > 59 {
             return Err(ParseError::OutOfRangeMinute);
         }
-        let second = match fits {
-            2 => Second::Absent,
-            3 | 4 => Second::Faulty,
-            _ => Second::Number(second),
-        };
+        let second = Second::in_front(front, fits, 0);
         let after = Self::after_minute(second, rest, 0, behavior)?;
         Ok(PureTime {
             hour: 0,
@@ -225,20 +222,21 @@ impl PureTime {
 impl Second {
     ghost use Rattle.speedate_civil.specs.Reader.{second_there};
 
-    /// The second in the front of a text whose first `fits` bytes are as in
-    /// `00:00:00`.
+    /// The second that follows the minute at place 0 or 3 of the front of a text, whose first `fits`
+    /// bytes are as in `00:00:00`: 14 for `b"12:13:14"` and place 3, and none for `b"13Z"` and place 0.
     #[inline(always)]
-    fn in_front(front: u8x8, fits: usize) -> Self
+    fn in_front(front: u8x8, fits: usize, minute: usize) -> Self
         requires fits { fits ≡ fit_length (codes "00:00:00") front }
-        requires minute { 5 ≤ fits }
-        ensures second { result ≡ second_there (drop 3 front) }
+        requires minute { IsTrue ((minute == 0) || (minute == 3)) }
+        requires there { minute + 2 ≤ fits }
+        ensures second { result ≡ second_there (drop minute front) }
     {
-        if fits == LANES {
-            let [_, _, _, _, _, _, second, _] = pairs(front, u8x8::from_array(*b"00:00:00"), LANES);
-            return Second::Number(second);
-        }
-        match fits {
-            5 => Second::Absent,
+        match fits - minute {
+            5.. => {
+                let numbers = pairs(front, u8x8::from_array(*b"00:00:00"), minute + 5);
+                Second::Number(numbers[minute + 3])
+            }
+            2 => Second::Absent,
             _ => Second::Faulty,
         }
     }

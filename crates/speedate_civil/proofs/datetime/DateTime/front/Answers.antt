@@ -3,7 +3,7 @@ use Rattle.std.proofs.lemmas.List.{take_rest}
 use Rattle.std.proofs.lemmas.Result.{err_from_is_err_and}
 use Rattle.speedate_base.specs.Requirement.{result_map}
 use Rattle.speedate_civil.specs.Calendar.{Ymd}
-use Rattle.speedate_civil.specs.Date.{ymd, date_front}
+use Rattle.speedate_civil.specs.Date.{date_front}
 use Rattle.speedate_civil.specs.Time.{TimeOfDay, time_of_day, time_front, ParseError, MicrosecondsPrecisionOverflowBehavior}
 use Rattle.speedate_civil.specs.DateTime.{DateAndTime, is_separator, date_time_front}
 use Rattle.speedate_civil.proofs.NumberTextLemmas.{number_answer-date}

@@ -1,4 +1,4 @@
-use Rattle.std.proofs.Common.{◌≡◌, arith, sym, ℕ, ◌+◌, ◌≤◌, IfOk, List, length, take, Result, Ok, Err}
+use Rattle.std.proofs.Common.{◌≡◌, sym, ℕ, ◌≤◌, IfOk, List, length, take, Result, Ok, Err}
 use Rattle.speedate_base.specs.Requirement.{result_map, with_size}
 use Rattle.speedate_civil.specs.Time.{end_fault, TimeOfDay, time_front, time_answer, time_of_day, ParseError, MicrosecondsPrecisionOverflowBehavior, Time}
 use Rattle.speedate_base.proofs.RequirementLemmas.{alone-iff}
