@@ -1,8 +1,7 @@
 -- How tables chain.
 use Rattle.std.proofs.Common.{◌≡◌, ◌↔◌, ℕ, List, [], ◌∷◌, length, Result, Ok, Err, refl, rules}
 use Rattle.std.specs.Result.{result_and}
-use Rattle.speedate_base.specs.declared.faults.ParseError.{ParseError}
-use Rattle.speedate_base.specs.Requirement.{Requirement, meets, AllHold, alone, result_and_then}
+use Rattle.speedate_base.specs.Requirement.{Requirement, meets, AllHold, alone, result_and_then, ParseError}
 
 -- what a table refuses or lets through does not depend on what comes next
 pub meets-chain : {A B : Type 0} (rows : List Requirement) (value : A) (next : Result B ParseError)

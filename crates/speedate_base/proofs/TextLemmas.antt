@@ -1,7 +1,6 @@
 -- Texts that are printed and read back.
 use Rattle.std.proofs.Common.{◌≡◌, ℕ, List, [], ◌++◌, Result, Ok, rules}
-use Rattle.speedate_base.specs.declared.faults.ParseError.{ParseError}
-use Rattle.speedate_base.specs.Requirement.{result_map}
+use Rattle.speedate_base.specs.Requirement.{result_map, ParseError}
 
 -- what was appended to nothing is the text
 pub text-alone : (before after text : List ℕ) → before ≡ [] → after ≡ before ++ text → after ≡ text

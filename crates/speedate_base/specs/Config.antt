@@ -5,10 +5,10 @@ use Rattle.std.specs.Str.{str_eq_ignore_ascii_case}
 use Rattle.speedate_base.specs.declared.config.IsoOrder.TheVariants as order
 use Rattle.speedate_base.specs.declared.config.IsoOrder.{IsoOrder}
 use Rattle.speedate_base.specs.declared.config.MicrosecondsPrecisionOverflowBehavior.TheVariants as behavior
-use Rattle.speedate_base.specs.declared.config.MicrosecondsPrecisionOverflowBehavior.{MicrosecondsPrecisionOverflowBehavior}
+pub use Rattle.speedate_base.specs.declared.config.MicrosecondsPrecisionOverflowBehavior.{MicrosecondsPrecisionOverflowBehavior}
 use Rattle.speedate_base.specs.declared.config.TimeConfig.{TimeConfig}
-use Rattle.speedate_base.specs.declared.config.TimestampUnit.TheVariants as unit
-use Rattle.speedate_base.specs.declared.config.TimestampUnit.{TimestampUnit}
+pub use Rattle.speedate_base.specs.declared.config.TimestampUnit.TheVariants as unit
+pub use Rattle.speedate_base.specs.declared.config.TimestampUnit.{TimestampUnit}
 use Rattle.speedate_base.specs.declared.config.date_time.DateTimeConfig.{DateTimeConfig}
 use Rattle.speedate_base.specs.declared.faults.config_error.ConfigError.TheVariants as fault
 use Rattle.speedate_base.specs.declared.faults.config_error.ConfigError.{ConfigError}

@@ -4,7 +4,7 @@ use Rattle.std.specs.Prelude.{ℕ, List, [], ◌∷◌, codes, get_or}
 use denote.Enum.Declared.{tag_of}
 use Rattle.speedate_base.specs.contracts.faults.ParseError.{the_type}
 use Rattle.speedate_base.specs.declared.faults.ParseError.{ParseError}
-use Rattle.speedate_base.specs.declared.faults.ParseError.TheVariants as fault
+use Rattle.speedate_base.specs.Requirement.fault
 use Rattle.speedate_base.specs.declared.faults.config_error.ConfigError.{ConfigError}
 use Rattle.speedate_base.specs.declared.faults.config_error.ConfigError.TheVariants as config_error
 

@@ -13,7 +13,7 @@ use Rattle.speedate_civil.specs.Time.{Clock, at_hour, clock_answer, clock_front,
 use Rattle.speedate_civil.specs.DateTime.{DateAndTime, date_time_answer, date_time_front, separator_table}
 use Rattle.speedate_civil.specs.Date.{date_front, date_answer, date_numbers, date_table}
 use Rattle.speedate_base.proofs.RequirementLemmas.{meets-all, meets-ok, meets-value}
-use Rattle.speedate_base.specs.declared.faults.ParseError.TheVariants as fault
+use Rattle.speedate_civil.specs.Date.fault
 use Rattle.speedate_civil.proofs.OffsetLemmas.{offset-cases}
 use Rattle.speedate_civil.proofs.ReadLemmas.{read-map, read-rows, read-then, read-value}
 

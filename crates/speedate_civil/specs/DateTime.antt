@@ -4,7 +4,7 @@ use Rattle.std.specs.Option.{unwrap_or}
 use Rattle.std.specs.Ordering.{is_le, int_cmp, nat_cmp, on, then_cmp}
 use Rattle.std.specs.declared.cmp.Ordering.{Ordering}
 pub use Rattle.speedate_base.specs.declared.config.date_time.DateTimeConfig.{DateTimeConfig}
-use Rattle.speedate_base.specs.declared.faults.ParseError.TheVariants as fault
+use Rattle.speedate_civil.specs.Date.fault
 use Rattle.speedate_base.specs.Ascii.{space, capital_t, low_line, small_t}
 use Rattle.speedate_base.specs.Numbers.{DecimalParts, Number, Whole, Fractional, NoNumber, number_answer}
 use Rattle.speedate_base.specs.Offset.{offset_table}

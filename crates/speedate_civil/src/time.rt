@@ -54,7 +54,7 @@ pub struct Time {
 
 impl Time {
     ghost use Rattle.std.specs.Prelude.{◌+◌, ◌*◌, ◌<◌, ◌↔◌, IfOk, IsOk, Ok, drop, take, length, None};
-    ghost use Rattle.speedate_base.specs.declared.config.MicrosecondsPrecisionOverflowBehavior.TheVariants as behavior;
+    ghost use Rattle.speedate_civil.specs.Time.behavior;
     ghost use Rattle.speedate_base.specs.Offset.{IsWholeMinutes};
     ghost use Rattle.speedate_base.specs.Timestamp.{seconds_per_day};
     ghost use Rattle.speedate_base.specs.Requirement.{meets};
@@ -346,7 +346,7 @@ impl Time {
 impl FromStr for Time {
     type Err = ParseError;
 
-    ghost use Rattle.speedate_base.specs.declared.config.MicrosecondsPrecisionOverflowBehavior.TheVariants as behavior;
+    ghost use Rattle.speedate_civil.specs.Time.behavior;
     ghost use Rattle.speedate_civil.specs.Time.{time_answer, ◌gives◌};
 
     ghost from_str_gives = { λ text result. result gives time_answer behavior.Error text };

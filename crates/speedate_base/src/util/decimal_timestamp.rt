@@ -42,7 +42,8 @@ fn is_inferred_seconds(decimal: Decimal<'_>) -> bool
     ensures { result ≡ nat_le (decimal_digits (decimal_value decimal.entry))
         (inferred_seconds_max * decimal_scale (decimal_value decimal.entry)) }
 {
-    // Ten digits spell less than the bound, and twelve of which the first is not 0 spell more.
+    // Ten digits spell less than the bound, and twelve of which the first is not 0 spell more (row
+    // `timestamp, decimal`).
     if decimal.whole.len() <= 10 {
         return true;
     }

@@ -1,7 +1,7 @@
 //! Parsers of dates: of texts of RFC 3339, at the front of a text, and of timestamps.
 
 ghost use Rattle.std.specs.Prelude.{◌≡◌, ◌≤◌, ◌↔◌, Err, IfOk, Ok, OnOk, length, take};
-ghost use Rattle.speedate_base.specs.declared.config.TimestampUnit.TheVariants as unit;
+ghost use Rattle.speedate_civil.specs.Date.unit;
 ghost use Rattle.speedate_base.specs.Numbers.{NoNumber, number_answer};
 ghost use Rattle.speedate_civil.specs.Calendar.{Ymd};
 ghost use Rattle.speedate_civil.specs.Date.{ymd, date_front, date_answer, date_or_timestamp, ◌gives◌, ◌gives_front◌};

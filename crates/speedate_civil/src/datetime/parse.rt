@@ -4,8 +4,8 @@
 ghost use Rattle.std.specs.Prelude.{◌≡◌, ◌≤◌, ◌↔◌, ◌==◌, ◌||◌, Err, IfOk, IsOk, IsTrue, None, Ok, OnOk, length, slice_index, take};
 ghost use Rattle.speedate_base.specs.Ascii.{capital_t, small_t};
 ghost use Rattle.speedate_base.specs.Config.{choices, time_choices};
-ghost use Rattle.speedate_base.specs.declared.config.MicrosecondsPrecisionOverflowBehavior.TheVariants as behavior;
-ghost use Rattle.speedate_base.specs.declared.config.TimestampUnit.TheVariants as unit;
+ghost use Rattle.speedate_civil.specs.Time.behavior;
+ghost use Rattle.speedate_civil.specs.Date.unit;
 ghost use Rattle.speedate_base.specs.Numbers.{NoNumber, decimal_value, number_answer};
 ghost use Rattle.speedate_base.specs.Offset.{IsWholeMinutes};
 ghost use Rattle.speedate_base.specs.Requirement.{meets};

@@ -1,5 +1,5 @@
 use Rattle.std.proofs.Common.{◌∙◌, ap, sym}
-use Rattle.speedate_base.specs.declared.faults.ParseError.TheVariants as fault
+use Rattle.speedate_civil.specs.Date.fault
 use Rattle.speedate_base.specs.Requirement.{alone, result_and_then}
 use Rattle.speedate_civil.specs.Calendar.{Ymd}
 use Rattle.speedate_base.proofs.RequirementLemmas.{alone-longer}
