@@ -1,16 +1,17 @@
 //! Parsers of date-times: of texts of RFC 3339, relaxed or alone, at the front of a text, and of
 //! timestamps.
 
-ghost use Rattle.std.specs.Prelude.{◌≡◌, ◌≤◌, ◌↔◌, ◌==◌, ◌||◌, Err, IfOk, IsOk, IsTrue, None, Ok, OnOk, length, slice_index, take};
+ghost use Rattle.std.specs.Prelude.{◌≡◌, ◌+◌, ◌≤◌, ◌↔◌, ◌==◌, ◌||◌, Err, IfOk, IsOk, IsTrue, None, Ok, OnOk, drop, length, slice_index, take};
 ghost use Rattle.speedate_base.specs.Ascii.{capital_t, small_t};
 ghost use Rattle.speedate_base.specs.Config.{choices, time_choices};
-ghost use Rattle.speedate_civil.specs.Time.behavior;
-ghost use Rattle.speedate_civil.specs.Date.unit;
 ghost use Rattle.speedate_base.specs.Numbers.{NoNumber, decimal_value, number_answer};
 ghost use Rattle.speedate_base.specs.Offset.{IsWholeMinutes};
-ghost use Rattle.speedate_base.specs.Requirement.{meets};
-ghost use Rattle.speedate_civil.specs.DateTime.{DateAndTime, date_and_time, date_time_answer, date_time_by_config, date_time_decimal_text, date_time_front, date_time_or_timestamp, is_separator, ◌gives◌, ◌gives_front◌};
+ghost use Rattle.speedate_base.specs.Requirement.{meets, result_map, with_size};
+ghost use Rattle.speedate_civil.specs.Date.unit;
+ghost use Rattle.speedate_civil.specs.DateTime.{DateAndTime, date_and_time, date_time_answer, date_time_by_config, date_time_decimal_text, date_time_front, date_time_or_timestamp, is_separator, separator_table, ◌gives◌, ◌gives_front◌};
 ghost use Rattle.speedate_civil.specs.Standard.{IsDateTime, standard_date_time, strict_date_time_answer};
+ghost use Rattle.speedate_civil.specs.Time.{time_front, time_of_day};
+ghost use Rattle.speedate_civil.specs.Time.behavior;
 
 use super::DateTime;
 use crate::date::{Date, may_be_number};
@@ -223,10 +224,7 @@ impl DateTime {
         ensures no_number { OnOk result (number_answer bytes.now ≡ NoNumber) }
     {
         let (date, _) = Date::parse_front(bytes)?;
-        if !has_separator(bytes) {
-            return Err(ParseError::InvalidCharDateTimeSep);
-        }
-        let (time, size) = Time::front(&bytes[TIME_PLACE..], behavior)?;
+        let (time, size) = time_after_date(bytes, behavior)?;
         Ok((DateTime { date, time }, TIME_PLACE + size))
     }
 
@@ -280,6 +278,24 @@ impl FromStr for DateTime {
     fn from_str(text: &str) -> Result<Self, ParseError> {
         Self::parse_str(text)
     }
+}
+
+/// Parses the separator after the date at the front of a text and the time after it, and returns how
+/// many bytes the time takes.
+#[inline(always)]
+fn time_after_date(
+    bytes: &[u8],
+    behavior: MicrosecondsPrecisionOverflowBehavior,
+) -> Result<(Time, usize), ParseError>
+    ensures answer { result_map (with_size time_of_day) result
+        ≡ meets (separator_table bytes.now) (time_front behavior (drop 11 bytes.now)) }
+    ensures within { IfOk result (λ front. TIME_PLACE + front.1 ≤ length bytes.now) }
+    ensures minutes { IfOk result (λ front. IsWholeMinutes front.0.tz_offset) }
+{
+    if !has_separator(bytes) {
+        return Err(ParseError::InvalidCharDateTimeSep);
+    }
+    Time::front(&bytes[TIME_PLACE..], behavior)
 }
 
 /// Whether a separator follows the ten bytes of a date: `T`, `t`, a space or `_`.
