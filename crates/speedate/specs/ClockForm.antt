@@ -37,8 +37,8 @@ hours_table text =
     ∷ (list_all is_ascii_digit (hours text) else_fault fault.InvalidCharHour)
     ∷ []
 
--- and then to go on to the minute: there are at most 2,400,000,000 hours, and what follows them has at least two bytes,
--- and at most 12 if digits are refused
+-- what a text that begins with hours has to meet to go on to the minute: there are at most 2,400,000,000 hours, and what
+-- follows them has at least two bytes, and at most 12 if digits are refused
 abbrev pub hours_range : MicrosecondsPrecisionOverflowBehavior → ℕ → List ℕ → List Requirement
 hours_range behavior hours rest =
     (nat_le hours 2400000000 else_fault fault.DurationHourValueTooLarge)
@@ -61,7 +61,7 @@ after_hours behavior hours rest =
     (result_and_then (λ clock. meets ((clock.size == length rest else_fault fault.ExtraCharacters) ∷ []) (Ok (clock_numbers hours clock)))
     (minute_front behavior rest))
 
--- the duration that a text is in this form, or the text's fault
+-- the duration that a text says as a clock, or the text's fault
 unfoldable pub clock_form : MicrosecondsPrecisionOverflowBehavior → List ℕ → Result UnsignedDuration ParseError
 clock_form behavior text =
     meets (hours_table text) (after_hours behavior (digits_value (hours text)) (from_minute text))

@@ -17,7 +17,7 @@ abbrev pub size_of_one : List (List ℕ) → List ℕ → ℕ
 size_of_one [] text = 0
 size_of_one (one ∷ others) text = if starts_with nat_eq text one then length one else size_of_one others text
 
--- what may follow the letter in the word `days` or `day`, small or in capitals
+-- what may follow the `d` in the word `days` or `day`, small or in capitals
 abbrev pub day_endings : List (List ℕ)
 day_endings = codes "ays" ∷ codes "AYS" ∷ codes "ay" ∷ codes "AY" ∷ []
 
@@ -39,7 +39,7 @@ gap_place text = ending_place text + size_of_one day_endings (drop (ending_place
 abbrev pub days_size : List ℕ → ℕ
 days_size text = gap_place text + size_of_one gaps (drop (gap_place text) text)
 
--- an ending is whole, or none is begun
+-- the ending after the letter of a day is whole, or none is begun
 abbrev pub has_whole_ending : List ℕ → Bool
 has_whole_ending text =
     list_any (starts_with nat_eq text) day_endings || not (list_any (starts_with nat_eq text) (codes "a" ∷ codes "A" ∷ []))
@@ -64,7 +64,7 @@ after_days behavior days rest =
     else result_and_then (λ clock. meets ((clock.day == 0 else_fault fault.DurationHourValueTooLarge) ∷ []) (Ok (record clock { day = days })))
     (clock_form behavior rest)
 
--- the numbers that a text says in this form, the days of any size, or the text's fault
+-- the numbers that a text says as days and a clock, the days of any size, or the text's fault
 unfoldable pub day_form : MicrosecondsPrecisionOverflowBehavior → List ℕ → Result UnsignedDuration ParseError
 day_form behavior text = do
   days ← days_front text

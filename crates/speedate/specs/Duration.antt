@@ -28,18 +28,18 @@ duration_numbers duration = record {
 }
 
 infix 15 ◌gives◌
--- what a call answers, by its numbers, is this answer
+-- the answer of a call, a duration seen as its numbers, is the given one
 abbrev pub ◌gives◌ : Result Duration ParseError → Result DurationNumbers ParseError → Type 0
 result gives answer = result_map duration_numbers result ≡ answer
 
--- those of a duration without its sign
+-- the numbers of a duration without its sign
 abbrev pub unsigned_numbers : StructUnsignedDuration → UnsignedDuration
 unsigned_numbers duration = record { day = duration.day; second = duration.second; microsecond = duration.microsecond }
 
 -- The answer to a text of a duration, as a function, which reads the items of an ISO 8601 duration from the left, and as a
 -- relation. Which form a text has is the library's own rule.
 
--- the answer to what is left of a text after some items; the skipped bytes are those of the last of them
+-- the answer to what is left of an ISO 8601 duration after some items; the skipped bytes are those of the last item
 unfoldable pub iso_after : ℕ → Sums → List ℕ → Result UnsignedDuration ParseError
 iso_after skipped sums [] = if sums.some then Ok (sums_amount sums) else Err fault.TooShort
 iso_after zero sums (byte ∷ rest) =
@@ -47,11 +47,11 @@ iso_after zero sums (byte ∷ rest) =
     meets (item_table sums item) (iso_after (length (item_text item) - 1) (with_item item sums) rest)
 iso_after (suc skipped) sums (byte ∷ rest) = iso_after skipped sums rest
 
--- the answer to a text after items
+-- the answer to the text that follows some items of an ISO 8601 duration
 abbrev pub iso_from : Sums → List ℕ → Result UnsignedDuration ParseError
 iso_from sums text = iso_after 0 sums text
 
--- the amount that a text says after its `P`, or the text's fault
+-- the amount that an ISO 8601 duration says after its `P`, or the text's fault
 abbrev pub iso_form : IsoOrder → List ℕ → Result UnsignedDuration ParseError
 iso_form order text = iso_from (no_sums order) text
 
@@ -65,12 +65,12 @@ form_answer behavior text =
     if length text == 0 then Err fault.TooShort
     else (if has_days text then day_form behavior text else clock_form behavior text)
 
--- the answer to a text without a sign: that of an ISO 8601 duration if it begins with `P`
+-- the answer to the text of a duration without its sign: that of an ISO 8601 duration if it begins with `P`
 unfoldable pub unsigned_answer : IsoOrder → MicrosecondsPrecisionOverflowBehavior → List ℕ → Result UnsignedDuration ParseError
 unsigned_answer order behavior text =
     if slice_index text 0 == capital_p then iso_form order (drop 1 text) else form_answer behavior text
 
--- the answer to a text: the duration that it is, or its fault. The sign and the normal form are applied last
+-- the answer to a text of a duration: the duration that it is, or its fault. The sign and the normal form are applied last
 abbrev pub duration_answer : IsoOrder → MicrosecondsPrecisionOverflowBehavior → List ℕ → Result DurationNumbers ParseError
 duration_answer order behavior text =
     result_and_then (signed_form (not (has_minus text))) (unsigned_answer order behavior (drop (sign_size text) text))
@@ -79,7 +79,7 @@ duration_answer order behavior text =
 abbrev pub iso_body : List ℕ → List ℕ
 iso_body text = drop 1 (drop (sign_size text) text)
 
--- the same as a relation: after the sign and a `P` a text is good items and an end
+-- the answer to a text of a duration, as a relation: after the sign and a `P` the text is good items and an end
 abbrev pub IsDurationAnswer : IsoOrder → MicrosecondsPrecisionOverflowBehavior → List ℕ → Result DurationNumbers ParseError → Type 0
 IsDurationAnswer order behavior text answer =
     let rest = drop (sign_size text) text in
@@ -87,8 +87,8 @@ IsDurationAnswer order behavior text answer =
     × MatchBool (slice_index rest 0 == capital_p) (IsAnswerFrom (no_sums order) (iso_body text) form) (form ≡ form_answer behavior rest)
     × (answer ≡ result_and_then (signed_form (not (has_minus text))) form)
 
--- an answer is the grammar's: the relation allows it, and allows no other; and of an ISO 8601 duration only one front of good
--- items is followed by an end, whatever is answered there
+-- an answer to a text of a duration is the grammar's: the relation `IsDurationAnswer` allows it, and allows no other; and of
+-- an ISO 8601 duration only one front of good items is followed by an end, whatever is answered there
 pub record IsGrammarAnswer (order : IsoOrder) (behavior : MicrosecondsPrecisionOverflowBehavior) (text : List ℕ) (answer : Result DurationNumbers ParseError) : Type 0 where
   pub is_allowed : IsDurationAnswer order behavior text answer
   pub is_only : (other : Result DurationNumbers ParseError) → IsDurationAnswer order behavior text other → other ≡ answer
@@ -103,7 +103,7 @@ pub record IsGrammarAnswer (order : IsoOrder) (behavior : MicrosecondsPrecisionO
 abbrev pub counted_text : ℕ → ℕ → List ℕ
 counted_text number unit = if number == 0 then [] else decimal number ++ unit ∷ []
 
--- a digit before others; nothing for a zero that no digit follows
+-- a digit put before others; nothing for a zero that no digit follows
 abbrev pub kept_digit : ℕ → List ℕ → List ℕ
 kept_digit digit [] = if digit == digit_zero then [] else digit ∷ []
 kept_digit digit (next ∷ rest) = digit ∷ next ∷ rest
@@ -121,27 +121,28 @@ short_fraction_text microsecond = if microsecond == 0 then [] else full_stop ∷
 abbrev pub is_whole_days : DurationNumbers → Bool
 is_whole_days numbers = (numbers.second == 0) && (numbers.microsecond == 0)
 
--- years and days
+-- the years and the days of a duration in print
 abbrev pub days_text : DurationNumbers → List ℕ
 days_text numbers = counted_text (numbers.day / 365) capital_y ++ counted_text (numbers.day % 365) capital_d
 
--- seconds with their fraction
+-- the seconds of a duration with their fraction in print
 abbrev pub seconds_text : ℕ → ℕ → List ℕ
 seconds_text second microsecond =
     if (second == 0) && (microsecond == 0) then [] else decimal second ++ short_fraction_text microsecond ++ capital_s ∷ []
 
--- hours, minutes and seconds
+-- the hours, minutes and seconds of a duration in print
 abbrev pub hours_text : DurationNumbers → List ℕ
 hours_text numbers =
     counted_text (numbers.second / 3600) capital_h ++ counted_text (numbers.second / 60 % 60) capital_m
     ++ seconds_text (numbers.second % 60) numbers.microsecond
 
--- what follows the days: `T`, hours, minutes and seconds; nothing after whole days; `T0S` if there is nothing else
+-- what follows the days of a duration in print: `T`, hours, minutes and seconds; nothing after whole days; `T0S` if there is
+-- nothing else
 abbrev pub rest_text : DurationNumbers → List ℕ
 rest_text numbers =
     if is_whole_days numbers then (if numbers.day == 0 then codes "T0S" else []) else capital_t ∷ hours_text numbers
 
--- `P`, after `-` if the duration is negative
+-- the start of a duration in print: `P`, after `-` if the duration is negative
 abbrev pub start_text : Bool → List ℕ
 start_text positive = if positive then capital_p ∷ [] else hyphen ∷ capital_p ∷ []
 
@@ -160,7 +161,7 @@ abbrev pub duration_of_amount : ℤ → DurationNumbers
 duration_of_amount (pos amount) = of_amount true amount
 duration_of_amount (negsuc below) = of_amount false (suc below)
 
--- the same, or the fault of one that has too many days
+-- the duration of a number of microseconds, or the fault of one that has too many days
 abbrev pub amount_answer : ℤ → Result DurationNumbers ParseError
 amount_answer amount =
     let duration = duration_of_amount amount in

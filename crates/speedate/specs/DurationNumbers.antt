@@ -26,20 +26,20 @@ pub record UnsignedDuration : Type 0 where
   pub second : ℕ
   pub microsecond : ℕ
 
--- its numbers are in their ranges
+-- the numbers of a duration are in their ranges
 pub record IsDuration (numbers : DurationNumbers) : Type 0 where
   pub day : numbers.day ≤ 999999999
   pub second : numbers.second < seconds_per_day
   pub microsecond : numbers.microsecond ≤ 999999
 
--- its amount in seconds, and in microseconds, without its sign
+-- the amount of a duration in seconds, and in microseconds, without its sign
 abbrev pub amount_seconds : DurationNumbers → ℕ
 amount_seconds numbers = numbers.day * seconds_per_day + numbers.second
 
 abbrev pub amount_microseconds : DurationNumbers → ℕ
 amount_microseconds numbers = amount_seconds numbers * 1000000 + numbers.microsecond
 
--- the numbers that have this amount in microseconds: seconds and microseconds in their ranges, and days of any size
+-- the numbers of a duration of so many microseconds: seconds and microseconds in their ranges, and days of any size
 abbrev pub of_amount : Bool → ℕ → DurationNumbers
 of_amount positive amount = record {
   positive = positive;
@@ -48,15 +48,15 @@ of_amount positive amount = record {
   microsecond = amount % 1000000;
 }
 
--- the seconds with the whole seconds of the microseconds, and the days with the whole days of those
+-- the seconds of a duration with the whole seconds of its microseconds, and its days with the whole days of all these seconds
 abbrev pub carried_second : DurationNumbers → ℕ
 carried_second numbers = numbers.second + numbers.microsecond / 1000000
 
 abbrev pub carried_day : DurationNumbers → ℕ
 carried_day numbers = numbers.day + carried_second numbers / seconds_per_day
 
--- what numbers of any size have to meet to be brought into their ranges: the sums are counted in 32 bits, and then the days
--- are at most 999,999,999
+-- what the numbers of a duration, of any size, have to meet to be brought into their ranges: the sums are counted in 32 bits,
+-- and then the days are at most 999,999,999
 abbrev pub normal_table : DurationNumbers → List Requirement
 normal_table numbers =
     (nat_le (carried_second numbers) 4294967295 else_fault fault.DurationValueTooLarge)
@@ -64,28 +64,28 @@ normal_table numbers =
     ∷ (nat_le (carried_day numbers) 999999999 else_fault fault.DurationDaysTooLarge)
     ∷ []
 
--- the normal form: the numbers in their ranges that have the same amount, or the fault
+-- the normal form of a duration: the numbers in their ranges that have the same amount, or the fault
 abbrev pub normal_form : DurationNumbers → Result DurationNumbers ParseError
 normal_form numbers = meets (normal_table numbers) (Ok (of_amount numbers.positive (amount_microseconds numbers)))
 
--- the normal form of an amount with a sign
+-- the normal form of a duration that is given by its sign and its numbers without it
 abbrev pub signed_form : Bool → UnsignedDuration → Result DurationNumbers ParseError
 signed_form positive amount =
     normal_form (record { positive = positive; day = amount.day; second = amount.second; microsecond = amount.microsecond })
 
--- the amount in whole seconds with the sign
+-- the amount of a duration in whole seconds, with its sign
 abbrev pub signed_seconds : DurationNumbers → ℤ
 signed_seconds numbers = with_sign (not numbers.positive) (amount_seconds numbers)
 
--- the amount in milliseconds with the sign, cut toward zero
+-- the amount of a duration in milliseconds, with its sign, cut toward zero
 abbrev pub signed_milliseconds : DurationNumbers → ℤ
 signed_milliseconds numbers = with_sign (not numbers.positive) (1000 * amount_seconds numbers + numbers.microsecond / 1000)
 
--- the microseconds of a second with the sign
+-- the microseconds of a second in a duration, with its sign
 abbrev pub signed_microsecond : DurationNumbers → ℤ
 signed_microsecond numbers = with_sign (not numbers.positive) numbers.microsecond
 
--- the days, and the seconds of a day, with the sign
+-- the days of a duration, and its seconds of a day, with its sign
 abbrev pub signed_day : DurationNumbers → ℤ
 signed_day numbers = with_sign (not numbers.positive) numbers.day
 
@@ -115,7 +115,7 @@ same false true d e s t u v = refl
 same true true d e s t u v = both_tied _ _ _ _ (tied false d e) (both_tied _ _ _ _ (tied false s t) (tied false u v))
 same false false d e s t u v = both_tied _ _ _ _ (tied true d e) (both_tied _ _ _ _ (tied true s t) (tied true u v))
 
--- and those are equal in it whose numbers are
+-- durations are equal in `duration_order` if and only if their numbers are
 pub duration_order-same : (first second : DurationNumbers)
     → (beq first.positive second.positive && (nat_eq first.day second.day && (nat_eq first.second second.second && nat_eq first.microsecond second.microsecond)))
     ≡ is_eq (duration_order first second)

@@ -16,7 +16,7 @@ abbrev pub IsFractionOf : DurationUnit → List ℕ → ℕ → Type 0
 IsFractionOf unit digits microseconds =
     IsNearest (pos (digits_value digits * unit_microseconds unit)) (10 ^ length digits) (pos microseconds)
 
--- an amount in microseconds is that of a component of its side: its number of its unit, and the fraction of one
+-- an amount in microseconds is that of a component on a side of the `T`: its number of its unit, and the fraction of one
 pub record IsComponentAmount (is_time : Bool) (component : ComponentText) (amount : ℕ) : Type 0 where
   pub unit : DurationUnit
   pub fraction : ℕ
@@ -24,7 +24,7 @@ pub record IsComponentAmount (is_time : Bool) (component : ComponentText) (amoun
   pub is_fraction : IsFractionOf unit (drop 1 component.fraction) fraction
   pub is_amount : amount ≡ digits_value component.number * unit_microseconds unit + fraction
 
--- an amount is the sum of those of items; a `T` adds nothing, and after it comes the side of the time
+-- an amount is the sum of the amounts of items; a `T` adds nothing, and after it comes the side of the time
 abbrev pub IsSumOf : Bool → List Item → ℕ → Type 0
 IsSumOf is_time [] sum = sum ≡ 0
 IsSumOf is_time (TimeDesignator ∷ items) sum = IsSumOf true items sum

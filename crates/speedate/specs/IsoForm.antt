@@ -19,7 +19,7 @@ use Rattle.speedate_base.specs.Timestamp.{seconds_per_day}
 use Rattle.speedate_base.specs.Requirement.{Requirement, ◌else_fault◌, meets, AllHold}
 use Rattle.speedate.specs.DurationNumbers.{UnsignedDuration}
 
--- a unit by its designator, and what one of it is: whole days, or seconds
+-- a unit of a duration by its designator, and what one of it is: whole days, or seconds
 pub record DurationUnit : Type 0 where
   pub designator : ℕ
   pub day : ℕ
@@ -54,7 +54,7 @@ pub data Item : Type 0 where
   TimeDesignator : Item
   Component : ComponentText → Item
 
--- its text
+-- the text of an item
 abbrev pub item_text : Item → List ℕ
 item_text TimeDesignator = capital_t ∷ []
 item_text (Component component) = component.number ++ component.fraction ++ component.designator ∷ []
@@ -64,7 +64,7 @@ abbrev pub IsFraction : List ℕ → Type 0
 IsFraction [] = Unit {0}
 IsFraction (mark ∷ digits) = IsTrue (is_decimal_mark mark) × IsTrue (list_all is_ascii_digit digits)
 
--- the number of a component is digits, and its fraction is one; its designator may be any byte
+-- an item is a `T`, or a component whose number is digits and whose fraction is one; its designator may be any byte
 abbrev pub IsItem : Item → Type 0
 IsItem TimeDesignator = Unit {0}
 IsItem (Component component) = IsTrue (list_all is_ascii_digit component.number) × IsFraction component.fraction
@@ -86,8 +86,8 @@ component_at text =
 abbrev pub item_at : List ℕ → Item
 item_at text = if slice_index text 0 == capital_t then TimeDesignator else Component (component_at text)
 
--- what the items so far add up to: whether there was a `T`, a fraction, a component; days, seconds and microseconds. And the
--- order in which components have to come, with the units that may still come on this side
+-- what some items of an ISO 8601 duration add up to: whether there was a `T`, a fraction, a component; days, seconds and
+-- microseconds. And the order in which components have to come, with the units that may still come on the side that is reached
 pub record Sums : Type 0 where
   pub order : IsoOrder
   pub next_units : List DurationUnit
@@ -98,7 +98,7 @@ pub record Sums : Type 0 where
   pub second : ℕ
   pub microsecond : ℕ
 
--- of no items
+-- the sums of no items
 abbrev pub no_sums : IsoOrder → Sums
 no_sums order = record { order = order; next_units = units false; is_time = false; fraction = false; some = false; day = 0; second = 0; microsecond = 0 }
 
@@ -110,13 +110,13 @@ unit_seconds unit = seconds_per_day * unit.day + unit.second
 abbrev pub fraction_seconds : DurationUnit → List ℕ → ℕ
 fraction_seconds unit digits = digits_value digits * unit_seconds unit / 10 ^ length digits
 
--- the nearest microseconds of a fraction of a unit, less those whole seconds: 1,000,000 if it is rounded up to a second
+-- the nearest microseconds of a fraction of a unit, less its whole seconds: 1,000,000 if it is rounded up to a second
 abbrev pub fraction_microseconds : DurationUnit → List ℕ → ℕ
 fraction_microseconds unit digits =
     unsigned_abs (nearest (pos (digits_value digits * (1000000 * unit_seconds unit))) (10 ^ length digits))
     - 1000000 * fraction_seconds unit digits
 
--- after the unit of a designator the strict order leaves what follows it, the lax one the whole side
+-- the units that may come after that of a designator: in the strict order those that follow it, in the lax one its whole side
 abbrev pub next_units_after : IsoOrder → Bool → ℕ → List DurationUnit → List DurationUnit
 next_units_after order.Lax is_time designator next = units is_time
 next_units_after order.Strict is_time designator next = units_after designator next
@@ -169,12 +169,12 @@ abbrev pub with_items : List Item → Sums → Sums
 with_items [] sums = sums
 with_items (item ∷ items) sums = with_items items (with_item item sums)
 
--- each of a list of items is one, and meets the table after those before it
+-- each of a list of items is an item, and meets the table after those before it
 abbrev pub AreGood : Sums → List Item → Type 0
 AreGood sums [] = Unit {0}
 AreGood sums (item ∷ items) = IsItem item × AllHold (item_table sums item) × AreGood (with_item item sums) items
 
--- the amount that they are
+-- the amount that sums are
 abbrev pub sums_amount : Sums → UnsignedDuration
 sums_amount sums = record { day = sums.day; second = sums.second; microsecond = sums.microsecond }
 
@@ -190,6 +190,6 @@ pub record IsEndedFront (sums : Sums) (text : List ℕ) (items : List Item) (res
   pub are_good : AreGood sums items
   pub ends : Ends (with_items items sums) rest answer
 
--- the answer to a text after items: that at the end of a front
+-- an answer to a text after items of an ISO 8601 duration: the text has a front of good items that ends with it
 abbrev pub IsAnswerFrom : Sums → List ℕ → Result UnsignedDuration ParseError → Type 0
 IsAnswerFrom sums text answer = (items : List Item) × (rest : List ℕ) × IsEndedFront sums text items rest answer

@@ -28,7 +28,7 @@ pub record IsMadeOf (text : List ℕ) (items : List Item) : Type 0 where
   pub some : (with_items items (no_sums order.Lax)).some ≡ true
   pub is_text : text ≡ sign ++ capital_p ∷ flat_map item_text items
 
--- an answer is the lax one, or it is that of a component out of order
+-- an answer is that in the lax order, or the refusal of a component out of order
 abbrev pub IsLaxOrRefused : {A : Type 0} → Result A ParseError → Result A ParseError → Type 0
 IsLaxOrRefused lax answer = (answer ≡ lax) ⊎ (answer ≡ Err fault.DurationUnitOrder)
 

@@ -118,8 +118,10 @@ impl Duration {
     ///
     /// # Errors
     ///
-    /// `TooShort` if nothing follows the sign; then those of the form, in each list in the order in
-    /// which they are looked for; last those of [`Duration::new`].
+    /// `TooShort` if nothing follows the sign; then those of the form, in each list in the order of
+    /// [its table](docs/GRAMMAR.md#durations), which has an example of each. Last come, of the sums,
+    /// `DurationValueTooLarge` if the seconds, or then the days, exceed 4,294,967,295, and
+    /// `DurationDaysTooLarge` if the days exceed 999,999,999.
     ///
     /// Of an ISO 8601 duration the first item, from the left, that has an error gives it:
     ///
@@ -160,7 +162,11 @@ impl Duration {
     }
 
     /// Parses a duration from bytes: a negative second from `b"-00:00:01"`. The bytes need not be text.
-    /// The forms and the errors are those of [`Duration::parse_str`].
+    /// The forms are those of [`Duration::parse_str`].
+    ///
+    /// # Errors
+    ///
+    /// Those of [`Duration::parse_str`], in its order.
     #[inline(always)]
     pub fn parse_bytes(bytes: &[u8]) -> Result<Self, ParseError>
         ensures answer { result gives duration_answer order.Lax behavior.Error bytes.now }
@@ -189,10 +195,10 @@ impl Duration {
     ///
     /// # Errors
     ///
-    /// Those of [`Duration::parse_str`], but with `Truncate` there is no `SecondFractionTooLong`. With
-    /// `Strict` a component out of order, or repeated, as in `b"P1D1Y"`, is `DurationUnitOrder`, which
-    /// is looked for after the error of a byte that is no designator of its side, and before that of
-    /// sums that are too large.
+    /// Those of [`Duration::parse_str`], in its order, but with `Truncate` there is no
+    /// `SecondFractionTooLong`. With `Strict` a component out of order, or repeated, as in `b"P1D1Y"`,
+    /// is `DurationUnitOrder`, which is looked for after the error of a byte that is no designator of
+    /// its side, and before that of sums that are too large.
     #[inline(always)]
     pub fn parse_bytes_with_config(bytes: &[u8], config: &TimeConfig) -> Result<Self, ParseError>
         ensures answer { result gives duration_answer (time_choices config.now).order
@@ -300,6 +306,10 @@ impl FromStr for Duration {
         result gives duration_answer order.Lax behavior.Error text };
 
     /// The answer of [`Duration::parse_str`]: `"PT90M".parse()` gives an hour and a half.
+    ///
+    /// # Errors
+    ///
+    /// Those of [`Duration::parse_str`], in its order.
     fn from_str(text: &str) -> Result<Self, ParseError> {
         Self::parse_str(text)
     }

@@ -43,11 +43,11 @@ unit_and_time unit config = record {
 abbrev pub choices : DateTimeConfig → Choices
 choices config = unit_and_time config.timestamp_unit config.time_config
 
--- those of a configuration of times, which has no unit: it is the default one
+-- the choices of a configuration of times, which has no unit: the unit is the default one
 abbrev pub time_choices : TimeConfig → Choices
 time_choices config = unit_and_time unit.Infer config
 
--- the same with one choice replaced
+-- choices in which one is replaced
 abbrev pub with_behavior : MicrosecondsPrecisionOverflowBehavior → Choices → Choices
 with_behavior behavior chosen = record { unit = chosen.unit; behavior = behavior; order = chosen.order; offset = chosen.offset }
 
@@ -65,7 +65,7 @@ pub record Choice (A : Type 0) : Type 0 where
   pub value : A
 
 infix 20 ◌chooses◌
--- a row of a table
+-- a row of a table of choices: a name, and the value that it chooses
 abbrev pub ◌chooses◌ : {A : Type 0} → List ℕ → A → Choice A
 name chooses value = record { name = name; value = value }
 

@@ -13,7 +13,7 @@ one_digit_value byte = byte - digit_zero
 abbrev pub two_digits_at : List ℕ → ℕ → Bool
 two_digits_at text place = is_ascii_digit (slice_index text place) && is_ascii_digit (slice_index text (place + 1))
 
--- the number that they spell
+-- the number that two digits from a place on spell
 abbrev pub two_digit_value : List ℕ → ℕ → ℕ
 two_digit_value text place =
     10 * one_digit_value (slice_index text place) + one_digit_value (slice_index text (place + 1))
@@ -22,7 +22,7 @@ two_digit_value text place =
 abbrev pub four_digits_at : List ℕ → ℕ → Bool
 four_digits_at text place = two_digits_at text place && two_digits_at text (place + 2)
 
--- the number that they spell
+-- the number that four digits from a place on spell
 abbrev pub four_digit_value : List ℕ → ℕ → ℕ
 four_digit_value text place = 100 * two_digit_value text place + two_digit_value text (place + 2)
 
@@ -79,18 +79,18 @@ eight_at text place =
     slice_index text place ∷ slice_index text (place + 1) ∷ slice_index text (place + 2) ∷ slice_index text (place + 3)
     ∷ slice_index text (place + 4) ∷ slice_index text (place + 5) ∷ slice_index text (place + 6) ∷ slice_index text (place + 7) ∷ []
 
--- a byte is as the pattern has it
+-- a byte is as a pattern has it: a digit for `0`, and for any other byte that byte
 abbrev pub fits_byte : ℕ → ℕ → Bool
 fits_byte form byte = if form == digit_zero then is_ascii_digit byte else byte == form
 
--- how many bytes, from the first on, are as the pattern has them
+-- how many bytes, from the first on, are as a pattern has them
 abbrev pub fit_length : List ℕ → List ℕ → ℕ
 fit_length [] bytes = 0
 fit_length (form ∷ forms) [] = 0
 fit_length (form ∷ forms) (byte ∷ bytes) = if fits_byte form byte then 1 + fit_length forms bytes else 0
 
--- what the first `count` bytes stand for, which fit the pattern: a digit for its value, any other byte for 0;
--- each byte after them stands for 0
+-- what the first `count` bytes stand for, which fit a pattern: a digit for its value, any other byte for 0; each byte after
+-- them stands for 0
 abbrev pub fit_digits : ℕ → List ℕ → List ℕ → List ℕ
 fit_digits count [] bytes = []
 fit_digits count (form ∷ forms) [] = []

@@ -14,7 +14,7 @@ pub record FaultRow : Type 0 where
   pub name : List ℕ
   pub documentation : List ℕ
 
--- a row of the table
+-- a row of the table of faults
 abbrev pub row : ParseError → String → String → FaultRow
 row fault name documentation = record { fault = fault; name = codes name; documentation = codes documentation }
 
@@ -69,7 +69,7 @@ fault_rows =
 abbrev pub fault_place : ParseError → ℕ
 fault_place fault = tag_of the_type fault
 
--- the row at that place
+-- the row of a fault in the table of faults
 abbrev pub fault_row : ParseError → FaultRow
 fault_row fault = get_or fault_rows (fault_place fault) (row fault "" "")
 

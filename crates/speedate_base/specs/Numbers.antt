@@ -12,7 +12,7 @@ use Rattle.speedate_base.specs.Digits.{run_length, run_digits, run_value, digits
 abbrev pub has_minus : List ℕ → Bool
 has_minus text = slice_index text 0 == hyphen
 
--- how many bytes its sign has: none, or one `+` or `-`
+-- how many bytes the sign of a text has: none, or one for `+` or `-`
 abbrev pub sign_size : List ℕ → ℕ
 sign_size text = if (slice_index text 0 == plus_sign) || has_minus text then 1 else 0
 
@@ -24,11 +24,11 @@ with_sign negative size = if negative then neg_ℤ (pos size) else pos size
 abbrev pub fits_i64 : Bool → ℕ → Bool
 fits_i64 negative size = if negative then nat_le size (2 ^ 63) else nat_lt size (2 ^ 63)
 
--- a size with its sign, if it fits
+-- a size with its sign, if it fits 64 bits with a sign
 abbrev pub signed_answer : Bool → ℕ → Option ℤ
 signed_answer negative size = if fits_i64 negative size then Some (with_sign negative size) else None
 
--- the whole number that a text is, if it is an optional sign and one or more digits, and fits
+-- the whole number that a text is, if it is an optional sign and one or more digits, and fits 64 bits with a sign
 abbrev pub whole_number : List ℕ → Option ℤ
 whole_number text =
     let start = sign_size text in
@@ -52,7 +52,7 @@ decimal_of_digits decimal =
 abbrev pub point_place : List ℕ → ℕ
 point_place text = sign_size text + run_length text (sign_size text)
 
--- the text is an optional sign, digits, one point and digits, with a digit on one side at least
+-- a text is an optional sign, digits, one point and digits, with a digit on one side at least
 abbrev pub is_decimal : List ℕ → Bool
 is_decimal text =
     let whole = run_length text (sign_size text) in
@@ -60,7 +60,7 @@ is_decimal text =
     let fraction = run_length text (point + 1) in
     (slice_index text point == full_stop) && (point + 1 + fraction == length text) && nat_lt 0 (whole + fraction)
 
--- its parts
+-- the parts of a text that is a decimal
 abbrev pub decimal_parts : List ℕ → DecimalParts
 decimal_parts text = record {
   negative = has_minus text;
@@ -75,7 +75,7 @@ decimal_digits decimal = digits_value (decimal.whole ++ decimal.fraction)
 abbrev pub decimal_scale : DecimalParts → ℕ
 decimal_scale decimal = 10 ^ length decimal.fraction
 
--- a decimal times ten to the power of the places, if that is whole and fits
+-- a decimal times ten to the power of the places, if that is whole and fits 64 bits with a sign
 abbrev pub scaled_decimal : ℕ → DecimalParts → Option ℤ
 scaled_decimal places decimal =
     let size = decimal_digits decimal * 10 ^ places in
@@ -101,7 +101,7 @@ whole_or None next = next
 abbrev pub number_answer : List ℕ → Number
 number_answer text = whole_or (whole_number text) (decimal_answer text)
 
--- a number times ten to the power of the places, if that is whole and fits
+-- a number times ten to the power of the places, if that is whole and fits 64 bits with a sign
 abbrev pub scaled_number : ℕ → Number → Option ℤ
 scaled_number places (Whole n) = signed_answer (int_lt n (pos 0)) (unsigned_abs n * 10 ^ places)
 scaled_number places (Fractional decimal) = scaled_decimal places decimal
@@ -111,7 +111,7 @@ scaled_number places NoNumber = None
 abbrev pub IsSign : Bool → List ℕ → Type 0
 IsSign negative sign = MatchBool negative (sign ≡ codes "-") ((sign ≡ []) ⊎ (sign ≡ codes "+"))
 
--- the text is the sign, the digits, the point and the digits of the decimal
+-- a text is the sign, the digits, the point and the digits of a decimal
 abbrev pub JoinsTo : DecimalParts → List ℕ → Type 0
 JoinsTo decimal text =
     (sign : List ℕ) × IsSign decimal.negative sign × (text ≡ sign ++ decimal.whole ++ full_stop ∷ decimal.fraction)

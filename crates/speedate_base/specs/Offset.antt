@@ -8,7 +8,7 @@ use Rattle.speedate_base.specs.Requirement.{Requirement, ◌else_fault◌}
 abbrev pub IsOffset : ℤ → Type 0
 IsOffset offset = unsigned_abs offset < 86400
 
--- and the test of it
+-- the test whether an offset is less than 24 hours
 abbrev pub is_offset : ℤ → Bool
 is_offset offset = nat_lt (unsigned_abs offset) 86400
 

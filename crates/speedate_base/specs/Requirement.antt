@@ -11,7 +11,7 @@ pub record Requirement : Type 0 where
   pub fault : ParseError
 
 infix 20 ◌else_fault◌
--- a row of a table
+-- a row of a table: a test, and the fault of a text that fails it
 abbrev pub ◌else_fault◌ : Bool → ParseError → Requirement
 test else_fault fault = record { holds = test; fault = fault }
 
@@ -20,12 +20,12 @@ infix 15 ◌implies◌
 abbrev pub ◌implies◌ : Bool → Bool → Bool
 there implies asked = if there then asked else true
 
--- what comes next if every row holds, otherwise the fault of the first row that does not
+-- what comes next if every row of a table holds, otherwise the fault of the first row that does not
 abbrev pub meets : {A : Type 0} → List Requirement → Result A ParseError → Result A ParseError
 meets [] next = next
 meets (row ∷ rows) next = if row.holds then meets rows next else Err row.fault
 
--- every row of the table holds
+-- every row of a table holds
 abbrev pub AllHold : List Requirement → Type 0
 AllHold [] = Unit {0}
 AllHold (row ∷ rows) = (row.holds ≡ true) × AllHold rows

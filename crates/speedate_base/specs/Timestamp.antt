@@ -38,7 +38,7 @@ microsecond_row = record { microseconds = 1; digits = 0; too_long = fault.Micros
 abbrev pub inferred_seconds_max : ℕ
 inferred_seconds_max = 20000000000
 
--- the row of a unit, given whether the timestamp without its sign is at most that
+-- the row of a unit, given whether the timestamp without its sign is at most 20,000,000,000
 abbrev pub unit_row : TimestampUnit → Bool → UnitRow
 unit_row unit.Second few = second_row
 unit_row unit.Millisecond few = millisecond_row
@@ -66,7 +66,7 @@ abbrev pub has_unit : TimestampUnit → ℤ → Bool
 has_unit unit.Infer timestamp = nat_lt (unsigned_abs timestamp) (2 ^ 63)
 has_unit given timestamp = true
 
--- what a timestamp has to meet
+-- what a timestamp has to meet to have a unit
 abbrev pub unit_table : TimestampUnit → ℤ → List Requirement
 unit_table unit timestamp = (has_unit unit timestamp else_fault fault.DateTooSmall) ∷ []
 
@@ -88,7 +88,7 @@ sum_table microseconds instant =
     ∷ (int_lt (later_instant microseconds instant).second (pos (2 ^ 63)) else_fault fault.TimeTooLarge)
     ∷ []
 
--- the same, or the fault
+-- the instant a number of microseconds later, or the fault of a sum that is too large
 abbrev pub later_answer : ℕ → Instant → Result Instant ParseError
 later_answer microseconds instant = meets (sum_table microseconds instant) (Ok (later_instant microseconds instant))
 
@@ -103,14 +103,14 @@ last_second = pos 253402300799
 abbrev pub IsInYears : Instant → Type 0
 IsInYears instant = IsTrue (int_le first_second instant.second) × IsTrue (int_le instant.second last_second)
 
--- and what it has to meet for that
+-- what an instant has to meet to lie in the years 0000 to 9999
 abbrev pub range_table : Instant → List Requirement
 range_table instant =
     (int_le first_second instant.second else_fault fault.DateTooSmall)
     ∷ (int_le instant.second last_second else_fault fault.DateTooLarge)
     ∷ []
 
--- the instant, or the fault of one outside those years
+-- an instant, or the fault of one outside the years 0000 to 9999
 abbrev pub range_answer : Instant → Result Instant ParseError
 range_answer instant = meets (range_table instant) (Ok instant)
 
@@ -120,15 +120,15 @@ range_answer instant = meets (range_table instant) (Ok instant)
 abbrev pub decimal_row : TimestampUnit → DecimalParts → UnitRow
 decimal_row unit decimal = unit_row unit (nat_le (decimal_digits decimal) (inferred_seconds_max * decimal_scale decimal))
 
--- a decimal in microseconds, with its sign: the numerator of a fraction whose denominator is its scale
+-- a decimal timestamp in microseconds, with its sign: the numerator of a fraction whose denominator is its scale
 abbrev pub decimal_numerator : UnitRow → DecimalParts → ℤ
 decimal_numerator row decimal = with_sign decimal.negative (decimal_digits decimal * row.microseconds)
 
--- the microseconds since 1970-01-01T00:00:00 that it means, to the nearest
+-- the microseconds since 1970-01-01T00:00:00 that a decimal timestamp means, to the nearest
 abbrev pub decimal_microsecond : UnitRow → DecimalParts → ℤ
 decimal_microsecond row decimal = nearest (decimal_numerator row decimal) (decimal_scale decimal)
 
--- the instant that it means, to the nearest microsecond
+-- the instant that a decimal timestamp means, to the nearest microsecond
 abbrev pub decimal_instant : UnitRow → DecimalParts → Instant
 decimal_instant row decimal = instant_at (decimal_microsecond row decimal)
 

@@ -229,7 +229,11 @@ impl TimeConfigBuilder {
     }
 
     /// Sets the offset, in seconds, that the value of a timestamp gets: none, or one of any size, which
-    /// is tested. Fails with `OutOfRangeTz` if it is 24 hours or more, as `Some(86_400)` is.
+    /// is tested.
+    ///
+    /// # Errors
+    ///
+    /// `OutOfRangeTz` if it is 24 hours or more, as `Some(86_400)` is.
     pub fn try_unix_timestamp_offset(self, offset: Option<i32>) -> Result<Self, ParseError>
         ensures choices { result_map time_choices result
             ≡ meets (offset_table offset) (Ok (with_offset offset (time_choices self))) }

@@ -3,12 +3,12 @@ use Rattle.std.specs.Prelude.{ℕ, ◌+◌, ℤ, List, ◌∷◌, ◌++◌, leng
 use Rattle.speedate.specs.declared.ParseError.{ParseError}
 use Rattle.speedate_c.specs.Code.{success, fault_code, buffer_too_small, no_such_date}
 
--- what follows from a value that is in its ranges; otherwise what is left where it is not
+-- what follows from a value that is in its ranges; what is left where it is not
 abbrev pub with_value : {A B : Type 0} → Result A ParseError → B → (A → B) → B
 with_value (Ok value) refused next = next value
 with_value (Err fault) refused next = refused
 
--- the same of a number that has a meaning
+-- what follows from the meaning of a number; what is left where it has none
 abbrev pub with_option : {A B : Type 0} → Option A → B → (A → B) → B
 with_option (Some value) refused next = next value
 with_option None refused next = refused
@@ -22,7 +22,7 @@ abbrev pub after_answer : {A B : Type 0} → (A → B) → B → Result A ParseE
 after_answer shown before (Ok value) = (success, shown value)
 after_answer shown before (Err fault) = (fault_code fault, before)
 
--- the same of a value at the front of a text, and how many bytes it takes
+-- after an answer at the front of a text: its value as C sees it, and how many bytes it takes
 abbrev pub after_front : {A B : Type 0} → (A → B) → B → ℕ → Result (A × ℕ) ParseError → ℤ × B × ℕ
 after_front shown before size (Ok front) = (success, shown front.0, front.1)
 after_front shown before size (Err fault) = (fault_code fault, before, size)

@@ -23,7 +23,7 @@ config_out_of_range = pos 102
 abbrev pub buffer_too_small : ℤ
 buffer_too_small = pos 103
 
--- the years 0000 to 9999 have no such date
+-- the date that a call would give is outside the years 0000 to 9999
 abbrev pub no_such_date : ℤ
 no_such_date = pos 104
 

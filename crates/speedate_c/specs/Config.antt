@@ -15,7 +15,7 @@ use Rattle.speedate.specs.Offset.{offset_table}
 use Rattle.speedate.specs.Requirement.{◌else_fault◌, meets, result_and_then}
 use Rattle.speedate_c.specs.declared.config.SpeedateConfig.{SpeedateConfig}
 
--- the values in the order of their numbers, the default first
+-- the values of each choice in the order of their numbers, the default first
 abbrev pub units : List TimestampUnit
 units = unit.Infer ∷ unit.Second ∷ unit.Millisecond ∷ unit.Microsecond ∷ []
 
@@ -34,11 +34,11 @@ abbrev pub offset_by_flag : ℕ → ℤ → Result (Option ℤ) ParseError
 offset_by_flag flag seconds =
     meets ((nat_le flag 1 else_fault fault.OutOfRangeTz) ∷ []) (Ok (if flag == 0 then None else Some seconds))
 
--- and what both have to meet
+-- an offset by its flag and its seconds, or the fault of one that is out of its range
 abbrev pub offset_answer : ℕ → ℤ → Result (Option ℤ) ParseError
 offset_answer flag seconds = result_and_then (λ offset. meets (offset_table offset) (Ok offset)) (offset_by_flag flag seconds)
 
--- what a configuration from outside chooses for times, where each of these numbers has a value
+-- what a configuration from outside chooses for times, where each of its numbers has a value
 abbrev pub time_choices_of : SpeedateConfig → Option Choices
 time_choices_of config =
     option_and_then (λ behavior.
@@ -48,11 +48,11 @@ time_choices_of config =
     (slice_get orders config.iso_order))
     (slice_get behaviors config.overflow_behavior)
 
--- the same with a unit
+-- choices in which the unit is replaced
 abbrev pub with_unit : TimestampUnit → Choices → Choices
 with_unit unit chosen = record { unit = unit; behavior = chosen.behavior; order = chosen.order; offset = chosen.offset }
 
--- what it chooses for date-times, where each of its numbers has a value
+-- what a configuration from outside chooses for date-times, where each of its numbers has a value
 abbrev pub choices_of : SpeedateConfig → Option Choices
 choices_of config =
     option_and_then (λ unit. option_map (with_unit unit) (time_choices_of config))

@@ -7,7 +7,7 @@ use Rattle.speedate.specs.Timestamp.{seconds_per_day}
 use Rattle.speedate.specs.Requirement.{Requirement, ◌else_fault◌, meets}
 use Rattle.speedate_c.specs.declared.duration.SpeedateDuration.{SpeedateDuration}
 
--- its numbers, whatever they are
+-- the numbers of a duration from outside, whatever they are
 abbrev pub numbers_of : SpeedateDuration → DurationNumbers
 numbers_of duration = record {
   positive = duration.negative == 0;
@@ -16,7 +16,7 @@ numbers_of duration = record {
   microsecond = duration.microsecond;
 }
 
--- what they have to meet: the flag is 0 or 1, and the numbers are in their ranges
+-- what a duration from outside has to meet: the flag is 0 or 1, and the numbers are in their ranges
 abbrev pub duration_table : SpeedateDuration → List Requirement
 duration_table duration =
     (nat_le duration.negative 1 else_fault fault.DurationValueTooLarge)

@@ -101,11 +101,11 @@ epoch_day = 719528
 abbrev pub midnight_second : Ymd → ℤ
 midnight_second date = (pos (day_number date) -ℤ pos epoch_day) *ℤ pos seconds_per_day
 
--- the millisecond of that midnight
+-- the millisecond of a date's midnight since 1970-01-01T00:00:00 (Unix time)
 abbrev pub midnight_millisecond : Ymd → ℤ
 midnight_millisecond date = pos 1000 *ℤ midnight_second date
 
--- by year, then by month, then by day
+-- the order of dates: by year, then by month, then by day
 abbrev pub date_order : Ymd → Ymd → Ordering
 date_order = then_cmp (on (λ date. date.year) nat_cmp) (then_cmp (on (λ date. date.month) nat_cmp) (on (λ date. date.day) nat_cmp))
 

@@ -18,12 +18,12 @@ abbrev pub ymd : Date → Ymd
 ymd date = record { year = date.year; month = date.month; day = date.day }
 
 infix 15 ◌gives◌
--- what a call answers, by its numbers, is this answer
+-- the answer of a call, a date seen as its numbers, is the given one
 abbrev pub ◌gives◌ : Result Date ParseError → Result Ymd ParseError → Type 0
 result gives answer = result_map ymd result ≡ answer
 
 infix 15 ◌gives_front◌
--- the same of a value at the front of a text, and how many bytes it takes
+-- the answer of a call for the front of a text, a date seen as its numbers and how many bytes it takes, is the given one
 abbrev pub ◌gives_front◌ : Result (Date × ℕ) ParseError → Result (Ymd × ℕ) ParseError → Type 0
 result gives_front front = result_map (with_size ymd) result ≡ front
 
@@ -34,7 +34,7 @@ day_table date =
     ∷ (is_in_range 1 (month_length date.year date.month) date.day else_fault fault.OutOfRangeDay)
     ∷ []
 
--- the date of its numbers: the year is looked at first
+-- the date of a year, a month and a day, or the fault of one that is out of range: the year is looked at first
 abbrev pub new_date_answer : ℕ → ℕ → ℕ → Result Ymd ParseError
 new_date_answer year month day =
     let date : Ymd = record { year = year; month = month; day = day } in
@@ -43,7 +43,7 @@ new_date_answer year month day =
 -- The text of a date, `YYYY-MM-DD` (RFC 3339 5.6, full-date; the ranges of month and day are those of its 5.7).
 -- Departs from it nowhere.
 
--- the numbers at the places of a date
+-- the numbers at their places in the text of a date
 abbrev pub date_numbers : List ℕ → Ymd
 date_numbers text = record {
   year = four_digit_value text 0;
@@ -84,11 +84,11 @@ date_text date =
 abbrev pub day_number_at : ℤ → ℤ
 day_number_at second = int_div_euclid second (pos seconds_per_day) +ℤ pos epoch_day
 
--- the same from the year 0 on
+-- the day number of a second since 1970-01-01T00:00:00, from the year 0 on
 abbrev pub day_at : ℤ → ℕ
 day_at second = unsigned_abs (day_number_at second)
 
--- the second of that day
+-- the second of its day for a second since 1970-01-01T00:00:00
 abbrev pub second_at : ℤ → ℕ
 second_at second = unsigned_abs (int_rem_euclid second (pos seconds_per_day))
 

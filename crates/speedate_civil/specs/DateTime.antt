@@ -21,36 +21,37 @@ pub record DateAndTime : Type 0 where
   pub date : Ymd
   pub time : TimeOfDay
 
--- its numbers are in their ranges
+-- the numbers of a date-time are in their ranges
 pub record IsDateAndTime (value : DateAndTime) : Type 0 where
   pub date : IsDate value.date
   pub time : IsTime value.time
 
--- its second as a clock shows it, whatever the offset
+-- the second of a date-time as its clock shows it, whatever the offset
 abbrev pub local_second : DateAndTime → ℤ
 local_second value = midnight_second value.date +ℤ pos (second_of_day value.time)
 
--- its second in UTC: the offset is subtracted (RFC 3339 4.2); an absent one counts as 0, which is the library's own rule
+-- the second of a date-time in UTC: the offset is subtracted (RFC 3339 4.2); an absent one counts as 0, which is the library's
+-- own rule
 abbrev pub utc_second : DateAndTime → ℤ
 utc_second value = local_second value -ℤ unwrap_or value.time.offset (pos 0)
 
--- the millisecond of a second, given apart, and of the value's microsecond, rounded down
+-- the millisecond of a second, given apart, and of the microsecond of a date-time, rounded down
 abbrev pub millisecond_in : ℤ → DateAndTime → ℤ
 millisecond_in second value = pos 1000 *ℤ second +ℤ pos (value.time.microsecond / 1000)
 
--- its millisecond as a clock shows it
+-- the millisecond of a date-time as its clock shows it
 abbrev pub local_millisecond : DateAndTime → ℤ
 local_millisecond value = millisecond_in (local_second value) value
 
--- its millisecond in UTC
+-- the millisecond of a date-time in UTC
 abbrev pub utc_millisecond : DateAndTime → ℤ
 utc_millisecond value = millisecond_in (utc_second value) value
 
--- its microsecond as a clock shows it
+-- the microsecond of a date-time as its clock shows it
 abbrev pub local_microsecond : DateAndTime → ℤ
 local_microsecond value = pos 1000000 *ℤ local_second value +ℤ pos value.time.microsecond
 
--- its microsecond in UTC
+-- the microsecond of a date-time in UTC
 abbrev pub utc_microsecond : DateAndTime → ℤ
 utc_microsecond value = pos 1000000 *ℤ utc_second value +ℤ pos value.time.microsecond
 
@@ -59,12 +60,12 @@ abbrev pub date_and_time : DateTime → DateAndTime
 date_and_time value = record { date = ymd value.date; time = time_of_day value.time }
 
 infix 15 ◌gives◌
--- what a call answers, by its numbers, is this answer
+-- the answer of a call, a date-time seen as its numbers, is the given one
 abbrev pub ◌gives◌ : Result DateTime ParseError → Result DateAndTime ParseError → Type 0
 result gives answer = result_map date_and_time result ≡ answer
 
 infix 15 ◌gives_front◌
--- the same of a value at the front of a text, and how many bytes it takes
+-- the answer of a call for the front of a text, a date-time seen as its numbers and how many bytes it takes, is the given one
 abbrev pub ◌gives_front◌ : Result (DateTime × ℕ) ParseError → Result (DateAndTime × ℕ) ParseError → Type 0
 result gives_front front = result_map (with_size date_and_time) result ≡ front
 
@@ -132,7 +133,7 @@ meant_microsecond unit microseconds timestamp = timestamp_microsecond unit times
 abbrev pub date_time_decimal_answer : TimestampUnit → Option ℤ → DecimalParts → Result DateAndTime ParseError
 date_time_decimal_answer unit offset decimal = instant_date_time offset (decimal_instant (decimal_row unit decimal) decimal)
 
--- the same of a decimal in a text, whose digits may be counted first
+-- the date-time of a decimal timestamp in a text, whose digits may be counted first, or the fault
 abbrev pub date_time_decimal_text : TimestampUnit → MicrosecondsPrecisionOverflowBehavior → Option ℤ → DecimalParts → Result DateAndTime ParseError
 date_time_decimal_text unit behavior offset decimal =
     meets (digits_table behavior (decimal_row unit decimal) decimal) (date_time_decimal_answer unit offset decimal)
@@ -148,13 +149,13 @@ abbrev pub date_time_or_timestamp : TimestampUnit → MicrosecondsPrecisionOverf
 date_time_or_timestamp unit behavior offset text =
     or_number (date_time_number_answer unit behavior offset (number_answer text)) (date_time_answer behavior text)
 
--- the same by a configuration
+-- the date-time that a text is, as its text or as a timestamp, by a configuration, or the text's fault
 abbrev pub date_time_by_config : DateTimeConfig → List ℕ → Result DateAndTime ParseError
 date_time_by_config config text =
     let time = config.time_config in
     date_time_or_timestamp config.timestamp_unit time.microseconds_precision_overflow_behavior time.unix_timestamp_offset text
 
--- the moment of its numbers, as an instant
+-- the moment of a second and a microsecond, as an instant, or the fault
 abbrev pub new_moment_answer : ℕ → ℕ → Result Instant ParseError
 new_moment_answer second microsecond = meets (microsecond_range microsecond ∷ []) (Ok (record { second = pos second; microsecond = microsecond }))
 
@@ -164,7 +165,7 @@ new_moment_answer second microsecond = meets (microsecond_range microsecond ∷ 
 abbrev pub moment_instant : Moment → Instant
 moment_instant moment = record { second = pos moment.second; microsecond = moment.microsecond }
 
--- the date-time of a moment, as a clock at the offset shows it, if that is in the years 0000 to 9999
+-- the date-time of a moment, as a clock at the offset shows it, if it is in the years 0000 to 9999
 abbrev pub moment_answer : ℤ → Moment → Result DateAndTime ParseError
 moment_answer offset moment =
     meets ((int_le (pos moment.second) last_second else_fault fault.DateTooLarge) ∷ offset_table (Some offset))
@@ -175,21 +176,22 @@ abbrev pub now_answer : ℤ → Option Moment → Result DateAndTime ParseError
 now_answer offset None = Err fault.SystemTimeError
 now_answer offset (Some moment) = moment_answer offset moment
 
--- and its date
+-- the date of what a clock tells
 abbrev pub today_answer : ℤ → Option Moment → Result Ymd ParseError
 today_answer offset told = result_map (λ value. value.date) (now_answer offset told)
 
 -- Times and date-times at other offsets: the same clock with another offset, or the same instant as another clock shows it.
 
--- a time with that offset, or with none: what the clock shows stays
+-- a time with another offset, or with none: what the clock shows stays
 abbrev pub time_with_offset : Option ℤ → TimeOfDay → Result TimeOfDay ParseError
 time_with_offset offset time = meets (offset_table offset) (Ok (record time { offset = offset }))
 
--- the same of a date-time
+-- a date-time with another offset, or with none: what the clock shows stays
 abbrev pub date_time_with_offset : Option ℤ → DateAndTime → Result DateAndTime ParseError
 date_time_with_offset offset value = meets (offset_table offset) (Ok (record value { time = record value.time { offset = offset } }))
 
--- what the offset that is asked for has to meet, and the old one, at which a clock shows the instant now: it is there
+-- what a move to another offset has to meet: that one is in its range, and there is an old one, at which a clock shows the
+-- instant now
 abbrev pub move_table : ℤ → Option ℤ → List Requirement
 move_table offset old = offset_table (Some offset) ++ (is_some old else_fault fault.TzRequired) ∷ []
 
@@ -225,7 +227,7 @@ time_instant is_utc time = record {
   microsecond = time.microsecond;
 }
 
--- the order of times
+-- the order of times by instant
 abbrev pub time_instant_order : TimeOfDay → TimeOfDay → Ordering
 time_instant_order = by_instant (λ time. time.offset) time_instant
 
@@ -236,7 +238,7 @@ date_time_instant is_utc value = record {
   microsecond = value.time.microsecond;
 }
 
--- the order of date-times
+-- the order of date-times by instant
 abbrev pub date_time_instant_order : DateAndTime → DateAndTime → Ordering
 date_time_instant_order = by_instant (λ value. value.time.offset) date_time_instant
 
@@ -244,6 +246,6 @@ date_time_instant_order = by_instant (λ value. value.time.offset) date_time_ins
 abbrev pub BothOrNeither : Option ℤ → Option ℤ → Type 0
 BothOrNeither first second = is_some first ≡ is_some second
 
--- of two values in this order the first is not after the second
+-- an order of two values says that the first is not after the second
 abbrev pub IsNotAfter : Ordering → Type 0
 IsNotAfter order = IsTrue (is_le order)

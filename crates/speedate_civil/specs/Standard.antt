@@ -12,13 +12,13 @@ use Rattle.speedate_civil.specs.Calendar.{month_length}
 use Rattle.speedate_civil.specs.DateTime.{DateAndTime, date_time_answer}
 use Rattle.speedate_civil.specs.Time.{has_minus_sign, is_utc, TimeOfDay, time_answer, ParseError, MicrosecondsPrecisionOverflowBehavior}
 
--- 2DIGIT, as time-hour, time-minute and time-second are: the digits of a number up to the highest
+-- a text is 2DIGIT, as time-hour, time-minute and time-second are (RFC 3339 5.6): the digits of a number up to the highest
 pub record IsTwoDigits (highest : ℕ) (text : List ℕ) : Type 0 where
   pub number : ℕ
   pub within : number ≤ highest
   pub together : text ≡ two_digit_text number
 
--- time-secfrac
+-- a text is time-secfrac (RFC 3339 5.6)
 pub record IsSecfrac (behavior : MicrosecondsPrecisionOverflowBehavior) (text : List ℕ) : Type 0 where
   pub digits : List ℕ
   pub are_digits : list_all is_ascii_digit digits ≡ true
@@ -26,7 +26,7 @@ pub record IsSecfrac (behavior : MicrosecondsPrecisionOverflowBehavior) (text : 
   pub few : refuses_digits behavior ≡ true → length digits ≤ 6
   pub together : text ≡ full_stop ∷ digits
 
--- partial-time
+-- a text is partial-time (RFC 3339 5.6)
 pub record IsPartialTime (behavior : MicrosecondsPrecisionOverflowBehavior) (text : List ℕ) : Type 0 where
   pub hour : List ℕ
   pub minute : List ℕ
@@ -38,7 +38,7 @@ pub record IsPartialTime (behavior : MicrosecondsPrecisionOverflowBehavior) (tex
   pub is_fraction : (fraction ≡ []) ⊎ IsSecfrac behavior fraction
   pub together : text ≡ hour ++ colon ∷ minute ++ colon ∷ second ++ fraction
 
--- time-numoffset
+-- a text is time-numoffset (RFC 3339 5.6)
 pub record IsNumoffset (text : List ℕ) : Type 0 where
   pub sign : ℕ
   pub hour : List ℕ
@@ -48,11 +48,11 @@ pub record IsNumoffset (text : List ℕ) : Type 0 where
   pub is_minute : IsTwoDigits 59 minute
   pub together : text ≡ sign ∷ hour ++ colon ∷ minute
 
--- time-offset
+-- a text is time-offset (RFC 3339 5.6)
 abbrev pub IsTimeOffset : List ℕ → Type 0
 IsTimeOffset text = (text ≡ capital_z ∷ []) ⊎ ((text ≡ small_z ∷ []) ⊎ IsNumoffset text)
 
--- full-time
+-- a text is full-time (RFC 3339 5.6)
 pub record IsFullTime (behavior : MicrosecondsPrecisionOverflowBehavior) (text : List ℕ) : Type 0 where
   pub time : List ℕ
   pub offset : List ℕ
@@ -60,7 +60,7 @@ pub record IsFullTime (behavior : MicrosecondsPrecisionOverflowBehavior) (text :
   pub is_offset : IsTimeOffset offset
   pub together : text ≡ time ++ offset
 
--- full-date
+-- a text is full-date (RFC 3339 5.6)
 pub record IsFullDate (text : List ℕ) : Type 0 where
   pub year : ℕ
   pub month : ℕ
@@ -70,7 +70,7 @@ pub record IsFullDate (text : List ℕ) : Type 0 where
   pub is_day : IsInRange 1 (month_length year month) day
   pub together : text ≡ four_digit_text year ++ hyphen ∷ two_digit_text month ++ hyphen ∷ two_digit_text day
 
--- date-time
+-- a text is date-time (RFC 3339 5.6)
 pub record IsDateTime (behavior : MicrosecondsPrecisionOverflowBehavior) (text : List ℕ) : Type 0 where
   pub date : List ℕ
   pub separator : ℕ
@@ -87,7 +87,7 @@ pub record IsDateTime (behavior : MicrosecondsPrecisionOverflowBehavior) (text :
 abbrev pub offset_place : List ℕ → ℕ
 offset_place text = if slice_index text 8 == full_stop then 9 + run_length text 9 else 8
 
--- what such an offset has to meet
+-- what the offset of a text that is read as a time has to meet besides, to be one of RFC 3339
 abbrev pub standard_offset : List ℕ → List Requirement
 standard_offset rest =
     (nat_lt 0 (length rest) else_fault fault.TzRequired)
@@ -95,14 +95,14 @@ standard_offset rest =
     ∷ ((is_utc (slice_index rest 0) || (slice_index rest 3 == colon)) else_fault fault.InvalidCharTzMinute)
     ∷ []
 
--- what a text that is read as a time has to meet
+-- what a text that is read as a time has to meet besides, to be one of RFC 3339
 abbrev pub standard_time : List ℕ → List Requirement
 standard_time text =
     (slice_index text 5 == colon else_fault fault.InvalidCharTimeSep)
     ∷ (not (slice_index text 8 == comma) else_fault fault.InvalidCharTzSign)
     ∷ standard_offset (drop (offset_place text) text)
 
--- what a text that is read as a date-time has to meet
+-- what a text that is read as a date-time has to meet besides, to be one of RFC 3339
 abbrev pub standard_date_time : List ℕ → List Requirement
 standard_date_time text =
     (((slice_index text 10 == capital_t) || (slice_index text 10 == small_t)) else_fault fault.InvalidCharDateTimeSep)

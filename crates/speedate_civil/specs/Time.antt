@@ -25,7 +25,7 @@ pub record TimeOfDay : Type 0 where
   pub microsecond : ℕ
   pub offset : Option ℤ
 
--- its numbers are in their ranges (RFC 3339 5.7, without the leap second)
+-- the numbers of a time of day are in their ranges (RFC 3339 5.7, without the leap second)
 pub record IsTime (time : TimeOfDay) : Type 0 where
   pub hour : time.hour ≤ 23
   pub minute : time.minute ≤ 59
@@ -33,20 +33,20 @@ pub record IsTime (time : TimeOfDay) : Type 0 where
   pub microsecond : time.microsecond ≤ 999999
   pub offset : ForSome time.offset IsOffset
 
--- the seconds since midnight
+-- the seconds of a time since midnight
 abbrev pub second_of_day : TimeOfDay → ℕ
 second_of_day time = 3600 * time.hour + 60 * time.minute + time.second
 
--- the seconds since midnight in UTC: the offset is subtracted (RFC 3339 4.2), and an absent one counts as 0, which is the
--- library's own rule; a time at an offset can lie on the day before, or on the day after
+-- the seconds of a time since midnight in UTC: the offset is subtracted (RFC 3339 4.2), and an absent one counts as 0, which
+-- is the library's own rule; a time at an offset can lie on the day before, or on the day after
 abbrev pub utc_second_of_day : TimeOfDay → ℤ
 utc_second_of_day time = pos (second_of_day time) -ℤ unwrap_or time.offset (pos 0)
 
--- the milliseconds since midnight, rounded down
+-- the milliseconds of a time since midnight, rounded down
 abbrev pub millisecond_of_day : TimeOfDay → ℕ
 millisecond_of_day time = 1000 * second_of_day time + time.microsecond / 1000
 
--- the microseconds since midnight
+-- the microseconds of a time since midnight
 abbrev pub microsecond_of_day : TimeOfDay → ℕ
 microsecond_of_day time = 1000000 * second_of_day time + time.microsecond
 
@@ -60,7 +60,7 @@ time_at seconds microsecond offset = record {
   offset = offset;
 }
 
--- the time of seconds and microseconds after midnight, with the offset attached, if it is still that day
+-- the time of seconds and microseconds after midnight, with the offset attached, if it is still the same day
 abbrev pub timestamp_answer : ℕ → ℕ → Option ℤ → Result TimeOfDay ParseError
 timestamp_answer seconds microseconds offset =
     let whole = seconds + microseconds / 1000000 in
@@ -77,12 +77,12 @@ time_of_day time = record {
 }
 
 infix 15 ◌gives◌
--- what a call answers, by its numbers, is this answer
+-- the answer of a call, a time seen as its numbers, is the given one
 abbrev pub ◌gives◌ : Result Time ParseError → Result TimeOfDay ParseError → Type 0
 result gives answer = result_map time_of_day result ≡ answer
 
 infix 15 ◌gives_front◌
--- the same of a value at the front of a text, and how many bytes it takes
+-- the answer of a call for the front of a text, a time seen as its numbers and how many bytes it takes, is the given one
 abbrev pub ◌gives_front◌ : Result (Time × ℕ) ParseError → Result (TimeOfDay × ℕ) ParseError → Type 0
 result gives_front front = result_map (with_size time_of_day) result ≡ front
 
@@ -90,7 +90,7 @@ result gives_front front = result_map (with_size time_of_day) result ≡ front
 abbrev pub microsecond_range : ℕ → Requirement
 microsecond_range microsecond = nat_le microsecond 999999 else_fault fault.TimeTooLarge
 
--- the time of its numbers
+-- the time of an hour, a minute, a second, a microsecond and an offset, or the fault of the first that is out of range
 abbrev pub new_time_answer : ℕ → ℕ → ℕ → ℕ → Option ℤ → Result TimeOfDay ParseError
 new_time_answer hour minute second microsecond offset =
     meets (
@@ -114,15 +114,15 @@ pub record Clock : Type 0 where
   pub microsecond : ℕ
   pub size : ℕ
 
--- a second follows the minute, after `:`
+-- a second follows the minute of a clock, after `:`
 abbrev pub has_second : List ℕ → Bool
 has_second rest = slice_index rest 2 == colon
 
--- a decimal mark stands where the second ends
+-- a decimal mark stands where the second of a clock ends
 abbrev pub has_decimal_mark : List ℕ → Bool
 has_decimal_mark rest = is_decimal_mark (slice_index rest 5)
 
--- a fraction follows the second
+-- a fraction follows the second of a clock
 abbrev pub has_fraction : List ℕ → Bool
 has_fraction rest = has_second rest && has_decimal_mark rest
 
@@ -148,15 +148,15 @@ hour_table text =
     ∷ (slice_index text 2 == colon else_fault fault.InvalidCharTimeSep)
     ∷ []
 
--- then the characters of its minute
+-- what the minute of a clock has to meet: its characters are digits
 abbrev pub minute_digits : List ℕ → List Requirement
 minute_digits rest = (two_digits_at rest 0 else_fault fault.InvalidCharMinute) ∷ []
 
--- then the range of its hour
+-- what the hour of a clock has to meet: its range
 abbrev pub hour_range : List ℕ → List Requirement
 hour_range text = (nat_le (two_digit_value text 0) 23 else_fault fault.OutOfRangeHour) ∷ []
 
--- then its second, and the fraction
+-- what the second of a clock, and its fraction, have to meet, if they are there
 abbrev pub second_table : MicrosecondsPrecisionOverflowBehavior → List ℕ → List Requirement
 second_table behavior rest =
     ((has_second rest implies two_digits_at rest 3) else_fault fault.InvalidCharSecond)
@@ -165,7 +165,7 @@ second_table behavior rest =
     ∷ (((has_fraction rest && refuses_digits behavior) implies nat_le (run_length rest 6) 6) else_fault fault.SecondFractionTooLong)
     ∷ []
 
--- the range of its minute, and these
+-- what a clock has to meet after the digits of its minute: the minute's range, then the second and the fraction
 abbrev pub minute_table : MicrosecondsPrecisionOverflowBehavior → List ℕ → List Requirement
 minute_table behavior rest = (nat_le (two_digit_value rest 0) 59 else_fault fault.OutOfRangeMinute) ∷ second_table behavior rest
 
@@ -219,37 +219,37 @@ is_utc byte = (byte == capital_z) || (byte == small_z)
 abbrev pub has_minus_sign : List ℕ → Bool
 has_minus_sign rest = (slice_index rest 0 == 0xe2) && (slice_index rest 1 == 0x88) && (slice_index rest 2 == 0x92)
 
--- the place of its minute, after the hour and an optional `:`
+-- the place of the minute of an offset, after the hour and an optional `:`
 abbrev pub offset_minute_place : List ℕ → ℕ
 offset_minute_place numbers = if slice_index numbers 2 == colon then 3 else 2
 
--- how many bytes its hour and minute take
+-- how many bytes the hour and the minute of an offset take
 abbrev pub offset_digits_size : List ℕ → ℕ
 offset_digits_size numbers = offset_minute_place numbers + 2
 
--- its minute
+-- the minute of an offset
 abbrev pub offset_minute : List ℕ → ℕ
 offset_minute numbers = two_digit_value numbers (offset_minute_place numbers)
 
--- its size in seconds
+-- the size of an offset in seconds
 abbrev pub offset_size : List ℕ → ℕ
 offset_size numbers = 3600 * two_digit_value numbers 0 + 60 * offset_minute numbers
 
--- what its digits after the sign have to be
+-- what the digits of an offset after its sign have to be
 abbrev pub offset_digits : List ℕ → List Requirement
 offset_digits numbers =
     (two_digits_at numbers 0 else_fault fault.InvalidCharTzHour)
     ∷ (two_digits_at numbers (offset_minute_place numbers) else_fault fault.InvalidCharTzMinute)
     ∷ []
 
--- then the ranges of its numbers
+-- what the numbers of an offset have to meet: their ranges
 abbrev pub offset_ranges : List ℕ → List Requirement
 offset_ranges numbers =
     (nat_le (offset_minute numbers) 59 else_fault fault.OutOfRangeTzMinute)
     ∷ (nat_lt (offset_size numbers) seconds_per_day else_fault fault.OutOfRangeTz)
     ∷ []
 
--- the offset after a sign, given by its bytes, and how many both take, or the fault
+-- the offset after a sign, which is given by its bytes, and how many bytes both take, or the fault
 abbrev pub signed_front : Bool → ℕ → List ℕ → Result (Option ℤ × ℕ) ParseError
 signed_front west sign numbers =
     meets (offset_digits numbers) (meets (offset_ranges numbers)
@@ -267,7 +267,7 @@ offset_front rest =
 abbrev pub begins_offset : List ℕ → Bool
 begins_offset rest = is_plus_or_minus (slice_index rest 0) || is_utc (slice_index rest 0) || has_minus_sign rest
 
--- the fault of a text that goes on after a time with this offset, or after one without
+-- the fault of a text that goes on after a time with an offset, or after one without
 abbrev pub end_fault : Option ℤ → ParseError
 end_fault offset = if is_some offset then fault.ExtraCharacters else fault.InvalidCharTzSign
 
@@ -316,7 +316,7 @@ clock_text time = two_digit_text time.hour ++ colon ∷ minute_text time.minute 
 abbrev pub time_text : TimeOfDay → List ℕ
 time_text time = clock_text time ++ fraction_text time.microsecond ++ offset_text time.offset
 
--- a text goes on with a fraction after such a microsecond in print: with a decimal mark after none, with a digit after six
+-- a text goes on with a fraction after a microsecond in print: with a decimal mark after none, with a digit after six
 abbrev pub continues_fraction : ℕ → List ℕ → Bool
 continues_fraction microsecond rest =
     if microsecond == 0 then is_decimal_mark (slice_index rest 0) else is_ascii_digit (slice_index rest 0)

@@ -84,7 +84,9 @@ impl Date {
 
     /// The date of a year, a month and a day: 2020-02-29 for 2020, 2 and 29.
     ///
-    /// The errors, in the order in which they are looked for:
+    /// # Errors
+    ///
+    /// In the order in which they are looked for:
     ///
     /// - `DateTooLarge` if the year is over 9999;
     /// - `OutOfRangeMonth` if the month is not 1 to 12;

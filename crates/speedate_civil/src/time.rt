@@ -64,7 +64,9 @@ impl Time {
     /// The time of an hour, a minute, a second, a microsecond, and an offset from UTC in seconds or
     /// none: 12:13:14.500000+01:00 for 12, 13, 14, 500,000 and `Some(3600)`.
     ///
-    /// The errors, in the order in which they are looked for:
+    /// # Errors
+    ///
+    /// In the order in which they are looked for:
     ///
     /// - `OutOfRangeHour` if the hour is over 23;
     /// - `OutOfRangeMinute` if the minute is over 59;
@@ -107,8 +109,11 @@ impl Time {
     /// The form is RFC 3339's full-time, `HH:MM:SS` with an optional fraction and an offset, relaxed:
     /// the second, the offset and the `:` of the offset may be left out, the decimal mark may be a
     /// comma, and the sign of the offset may be U+2212. It is narrower in two ways: a fraction has at
-    /// most six digits, and there is no second 60. The errors, in the order in which they are looked
-    /// for:
+    /// most six digits, and there is no second 60.
+    ///
+    /// # Errors
+    ///
+    /// In the order of [their tables](docs/GRAMMAR.md#time), which have an example of each:
     ///
     /// - `TooShort` if the text has fewer than five bytes;
     /// - `InvalidCharHour`, `InvalidCharTimeSep` and `InvalidCharMinute`, from the left, for the first
@@ -133,8 +138,12 @@ impl Time {
         Self::parse_bytes(text.as_bytes())
     }
 
-    /// Parses a time from bytes: 12:13:00 from `b"12:13"`. The bytes need not be text. The form and the
-    /// errors are those of [`Time::parse_str`].
+    /// Parses a time from bytes: 12:13:00 from `b"12:13"`. The bytes need not be text. The form is that
+    /// of [`Time::parse_str`].
+    ///
+    /// # Errors
+    ///
+    /// Those of [`Time::parse_str`], in its order.
     #[inline(always)]
     pub fn parse_bytes(bytes: &[u8]) -> Result<Self, ParseError>
         ensures answer { result gives time_answer behavior.Error bytes.now }
@@ -149,7 +158,8 @@ impl Time {
     ///
     /// # Errors
     ///
-    /// Those of [`Time::parse_str`], but with `Truncate` there is no `SecondFractionTooLong`.
+    /// Those of [`Time::parse_str`], in its order, but with `Truncate` there is no
+    /// `SecondFractionTooLong`.
     #[inline(always)]
     pub fn parse_bytes_with_config(bytes: &[u8], config: &TimeConfig) -> Result<Self, ParseError>
         ensures answer { result gives time_answer (time_choices config.now).behavior bytes.now }
@@ -167,7 +177,9 @@ impl Time {
     ///
     /// # Errors
     ///
-    /// A text that has an error there has it here too. Of the others these are refused, in this order:
+    /// First those of [`Time::parse_str`], in its order, but with `Truncate` there is no
+    /// `SecondFractionTooLong`. Of the other texts these are refused,
+    /// [in this order](docs/GRAMMAR.md#rfc-3339-alone):
     ///
     /// - with `InvalidCharTimeSep`, if there is no second;
     /// - with `InvalidCharTzSign`, if the decimal mark is a comma;
@@ -192,13 +204,13 @@ impl Time {
     ///
     /// A time that goes on has to go on without an error: after a `:` that follows the minute with two
     /// digits, after a decimal mark that follows the second with a digit, after a sign that follows the
-    /// clock with an offset; `Z` or `z` is an offset too. Any other byte after the clock, or none, ends
-    /// a time without an offset.
+    /// clock with an offset; `Z` or `z` is an offset too. Any other byte after the clock, or none,
+    /// [ends](docs/GRAMMAR.md#at-the-front-of-an-input) a time without an offset.
     ///
     /// # Errors
     ///
-    /// Those of [`Time::parse_bytes_with_config`], in its order, except `InvalidCharTzSign` and
-    /// `ExtraCharacters`.
+    /// Those of [`Time::parse_str`], in its order, except `InvalidCharTzSign` and `ExtraCharacters`;
+    /// with `Truncate` there is no `SecondFractionTooLong`.
     #[inline(always)]
     pub fn parse_front(bytes: &[u8], config: &TimeConfig) -> Result<(Self, usize), ParseError>
         ensures answer { result gives_front time_front (time_choices config.now).behavior
@@ -278,9 +290,12 @@ impl Time {
         }
     }
 
-    /// The time of the seconds and microseconds after midnight, without an offset: 10:00:06.5 for
-    /// 36,005 seconds and 1,500,000 microseconds. Fails with `TimeTooLarge` if they are 86,400 seconds
-    /// or more together.
+    /// The time of the seconds and microseconds after midnight, without an offset: 10:00:06.5 for 36,005
+    /// seconds and 1,500,000 microseconds.
+    ///
+    /// # Errors
+    ///
+    /// `TimeTooLarge` if they are 86,400 seconds or more together.
     pub fn from_timestamp(second: u32, microsecond: u32) -> Result<Self, ParseError>
         ensures answer { result gives timestamp_answer second microsecond None }
         ensures instant { IfOk result (λ time. microsecond_of_day (time_of_day time)
@@ -290,7 +305,10 @@ impl Time {
     }
 
     /// The time of the seconds and microseconds after midnight, with the configured offset, which is
-    /// attached and shifts nothing: 00:00:01Z for one second and the offset 0. Fails with
+    /// attached and shifts nothing: 00:00:01Z for one second and the offset 0.
+    ///
+    /// # Errors
+    ///
     /// `TimeTooLarge` if the seconds and microseconds are 86,400 seconds or more together.
     pub fn from_timestamp_with_config(
         timestamp_second: u32,
@@ -352,6 +370,10 @@ impl FromStr for Time {
     ghost from_str_gives = { λ text result. result gives time_answer behavior.Error text };
 
     /// The answer of [`Time::parse_str`]: `"12:13Z".parse()` gives 12:13:00 in UTC.
+    ///
+    /// # Errors
+    ///
+    /// Those of [`Time::parse_str`], in its order.
     fn from_str(text: &str) -> Result<Self, ParseError> {
         Self::parse_str(text)
     }

@@ -36,15 +36,15 @@ pieces (byte ∷ bytes) =
     if byte == line_feed then record { complete = [] ∷ rest.complete; unfinished = rest.unfinished }
     else onto_first (byte ∷ []) rest.complete rest.unfinished
 
--- the lines that a line feed ends
+-- the lines of a text that a line feed ends
 abbrev pub complete_lines : List ℕ → List (List ℕ)
 complete_lines text = (pieces text).complete
 
--- what stands after the last line feed
+-- what stands after the last line feed of a text
 abbrev pub unfinished_line : List ℕ → List ℕ
 unfinished_line text = (pieces text).unfinished
 
--- a last line that no line feed ends: there is none if it is empty
+-- the last line of a text, which no line feed ends: there is none if it is empty
 abbrev pub last_line : List ℕ → List (List ℕ)
 last_line [] = []
 last_line (byte ∷ bytes) = (byte ∷ bytes) ∷ []

@@ -44,12 +44,12 @@ pub record Writes {W A E : Type 0} (contents : W → Option (List ℕ)) (old new
   pub sent : OnOk result (AppendsBut left (contents old.inner) (contents new.inner) bytes)
   pub beginning : OnErr result (AppendsBeginning (contents old.inner) (contents new.inner) bytes)
 
--- the same of a call that does not flush
+-- what a call leaves that has to write some bytes and does not flush
 pub record OnlyWrites {W A E : Type 0} (contents : W → Option (List ℕ)) (old new : Watch W) (result : Result A E) (left bytes : List ℕ) : Type 0 where
   pub writes : Writes contents old new result left bytes
   pub unflushed : new.flushes ≡ old.flushes
 
--- a beginning of some bytes has been written, and in it these first ones at least
+-- a beginning of some bytes has been written, and in it the given first ones at least
 pub record AppendsFrom (first : List ℕ) (old new : Option (List ℕ)) (bytes : List ℕ) : Type 0 where
   pub further : List ℕ
   pub left : List ℕ

@@ -11,7 +11,7 @@ abbrev pub lies_between : DateAndTime → DateAndTime → Result (DateAndTime ×
 lies_between first last (Ok front) = is_le (date_time_instant_order first front.0) && is_le (date_time_instant_order front.0 last)
 lies_between first last (Err fault) = false
 
--- a line begins with such a date-time
+-- a line begins with a date-time that lies between two others by instant
 abbrev pub is_between : MicrosecondsPrecisionOverflowBehavior → DateAndTime → DateAndTime → List ℕ → Bool
 is_between behavior first last line = lies_between first last (date_time_front behavior line)
 
@@ -19,6 +19,6 @@ is_between behavior first last line = lies_between first last (date_time_front b
 abbrev pub instant_key : DateAndTime → ℤ × ℕ
 instant_key value = (utc_second value, value.time.microsecond)
 
--- the order of such keys: by second, then by microsecond
+-- the order of keys that tell instants: by second, then by microsecond
 abbrev pub instant_key_order : ℤ × ℕ → ℤ × ℕ → Ordering
 instant_key_order first second = ordering_then (int_cmp first.0 second.0) (nat_cmp first.1 second.1)

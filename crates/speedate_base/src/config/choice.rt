@@ -29,8 +29,11 @@ impl FromStr for TimestampUnit {
     ghost from_str_gives = { λ text result. result ≡ unit_answer text };
 
     /// The unit that a text names, in ASCII letters of any case: `TimestampUnit::Millisecond` for
-    /// `"ms"`, and the others for `"s"`, `"us"` and `"infer"`. Fails with `UnknownTimestampUnitString`
-    /// for any other text.
+    /// `"ms"`, and the others for `"s"`, `"us"` and `"infer"`.
+    ///
+    /// # Errors
+    ///
+    /// `UnknownTimestampUnitString` for any other text.
     fn from_str(text: &str) -> Result<Self, ConfigError> {
         if "s".eq_ignore_ascii_case(text) {
             Ok(TimestampUnit::Second)
@@ -66,8 +69,11 @@ impl FromStr for MicrosecondsPrecisionOverflowBehavior {
     ghost from_str_gives = { λ text result. result ≡ behavior_answer text };
 
     /// The behavior that a text names, in ASCII letters of any case: `Truncate` for `"truncate"`, and
-    /// `Error` for `"error"`. Fails with `UnknownMicrosecondsPrecisionOverflowBehaviorString` for any
-    /// other text.
+    /// `Error` for `"error"`.
+    ///
+    /// # Errors
+    ///
+    /// `UnknownMicrosecondsPrecisionOverflowBehaviorString` for any other text.
     fn from_str(text: &str) -> Result<Self, ConfigError> {
         if "truncate".eq_ignore_ascii_case(text) {
             Ok(MicrosecondsPrecisionOverflowBehavior::Truncate)

@@ -23,8 +23,8 @@ impl Date {
     ///
     /// # Errors
     ///
-    /// A timestamp has the errors of [`Date::from_timestamp`] for an exact date, any other text those
-    /// of [`Date::parse_str_rfc3339`].
+    /// Of a timestamp those of [this table](docs/GRAMMAR.md#timestamps), of any other text those of
+    /// [a date](docs/GRAMMAR.md#date), in the order of the rows.
     pub fn parse_str(text: &str) -> Result<Self, ParseError>
         ensures answer { result gives date_or_timestamp unit.Infer text.now }
     {
@@ -32,7 +32,12 @@ impl Date {
     }
 
     /// Parses a date from bytes, which may be a timestamp: 1970-01-02 from `b"86400"`. The bytes need
-    /// not be text. The forms and the errors are those of [`Date::parse_str`].
+    /// not be text. The forms are those of [`Date::parse_str`].
+    ///
+    /// # Errors
+    ///
+    /// Of a timestamp those of [this table](docs/GRAMMAR.md#timestamps), of any other text those of
+    /// [a date](docs/GRAMMAR.md#date), in the order of the rows.
     pub fn parse_bytes(bytes: &[u8]) -> Result<Self, ParseError>
         ensures answer { result gives date_or_timestamp unit.Infer bytes.now }
     {
@@ -40,7 +45,12 @@ impl Date {
     }
 
     /// Parses a date from a text, which may be a timestamp in the unit of the configuration: 2022-01-01
-    /// from `"1640995200"` in seconds. The errors are those of [`Date::parse_str`].
+    /// from `"1640995200"` in seconds.
+    ///
+    /// # Errors
+    ///
+    /// Of a timestamp those of [this table](docs/GRAMMAR.md#timestamps), of any other text those of
+    /// [a date](docs/GRAMMAR.md#date), in the order of the rows.
     pub fn parse_str_with_config(text: &str, config: &DateConfig) -> Result<Self, ParseError>
         ensures answer { result gives date_or_timestamp config.now.timestamp_unit text.now }
     {
@@ -48,8 +58,12 @@ impl Date {
     }
 
     /// Parses a date from bytes, which may be a timestamp in the unit of the configuration: 1970-01-02
-    /// from `b"86400000"` in milliseconds. The bytes need not be text. The errors are those of
-    /// [`Date::parse_str`].
+    /// from `b"86400000"` in milliseconds. The bytes need not be text.
+    ///
+    /// # Errors
+    ///
+    /// Of a timestamp those of [this table](docs/GRAMMAR.md#timestamps), of any other text those of
+    /// [a date](docs/GRAMMAR.md#date), in the order of the rows.
     pub fn parse_bytes_with_config(bytes: &[u8], config: &DateConfig) -> Result<Self, ParseError>
         ensures answer { result gives date_or_timestamp config.now.timestamp_unit bytes.now }
     {
@@ -61,8 +75,11 @@ impl Date {
 
     /// Parses a date from a text, and no timestamp: 29 February 2020 from `"2020-02-29"`.
     ///
-    /// The form is RFC 3339's full-date, `YYYY-MM-DD`. The errors, in the order in which they are
-    /// looked for:
+    /// The form is RFC 3339's full-date, `YYYY-MM-DD`.
+    ///
+    /// # Errors
+    ///
+    /// In the order of [their table](docs/GRAMMAR.md#date), which has an example of each:
     ///
     /// - `TooShort` if the text has fewer than ten bytes;
     /// - `InvalidCharYear`, `InvalidCharDateSep`, `InvalidCharMonth`, `InvalidCharDateSep` and
@@ -77,7 +94,11 @@ impl Date {
     }
 
     /// Parses a date from bytes, and no timestamp: 29 February 2020 from `b"2020-02-29"`. The bytes need
-    /// not be text. The form and the errors are those of [`Date::parse_str_rfc3339`].
+    /// not be text. The form is that of [`Date::parse_str_rfc3339`].
+    ///
+    /// # Errors
+    ///
+    /// Those of [`Date::parse_str_rfc3339`], in its order.
     #[inline]
     pub fn parse_bytes_rfc3339(bytes: &[u8]) -> Result<Self, ParseError>
         ensures answer { result gives date_answer bytes.now }
@@ -92,7 +113,11 @@ impl Date {
 
     /// Parses the date at the front of a text, whatever follows it, and returns how many bytes it takes,
     /// which is always ten: 22 November 2026 and 10 from `b"2026-11-22 opening balance"`. It parses no
-    /// timestamps. The errors are those of [`Date::parse_str_rfc3339`] except `ExtraCharacters`.
+    /// timestamps. [Its end](docs/GRAMMAR.md#at-the-front-of-an-input) is this library's own rule.
+    ///
+    /// # Errors
+    ///
+    /// Those of [`Date::parse_str_rfc3339`], in its order, except `ExtraCharacters`.
     #[inline]
     pub fn parse_front(bytes: &[u8]) -> Result<(Self, usize), ParseError>
         ensures answer { result gives_front date_front bytes.now }
@@ -154,6 +179,11 @@ impl FromStr for Date {
     ghost from_str_gives = { λ text result. result gives date_or_timestamp unit.Infer text };
 
     /// The answer of [`Date::parse_str`]: `"2020-02-29".parse()` gives 29 February 2020.
+    ///
+    /// # Errors
+    ///
+    /// Of a timestamp those of [this table](docs/GRAMMAR.md#timestamps), of any other text those of
+    /// [a date](docs/GRAMMAR.md#date), in the order of the rows.
     fn from_str(text: &str) -> Result<Self, ParseError> {
         Self::parse_str(text)
     }

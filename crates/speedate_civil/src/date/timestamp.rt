@@ -18,8 +18,12 @@ impl Date {
     /// The date of a Unix timestamp, in the unit of the configuration: 1969-12-31 for -1, if the date
     /// need not be exact.
     ///
-    /// A timestamp counts from 1970-01-01T00:00:00, with 86,400 seconds in each day. The date is that
-    /// of the day in which it lies. The errors, in the order in which they are looked for:
+    /// A timestamp counts from 1970-01-01T00:00:00, with 86,400 seconds in each day. The date is that of
+    /// the day in which it lies.
+    ///
+    /// # Errors
+    ///
+    /// In the order in which they are looked for:
     ///
     /// - `DateTooSmall` if the unit of `i64::MIN` is to be inferred, or if the timestamp lies before
     ///   the year 0000;

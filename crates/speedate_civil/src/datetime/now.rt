@@ -25,8 +25,11 @@ impl Moment {
     ghost use Rattle.speedate_civil.specs.DateTime.{new_moment_answer, moment_instant};
 
     /// The moment of seconds since 1970-01-01T00:00:00 in UTC, and the microseconds that are left: half
-    /// a second after that midnight for 0 and 500,000. Fails with `TimeTooLarge` if the microseconds
-    /// are over 999,999.
+    /// a second after that midnight for 0 and 500,000.
+    ///
+    /// # Errors
+    ///
+    /// `TimeTooLarge` if the microseconds are over 999,999.
     pub fn new(second: u64, microsecond: u32) -> Result<Self, ParseError>
         ensures answer { result_map moment_instant result ≡ new_moment_answer second microsecond }
     {
@@ -47,7 +50,9 @@ impl DateTime {
     /// The date-time of a moment, as a clock at an offset, in seconds, shows it:
     /// 2022-06-08T00:59:59+01:00 for second 1,654,646,399 and 3,600.
     ///
-    /// The errors, in the order in which they are looked for:
+    /// # Errors
+    ///
+    /// In the order in which they are looked for:
     ///
     /// - `DateTooLarge` if the moment lies after the year 9999 in UTC;
     /// - `OutOfRangeTz` if the offset is 24 hours or more;
@@ -70,8 +75,10 @@ impl DateTime {
     /// tells second 0, and 0. The library reads no clock itself: the first argument is called once, and
     /// returns a [`Moment`], or `None` if it has none, as before 1970.
     ///
-    /// Fails with `SystemTimeError` if the clock has no moment to tell, and otherwise with the errors
-    /// of [`DateTime::now_at`].
+    /// # Errors
+    ///
+    /// `SystemTimeError` if the clock has no moment to tell, and otherwise those of
+    /// [`DateTime::now_at`], in its order.
     pub fn now<F: FnOnce() -> Option<Moment>>(clock: F, tz_offset: i32) -> Result<Self, ParseError>
         requires { F.pre clock }
         ensures answer { (told : Option Moment) × F.post clock told
@@ -88,7 +95,12 @@ impl Date {
     ghost use Rattle.speedate_civil.specs.DateTime.{today_answer};
 
     /// The date that a clock tells, at an offset in seconds: 2022-06-08 for a clock that tells second
-    /// 1,654,646,399, and 3,600. The clock and the errors are those of [`DateTime::now`].
+    /// 1,654,646,399, and 3,600. The clock is that of [`DateTime::now`].
+    ///
+    /// # Errors
+    ///
+    /// `SystemTimeError` if the clock has no moment to tell, and otherwise those of
+    /// [`DateTime::now_at`], in its order.
     pub fn today<F: FnOnce() -> Option<Moment>>(
         clock: F,
         tz_offset: i32,

@@ -31,13 +31,13 @@ impl DateTime {
     ///
     /// A text that is no date-time but a number, whole or decimal as `"1654560000.5"`, is a Unix
     /// timestamp: in seconds if the number without its sign is at most 20,000,000,000, otherwise in
-    /// milliseconds. The errors are:
+    /// milliseconds. At most six digits follow the point of seconds, and three that of milliseconds.
     ///
-    /// - of a whole number: those of [`DateTime::from_timestamp`];
-    /// - of a decimal: `SecondFractionTooLong` if more than six digits follow the point of seconds, or
-    ///   `MillisecondFractionTooLong` if more than three follow that of milliseconds; then those of
-    ///   [`DateTime::from_decimal_with_config`];
-    /// - of any other text: those of [`DateTime::parse_str_rfc3339`].
+    /// # Errors
+    ///
+    /// Of a timestamp those of [this table](docs/GRAMMAR.md#timestamps), in the order of its rows. Of
+    /// any other text those of [a date](docs/GRAMMAR.md#date) except `ExtraCharacters`, then
+    /// `InvalidCharDateTimeSep` if no separator follows, then those of [a time](docs/GRAMMAR.md#time).
     #[inline(always)]
     pub fn parse_str(text: &str) -> Result<Self, ParseError>
         ensures answer { result gives date_time_or_timestamp unit.Infer behavior.Error None
@@ -48,7 +48,13 @@ impl DateTime {
     }
 
     /// Parses a date-time from bytes, which may be a timestamp: 1970-01-01T00:00:01 from `b"1"`. The
-    /// bytes need not be text. The forms and the errors are those of [`DateTime::parse_str`].
+    /// bytes need not be text. The forms are those of [`DateTime::parse_str`].
+    ///
+    /// # Errors
+    ///
+    /// Of a timestamp those of [this table](docs/GRAMMAR.md#timestamps), in the order of its rows. Of
+    /// any other text those of [a date](docs/GRAMMAR.md#date) except `ExtraCharacters`, then
+    /// `InvalidCharDateTimeSep` if no separator follows, then those of [a time](docs/GRAMMAR.md#time).
     #[inline(always)]
     pub fn parse_bytes(bytes: &[u8]) -> Result<Self, ParseError>
         ensures answer { result gives date_time_or_timestamp unit.Infer behavior.Error None
@@ -66,9 +72,14 @@ impl DateTime {
     /// rounds a timestamp to the nearest microsecond. The offset and the unit do not matter to texts of
     /// a date-time.
     ///
-    /// The errors of a number are those of [`DateTime::parse_str`], but only the behavior `Error`
-    /// counts digits, and in microseconds a digit after the point is `MicrosecondFractionTooLong`. The
-    /// errors of any other text are those of [`DateTime::parse_bytes_rfc3339_with_config`].
+    /// # Errors
+    ///
+    /// Of a timestamp those of [this table](docs/GRAMMAR.md#timestamps), in the order of its rows. Of
+    /// any other text those of [a date](docs/GRAMMAR.md#date) except `ExtraCharacters`, then
+    /// `InvalidCharDateTimeSep` if no separator follows, then those of [a time](docs/GRAMMAR.md#time).
+    /// Only with the behavior `Error` are digits past the microsecond refused: with
+    /// `SecondFractionTooLong`, or, in a timestamp of another unit, `MillisecondFractionTooLong` or
+    /// `MicrosecondFractionTooLong`.
     #[inline(always)]
     pub fn parse_str_with_config(text: &str, config: &DateTimeConfig) -> Result<Self, ParseError>
         ensures answer { result gives date_time_by_config config.now text.now }
@@ -79,8 +90,17 @@ impl DateTime {
     }
 
     /// Parses a date-time from bytes, which may be a timestamp, by a configuration:
-    /// 1970-01-01T00:00:00.001000 from `b"1"` in milliseconds. The bytes need not be text. The rest is
-    /// as for [`DateTime::parse_str_with_config`].
+    /// 1970-01-01T00:00:00.001000 from `b"1"` in milliseconds. The bytes need not be text. The
+    /// configuration is used as by [`DateTime::parse_str_with_config`].
+    ///
+    /// # Errors
+    ///
+    /// Of a timestamp those of [this table](docs/GRAMMAR.md#timestamps), in the order of its rows. Of
+    /// any other text those of [a date](docs/GRAMMAR.md#date) except `ExtraCharacters`, then
+    /// `InvalidCharDateTimeSep` if no separator follows, then those of [a time](docs/GRAMMAR.md#time).
+    /// Only with the behavior `Error` are digits past the microsecond refused: with
+    /// `SecondFractionTooLong`, or, in a timestamp of another unit, `MillisecondFractionTooLong` or
+    /// `MicrosecondFractionTooLong`.
     #[inline(always)]
     pub fn parse_bytes_with_config(
         bytes: &[u8],
@@ -99,8 +119,12 @@ impl DateTime {
     /// Parses a date-time from a text, and no timestamp: 12:13:14 on 29 February 2020 in UTC from
     /// `"2020-02-29T12:13:14Z"`.
     ///
-    /// The form is RFC 3339's date-time, relaxed: a date, a separator, which is `T`, `t`, a space or
-    /// `_`, and a time. The errors, in the order in which they are looked for:
+    /// The form is RFC 3339's date-time, [relaxed](docs/GRAMMAR.md#date-time): a date, a separator,
+    /// which is `T`, `t`, a space or `_`, and a time.
+    ///
+    /// # Errors
+    ///
+    /// In the order in which they are looked for:
     ///
     /// - those of [`Date::parse_str_rfc3339`] except `ExtraCharacters`;
     /// - `InvalidCharDateTimeSep` if no separator follows the date;
@@ -114,8 +138,13 @@ impl DateTime {
     }
 
     /// Parses a date-time from bytes, and no timestamp: 12:13 on 1 January 2020 from
-    /// `b"2020-01-01_12:13"`. The bytes need not be text. The form and the errors are those of
+    /// `b"2020-01-01_12:13"`. The bytes need not be text. The form is that of
     /// [`DateTime::parse_str_rfc3339`].
+    ///
+    /// # Errors
+    ///
+    /// Those of [a date](docs/GRAMMAR.md#date) except `ExtraCharacters`, then `InvalidCharDateTimeSep`
+    /// if no separator follows, then those of [a time](docs/GRAMMAR.md#time).
     #[inline(always)]
     pub fn parse_bytes_rfc3339(bytes: &[u8]) -> Result<Self, ParseError>
         ensures answer { result gives date_time_answer behavior.Error bytes.now }
@@ -132,8 +161,9 @@ impl DateTime {
     ///
     /// # Errors
     ///
-    /// Those of [`DateTime::parse_str_rfc3339`], but with `Truncate` there is no
-    /// `SecondFractionTooLong`.
+    /// Those of [a date](docs/GRAMMAR.md#date) except `ExtraCharacters`, then `InvalidCharDateTimeSep`
+    /// if no separator follows, then those of [a time](docs/GRAMMAR.md#time), where with `Truncate`
+    /// there is no `SecondFractionTooLong`.
     #[inline(always)]
     pub fn parse_bytes_rfc3339_with_config(
         bytes: &[u8],
@@ -156,9 +186,11 @@ impl DateTime {
     ///
     /// # Errors
     ///
-    /// A text that has an error there has it here too. Of the others one is refused with
-    /// `InvalidCharDateTimeSep` if neither `T` nor `t` parts date and time, and then with the errors of
-    /// `Time::parse_bytes_strict`.
+    /// Those of [a date](docs/GRAMMAR.md#date) except `ExtraCharacters`, then `InvalidCharDateTimeSep`
+    /// if no separator follows, then those of [a time](docs/GRAMMAR.md#time). A text that has none of
+    /// these has the errors of [RFC 3339 alone](docs/GRAMMAR.md#rfc-3339-alone), in the order of its
+    /// rows: `InvalidCharDateTimeSep` if neither `T` nor `t` parts date and time, then those that
+    /// [`Time::parse_bytes_strict`] lists.
     pub fn parse_bytes_strict(
         bytes: &[u8],
         behavior: MicrosecondsPrecisionOverflowBehavior,
@@ -176,8 +208,13 @@ impl DateTime {
     /// takes: 12:13:14.5 on 22 November 2026, an hour east of UTC, and 27, from
     /// `b"2026-11-22T12:13:14.5+01:00 GET /"`. It parses no timestamps.
     ///
-    /// It ends where [`Time::parse_front`] ends. The errors are those of [`Date::parse_front`], then
-    /// `InvalidCharDateTimeSep`, then those of [`Time::parse_front`].
+    /// It [ends](docs/GRAMMAR.md#at-the-front-of-an-input) where [`Time::parse_front`] ends.
+    ///
+    /// # Errors
+    ///
+    /// Those of [a date](docs/GRAMMAR.md#date) except `ExtraCharacters`, then `InvalidCharDateTimeSep`
+    /// if no separator follows, then those of [a time](docs/GRAMMAR.md#time) except `InvalidCharTzSign`
+    /// and `ExtraCharacters`.
     #[inline(always)]
     pub fn parse_front(bytes: &[u8], config: &TimeConfig) -> Result<(Self, usize), ParseError>
         ensures answer { result gives_front date_time_front (time_choices config.now).behavior
@@ -275,6 +312,12 @@ impl FromStr for DateTime {
         result gives date_time_or_timestamp unit.Infer behavior.Error None text };
 
     /// The answer of [`DateTime::parse_str`]: `"1654560000".parse()` gives midnight on 7 June 2022.
+    ///
+    /// # Errors
+    ///
+    /// Of a timestamp those of [this table](docs/GRAMMAR.md#timestamps), in the order of its rows. Of
+    /// any other text those of [a date](docs/GRAMMAR.md#date) except `ExtraCharacters`, then
+    /// `InvalidCharDateTimeSep` if no separator follows, then those of [a time](docs/GRAMMAR.md#time).
     fn from_str(text: &str) -> Result<Self, ParseError> {
         Self::parse_str(text)
     }

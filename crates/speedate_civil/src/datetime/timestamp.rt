@@ -22,8 +22,11 @@ use speedate_base::util::{
 
 impl DateTime {
     /// The date-time of a Unix timestamp, whose unit is inferred, and additional microseconds, without
-    /// an offset: 1970-01-01T00:00:00.667444 for -1 and 1,667,444 microseconds. The errors are those of
-    /// [`DateTime::from_timestamp_with_config`].
+    /// an offset: 1970-01-01T00:00:00.667444 for -1 and 1,667,444 microseconds.
+    ///
+    /// # Errors
+    ///
+    /// Those of [`DateTime::from_timestamp_with_config`], in its order.
     pub fn from_timestamp(timestamp: i64, microseconds: u32) -> Result<Self, ParseError>
         ensures answer { result gives date_time_timestamp_answer unit.Infer None microseconds
             timestamp }
@@ -37,8 +40,11 @@ impl DateTime {
     /// microseconds, with the configured offset: 1970-01-01T00:00:01.000002+01:00 for one second, two
     /// microseconds and the offset 3,600. The offset is attached, and shifts nothing.
     ///
-    /// A timestamp counts from 1970-01-01T00:00:00, with 86,400 seconds in each day. The errors, in the
-    /// order in which they are looked for:
+    /// A timestamp counts from 1970-01-01T00:00:00, with 86,400 seconds in each day.
+    ///
+    /// # Errors
+    ///
+    /// In the order in which they are looked for:
     ///
     /// - `DateTooSmall` if the unit of `i64::MIN` is to be inferred;
     /// - `TimeTooLarge` if the microseconds of the timestamp and the additional ones exceed `u32::MAX`
@@ -72,8 +78,10 @@ impl DateTime {
     /// microsecond. An inferred unit is seconds if the decimal without its sign is at most
     /// 20,000,000,000, otherwise milliseconds.
     ///
-    /// Fails with `DateTooSmall` if that microsecond lies before the year 0000, with `DateTooLarge` if
-    /// it lies after the year 9999.
+    /// # Errors
+    ///
+    /// `DateTooSmall` if that microsecond lies before the year 0000, `DateTooLarge` if it lies after the
+    /// year 9999.
     pub fn from_decimal_with_config(
         decimal: Decimal<'_>,
         config: &DateTimeConfig,

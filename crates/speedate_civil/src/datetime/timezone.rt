@@ -10,8 +10,11 @@ use speedate_base::util::UnixTime;
 
 impl DateTime {
     /// The same date and clock with another offset, in seconds, or with none: 2020-01-01T12:00:00-01:00
-    /// for 2020-01-01T12:00:00Z and `Some(-3600)`. Fails with `OutOfRangeTz` if the offset is 24 hours
-    /// or more.
+    /// for 2020-01-01T12:00:00Z and `Some(-3600)`.
+    ///
+    /// # Errors
+    ///
+    /// `OutOfRangeTz` if the offset is 24 hours or more.
     pub fn with_timezone_offset(&self, tz_offset: Option<i32>) -> Result<Self, ParseError>
         ensures answer { result gives date_time_with_offset tz_offset (date_and_time self.now) }
     {
@@ -22,7 +25,9 @@ impl DateTime {
     /// The date-time at the same instant, as a clock at another offset, in seconds, shows it:
     /// 2020-01-02T00:30:00+01:00 for 2020-01-01T23:30:00Z and 3,600.
     ///
-    /// The errors, in the order in which they are looked for:
+    /// # Errors
+    ///
+    /// In the order in which they are looked for:
     ///
     /// - `OutOfRangeTz` if the offset is 24 hours or more;
     /// - `TzRequired` if the date-time has no offset;

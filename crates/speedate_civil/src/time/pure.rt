@@ -63,8 +63,7 @@ impl PureTime {
     /// Parses the clock that begins at `place`, whatever follows it: 12:13:14 and a half, in ten bytes,
     /// from `b"P12:13:14.5Z"` at place 1.
     ///
-    /// The errors are those of
-    /// [`Time::parse_bytes_with_config`](crate::time::Time::parse_bytes_with_config) up to
+    /// The errors are those of [`Time::parse_str`](crate::time::Time::parse_str) up to
     /// `SecondFractionTooLong`, which only the behavior `Error` gives.
     #[inline(always)]
     pub fn parse(bytes: &[u8], place: usize, behavior: Behavior) -> Result<Self, ParseError>
@@ -109,7 +108,8 @@ impl PureTime {
     /// It is 13 minutes and 14 seconds, in five bytes, from `b"12:13:14"` at place 3.
     ///
     /// The errors are `InvalidCharMinute`, if two digits do not begin there, and then those of
-    /// [`PureTime::parse`] from `OutOfRangeMinute` on.
+    /// [`Time::parse_str`](crate::time::Time::parse_str) from `OutOfRangeMinute` to
+    /// `SecondFractionTooLong`, which only the behavior `Error` gives.
     #[inline(always)]
     pub fn parse_from_minute(
         bytes: &[u8],

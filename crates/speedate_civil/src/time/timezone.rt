@@ -15,7 +15,11 @@ use speedate_base::util::SECONDS_PER_DAY;
 
 impl Time {
     /// The same clock with another offset, in seconds, or with none: 12:00:00-01:00 for 12:00:00Z and
-    /// `Some(-3600)`. Fails with `OutOfRangeTz` if the offset is 24 hours or more.
+    /// `Some(-3600)`.
+    ///
+    /// # Errors
+    ///
+    /// `OutOfRangeTz` if the offset is 24 hours or more.
     pub fn with_timezone_offset(&self, tz_offset: Option<i32>) -> Result<Self, ParseError>
         ensures answer { result gives time_with_offset tz_offset (time_of_day self.now) }
     {
@@ -32,7 +36,9 @@ impl Time {
     /// The time at the same instant, as a clock at another offset, in seconds, shows it:
     /// 16:00:00.567000+01:00 for 15:00:00.567000Z and 3,600.
     ///
-    /// The errors, in the order in which they are looked for:
+    /// # Errors
+    ///
+    /// In the order in which they are looked for:
     ///
     /// - `OutOfRangeTz` if the offset is 24 hours or more;
     /// - `TzRequired` if the time has no offset;
