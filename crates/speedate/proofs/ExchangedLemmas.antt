@@ -14,9 +14,6 @@ use Rattle.speedate.specs.IsoOrder.{IsWhole, AreWhole, IsPlain, AreExchanged}
 use Rattle.speedate.specs.IsoForm.{DurationUnit, units, ComponentText, Item, Component, item_text, item_at, item_table, Sums, no_sums, with_component, with_item, with_items, IsoOrder}
 use Rattle.speedate.proofs.IsoItemLemmas.{item_at-component}
 
-abbrev Answer : Type 0
-Answer = Result UnsignedDuration ParseError
-
 -- what is one item by its bytes is read as it, whatever follows
 item_at-whole : (sums : Sums) (item : Item) (rest : List ℕ) → IsWhole sums item → item_at (item_text item ++ rest) ≡ item
 item_at-whole sums item rest whole = search (rules, item_at-component)
@@ -79,7 +76,7 @@ pair-answer sums first second rest free one two =
     let later = iso_from-item next (Component second) rest (item_at-whole next (Component second) rest plain.0)
     ∙ plain-table next second last (item-free (Component first) sums free) plain in
     iso_from-item sums (Component first) (item_text (Component second) ++ rest) (item_at-whole sums (Component first) (item_text (Component second) ++ rest) one.0)
-    ∙ plain-table sums first _ free one ∙ ap (λ (next : Answer). if fits sums first then next else Err fault.DurationValueTooLarge) later
+    ∙ plain-table sums first _ free one ∙ ap (λ (next : Result UnsignedDuration ParseError). if fits sums first then next else Err fault.DurationValueTooLarge) later
     ∙ two-rows (fits sums first) (fits next second) fault.DurationValueTooLarge last
 
 -- it does not depend on their order

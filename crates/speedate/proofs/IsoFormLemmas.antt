@@ -13,7 +13,8 @@ use Rattle.speedate.specs.DurationNumbers.{DurationNumbers, UnsignedDuration, si
 use Rattle.speedate.specs.IsoForm.{Item, item_text, IsItem, item_at, Sums, no_sums, with_item, with_items, item_table, AreGood, sums_amount, Ends, IsEndedFront, IsAnswerFrom, IsoOrder}
 use Rattle.speedate.proofs.IsoItemLemmas.{item_at-text, item-front}
 
-abbrev Answer : Type 0
+-- the amount that a text says without its sign, or its fault
+abbrev pub Answer : Type 0
 Answer = Result UnsignedDuration ParseError
 
 -- an end has one answer
