@@ -22,7 +22,7 @@ duration_table duration =
     (nat_le duration.negative 1 else_fault fault.DurationValueTooLarge)
     ∷ (nat_le duration.day 999999999 else_fault fault.DurationDaysTooLarge)
     ∷ (nat_lt duration.second seconds_per_day else_fault fault.DurationValueTooLarge)
-    ∷ (nat_lt duration.microsecond 1000000 else_fault fault.DurationValueTooLarge)
+    ∷ (nat_le duration.microsecond 999999 else_fault fault.DurationValueTooLarge)
     ∷ []
 
 -- the duration of its numbers, or the fault of the first that is out of range
