@@ -12,8 +12,7 @@ use Rattle.speedate_civil.proofs.DateTimeInstantLemmas.{instant_date_time-shown}
 use Rattle.speedate_civil.proofs.DateTimeTimestampLemmas.{instant_date_time-local}
 use Rattle.speedate_civil.proofs.DateTimeValueLemmas.{is_date_and_time, offset-small, local_second-late, local_second-early}
 use Rattle.speedate.specs.Duration.{duration_numbers, Duration, signed_amount, duration_of_amount, amount_answer, with_positive_zero, duration_between, date_time_after, negated, date_after_days, is_whole_days}
-use Rattle.speedate.specs.DurationNumbers.{DurationNumbers, IsDuration, amount_microseconds, of_amount, normal_form, signed_day, signed_seconds, signed_microsecond, ParseError}
-use Rattle.speedate_base.specs.declared.faults.ParseError.TheVariants as fault
+use Rattle.speedate.specs.DurationNumbers.{DurationNumbers, IsDuration, amount_microseconds, of_amount, normal_form, signed_day, signed_seconds, signed_microsecond, ParseError, fault}
 use Rattle.speedate_base.specs.Requirement.{◌else_fault◌}
 use Rattle.speedate_base.proofs.RequirementLemmas.{meets-all}
 use Rattle.speedate_civil.specs.declared.date.Date.{Date}

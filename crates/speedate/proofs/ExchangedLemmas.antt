@@ -2,16 +2,13 @@
 use Rattle.std.proofs.Common.{rules, arith, ap, sym, ◌∙◌, append_assoc, ◌≡◌, ℕ, ◌≤◌, Bool, not, ◌&&◌, List, [], ◌∷◌, ◌++◌, nat_le, if◌then◌else◌, Option, Result, Err, refl, flat_map}
 use Rattle.std.proofs.lemmas.Int.{ints}
 use Rattle.std.proofs.lemmas.Bool.Decides.{nat_tests}
-use Rattle.speedate_base.specs.declared.config.IsoOrder.TheVariants as order
-use Rattle.speedate_base.specs.declared.config.MicrosecondsPrecisionOverflowBehavior.{MicrosecondsPrecisionOverflowBehavior}
-use Rattle.speedate_base.specs.declared.faults.ParseError.TheVariants as fault
 use Rattle.speedate_base.specs.Digits.{digits_value}
 use Rattle.speedate_base.specs.Requirement.{meets, result_and_then}
-use Rattle.speedate.specs.Duration.{iso_from, duration_answer}
+use Rattle.speedate.specs.Duration.{iso_from, duration_answer, MicrosecondsPrecisionOverflowBehavior}
 use Rattle.speedate.proofs.DurationAnswerLemmas.{iso_from-item, duration_answer-iso}
-use Rattle.speedate.specs.DurationNumbers.{DurationNumbers, UnsignedDuration, signed_form, ParseError}
+use Rattle.speedate.specs.DurationNumbers.{DurationNumbers, UnsignedDuration, signed_form, ParseError, fault}
 use Rattle.speedate.specs.IsoOrder.{IsWhole, AreWhole, IsPlain, AreExchanged}
-use Rattle.speedate.specs.IsoForm.{DurationUnit, units, ComponentText, Item, Component, item_text, item_at, item_table, Sums, no_sums, with_component, with_item, with_items, IsoOrder}
+use Rattle.speedate.specs.IsoForm.{DurationUnit, units, ComponentText, Item, Component, item_text, item_at, item_table, Sums, no_sums, with_component, with_item, with_items, IsoOrder, order}
 use Rattle.speedate.proofs.IsoItemLemmas.{item_at-component}
 
 -- what is one item by its bytes is read as it, whatever follows
