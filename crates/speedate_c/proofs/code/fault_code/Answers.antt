@@ -1,9 +1,8 @@
 use Rattle.std.proofs.Common.{◌≡◌, ℕ, ◌+◌, ◌-◌, Bool, true, pos, int_le, slice_get, Some, None, if◌then◌else◌, arith, ap, ◌∙◌, rules}
 use Rattle.std.proofs.lemmas.Bool.Decides.{nat_tests}
 use Rattle.std.proofs.lemmas.Int.{ints}
-use Rattle.speedate.specs.declared.ParseError.{ParseError}
 use Rattle.speedate.specs.Fault.{fault_place}
-use Rattle.speedate_c.specs.Code.{faults, fault_of}
+use Rattle.speedate_c.specs.Code.{faults, fault_of, ParseError}
 use Rattle.speedate_c.proofs.code.fault_code.Goals as goal
 
 listed : (fault : ParseError) → slice_get faults (fault_place fault) ≡ Some fault
