@@ -12,13 +12,12 @@ use Rattle.speedate_base.proofs.DigitRunLemmas.{run_length-ended, run-whole}
 use Rattle.speedate_base.proofs.NumberLemmas.{run-digits}
 use Rattle.speedate.specs.ClockForm.{hours, colon_place, has_hours, after_hours, from_minute, hours_table, hours_range, clock_numbers, clock_form, MicrosecondsPrecisionOverflowBehavior}
 use Rattle.std.proofs.lemmas.List.Folds.{list_any-append}
-use Rattle.speedate_base.specs.declared.faults.ParseError.TheVariants as fault
 use Rattle.speedate_base.specs.Requirement.{◌else_fault◌, ◌implies◌, meets, result_and_then}
 use Rattle.speedate_base.proofs.RequirementLemmas.{and_then-ok, meets-ok, meets-value}
 use Rattle.speedate_civil.specs.Time.{Clock, has_decimal_mark, has_second, minute_clock, minute_digits, minute_table, minute_front, clock_answer}
 use Rattle.speedate.specs.DayForm.{is_day_letter}
 use Rattle.speedate.specs.Duration.{has_days}
-use Rattle.speedate.specs.DurationNumbers.{UnsignedDuration}
+use Rattle.speedate.specs.DurationNumbers.{UnsignedDuration, fault}
 
 digit-no_colon : (byte : ℕ) → is_ascii_digit byte ≡ true → (byte == colon) ≡ false
 digit-no_colon byte digit = grind (arith, nat_tests)

@@ -2,14 +2,12 @@
 use Rattle.std.proofs.Common.{rules, arith, ap, sym, ◌∙◌, lt_irrefl, ◌≡◌, ℕ, zero, suc, ◌-◌, ◌<◌, Bool, false, not, List, [], ◌∷◌, ◌++◌, length, drop, slice_index, if◌then◌else◌, Result, Ok, Err, refl}
 use Rattle.std.proofs.Math.Seq.{drop-append_seam}
 use Rattle.std.proofs.lemmas.List.{length-append}
-use Rattle.speedate_base.specs.declared.config.MicrosecondsPrecisionOverflowBehavior.{MicrosecondsPrecisionOverflowBehavior}
-use Rattle.speedate_base.specs.declared.faults.ParseError.TheVariants as fault
 use Rattle.speedate_base.specs.Ascii.{capital_p, capital_t}
 use Rattle.speedate_base.specs.Numbers.{IsSign}
 use Rattle.speedate_base.specs.Requirement.{meets, result_and_then}
 use Rattle.speedate_base.proofs.RequirementLemmas.{meets-all, meets-and_then}
-use Rattle.speedate.specs.Duration.{iso_after, iso_from, iso_form, unsigned_answer, duration_answer}
-use Rattle.speedate.specs.DurationNumbers.{signed_form, ParseError}
+use Rattle.speedate.specs.Duration.{iso_after, iso_from, iso_form, unsigned_answer, duration_answer, MicrosecondsPrecisionOverflowBehavior}
+use Rattle.speedate.specs.DurationNumbers.{signed_form, ParseError, fault}
 use Rattle.speedate.specs.IsoForm.{Item, TimeDesignator, item_text, Sums, item_at, item_table, with_item, sums_amount, IsoOrder}
 use Rattle.speedate.specs.Reader.{item_front}
 

@@ -2,20 +2,14 @@
 use Rattle.std.proofs.Common.{rules, arith, ap, sym, ◌∙◌, append_assoc, ◌≡◌, ℕ, ◌≤◌, Bool, not, ◌&&◌, List, [], ◌∷◌, ◌++◌, nat_le, if◌then◌else◌, Option, Result, Err, refl, flat_map}
 use Rattle.std.proofs.lemmas.Int.{ints}
 use Rattle.std.proofs.lemmas.Bool.Decides.{nat_tests}
-use Rattle.speedate_base.specs.declared.config.IsoOrder.TheVariants as order
-use Rattle.speedate_base.specs.declared.config.MicrosecondsPrecisionOverflowBehavior.{MicrosecondsPrecisionOverflowBehavior}
-use Rattle.speedate_base.specs.declared.faults.ParseError.TheVariants as fault
 use Rattle.speedate_base.specs.Digits.{digits_value}
 use Rattle.speedate_base.specs.Requirement.{meets, result_and_then}
-use Rattle.speedate.specs.Duration.{iso_from, duration_answer}
+use Rattle.speedate.specs.Duration.{iso_from, duration_answer, MicrosecondsPrecisionOverflowBehavior}
 use Rattle.speedate.proofs.DurationAnswerLemmas.{iso_from-item, duration_answer-iso}
-use Rattle.speedate.specs.DurationNumbers.{DurationNumbers, UnsignedDuration, signed_form, ParseError}
+use Rattle.speedate.specs.DurationNumbers.{DurationNumbers, UnsignedDuration, signed_form, ParseError, fault}
 use Rattle.speedate.specs.IsoOrder.{IsWhole, AreWhole, IsPlain, AreExchanged}
-use Rattle.speedate.specs.IsoForm.{DurationUnit, units, ComponentText, Item, Component, item_text, item_at, item_table, Sums, no_sums, with_component, with_item, with_items, IsoOrder}
+use Rattle.speedate.specs.IsoForm.{DurationUnit, units, ComponentText, Item, Component, item_text, item_at, item_table, Sums, no_sums, with_component, with_item, with_items, IsoOrder, order}
 use Rattle.speedate.proofs.IsoItemLemmas.{item_at-component}
-
-abbrev Answer : Type 0
-Answer = Result UnsignedDuration ParseError
 
 -- what is one item by its bytes is read as it, whatever follows
 item_at-whole : (sums : Sums) (item : Item) (rest : List ℕ) → IsWhole sums item → item_at (item_text item ++ rest) ≡ item
@@ -79,7 +73,7 @@ pair-answer sums first second rest free one two =
     let later = iso_from-item next (Component second) rest (item_at-whole next (Component second) rest plain.0)
     ∙ plain-table next second last (item-free (Component first) sums free) plain in
     iso_from-item sums (Component first) (item_text (Component second) ++ rest) (item_at-whole sums (Component first) (item_text (Component second) ++ rest) one.0)
-    ∙ plain-table sums first _ free one ∙ ap (λ (next : Answer). if fits sums first then next else Err fault.DurationValueTooLarge) later
+    ∙ plain-table sums first _ free one ∙ ap (λ (next : Result UnsignedDuration ParseError). if fits sums first then next else Err fault.DurationValueTooLarge) later
     ∙ two-rows (fits sums first) (fits next second) fault.DurationValueTooLarge last
 
 -- it does not depend on their order

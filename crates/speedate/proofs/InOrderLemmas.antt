@@ -3,24 +3,18 @@ use Rattle.std.proofs.Common.{rules, arith, ap, sym, ◌∙◌, subst, inl, ◌�
 use Rattle.std.proofs.lemmas.Bool.{eqb-true, false≢true}
 use Rattle.std.proofs.lemmas.Bool.Decides.{nat_tests}
 use Rattle.std.proofs.lemmas.List.{append-nil, take-append-drop}
-use Rattle.speedate_base.specs.declared.config.IsoOrder.TheVariants as order
-use Rattle.speedate_base.specs.declared.config.MicrosecondsPrecisionOverflowBehavior.{MicrosecondsPrecisionOverflowBehavior}
-use Rattle.speedate_base.specs.declared.faults.ParseError.TheVariants as fault
 use Rattle.speedate_base.specs.Ascii.{capital_p}
 use Rattle.speedate_base.specs.Numbers.{has_minus, sign_size}
 use Rattle.speedate_base.proofs.NumberLemmas.{sign-of_text}
 use Rattle.speedate_base.specs.Requirement.{meets, AllHold, result_and_then}
 use Rattle.speedate_base.proofs.RequirementLemmas.{meets-all}
-use Rattle.speedate.specs.DurationNumbers.{DurationNumbers, UnsignedDuration, signed_form, ParseError}
-use Rattle.speedate.specs.Duration.{form_answer, iso_after, iso_from, iso_form, unsigned_answer, duration_answer}
+use Rattle.speedate.specs.DurationNumbers.{DurationNumbers, signed_form, ParseError, fault}
+use Rattle.speedate.specs.Duration.{form_answer, iso_after, iso_from, iso_form, unsigned_answer, duration_answer, MicrosecondsPrecisionOverflowBehavior}
 use Rattle.speedate.proofs.DurationAnswerLemmas.{iso_from-item, duration_answer-iso}
 use Rattle.speedate.specs.IsoOrder.{IsLaxOrRefused, IsAnswerInOrder, are_in_order, IsMadeOf, is_iso}
-use Rattle.speedate.specs.IsoForm.{DurationUnit, units, unit_in, ComponentText, Item, TimeDesignator, Component, item_text, item_at, item_table, units_after, Sums, no_sums, with_component, with_item, with_items, AreGood, sums_amount, Ends, IsoOrder}
-use Rattle.speedate.proofs.IsoFormLemmas.{answer-only, iso_after-is}
+use Rattle.speedate.specs.IsoForm.{DurationUnit, units, unit_in, ComponentText, Item, TimeDesignator, Component, item_text, item_at, item_table, units_after, Sums, no_sums, with_component, with_item, with_items, AreGood, sums_amount, Ends, IsoOrder, order}
+use Rattle.speedate.proofs.IsoFormLemmas.{Answer, answer-only, iso_after-is}
 use Rattle.speedate.proofs.IsoItemLemmas.{item_at-text}
-
-abbrev Answer : Type 0
-Answer = Result UnsignedDuration ParseError
 
 -- sums after which any unit of the side may come, and those after which only some may
 abbrev as_lax : Sums → Sums

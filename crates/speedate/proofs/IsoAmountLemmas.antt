@@ -1,19 +1,16 @@
 -- What is read of an ISO 8601 duration is the sum of the amounts of its items.
 use Rattle.std.proofs.Common.{rules, arith, ap, sym, ◌∙◌, subst, ◌≡◌, ℕ, ◌+◌, ◌*◌, Bool, true, false, not, List, [], ◌∷◌, ◌++◌, drop, if◌then◌else◌, Option, Some, None, Result, Ok, Err, IfOk, refl, is_some}
 use Rattle.std.proofs.lemmas.Bool.{false≢true}
-use Rattle.speedate_base.specs.declared.config.IsoOrder.TheVariants as order
-use Rattle.speedate_base.specs.declared.config.MicrosecondsPrecisionOverflowBehavior.{MicrosecondsPrecisionOverflowBehavior}
-use Rattle.speedate_base.specs.declared.faults.ParseError.TheVariants as fault
 use Rattle.speedate_base.specs.Ascii.{capital_p}
 use Rattle.speedate_base.specs.Digits.{digits_value}
 use Rattle.speedate_base.specs.Numbers.{has_minus, IsSign}
 use Rattle.speedate_base.specs.Requirement.{result_and_then}
 use Rattle.speedate_base.specs.Timestamp.{seconds_per_day}
 use Rattle.speedate_base.proofs.RequirementLemmas.{meets-value}
-use Rattle.speedate.specs.Duration.{duration_answer, duration_numbers, ◌gives◌, Duration}
+use Rattle.speedate.specs.Duration.{duration_answer, duration_numbers, ◌gives◌, Duration, MicrosecondsPrecisionOverflowBehavior}
 use Rattle.speedate.proofs.FractionLemmas.{fraction_amount, fraction_amount-is}
-use Rattle.speedate.specs.DurationNumbers.{DurationNumbers, amount_microseconds, of_amount, normal_table, signed_form, ParseError}
-use Rattle.speedate.specs.IsoForm.{DurationUnit, units, unit_in, ComponentText, Item, TimeDesignator, Component, Sums, no_sums, with_component, with_item, with_items, AreGood, sums_amount, IsoOrder}
+use Rattle.speedate.specs.DurationNumbers.{DurationNumbers, amount_microseconds, of_amount, normal_table, signed_form, ParseError, fault}
+use Rattle.speedate.specs.IsoForm.{DurationUnit, units, unit_in, ComponentText, Item, TimeDesignator, Component, Sums, no_sums, with_component, with_item, with_items, AreGood, sums_amount, IsoOrder, order}
 use Rattle.speedate.specs.IsoAmount.{unit_microseconds, IsComponentAmount, IsSumOf, IsAmountOf}
 use Rattle.speedate.specs.IsoOrder.{IsMadeOf}
 use Rattle.speedate.proofs.InOrderLemmas.{answer-made, duration-both}

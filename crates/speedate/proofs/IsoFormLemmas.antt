@@ -3,17 +3,17 @@ use Rattle.std.proofs.Common.{rules, ap, ap₂, sym, ◌∙◌, append_assoc, su
 use Rattle.std.proofs.lemmas.Bool.{false≢true}
 use Rattle.std.proofs.lemmas.List.{append_cancel_left}
 use Rattle.std.proofs.Math.Seq.{drop-nil}
-use Rattle.speedate_base.specs.declared.config.MicrosecondsPrecisionOverflowBehavior.{MicrosecondsPrecisionOverflowBehavior}
 use Rattle.speedate_base.specs.Ascii.{capital_p}
 use Rattle.speedate_base.specs.Numbers.{has_minus, sign_size}
 use Rattle.speedate_base.specs.Requirement.{meets, AllHold, result_and_then}
 use Rattle.speedate_base.proofs.RequirementLemmas.{meets-all, meets-next, meets-value}
-use Rattle.speedate.specs.Duration.{iso_after, iso_form, form_answer, unsigned_answer, duration_answer, IsGrammarAnswer}
+use Rattle.speedate.specs.Duration.{iso_after, iso_form, form_answer, unsigned_answer, duration_answer, IsGrammarAnswer, MicrosecondsPrecisionOverflowBehavior}
 use Rattle.speedate.specs.DurationNumbers.{DurationNumbers, UnsignedDuration, signed_form, ParseError}
 use Rattle.speedate.specs.IsoForm.{Item, item_text, IsItem, item_at, Sums, no_sums, with_item, with_items, item_table, AreGood, sums_amount, Ends, IsEndedFront, IsAnswerFrom, IsoOrder}
 use Rattle.speedate.proofs.IsoItemLemmas.{item_at-text, item-front}
 
-abbrev Answer : Type 0
+-- the amount that a text says without its sign, or its fault
+abbrev pub Answer : Type 0
 Answer = Result UnsignedDuration ParseError
 
 -- an end has one answer

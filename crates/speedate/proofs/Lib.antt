@@ -1,7 +1,6 @@
 mod ClockFormLemmas
 mod DurationAnswerLemmas
 mod DurationLemmas
-mod DurationMoveLemmas
 pub mod DurationTextLemmas
 mod ExchangedLemmas
 mod FractionLemmas

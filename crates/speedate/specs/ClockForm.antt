@@ -4,14 +4,12 @@ use Rattle.std.specs.Prelude.{ℕ, ◌+◌, ◌*◌, ◌/◌, ◌%◌, Bool, ◌
 use Rattle.std.specs.Char.{is_ascii_digit}
 use Rattle.std.specs.List.{list_all, position_or_len}
 pub use Rattle.speedate_base.specs.declared.config.MicrosecondsPrecisionOverflowBehavior.{MicrosecondsPrecisionOverflowBehavior}
-pub use Rattle.speedate_base.specs.declared.faults.ParseError.{ParseError}
-use Rattle.speedate_base.specs.declared.faults.ParseError.TheVariants as fault
 use Rattle.speedate_base.specs.Ascii.{colon}
 use Rattle.speedate_base.specs.Digits.{digits_value}
 use Rattle.speedate_base.specs.Config.{refuses_digits}
 use Rattle.speedate_base.specs.Requirement.{Requirement, ◌else_fault◌, ◌implies◌, meets, result_and_then}
 use Rattle.speedate_civil.specs.Time.{Clock, minute_front}
-use Rattle.speedate.specs.DurationNumbers.{UnsignedDuration}
+use Rattle.speedate.specs.DurationNumbers.{UnsignedDuration, ParseError, fault}
 
 -- how many bytes come before the first `:`, or how many there are if there is none
 abbrev pub colon_place : List ℕ → ℕ

@@ -1,12 +1,11 @@
 -- A duration as days and a clock, `1 day, 10:20`. This form is the library's own. `text` begins with the days.
 use Rattle.std.specs.Prelude.{ℕ, ◌+◌, Bool, not, ◌||◌, List, [], ◌∷◌, codes, length, drop, slice_index, nat_eq, nat_le, nat_lt, ◌==◌, if◌then◌else◌, Result, Ok}
 use Rattle.std.specs.List.{list_any, starts_with}
-use Rattle.speedate_base.specs.declared.faults.ParseError.TheVariants as fault
 use Rattle.speedate_base.specs.Ascii.{capital_d, small_d}
 use Rattle.speedate_base.specs.Digits.{run_length, run_value}
 use Rattle.speedate_base.specs.Requirement.{Requirement, ◌else_fault◌, meets, result_and_then, ◌>>=◌}
 use Rattle.speedate.specs.ClockForm.{clock_form, MicrosecondsPrecisionOverflowBehavior}
-use Rattle.speedate.specs.DurationNumbers.{UnsignedDuration, ParseError}
+use Rattle.speedate.specs.DurationNumbers.{UnsignedDuration, ParseError, fault}
 
 -- the letter of a day
 abbrev pub is_day_letter : ℕ → Bool

@@ -3,7 +3,7 @@ use Rattle.std.specs.Prelude.{◌≡◌, MatchBool, ℕ, zero, suc, ◌-◌, Boo
 use Rattle.std.specs.Fmt.{decimal}
 use Rattle.std.specs.List.{list_any}
 use Rattle.std.specs.Option.{ok_or}
-use Rattle.speedate_base.specs.declared.faults.ParseError.TheVariants as fault
+pub use Rattle.speedate_base.specs.declared.config.MicrosecondsPrecisionOverflowBehavior.{MicrosecondsPrecisionOverflowBehavior, MicrosecondsPrecisionOverflowBehavior as behavior}
 use Rattle.speedate_base.specs.Ascii.{capital_p, hyphen, full_stop, digit_zero, capital_d, capital_h, capital_m, capital_s, capital_t, capital_y}
 use Rattle.speedate_base.specs.Digits.{six_digit_text}
 use Rattle.speedate_base.specs.Numbers.{has_minus, sign_size, with_sign}
@@ -13,9 +13,9 @@ use Rattle.speedate_civil.specs.Calendar.{Ymd, date_added, days_between}
 use Rattle.speedate_civil.specs.DateTime.{DateAndTime, local_microsecond, utc_microsecond, instant_date_time}
 pub use Rattle.speedate.specs.declared.duration.Duration.{Duration}
 use Rattle.speedate.specs.declared.duration.unsigned.UnsignedDuration.{UnsignedDuration as StructUnsignedDuration}
-use Rattle.speedate.specs.ClockForm.{clock_form, MicrosecondsPrecisionOverflowBehavior}
+use Rattle.speedate.specs.ClockForm.{clock_form}
 use Rattle.speedate.specs.DayForm.{is_day_letter, day_form}
-use Rattle.speedate.specs.DurationNumbers.{DurationNumbers, UnsignedDuration, signed_form, signed_day, amount_microseconds, of_amount, ParseError}
+use Rattle.speedate.specs.DurationNumbers.{DurationNumbers, UnsignedDuration, signed_form, signed_day, amount_microseconds, of_amount, ParseError, fault}
 use Rattle.speedate.specs.IsoForm.{Item, Sums, no_sums, item_text, item_at, item_table, with_item, sums_amount, IsEndedFront, IsAnswerFrom, IsoOrder}
 
 -- the numbers of a duration

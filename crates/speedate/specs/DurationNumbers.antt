@@ -7,8 +7,7 @@ use Rattle.std.specs.Cmp.{IsTotalOrder, bool_cmp_total, both_tied, int_cmp_total
 use Rattle.std.specs.Ordering.{bool_cmp, int_cmp, is_eq, on, then_cmp}
 use Rattle.std.proofs.Math.Bool.{beq}
 use Rattle.std.specs.declared.cmp.Ordering.{Ordering}
-use Rattle.speedate_base.specs.declared.faults.ParseError.TheVariants as fault
-pub use Rattle.speedate_base.specs.declared.faults.ParseError.{ParseError}
+pub use Rattle.speedate_base.specs.declared.faults.ParseError.{ParseError, ParseError as fault}
 use Rattle.speedate_base.specs.Numbers.{with_sign}
 use Rattle.speedate_base.specs.Timestamp.{seconds_per_day}
 use Rattle.speedate_base.specs.Requirement.{Requirement, ◌else_fault◌, meets}

@@ -8,16 +8,13 @@ use Rattle.std.specs.Prelude.{◌≡◌, ℕ, ◌+◌, ◌-◌, ◌*◌, ◌/◌
 use Rattle.std.specs.Char.{is_ascii_digit}
 use Rattle.std.specs.List.{list_all, flat_map}
 use Rattle.std.specs.Option.{is_some}
-pub use Rattle.speedate_base.specs.declared.config.IsoOrder.{IsoOrder}
-use Rattle.speedate_base.specs.declared.config.IsoOrder.TheVariants as order
-pub use Rattle.speedate_base.specs.declared.faults.ParseError.{ParseError}
-use Rattle.speedate_base.specs.declared.faults.ParseError.TheVariants as fault
+pub use Rattle.speedate_base.specs.declared.config.IsoOrder.{IsoOrder, IsoOrder as order}
 use Rattle.speedate_base.specs.Ascii.{capital_d, capital_h, capital_m, capital_s, capital_t, capital_w, capital_y}
 use Rattle.speedate_base.specs.Digits.{run_length, digits_value, is_decimal_mark}
 use Rattle.speedate_base.specs.Nearest.{nearest}
 use Rattle.speedate_base.specs.Timestamp.{seconds_per_day}
 use Rattle.speedate_base.specs.Requirement.{Requirement, ◌else_fault◌, meets, AllHold}
-use Rattle.speedate.specs.DurationNumbers.{UnsignedDuration}
+use Rattle.speedate.specs.DurationNumbers.{UnsignedDuration, ParseError, fault}
 
 -- a unit of a duration by its designator, and what one of it is: whole days, or seconds
 pub record DurationUnit : Type 0 where

@@ -3,14 +3,11 @@
 use Rattle.std.specs.Prelude.{◌≡◌, ◌⊎◌, ℕ, Bool, true, false, ◌&&◌, List, [], ◌∷◌, ◌++◌, drop, slice_index, ◌==◌, if◌then◌else◌, Result, Ok, Err, length, nat_lt}
 use Rattle.std.specs.List.{flat_map}
 use Rattle.std.specs.Option.{is_some}
-use Rattle.speedate_base.specs.declared.config.IsoOrder.TheVariants as order
-use Rattle.speedate_base.specs.declared.config.MicrosecondsPrecisionOverflowBehavior.{MicrosecondsPrecisionOverflowBehavior}
-use Rattle.speedate_base.specs.declared.faults.ParseError.TheVariants as fault
 use Rattle.speedate_base.specs.Ascii.{capital_p}
 use Rattle.speedate_base.specs.Numbers.{sign_size, IsSign}
-use Rattle.speedate.specs.Duration.{duration_answer}
-use Rattle.speedate.specs.DurationNumbers.{DurationNumbers, ParseError}
-use Rattle.speedate.specs.IsoForm.{DurationUnit, units, unit_in, units_after, Item, TimeDesignator, Component, item_text, no_sums, with_items, AreGood, ComponentText, IsItem, Sums, with_item, IsoOrder}
+use Rattle.speedate.specs.Duration.{duration_answer, MicrosecondsPrecisionOverflowBehavior}
+use Rattle.speedate.specs.DurationNumbers.{DurationNumbers, ParseError, fault}
+use Rattle.speedate.specs.IsoForm.{DurationUnit, units, unit_in, units_after, Item, TimeDesignator, Component, item_text, no_sums, with_items, AreGood, ComponentText, IsItem, Sums, with_item, IsoOrder, order}
 
 -- the unit of each component is among those that may still come, and a `T` begins anew
 abbrev pub are_in_order : List DurationUnit → List Item → Bool

@@ -3,7 +3,8 @@ use Rattle.std.specs.Prelude.{Bool, ◌≡◌, [], ◌∷◌, ◌==◌, length, 
 use Rattle.speedate_base.specs.Requirement.{meets}
 use Rattle.speedate.specs.declared.duration.iso.DurationUnit.{DurationUnit as StructDurationUnit}
 use Rattle.speedate.specs.declared.duration.iso.Sums.{Sums as StructSums}
-use Rattle.speedate.specs.IsoForm.{DurationUnit, units, unit_in, Item, item_text, Sums, with_item, item_table, ParseError}
+use Rattle.speedate.specs.DurationNumbers.{ParseError}
+use Rattle.speedate.specs.IsoForm.{DurationUnit, units, unit_in, Item, item_text, Sums, with_item, item_table}
 
 -- a unit by its designator and its worth
 abbrev pub unit_parts : StructDurationUnit → DurationUnit

@@ -4,6 +4,7 @@ ghost use Rattle.std.specs.Prelude.{◌≡◌, ℕ, ◌<◌, ◌≤◌, IfOk, Li
 ghost use Rattle.speedate_base.specs.Config.{time_choices};
 ghost use Rattle.speedate_base.specs.Requirement.{result_map};
 ghost use Rattle.speedate.specs.DurationNumbers.{amount_seconds, amount_microseconds, normal_form, signed_form, signed_seconds, signed_microsecond, signed_milliseconds};
+ghost use Rattle.speedate.specs.IsoForm.{Item, order};
 
 mod arithmetic;
 mod clock;
@@ -52,11 +53,8 @@ pub struct Duration {
 }
 
 impl Duration {
-    ghost use Rattle.speedate_base.specs.declared.config.IsoOrder.TheVariants as order;
-    ghost use Rattle.speedate_base.specs.declared.config.MicrosecondsPrecisionOverflowBehavior.TheVariants as behavior;
-    ghost use Rattle.speedate.specs.Duration.{duration_numbers, unsigned_numbers, ◌gives◌, duration_answer, IsGrammarAnswer};
+    ghost use Rattle.speedate.specs.Duration.{duration_numbers, unsigned_numbers, ◌gives◌, duration_answer, IsGrammarAnswer, behavior};
     ghost use Rattle.speedate.specs.IsoAmount.{IsAmountOf};
-    ghost use Rattle.speedate.specs.IsoForm.{Item};
     ghost use Rattle.speedate.specs.IsoOrder.{AreExchanged, IsAnswerInOrder, IsMadeOf};
 
     /// The duration of days, seconds and microseconds of any size, with the same amount: 2 days, 101
@@ -298,9 +296,7 @@ impl Duration {
 impl FromStr for Duration {
     type Err = ParseError;
 
-    ghost use Rattle.speedate_base.specs.declared.config.IsoOrder.TheVariants as order;
-    ghost use Rattle.speedate_base.specs.declared.config.MicrosecondsPrecisionOverflowBehavior.TheVariants as behavior;
-    ghost use Rattle.speedate.specs.Duration.{◌gives◌, duration_answer};
+    ghost use Rattle.speedate.specs.Duration.{◌gives◌, duration_answer, behavior};
 
     ghost from_str_gives = { λ text result.
         result gives duration_answer order.Lax behavior.Error text };

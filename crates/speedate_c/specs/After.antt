@@ -1,7 +1,6 @@
 -- What a call leaves: its code, and then what stands where it writes. A call that refuses leaves what stood there.
 use Rattle.std.specs.Prelude.{ℕ, ◌+◌, ℤ, List, ◌∷◌, ◌++◌, length, drop, nat_lt, Option, Some, None, Result, Ok, Err, if◌then◌else◌}
-use Rattle.speedate.specs.declared.ParseError.{ParseError}
-use Rattle.speedate_c.specs.Code.{success, fault_code, buffer_too_small, no_such_date}
+use Rattle.speedate_c.specs.Code.{success, fault_code, buffer_too_small, no_such_date, ParseError}
 
 -- what follows from a value that is in its ranges; what is left where it is not
 abbrev pub with_value : {A B : Type 0} → Result A ParseError → B → (A → B) → B

@@ -2,9 +2,8 @@
 use Rattle.std.specs.Prelude.{ℕ, ◌+◌, ◌-◌, ℤ, pos, negsuc, unsigned_abs, int_le, List, map, codes, slice_get, Option, Some, None, Result, Ok, Err, if◌then◌else◌}
 use Rattle.std.specs.Option.{option_map, option_or}
 use Rattle.std.specs.Ordering.{int_eq}
-use Rattle.std.specs.declared.cmp.Ordering.{Ordering}
-use Rattle.std.specs.declared.cmp.Ordering.TheVariants as ordering
-use Rattle.speedate.specs.declared.ParseError.{ParseError}
+use Rattle.std.specs.declared.cmp.Ordering.{Ordering, Ordering as ordering}
+pub use Rattle.speedate.specs.declared.ParseError.{ParseError}
 use Rattle.speedate.specs.Fault.{FaultRow, fault_rows, fault_place, fault_name, fault_documentation}
 
 -- what was asked for is written

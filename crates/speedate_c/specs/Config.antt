@@ -3,14 +3,10 @@ use Rattle.std.specs.Prelude.{ℕ, ◌==◌, nat_le, Bool, false, true, ℤ, Lis
 use Rattle.std.specs.Option.{option_and_then, option_map}
 use Rattle.std.specs.Result.{result_ok}
 use Rattle.speedate.specs.Config.{Choices}
-use Rattle.speedate.specs.declared.IsoOrder.{IsoOrder}
-use Rattle.speedate.specs.declared.IsoOrder.TheVariants as order
-use Rattle.speedate.specs.declared.MicrosecondsPrecisionOverflowBehavior.{MicrosecondsPrecisionOverflowBehavior}
-use Rattle.speedate.specs.declared.MicrosecondsPrecisionOverflowBehavior.TheVariants as behavior
-use Rattle.speedate.specs.declared.ParseError.{ParseError}
-use Rattle.speedate.specs.declared.ParseError.TheVariants as fault
-use Rattle.speedate.specs.declared.TimestampUnit.{TimestampUnit}
-use Rattle.speedate.specs.declared.TimestampUnit.TheVariants as unit
+use Rattle.speedate.specs.declared.IsoOrder.{IsoOrder, IsoOrder as order}
+use Rattle.speedate.specs.declared.MicrosecondsPrecisionOverflowBehavior.{MicrosecondsPrecisionOverflowBehavior, MicrosecondsPrecisionOverflowBehavior as behavior}
+use Rattle.speedate.specs.declared.ParseError.{ParseError, ParseError as fault}
+use Rattle.speedate.specs.declared.TimestampUnit.{TimestampUnit, TimestampUnit as unit}
 use Rattle.speedate.specs.Offset.{offset_table}
 use Rattle.speedate.specs.Requirement.{◌else_fault◌, meets, result_and_then}
 use Rattle.speedate_c.specs.declared.config.SpeedateConfig.{SpeedateConfig}

@@ -1,8 +1,6 @@
 -- What a duration from outside says, and how a duration is written.
 use Rattle.std.specs.Prelude.{ℕ, ◌==◌, nat_le, nat_lt, Bool, true, false, List, [], ◌∷◌, Result, Ok}
-use Rattle.speedate.specs.declared.ParseError.{ParseError}
-use Rattle.speedate.specs.declared.ParseError.TheVariants as fault
-use Rattle.speedate.specs.DurationNumbers.{DurationNumbers}
+use Rattle.speedate.specs.DurationNumbers.{DurationNumbers, ParseError, fault}
 use Rattle.speedate.specs.Timestamp.{seconds_per_day}
 use Rattle.speedate.specs.Requirement.{Requirement, ◌else_fault◌, meets}
 use Rattle.speedate_c.specs.declared.duration.SpeedateDuration.{SpeedateDuration}
@@ -22,7 +20,7 @@ duration_table duration =
     (nat_le duration.negative 1 else_fault fault.DurationValueTooLarge)
     ∷ (nat_le duration.day 999999999 else_fault fault.DurationDaysTooLarge)
     ∷ (nat_lt duration.second seconds_per_day else_fault fault.DurationValueTooLarge)
-    ∷ (nat_lt duration.microsecond 1000000 else_fault fault.DurationValueTooLarge)
+    ∷ (nat_le duration.microsecond 999999 else_fault fault.DurationValueTooLarge)
     ∷ []
 
 -- the duration of its numbers, or the fault of the first that is out of range

@@ -1,7 +1,6 @@
 -- What a time from outside says, and how a time is written.
 use Rattle.std.specs.Prelude.{ℕ, ℤ, pos, Option, Some, None, Result}
-use Rattle.speedate.specs.declared.ParseError.{ParseError}
-use Rattle.speedate.specs.Time.{new_time_answer, TimeOfDay}
+use Rattle.speedate.specs.Time.{new_time_answer, TimeOfDay, ParseError}
 use Rattle.speedate.specs.Requirement.{result_and_then, result_map}
 use Rattle.speedate_c.specs.Config.{offset_answer}
 use Rattle.speedate_c.specs.declared.time.SpeedateTime.{SpeedateTime}

@@ -45,7 +45,7 @@ impl SpeedateDuration {
         if self.day > 999_999_999 {
             return Err(ParseError::DurationDaysTooLarge);
         }
-        if self.second >= 86_400 || self.microsecond >= 1_000_000 {
+        if self.second >= 86_400 || self.microsecond > 999_999 {
             return Err(ParseError::DurationValueTooLarge);
         }
         Ok(Duration {

@@ -1,9 +1,8 @@
 -- The answer to a line, case by case.
 use Rattle.std.proofs.Common.{◌≡◌, ℕ, ◌<◌, ◌≤◌, List, [], ◌∷◌, ◌++◌, length, refl, codes, Result, Ok}
 use Rattle.std.proofs.lemmas.Bool.{lt-ltb, le-ltb}
-use Rattle.speedate.specs.declared.ParseError.{ParseError}
 use Rattle.speedate.specs.Ascii.{line_feed}
-use Rattle.speedate_lines.specs.Lines.{longest_line, kinds, kind_and_text, answer_by_kind, line_answer, reply, ok_answer, err_answer}
+use Rattle.speedate_lines.specs.Lines.{longest_line, kinds, kind_and_text, answer_by_kind, line_answer, reply, ok_answer, err_answer, ParseError}
 
 pub line_answer-long : (line : List ℕ) → longest_line < length line → line_answer line ≡ err_answer (codes "line_too_long")
 unfolding line_answer

@@ -2,17 +2,15 @@
 use Rattle.std.specs.Prelude.{◌≡◌, ◌≢◌, ℕ, ◌<◌, ◌≤◌, ◌==◌, Bool, length, slice_index, List, [], ◌∷◌, ◌++◌, if◌then◌else◌, take, drop, codes, nat_lt, bytes_eq, Option, Some, None, Result, Ok, Err}
 use Rattle.std.specs.List.{flat_map}
 use Rattle.speedate.specs.declared.IsoOrder.TheVariants as order
-use Rattle.speedate.specs.declared.MicrosecondsPrecisionOverflowBehavior.TheVariants as behavior
-use Rattle.speedate.specs.declared.ParseError.{ParseError}
+pub use Rattle.speedate.specs.declared.ParseError.{ParseError}
 use Rattle.speedate.specs.declared.TimestampUnit.TheVariants as unit
 use Rattle.speedate.specs.Ascii.{line_feed, space}
 use Rattle.speedate.specs.Date.{date_text, date_or_timestamp}
 use Rattle.speedate.specs.DateTime.{date_time_text, date_time_or_timestamp}
-use Rattle.speedate.specs.Duration.{duration_answer, duration_text}
+use Rattle.speedate.specs.Duration.{duration_answer, duration_text, behavior}
 use Rattle.speedate.specs.Fault.{fault_name}
 use Rattle.speedate.specs.Time.{time_answer, time_text}
-use Rattle.speedate_lines.specs.declared.answer.Kind.TheVariants as kind
-use Rattle.speedate_lines.specs.declared.answer.Kind.{Kind}
+use Rattle.speedate_lines.specs.declared.answer.Kind.{Kind, Kind as kind}
 
 -- how many bytes a line may have
 abbrev pub longest_line : ℕ

@@ -1,7 +1,6 @@
 -- What a run has read and written where it ends.
 use Rattle.std.specs.Prelude.{◌≡◌, ℕ, ◌+◌, ◌≤◌, List, [], ◌++◌, length, take, Option, ◌⊎◌, Bool, true, false, ◌||◌, codes, Result, Ok, Err, is_err, OnOk, OnErr}
 use Rattle.std.specs.Io.KnownBytes.{Consumes, IsAtEnd, Appends}
-use Rattle.speedate_lines.specs.declared.run.RunError.TheVariants.{Read, Write}
 use Rattle.speedate_lines.specs.declared.run.RunError.{RunError}
 use Rattle.speedate_lines.specs.Lines.{longest_line, complete_lines, lines, answers}
 use Rattle.speedate_lines.specs.Watch.{Watch}
@@ -81,11 +80,11 @@ pub record AnswersBeginning (unread_old unread_new old new : Option (List ℕ)) 
 -- which of the input and the output of a run has failed: one of them or neither, and never both
 abbrev pub EndsBy : Result (Unit {0}) RunError → Bool → Bool → Type 0
 EndsBy (Ok ended) input output = (input ≡ false) × (output ≡ false)
-EndsBy (Err Read) input output = (input ≡ true) × (output ≡ false)
-EndsBy (Err Write) input output = (input ≡ false) × (output ≡ true)
+EndsBy (Err RunError.Read) input output = (input ≡ true) × (output ≡ false)
+EndsBy (Err RunError.Write) input output = (input ≡ false) × (output ≡ true)
 
 -- the exit status, and what standard error is told
 abbrev pub outcome_of : Result (Unit {0}) RunError → ℕ × List ℕ
 outcome_of (Ok ended) = (0, codes "")
-outcome_of (Err Read) = (1, codes "input failed")
-outcome_of (Err Write) = (2, codes "output failed")
+outcome_of (Err RunError.Read) = (1, codes "input failed")
+outcome_of (Err RunError.Write) = (2, codes "output failed")

@@ -1,13 +1,10 @@
 -- The lines of a work log: the date-time at which work began, a space, and how long it lasted.
 use Rattle.std.specs.Prelude.{ℕ, List, [], ◌∷◌, drop, ◌==◌, if◌then◌else◌, ℤ, pos, ◌+ℤ◌, Result, Err}
 use Rattle.speedate.specs.declared.IsoOrder.TheVariants as order
-use Rattle.speedate.specs.declared.MicrosecondsPrecisionOverflowBehavior.TheVariants as behavior
-use Rattle.speedate.specs.declared.ParseError.{ParseError}
-use Rattle.speedate.specs.declared.ParseError.TheVariants as fault
 use Rattle.speedate.specs.Ascii.{space}
 use Rattle.speedate.specs.DateTime.{DateAndTime, date_time_front}
-use Rattle.speedate.specs.Duration.{duration_answer}
-use Rattle.speedate.specs.DurationNumbers.{DurationNumbers, signed_seconds}
+use Rattle.speedate.specs.Duration.{duration_answer, behavior}
+use Rattle.speedate.specs.DurationNumbers.{DurationNumbers, signed_seconds, ParseError, fault}
 use Rattle.speedate.specs.Requirement.{result_map, result_and_then}
 
 -- the duration after a space

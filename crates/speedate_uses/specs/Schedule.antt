@@ -1,9 +1,8 @@
 -- When a job that runs every so often runs next, by microseconds of any size.
 use Rattle.std.specs.Prelude.{◌≡◌, ℕ, ◌+◌, ◌*◌, ◌/◌, ◌≤◌, if◌then◌else◌, Option, Some, None, ℤ, pos, negsuc, ◌+ℤ◌, ◌-ℤ◌, ◌*ℤ◌, ◌<ℤ◌, ◌≤ℤ◌, int_lt, Result, Ok}
-use Rattle.speedate.specs.declared.ParseError.{ParseError}
 use Rattle.speedate.specs.DateTime.{DateAndTime, utc_microsecond}
 use Rattle.speedate.specs.Duration.{signed_amount, date_time_after}
-use Rattle.speedate.specs.DurationNumbers.{DurationNumbers, amount_microseconds}
+use Rattle.speedate.specs.DurationNumbers.{DurationNumbers, amount_microseconds, ParseError}
 use Rattle.speedate.specs.Requirement.{result_map}
 
 -- which run after the last one is the first that is later than now, where the interval, and what

@@ -2,8 +2,7 @@
 
 ghost use Rattle.std.specs.Prelude.{◌≡◌, Some, None, if◌then◌else◌, unsigned_abs};
 ghost use Rattle.speedate.specs.declared.IsoOrder.TheVariants as order;
-ghost use Rattle.speedate.specs.declared.MicrosecondsPrecisionOverflowBehavior.TheVariants as behavior;
-ghost use Rattle.speedate.specs.Duration.{duration_answer};
+ghost use Rattle.speedate.specs.Duration.{duration_answer, behavior};
 ghost use Rattle.speedate.specs.DurationNumbers.{signed_milliseconds};
 ghost use Rattle.speedate.specs.Requirement.{result_map};
 

@@ -230,7 +230,7 @@ impl Duration {
     /// # Errors
     ///
     /// Those of [`Duration::after_date`].
-    #[tactic(auto, using(crate::proofs::DurationMoveLemmas::turned))]
+    #[tactic(auto, using(crate::proofs::DurationLemmas::turned))]
     pub fn before_date(&self, start: &Date) -> Result<Date, ParseError>
         ensures answer { result gives date_after_days (negated (duration_numbers self.now))
             (ymd start.now) }

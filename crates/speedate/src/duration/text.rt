@@ -145,8 +145,7 @@ fn push_seconds<const LENGTH: usize>(second: u32, microsecond: u32, text: &mut A
 impl Duration {
     ghost use Rattle.speedate_base.specs.declared.config.TimeConfig.{TimeConfig};
     ghost use Rattle.speedate_base.specs.Requirement.{result_map};
-    ghost use Rattle.speedate.specs.declared.duration.Duration.{Duration};
-    ghost use Rattle.speedate.specs.Duration.{duration_numbers, duration_answer};
+    ghost use Rattle.speedate.specs.Duration.{duration_numbers, duration_answer, Duration};
 
     /// The canonical text: `-` if the duration is negative, `P`, the years of 365 days and the days,
     /// and after a `T` the hours, minutes and seconds, each if it is not 0: `-P1Y2DT3H4M5.06S`. The

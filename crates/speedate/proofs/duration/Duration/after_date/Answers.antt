@@ -3,7 +3,7 @@ use Rattle.std.proofs.lemmas.Bool.Decides.{nat_tests}
 use Rattle.std.proofs.lemmas.Result.{IfOk-weaker}
 use Rattle.speedate_civil.specs.Date.{ymd}
 use Rattle.speedate.specs.Duration.{duration_numbers}
-use Rattle.speedate.proofs.DurationMoveLemmas.{date-back}
+use Rattle.speedate.proofs.DurationLemmas.{date-back}
 use Rattle.speedate.proofs.duration.Duration.after_date.Goals as goal
 
 pub returns-clause-days : goal.returns-clause-days

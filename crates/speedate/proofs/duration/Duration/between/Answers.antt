@@ -4,7 +4,7 @@ use Rattle.speedate_civil.specs.DateTime.{date_and_time}
 use Rattle.speedate_civil.proofs.DateTimeValueLemmas.{is_date_and_time}
 use Rattle.speedate.specs.Duration.{duration_numbers, signed_amount, duration_of_amount}
 use Rattle.speedate.specs.DurationNumbers.{DurationNumbers}
-use Rattle.speedate.proofs.DurationMoveLemmas.{signed_amount-kept, between-days, between-later, between-ends, date_time_after-exact}
+use Rattle.speedate.proofs.DurationLemmas.{signed_amount-kept, between-days, between-later, between-ends, date_time_after-exact}
 use Rattle.speedate.proofs.duration.Duration.between.Goals as goal
 
 pub returns-clause-answer : goal.returns-clause-answer

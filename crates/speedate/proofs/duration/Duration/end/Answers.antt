@@ -2,7 +2,7 @@ use Rattle.std.proofs.Common.{arith, ap, ◌∙◌}
 use Rattle.std.proofs.lemmas.Int.{ints}
 use Rattle.speedate_base.specs.Timestamp.{instant_at}
 use Rattle.speedate.specs.Duration.{duration_numbers}
-use Rattle.speedate.proofs.DurationMoveLemmas.{signed_amount-joined}
+use Rattle.speedate.proofs.DurationLemmas.{signed_amount-joined}
 use Rattle.speedate.proofs.duration.Duration.end.Goals as goal
 
 pub returns : goal.returns

@@ -1,8 +1,7 @@
 use Rattle.std.proofs.Common.{arith, ap, ◌∙◌}
 use Rattle.std.proofs.lemmas.Grind.{common_steps}
 use Rattle.speedate.specs.Duration.{duration_numbers, amount_answer}
-use Rattle.speedate.proofs.DurationLemmas.{is_duration}
-use Rattle.speedate.proofs.DurationMoveLemmas.{amount_answer-back}
+use Rattle.speedate.proofs.DurationLemmas.{is_duration, amount_answer-back}
 use Rattle.speedate.proofs.duration.Duration.signed_total_microseconds.Goals as goal
 
 pub returns-clause-microsecond : goal.returns-clause-microsecond

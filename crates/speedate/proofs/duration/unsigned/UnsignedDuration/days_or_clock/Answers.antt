@@ -1,14 +1,12 @@
 use Rattle.std.proofs.Common.{◌≡◌, ◌∙◌, ap, sym, refl, true, false, Result, Ok, Err, length, arith, ◌==◌, is_ok}
 use Rattle.std.proofs.lemmas.Bool.Decides.{nat_tests}
-use Rattle.speedate_base.specs.declared.faults.ParseError.{ParseError}
 use Rattle.speedate_base.specs.Requirement.{result_map}
-use Rattle.speedate.specs.declared.duration.unsigned.UnsignedDuration.{UnsignedDuration}
 use Rattle.speedate.specs.Duration.{unsigned_numbers, form_answer}
 use Rattle.speedate.proofs.ClockFormLemmas.{clock-no_letter}
 use Rattle.speedate.proofs.duration.unsigned.UnsignedDuration.days_or_clock.Goals as goal
 
 -- a value that was read is one in numbers too
-seen : (answer : Result UnsignedDuration ParseError) → is_ok answer ≡ true → (found : UnsignedDuration) × (answer ≡ Ok found)
+seen : {A E : Type 0} (answer : Result A E) → is_ok answer ≡ true → (found : A) × (answer ≡ Ok found)
 seen (Ok found) ok = (found, refl)
 seen (Err fault) ok = absurd (cc)
 
