@@ -6,7 +6,7 @@ use Rattle.std.proofs.lemmas.Bool.{and_parts}
 use Rattle.std.proofs.lemmas.Bool.Decides.{nat_tests}
 use Rattle.std.proofs.lemmas.Int.{ints}
 use Rattle.std.proofs.Math.Nat.{pow-le-pow_right}
-use Rattle.speedate_base.specs.Requirement.fault
+use Rattle.speedate_base.specs.Requirement.{fault}
 use Rattle.speedate_base.specs.Timestamp.{decimal_microsecond, decimal_instant, UnitRow, inferred_seconds_max, instant_at, range_answer}
 use Rattle.speedate_base.specs.Digits.{one_digit_value, digits_value}
 use Rattle.speedate_base.proofs.DigitRunLemmas.{below-power, digits_value-append, digits_value-lt}

@@ -2,16 +2,12 @@
 use Rattle.std.specs.Prelude.{Bool, true, false, ℤ, Option, None, ℕ, List, [], ◌∷◌, codes, if◌then◌else◌, Some, Result}
 use Rattle.std.specs.Option.{ok_or}
 use Rattle.std.specs.Str.{str_eq_ignore_ascii_case}
-use Rattle.speedate_base.specs.declared.config.IsoOrder.TheVariants as order
-use Rattle.speedate_base.specs.declared.config.IsoOrder.{IsoOrder}
-use Rattle.speedate_base.specs.declared.config.MicrosecondsPrecisionOverflowBehavior.TheVariants as behavior
-pub use Rattle.speedate_base.specs.declared.config.MicrosecondsPrecisionOverflowBehavior.{MicrosecondsPrecisionOverflowBehavior}
+use Rattle.speedate_base.specs.declared.config.IsoOrder.{IsoOrder, IsoOrder as order}
+pub use Rattle.speedate_base.specs.declared.config.MicrosecondsPrecisionOverflowBehavior.{MicrosecondsPrecisionOverflowBehavior, MicrosecondsPrecisionOverflowBehavior as behavior}
 use Rattle.speedate_base.specs.declared.config.TimeConfig.{TimeConfig}
-pub use Rattle.speedate_base.specs.declared.config.TimestampUnit.TheVariants as unit
-pub use Rattle.speedate_base.specs.declared.config.TimestampUnit.{TimestampUnit}
+pub use Rattle.speedate_base.specs.declared.config.TimestampUnit.{TimestampUnit, TimestampUnit as unit}
 use Rattle.speedate_base.specs.declared.config.date_time.DateTimeConfig.{DateTimeConfig}
-use Rattle.speedate_base.specs.declared.faults.config_error.ConfigError.TheVariants as fault
-use Rattle.speedate_base.specs.declared.faults.config_error.ConfigError.{ConfigError}
+use Rattle.speedate_base.specs.declared.faults.config_error.ConfigError.{ConfigError, ConfigError as fault}
 
 -- digits past the microsecond are refused
 abbrev pub refuses_digits : MicrosecondsPrecisionOverflowBehavior → Bool

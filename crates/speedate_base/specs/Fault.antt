@@ -4,9 +4,8 @@ use Rattle.std.specs.Prelude.{ℕ, List, [], ◌∷◌, codes, get_or}
 use denote.Enum.Declared.{tag_of}
 use Rattle.speedate_base.specs.contracts.faults.ParseError.{the_type}
 use Rattle.speedate_base.specs.declared.faults.ParseError.{ParseError}
-use Rattle.speedate_base.specs.Requirement.fault
-use Rattle.speedate_base.specs.declared.faults.config_error.ConfigError.{ConfigError}
-use Rattle.speedate_base.specs.declared.faults.config_error.ConfigError.TheVariants as config_error
+use Rattle.speedate_base.specs.Requirement.{fault}
+use Rattle.speedate_base.specs.declared.faults.config_error.ConfigError.{ConfigError, ConfigError as config_error}
 
 -- a fault, its snake-case name, and what it says in a sentence
 pub record FaultRow : Type 0 where

@@ -3,8 +3,7 @@ use Rattle.std.specs.Prelude.{◌≡◌, ◌⊎◌, MatchBool, codes, ℕ, ◌+�
 use Rattle.std.specs.Char.{is_ascii_digit}
 use Rattle.std.specs.List.{list_all}
 use Rattle.speedate_base.specs.declared.numbers.int_float.Decimal.{Decimal}
-pub use Rattle.speedate_base.specs.declared.numbers.int_float.IntFloat.TheVariants as number
-pub use Rattle.speedate_base.specs.declared.numbers.int_float.IntFloat.{IntFloat}
+pub use Rattle.speedate_base.specs.declared.numbers.int_float.IntFloat.{IntFloat, IntFloat as number}
 use Rattle.speedate_base.specs.Ascii.{plus_sign, hyphen, full_stop}
 use Rattle.speedate_base.specs.Digits.{run_length, run_digits, run_value, digits_value}
 

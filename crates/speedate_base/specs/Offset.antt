@@ -1,8 +1,7 @@
 -- Offsets from UTC, in seconds.
 use Rattle.std.specs.Prelude.{◌≡◌, ◌%◌, ◌<◌, Bool, true, List, [], ◌∷◌, nat_lt, Option, ℤ, unsigned_abs}
 use Rattle.std.specs.Option.{ForSome, option_map_or}
-use Rattle.speedate_base.specs.Requirement.fault
-use Rattle.speedate_base.specs.Requirement.{Requirement, ◌else_fault◌}
+use Rattle.speedate_base.specs.Requirement.{Requirement, ◌else_fault◌, fault}
 
 -- an offset is less than 24 hours (RFC 3339 5.6, time-hour and time-minute of time-numoffset)
 abbrev pub IsOffset : ℤ → Type 0

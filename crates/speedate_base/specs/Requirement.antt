@@ -2,8 +2,7 @@
 -- A fault is an error of the code; definitions and local names call it so, since `error` is a word of the behaviors.
 use Rattle.std.specs.Prelude.{◌≡◌, ℕ, Bool, true, List, [], ◌∷◌, length, ◌==◌, Result, Ok, Err, if◌then◌else◌, Option, Some, None}
 use Rattle.std.specs.Result.{result_map_both, result_flatten}
-pub use Rattle.speedate_base.specs.declared.faults.ParseError.{ParseError}
-pub use Rattle.speedate_base.specs.declared.faults.ParseError.TheVariants as fault
+pub use Rattle.speedate_base.specs.declared.faults.ParseError.{ParseError, ParseError as fault}
 
 -- what a text has to meet, and the fault of one that does not
 pub record Requirement : Type 0 where

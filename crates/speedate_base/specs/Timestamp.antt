@@ -1,14 +1,12 @@
 -- Timestamps in seconds, milliseconds or microseconds since 1970-01-01T00:00:00 (Unix time), and the instants that they mean.
 use Rattle.std.specs.Prelude.{ℕ, ◌^◌, Bool, true, IsTrue, nat_le, nat_lt, if◌then◌else◌, List, [], ◌∷◌, ℤ, pos, neg_ℤ, ◌*ℤ◌, int_le, unsigned_abs, Result, Ok, ◌*◌, length, ◌+◌, ◌/◌, ◌%◌, ◌+ℤ◌, int_lt}
 use Rattle.std.specs.Int.{int_div_euclid, int_rem_euclid}
-use Rattle.speedate_base.specs.Config.unit
-use Rattle.speedate_base.specs.Requirement.fault
 use Rattle.speedate_base.specs.declared.util.unix_time.UnixUnit.{UnixUnit}
 use Rattle.speedate_base.specs.declared.util.unix_time.UnixTime.{UnixTime}
-use Rattle.speedate_base.specs.Config.{refuses_digits, TimestampUnit, MicrosecondsPrecisionOverflowBehavior}
+use Rattle.speedate_base.specs.Config.{refuses_digits, TimestampUnit, MicrosecondsPrecisionOverflowBehavior, unit}
 use Rattle.speedate_base.specs.Nearest.{nearest}
 use Rattle.speedate_base.specs.Numbers.{DecimalParts, decimal_digits, decimal_scale, with_sign}
-use Rattle.speedate_base.specs.Requirement.{Requirement, ◌else_fault◌, meets, ◌implies◌, ParseError}
+use Rattle.speedate_base.specs.Requirement.{Requirement, ◌else_fault◌, meets, ◌implies◌, ParseError, fault}
 
 -- the seconds of a day
 abbrev pub seconds_per_day : ℕ

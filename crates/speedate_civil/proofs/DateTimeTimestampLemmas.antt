@@ -8,7 +8,7 @@ use Rattle.speedate_civil.specs.DateTime.{DateAndTime, IsDateAndTime, local_seco
 use Rattle.speedate_civil.specs.Calendar.{epoch_day}
 use Rattle.speedate_base.proofs.RequirementLemmas.{meets-all}
 use Rattle.speedate_base.proofs.TimestampLemmas.{instant_of_seconds}
-use Rattle.speedate_civil.specs.Date.unit
+use Rattle.speedate_civil.specs.Date.{unit}
 use Rattle.speedate_civil.proofs.DateNumberedLemmas.{date_after-day_number}
 use Rattle.speedate_civil.proofs.DayNumberLemmas.{day_number-small}
 

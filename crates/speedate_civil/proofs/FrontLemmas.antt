@@ -11,9 +11,8 @@ use Rattle.speedate_base.specs.Requirement.{AllHold, alone, meets, result_and_th
 use Rattle.speedate_civil.specs.Calendar.{Ymd}
 use Rattle.speedate_civil.specs.Time.{Clock, at_hour, clock_answer, clock_front, hour_table, hour_range, minute_clock, minute_digits, minute_table, has_second, has_decimal_mark, end_fault, offset_digits_size, offset_front, signed_front, TimeOfDay, time_front, time_answer, clock_with_offset, ParseError, MicrosecondsPrecisionOverflowBehavior}
 use Rattle.speedate_civil.specs.DateTime.{DateAndTime, date_time_answer, date_time_front, separator_table}
-use Rattle.speedate_civil.specs.Date.{date_front, date_answer, date_numbers, date_table}
+use Rattle.speedate_civil.specs.Date.{date_front, date_answer, date_numbers, date_table, fault}
 use Rattle.speedate_base.proofs.RequirementLemmas.{meets-all, meets-ok, meets-value}
-use Rattle.speedate_civil.specs.Date.fault
 use Rattle.speedate_civil.proofs.OffsetLemmas.{offset-cases}
 use Rattle.speedate_civil.proofs.ReadLemmas.{read-map, read-rows, read-then, read-value}
 

@@ -6,10 +6,9 @@ use Rattle.speedate_base.specs.Ascii.{hyphen, full_stop}
 use Rattle.speedate_base.specs.Digits.{four_digits_at}
 use Rattle.speedate_base.specs.Numbers.{Number, NoNumber, number_answer, whole_number, whole_or, decimal_answer}
 use Rattle.speedate_civil.specs.Calendar.{Ymd}
-use Rattle.speedate_civil.specs.Date.{date_front, date_answer, ParseError}
+use Rattle.speedate_civil.specs.Date.{date_front, date_answer, ParseError, fault}
 use Rattle.speedate_civil.specs.Reader.{may_be_number}
 use Rattle.speedate_base.proofs.NumberLemmas.{number_answer-other}
-use Rattle.speedate_civil.specs.Date.fault
 
 -- a text that meets the first three rows of a table meets the first and the third
 rows-met : {A : Type 0} (a b c : Bool) (first second third : ParseError) (next answer : Result A ParseError)

@@ -1,10 +1,8 @@
 -- Dates: from their numbers, from texts, and from timestamps.
 use Rattle.std.specs.Prelude.{ℕ, pos, List, [], ◌∷◌, nat_le, ℤ, Result, Ok, ◌++◌, length, ◌==◌, slice_index, Bool, true, ◌&&◌, ◌+ℤ◌, unsigned_abs, option_map, ◌≡◌}
 use Rattle.std.specs.Int.{is_in_range, int_div_euclid, int_rem_euclid}
-pub use Rattle.speedate_base.specs.declared.config.TimestampUnit.{TimestampUnit}
-pub use Rattle.speedate_base.specs.declared.faults.ParseError.TheVariants as fault
-pub use Rattle.speedate_base.specs.declared.faults.ParseError.{ParseError}
-pub use Rattle.speedate_base.specs.declared.config.TimestampUnit.TheVariants as unit
+pub use Rattle.speedate_base.specs.declared.config.TimestampUnit.{TimestampUnit, TimestampUnit as unit}
+pub use Rattle.speedate_base.specs.declared.faults.ParseError.{ParseError, ParseError as fault}
 use Rattle.speedate_base.specs.Ascii.{hyphen}
 use Rattle.speedate_base.specs.Digits.{four_digits_at, four_digit_value, four_digit_text, two_digits_at, two_digit_value, two_digit_text}
 use Rattle.speedate_base.specs.Numbers.{whole_number}

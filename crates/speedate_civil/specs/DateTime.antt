@@ -4,7 +4,6 @@ use Rattle.std.specs.Option.{unwrap_or}
 use Rattle.std.specs.Ordering.{is_le, int_cmp, nat_cmp, on, then_cmp}
 use Rattle.std.specs.declared.cmp.Ordering.{Ordering}
 pub use Rattle.speedate_base.specs.declared.config.date_time.DateTimeConfig.{DateTimeConfig}
-use Rattle.speedate_civil.specs.Date.fault
 use Rattle.speedate_base.specs.Ascii.{space, capital_t, low_line, small_t}
 use Rattle.speedate_base.specs.Numbers.{DecimalParts, Number, Whole, Fractional, NoNumber, number_answer}
 use Rattle.speedate_base.specs.Offset.{offset_table}
@@ -13,7 +12,7 @@ use Rattle.speedate_base.specs.Requirement.{Requirement, ◌else_fault◌, meets
 pub use Rattle.speedate_civil.specs.declared.datetime.DateTime.{DateTime}
 use Rattle.speedate_civil.specs.declared.datetime.now.Moment.{Moment}
 use Rattle.speedate_civil.specs.Calendar.{Ymd, IsDate, midnight_second, date_after}
-use Rattle.speedate_civil.specs.Date.{ymd, date_front, date_text, day_at, second_at, TimestampUnit}
+use Rattle.speedate_civil.specs.Date.{ymd, date_front, date_text, day_at, second_at, TimestampUnit, fault}
 use Rattle.speedate_civil.specs.Time.{microsecond_range, TimeOfDay, IsTime, second_of_day, time_of_day, end_fault, time_front, time_text, time_at, utc_second_of_day, ParseError, MicrosecondsPrecisionOverflowBehavior}
 
 -- a date-time by its date and its time of day

@@ -1,11 +1,9 @@
 -- What readers decide by on their way to an answer.
 use Rattle.std.specs.Prelude.{ℕ, List, Bool, true, false, if◌then◌else◌}
-use Rattle.speedate_civil.specs.Date.fault
 use Rattle.speedate_base.specs.Digits.{two_digits_at, two_digit_value}
 use Rattle.speedate_civil.specs.declared.time.pure.AfterMinute.{AfterMinute}
-use Rattle.speedate_civil.specs.declared.time.pure.Second.{Second}
-use Rattle.speedate_civil.specs.declared.time.pure.Second.TheVariants as second
-use Rattle.speedate_civil.specs.Time.{Clock, has_second, ParseError}
+use Rattle.speedate_civil.specs.declared.time.pure.Second.{Second, Second as second}
+use Rattle.speedate_civil.specs.Time.{Clock, has_second, ParseError, fault}
 
 -- the second of a clock that is given from its minute on
 abbrev pub second_there : List ℕ → Second

@@ -3,14 +3,13 @@ use Rattle.std.specs.Prelude.{◌≡◌, ◌⊎◌, ℕ, ◌≤◌, true, List, 
 use Rattle.std.specs.Char.{is_ascii_digit}
 use Rattle.std.specs.Int.{IsInRange}
 use Rattle.std.specs.List.{list_all}
-use Rattle.speedate_civil.specs.Date.fault
 use Rattle.speedate_base.specs.Ascii.{plus_sign, hyphen, colon, full_stop, capital_t, capital_z, small_t, small_z, comma}
 use Rattle.speedate_base.specs.Config.{refuses_digits}
 use Rattle.speedate_base.specs.Digits.{two_digit_text, four_digit_text, run_length}
 use Rattle.speedate_base.specs.Requirement.{Requirement, ◌else_fault◌, meets, ◌>>=◌}
 use Rattle.speedate_civil.specs.Calendar.{month_length}
 use Rattle.speedate_civil.specs.DateTime.{DateAndTime, date_time_answer}
-use Rattle.speedate_civil.specs.Time.{has_minus_sign, is_utc, TimeOfDay, time_answer, ParseError, MicrosecondsPrecisionOverflowBehavior}
+use Rattle.speedate_civil.specs.Time.{has_minus_sign, is_utc, TimeOfDay, time_answer, ParseError, MicrosecondsPrecisionOverflowBehavior, fault}
 
 -- a text is 2DIGIT, as time-hour, time-minute and time-second are (RFC 3339 5.6): the digits of a number up to the highest
 pub record IsTwoDigits (highest : ℕ) (text : List ℕ) : Type 0 where

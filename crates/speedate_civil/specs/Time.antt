@@ -3,10 +3,8 @@ use Rattle.std.specs.Prelude.{ℕ, ◌+◌, ◌*◌, ◌/◌, ◌%◌, ◌≤◌
 use Rattle.std.specs.Char.{is_ascii_digit}
 use Rattle.std.specs.Int.{is_negative}
 use Rattle.std.specs.Option.{ForSome, unwrap_or}
-pub use Rattle.speedate_base.specs.declared.config.MicrosecondsPrecisionOverflowBehavior.{MicrosecondsPrecisionOverflowBehavior}
-use Rattle.speedate_base.specs.declared.faults.ParseError.TheVariants as fault
-pub use Rattle.speedate_base.specs.declared.faults.ParseError.{ParseError}
-pub use Rattle.speedate_base.specs.declared.config.MicrosecondsPrecisionOverflowBehavior.TheVariants as behavior
+pub use Rattle.speedate_base.specs.declared.config.MicrosecondsPrecisionOverflowBehavior.{MicrosecondsPrecisionOverflowBehavior, MicrosecondsPrecisionOverflowBehavior as behavior}
+pub use Rattle.speedate_base.specs.declared.faults.ParseError.{ParseError, ParseError as fault}
 use Rattle.speedate_base.specs.Ascii.{colon, full_stop, plus_sign, hyphen, capital_z, small_z}
 use Rattle.speedate_base.specs.Config.{refuses_digits}
 use Rattle.speedate_base.specs.Digits.{run_length, run_digits, fraction_value, two_digits_at, two_digit_value, two_digit_text, six_digit_text, is_decimal_mark}

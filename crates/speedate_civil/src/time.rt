@@ -54,12 +54,11 @@ pub struct Time {
 
 impl Time {
     ghost use Rattle.std.specs.Prelude.{◌+◌, ◌*◌, ◌<◌, ◌↔◌, IfOk, IsOk, Ok, drop, take, length, None};
-    ghost use Rattle.speedate_civil.specs.Time.behavior;
     ghost use Rattle.speedate_base.specs.Offset.{IsWholeMinutes};
     ghost use Rattle.speedate_base.specs.Timestamp.{seconds_per_day};
     ghost use Rattle.speedate_base.specs.Requirement.{meets};
     ghost use Rattle.speedate_civil.specs.Standard.{standard_offset, standard_time, strict_time_answer, IsFullTime};
-    ghost use Rattle.speedate_civil.specs.Time.{time_of_day, TimeOfDay, second_of_day, millisecond_of_day, microsecond_of_day, time_at, timestamp_answer, time_front, time_answer, ◌gives◌, ◌gives_front◌, new_time_answer};
+    ghost use Rattle.speedate_civil.specs.Time.{time_of_day, TimeOfDay, second_of_day, millisecond_of_day, microsecond_of_day, time_at, timestamp_answer, time_front, time_answer, ◌gives◌, ◌gives_front◌, new_time_answer, behavior};
 
     /// The time of an hour, a minute, a second, a microsecond, and an offset from UTC in seconds or
     /// none: 12:13:14.500000+01:00 for 12, 13, 14, 500,000 and `Some(3600)`.
@@ -364,8 +363,7 @@ impl Time {
 impl FromStr for Time {
     type Err = ParseError;
 
-    ghost use Rattle.speedate_civil.specs.Time.behavior;
-    ghost use Rattle.speedate_civil.specs.Time.{time_answer, ◌gives◌};
+    ghost use Rattle.speedate_civil.specs.Time.{time_answer, ◌gives◌, behavior};
 
     ghost from_str_gives = { λ text result. result gives time_answer behavior.Error text };
 

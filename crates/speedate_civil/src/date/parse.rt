@@ -1,10 +1,9 @@
 //! Parsers of dates: of texts of RFC 3339, at the front of a text, and of timestamps.
 
 ghost use Rattle.std.specs.Prelude.{◌≡◌, ◌≤◌, ◌↔◌, Err, IfOk, Ok, OnOk, length, take};
-ghost use Rattle.speedate_civil.specs.Date.unit;
 ghost use Rattle.speedate_base.specs.Numbers.{NoNumber, number_answer};
 ghost use Rattle.speedate_civil.specs.Calendar.{Ymd};
-ghost use Rattle.speedate_civil.specs.Date.{ymd, date_front, date_answer, date_or_timestamp, ◌gives◌, ◌gives_front◌};
+ghost use Rattle.speedate_civil.specs.Date.{ymd, date_front, date_answer, date_or_timestamp, ◌gives◌, ◌gives_front◌, unit};
 ghost use Rattle.speedate_civil.specs.Reader.{may_be_number};
 
 use super::{Date, TEXT_LENGTH, is_day};

@@ -7,11 +7,10 @@ ghost use Rattle.speedate_base.specs.Config.{choices, time_choices};
 ghost use Rattle.speedate_base.specs.Numbers.{NoNumber, decimal_value, number_answer};
 ghost use Rattle.speedate_base.specs.Offset.{IsWholeMinutes};
 ghost use Rattle.speedate_base.specs.Requirement.{meets, result_map, with_size};
-ghost use Rattle.speedate_civil.specs.Date.unit;
+ghost use Rattle.speedate_civil.specs.Date.{unit};
 ghost use Rattle.speedate_civil.specs.DateTime.{DateAndTime, date_and_time, date_time_answer, date_time_by_config, date_time_decimal_text, date_time_front, date_time_or_timestamp, is_separator, separator_table, ◌gives◌, ◌gives_front◌};
 ghost use Rattle.speedate_civil.specs.Standard.{IsDateTime, standard_date_time, strict_date_time_answer};
-ghost use Rattle.speedate_civil.specs.Time.{time_front, time_of_day};
-ghost use Rattle.speedate_civil.specs.Time.behavior;
+ghost use Rattle.speedate_civil.specs.Time.{time_front, time_of_day, behavior};
 
 use super::DateTime;
 use crate::date::{Date, may_be_number};

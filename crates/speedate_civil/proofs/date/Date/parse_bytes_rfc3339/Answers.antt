@@ -1,9 +1,8 @@
 use Rattle.std.proofs.Common.{◌∙◌, ap, sym}
-use Rattle.speedate_civil.specs.Date.fault
 use Rattle.speedate_base.specs.Requirement.{alone, result_and_then}
 use Rattle.speedate_civil.specs.Calendar.{Ymd}
 use Rattle.speedate_base.proofs.RequirementLemmas.{alone-longer}
-use Rattle.speedate_civil.specs.Date.{ymd}
+use Rattle.speedate_civil.specs.Date.{ymd, fault}
 use Rattle.speedate_civil.proofs.NumberTextLemmas.{number_answer-date}
 use Rattle.speedate_civil.proofs.date.Date.parse_bytes_rfc3339.Goals as goal
 

@@ -2,7 +2,7 @@ use Rattle.std.proofs.Common.{arith, sym}
 use Rattle.std.proofs.lemmas.Grind.{common_steps}
 use Rattle.speedate_base.proofs.RequirementLemmas.{alone-iff}
 use Rattle.speedate_civil.specs.Calendar.{Ymd}
-use Rattle.speedate_civil.specs.Date.fault
+use Rattle.speedate_civil.specs.Date.{fault}
 use Rattle.speedate_civil.proofs.FrontLemmas.{date_front-alone}
 use Rattle.speedate_civil.proofs.date.Date.parse_front.Goals as goal
 

@@ -1,7 +1,7 @@
 use Rattle.std.proofs.Common.{rules, ◌≡◌, ◌∙◌, ◌<◌, ap, sym, subst, arith, None, Ok, ℤ, unsigned_abs}
 use Rattle.std.proofs.lemmas.Int.{ints}
 use Rattle.speedate_civil.specs.DateTime.{DateAndTime, IsDateAndTime, local_second, date_time_timestamp_answer, date_and_time}
-use Rattle.speedate_civil.specs.Date.unit
+use Rattle.speedate_civil.specs.Date.{unit}
 use Rattle.speedate_civil.proofs.DateTimeTimestampLemmas.{date_time_timestamp-leads_back}
 use Rattle.speedate_civil.proofs.DateTimeValueLemmas.{is_date_and_time, local_second-small}
 use Rattle.speedate_civil.proofs.datetime.DateTime.timestamp.Goals as goal

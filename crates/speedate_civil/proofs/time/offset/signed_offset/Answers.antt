@@ -7,10 +7,9 @@ use Rattle.speedate_base.specs.Digits.{two_digit_value, eight_at}
 use Rattle.speedate_base.specs.Numbers.{with_sign}
 use Rattle.speedate_base.specs.Timestamp.{seconds_per_day}
 use Rattle.speedate_base.specs.Requirement.{◌else_fault◌, meets}
-use Rattle.speedate_civil.specs.Time.{offset_digits, offset_ranges, signed_front, offset_minute, offset_digits_size, offset_size, ParseError}
+use Rattle.speedate_civil.specs.Time.{offset_digits, offset_ranges, signed_front, offset_minute, offset_digits_size, offset_size, ParseError, fault}
 use Rattle.speedate_base.proofs.RequirementLemmas.{meets-all, meets-next, meets-value}
 use Rattle.speedate_base.proofs.PatternLemmas.{eight_at-drop}
-use Rattle.speedate_civil.specs.Date.fault
 use Rattle.speedate_civil.proofs.time.offset.signed_offset.Goals as goal
 
 -- hour, minute and length of an offset after its sign, or the fault of its digits
