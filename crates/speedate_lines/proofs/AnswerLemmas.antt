@@ -17,6 +17,3 @@ pub reply-printed : {A : Type 0} (text : A → List ℕ) (value : A) (read : Res
     → new ≡ old ++ (ok_answer printed ++ line_feed ∷ []) → printed ≡ text value → Ok value ≡ read
     → new ≡ old ++ (reply text read ++ line_feed ∷ [])
 reply-printed text value read old printed new answered is_text is_read = rw (← is_read, ← is_text) answered
-
--- what the answer to a line cites
-pub ruleset line_answers = (line_answer-long, line_answer-short)

@@ -1,6 +1,5 @@
 mod AnswerLemmas
 mod LineLemmas
 mod CarryLemmas
-mod BlockLemmas
 mod SentLemmas
 mod MarkLemmas

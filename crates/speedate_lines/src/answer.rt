@@ -37,7 +37,6 @@ enum Kind {
 /// Appends the answer to a line, which is given without its line feed, and a line feed: for
 /// `date 2020-02-29`, `ok 2020-02-29`.
 #[inline(always)]
-#[tactic(auto, using(crate::proofs::AnswerLemmas::line_answers))]
 pub fn answer_line(line: &[u8], pending: &mut Pending)
     requires { array_string_len pending.old + ANSWER_MAX ≤ PENDING_MAX }
     ensures answered { pending.new.bytes

@@ -7,3 +7,6 @@ returns-then-line-gt-LINE_MAX c = search (rules, line_answer-long)
 
 pub returns-in-None : goal.returns-in-None
 returns-in-None c = search (rules, line_answer-short)
+
+pub returns-in-Some : goal.returns-in-Some
+returns-in-Some c = search (rules, line_answer-short)

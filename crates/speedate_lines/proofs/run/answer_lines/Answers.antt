@@ -2,12 +2,9 @@ use Rattle.std.proofs.Common.{rules, ◌∙◌, ap, sym, ℕ, ◌+◌, ◌-◌, 
 use Rattle.speedate.specs.Ascii.{line_feed}
 use Rattle.speedate_lines.specs.Lines.{Pieces, complete_lines, line_answer, answers}
 use Rattle.speedate_lines.proofs.LineLemmas.{pieces-from, pieces-rest}
-use Rattle.speedate_lines.proofs.SentLemmas.{AppendsBut-all, AppendsBut-trans, AppendsBut-more, AppendsBut-same, OnlyWrites-failed}
+use Rattle.speedate_lines.proofs.SentLemmas.{AppendsBut-trans, AppendsBut-more, AppendsBut-same, OnlyWrites-failed}
 use Rattle.std.proofs.Math.Bool.{or-false}
 use Rattle.speedate_lines.proofs.run.answer_lines.Goals as goal
-
-pub loop-end-init : goal.loop-end-init
-loop-end-init g c = search (rules, AppendsBut-all)
 
 pub loop-end-preserved : goal.loop-end-preserved
 loop-end-preserved g c =

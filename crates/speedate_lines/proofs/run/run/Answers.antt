@@ -56,9 +56,6 @@ returns-in-Ok-finish-clause-answered g c =
     Consumes-whole _ _ read (λ text. Appends (g.W.Write.contents c.args.output.now.inner) (g.W.Write.contents c.finish.new.output.inner) (answers (lines text)))
     consumed ended.1 (subst (Appends _ _) all (Appends-trans _ _ _ (answers (complete_lines read)) _ before.2 (Appends-all c.in-Ok-finish.ensures.answered.sent)))
 
-pub returns-in_default-clause-unflushed : goal.returns-in_default-clause-unflushed
-returns-in_default-clause-unflushed g c = λ read. c.loop-filled.invariant.unflushed
-
 pub returns-in_default-answer_lines-clause-write_failed : goal.returns-in_default-answer_lines-clause-write_failed
 returns-in_default-answer_lines-clause-write_failed g c = λ write.
     let before = c.loop-filled.invariant.answered in
