@@ -1,11 +1,10 @@
 -- A fraction of a unit of an ISO 8601 duration: its whole seconds and what is left are the nearest microseconds, together.
-use Rattle.std.proofs.Common.{arith, ap, sym, ◌∙◌, subst, ◌≡◌, ℕ, ◌+◌, ◌*◌, ◌/◌, ◌^◌, ◌<◌, ◌≤◌, List, length, pos, unsigned_abs, lit<, false}
+use Rattle.std.proofs.Common.{rules, arith, ap, ◌∙◌, ◌≡◌, ℕ, ◌+◌, ◌*◌, ◌/◌, ◌<◌, ◌≤◌, List, pos, unsigned_abs, lit<, false}
 use Rattle.std.proofs.Math.Nat.{div-div-eq-div-mul, mul-div-mul_right}
-use Rattle.speedate_base.specs.Digits.{digits_value}
-use Rattle.speedate_base.specs.Nearest.{IsNearest, nearest}
+use Rattle.speedate_base.specs.Nearest.{nearest}
 use Rattle.speedate_base.proofs.NearestLemmas.{nearest-halved, nearest-is, scale-some}
-use Rattle.speedate.specs.IsoForm.{DurationUnit, unit_seconds, fraction_seconds, fraction_microseconds}
-use Rattle.speedate.specs.IsoAmount.{unit_microseconds, IsFractionOf}
+use Rattle.speedate.specs.IsoForm.{DurationUnit, fraction_seconds, fraction_microseconds}
+use Rattle.speedate.specs.IsoAmount.{IsFractionOf}
 
 -- the whole seconds of a fraction, from twice its microseconds
 pub whole-seconds : (value second scale : ℕ) → 2 * (value * (1000000 * second)) / scale / 2000000 ≡ value * second / scale
@@ -30,10 +29,4 @@ fraction_amount unit digits = 1000000 * fraction_seconds unit digits + fraction_
 
 -- they are the number that is nearest to it
 pub fraction_amount-is : (unit : DurationUnit) (digits : List ℕ) → IsFractionOf unit digits (fraction_amount unit digits)
-fraction_amount-is unit digits =
-    let size = digits_value digits * unit_microseconds unit in
-    let scale = 10 ^ length digits in
-    let some = scale-some (length digits) in
-    let sum : unsigned_abs (nearest (pos size) scale) ≡ fraction_amount unit digits =
-    omega (arith, whole-few (digits_value digits) (unit_seconds unit) scale some) in
-    subst (IsNearest (pos size) scale) (sym (nearest-size size scale some) ∙ ap pos sum) (nearest-is (pos size) scale some)
+fraction_amount-is unit digits = search (rules, whole-few, nearest-size, nearest-is, scale-some)

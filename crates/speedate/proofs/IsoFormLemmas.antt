@@ -51,8 +51,7 @@ front-same sums (item ∷ items) (next ∷ others) rest other first second same 
 
 pub front-only : (sums : Sums) (text : List ℕ) (items others : List Item) (rest other : List ℕ) (first second : Answer)
     → IsEndedFront sums text items rest first → IsEndedFront sums text others other second → (items ≡ others) × (rest ≡ other)
-front-only sums text items others rest other first second one two =
-    front-same sums items others rest other first second (sym one.is_text ∙ two.is_text) one.are_good two.are_good one.ends two.ends
+front-only sums text items others rest other first second one two = search (rules, front-same)
 
 -- so it has one answer
 pub answer-only : (sums : Sums) (text : List ℕ) (first second : Answer)

@@ -1,5 +1,5 @@
 -- Of a line that is too long, its first 4,097 bytes tell that it is.
-use Rattle.std.proofs.Common.{◌≡◌, ◌∙◌, ap, sym, refl, ℕ, zero, suc, List, [], ◌∷◌, ◌++◌, length, take, arith, inl, inr}
+use Rattle.std.proofs.Common.{rules, ◌≡◌, ◌∙◌, ap, sym, refl, ℕ, zero, suc, List, [], ◌∷◌, ◌++◌, length, take, arith, inl, inr}
 use Rattle.std.proofs.lemmas.Bool.{cases_lt}
 use Rattle.std.proofs.lemmas.List.{take_all, length-take}
 use Rattle.std.proofs.lemmas.List.Elements.{All-take}
@@ -68,7 +68,4 @@ answers-last (byte ∷ bytes) = ap (λ (answer : List ℕ). (answer ++ line_feed
 
 -- at the end of a text its unfinished line is answered too, from what was kept of it
 pub answers-all : (text last : List ℕ) → last ≡ kept_part (unfinished_line text) → answers (complete_lines text) ++ answers (last_line last) ≡ answers (lines text)
-answers-all text last cut =
-    ap (λ (line : List ℕ). answers (complete_lines text) ++ answers (last_line line)) cut
-    ∙ ap (λ (new : List ℕ). answers (complete_lines text) ++ new) (answers-last (unfinished_line text))
-    ∙ sym (answers-append (complete_lines text) (last_line (unfinished_line text)))
+answers-all text last cut = search (rules, answers-append, answers-last)

@@ -1,5 +1,5 @@
 -- What has gone out of some bytes, step by step.
-use Rattle.std.proofs.Common.{rules, ◌≡◌, ◌∙◌, ap, sym, subst, List, [], ◌++◌, ℕ, refl, append_assoc, append-nil, take, drop, take-append-drop, Bool, true, ◌||◌, Result, Ok, Err, is_err, Option, OnErr}
+use Rattle.std.proofs.Common.{rules, ◌≡◌, ◌∙◌, ap, List, [], ◌++◌, ℕ, refl, append_assoc, append-nil, take, drop, take-append-drop, Bool, true, ◌||◌, Result, Ok, Err, is_err, Option, OnErr}
 use Rattle.std.specs.Io.KnownBytes.{Appends, Keeps}
 use Rattle.std.proofs.lemmas.Bool.{false≢true}
 use Rattle.std.proofs.lemmas.List.{take_rest}
@@ -14,38 +14,28 @@ AppendsBut-all a bytes = record { written = []; sent = Appends-nil a; whole = re
 
 -- of what was left an end is left
 pub AppendsBut-trans : {a b c : Option (List ℕ)} {left rest bytes : List ℕ} → AppendsBut left a b bytes → AppendsBut rest b c left → AppendsBut rest a c bytes
-AppendsBut-trans {a = a} {b = b} {c = c} {rest = rest} first second = record {
-  written = first.written ++ second.written;
-  sent = Appends-trans a b c first.written second.written first.sent second.sent;
-  whole = first.whole ∙ ap (λ (end : List ℕ). first.written ++ end) second.whole ∙ sym (append_assoc first.written second.written rest);
-}
+AppendsBut-trans first second = search (rules, Appends-trans, append_assoc)
 
 -- a write took the front of what was left
 pub AppendsBut-taken : {a b c : Option (List ℕ)} {left bytes : List ℕ} (count : ℕ) → AppendsBut left a b bytes → Appends b c (take count left)
     → AppendsBut (drop count left) a c bytes
-AppendsBut-taken {left = left} count sent taken =
-    AppendsBut-trans sent (record { written = take count left; sent = taken; whole = sym (take-append-drop count left) })
+AppendsBut-taken count sent taken = search (rules, AppendsBut-trans, take-append-drop)
 
 -- a write that failed took nothing
 pub AppendsBut-kept : {a b c : Option (List ℕ)} {left bytes : List ℕ} → AppendsBut left a b bytes → Keeps b c → AppendsBut left a c bytes
-AppendsBut-kept {a = a} {b = b} {c = c} sent kept =
-    record { written = sent.written; sent = Appends-kept a b c sent.written sent.sent kept; whole = sent.whole }
+AppendsBut-kept sent kept = search (rules, Appends-kept)
 
 -- there are more bytes to write
 pub AppendsBut-more : {a b : Option (List ℕ)} {left bytes : List ℕ} (more : List ℕ) → AppendsBut left a b bytes → AppendsBut (left ++ more) a b (bytes ++ more)
-AppendsBut-more {left = left} more sent = record {
-  written = sent.written;
-  sent = sent.sent;
-  whole = ap (λ (front : List ℕ). front ++ more) sent.whole ∙ append_assoc sent.written left more;
-}
+AppendsBut-more more sent = search (rules, append_assoc)
 
 -- the same of what is left
 pub AppendsBut-same : {a b : Option (List ℕ)} {left rest bytes : List ℕ} → AppendsBut left a b bytes → left ≡ rest → AppendsBut rest a b bytes
-AppendsBut-same {a = a} {b = b} {bytes = bytes} sent same = subst (λ (end : List ℕ). AppendsBut end a b bytes) same sent
+AppendsBut-same sent same = search rules
 
 -- nothing is left
 pub Appends-all : {a b : Option (List ℕ)} {bytes : List ℕ} → AppendsBut [] a b bytes → Appends a b bytes
-Appends-all {a = a} {b = b} sent = subst (Appends a b) (sym (sent.whole ∙ append-nil sent.written)) sent.sent
+Appends-all sent = search (rules, append-nil)
 
 -- of what was left a beginning has been written
 pub AppendsBeginning-left : {a b c : Option (List ℕ)} {left bytes : List ℕ} → AppendsBut left a b bytes → AppendsBeginning b c left → AppendsBeginning a c bytes
@@ -58,12 +48,7 @@ AppendsBeginning-more more part = record { left = part.left ++ more; sent = Appe
 -- after the first bytes a beginning of the others has been written
 pub AppendsFrom-beginning : {a b c : Option (List ℕ)} {others bytes : List ℕ} (first : List ℕ) → Appends a b first → AppendsBeginning b c others → bytes ≡ first ++ others
     → AppendsFrom first a c bytes
-AppendsFrom-beginning {a = a} {b = b} {c = c} first before part same = record {
-  further = part.sent.written;
-  left = part.left;
-  sent = Appends-trans a b c first part.sent.written before part.sent.sent;
-  whole = same ∙ ap (λ (end : List ℕ). first ++ end) part.sent.whole ∙ sym (append_assoc first part.sent.written part.left);
-}
+AppendsFrom-beginning first before part same = search (rules, Appends-trans, append_assoc)
 
 -- a call has failed that had to write the front of what was left
 pub OnlyWrites-failed : {W A B E F : Type 0} {contents : W → Option (List ℕ)} {a b c : Watch W} {others front bytes rest : List ℕ} {reason : F} (more : List ℕ) (result : Result A E)

@@ -1,4 +1,4 @@
-use Rattle.std.proofs.Common.{◌≡◌, ◌∙◌, ap, sym, ℕ, ◌+◌, ◌-◌, ◌≤◌, List, ◌++◌, drop, length, min, take, arith}
+use Rattle.std.proofs.Common.{rules, ◌≡◌, ◌∙◌, ap, sym, ℕ, ◌-◌, ◌≤◌, List, ◌++◌, drop, length, min, take, arith}
 use Rattle.std.proofs.lemmas.List.{length-take-le, length-drop, take-take, take_at, take_min}
 use Rattle.std.proofs.lemmas.Slice.{between_is}
 use Rattle.speedate_lines.specs.Run.{kept_part}
@@ -17,10 +17,4 @@ take-moved old after start filled n ordered within is =
     ∙ take_min 4097 line
 
 pub returns-clause-kept : goal.returns-clause-kept
-returns-clause-kept c =
-    let old : List ℕ = c.args.block.now in
-    let kept = c.min-kept.result in
-    let count : c.args.start + kept - c.args.start ≡ kept = omega arith in
-    ap (take kept) c.copy_within.ensures.after
-    ∙ ap (λ (n : ℕ). take kept (take n (drop c.args.start old) ++ drop (0 + n) old)) count
-    ∙ take-moved old (drop (0 + kept) old) c.args.start c.args.filled kept c.requires.ordered (omega (arith, c.requires.within, c.told-block)) c.min-kept.ensures
+returns-clause-kept c = search (rules, take-moved)

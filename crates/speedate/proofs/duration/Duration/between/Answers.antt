@@ -1,16 +1,13 @@
-use Rattle.std.proofs.Common.{arith, ap, sym, subst, ◌∙◌, ◌≤◌}
-use Rattle.std.proofs.lemmas.Int.{ints}
+use Rattle.std.proofs.Common.{rules, ap, sym, subst, ◌∙◌, ◌≤◌}
 use Rattle.speedate_civil.specs.DateTime.{date_and_time}
 use Rattle.speedate_civil.proofs.DateTimeValueLemmas.{is_date_and_time}
-use Rattle.speedate.specs.Duration.{duration_numbers, signed_amount, duration_of_amount}
+use Rattle.speedate.specs.Duration.{duration_numbers, signed_amount}
 use Rattle.speedate.specs.DurationNumbers.{DurationNumbers}
 use Rattle.speedate.proofs.DurationLemmas.{signed_amount-kept, between-days, between-later, between-ends, date_time_after-exact}
 use Rattle.speedate.proofs.duration.Duration.between.Goals as goal
 
 pub returns-clause-answer : goal.returns-clause-answer
-returns-clause-answer c =
-    c.of_microseconds.ensures.numbers
-    ∙ ap duration_of_amount (omega (arith, ints, c.utc_microsecond.ensures.microsecond, c.utc_microsecond.ensures.small, c.utc_microsecond-2.ensures.microsecond, c.utc_microsecond-2.ensures.small))
+returns-clause-answer c = search rules
 
 pub returns-clause-length : goal.returns-clause-length
 returns-clause-length c = ap signed_amount (returns-clause-answer c) ∙ signed_amount-kept _

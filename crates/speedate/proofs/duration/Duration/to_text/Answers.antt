@@ -1,4 +1,4 @@
-use Rattle.std.proofs.Common.{◌∙◌, ap, sym}
+use Rattle.std.proofs.Common.{rules, ◌∙◌, ap, sym}
 use Rattle.speedate_base.proofs.TextLemmas.{text-alone, text-canonical}
 use Rattle.speedate.specs.Duration.{duration_numbers, duration_answer, duration_text}
 use Rattle.speedate.proofs.IsoTextLemmas.{duration_text-reads, duration_text-distinct}
@@ -13,9 +13,7 @@ returns-clause-reads_back c config =
     ap (duration_answer config.iso_order behavior) bytes ∙ duration_text-reads config.iso_order behavior (duration_numbers duration) (is_duration duration)
 
 pub returns-clause-canonical : goal.returns-clause-canonical
-returns-clause-canonical c config =
-    let bytes = text-alone _ _ _ c.new-text.ensures c.push_onto.ensures.text in
-    text-canonical duration_text (duration_numbers c.args.self.now) _ _ bytes (returns-clause-reads_back c config)
+returns-clause-canonical c config = search (rules, text-alone, text-canonical, returns-clause-reads_back)
 
 pub returns-clause-distinct : goal.returns-clause-distinct
 returns-clause-distinct c other =

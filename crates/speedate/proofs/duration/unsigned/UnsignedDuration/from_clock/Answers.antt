@@ -1,4 +1,6 @@
-use Rattle.std.proofs.Common.{◌∙◌, sym, ap, ap₂, ℕ, ◌+◌, ◌-◌, ◌^◌, min, take, drop}
+use Rattle.std.proofs.Common.{arith, ◌∙◌, sym, ap, ap₂, ℕ, ◌+◌, ◌-◌, ◌^◌, min, take, drop}
+use Rattle.std.proofs.lemmas.Bool.Decides.{nat_tests}
+use Rattle.std.proofs.lemmas.Int.{ints}
 use Rattle.std.proofs.lemmas.Result.{err_from_is_err_and}
 use Rattle.std.proofs.lemmas.List.{take_rest}
 use Rattle.speedate_base.specs.Digits.{digits_value}
@@ -9,11 +11,7 @@ use Rattle.speedate.proofs.duration.unsigned.UnsignedDuration.from_clock.Goals a
 
 pub returns-in_err-end : goal.returns-in_err-end
 unfolding clock_form
-returns-in_err-end c =
-    let text = c.args.bytes.now in
-    let next = after_hours c.args.behavior (digits_value (hours text)) (from_minute text) in
-    let p = err_from_is_err_and c.from_residual.result c.from_residual.ensures.1 in
-    rw (p.1, p.2) (record { answer = meets-next (hours_table text) (colon_place text) _ next c.in_err-end.ensures.answer })
+returns-in_err-end c = grind (arith, ints, nat_tests, meets-next, err_from_is_err_and)
 
 pub returns : goal.returns
 unfolding clock_form
