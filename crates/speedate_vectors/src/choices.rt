@@ -44,16 +44,24 @@ const OFFSETS: &str = "\
 -2147483648  out_of_range_tz";
 
 #[test]
-fn choices_of_names(rt: HostRuntime) {
+fn units_of_names(rt: HostRuntime) {
     for (text, unit) in UNITS {
         let want = unit.ok_or(UnknownTimestampUnitString);
         same(&rt, TimestampUnit::from_str(text), want, text);
     }
+}
+
+#[test]
+fn behaviors_of_names(rt: HostRuntime) {
     for (text, behavior) in BEHAVIORS {
         let want = behavior.ok_or(UnknownMicrosecondsPrecisionOverflowBehaviorString);
         let read = MicrosecondsPrecisionOverflowBehavior::from_str(text);
         same(&rt, read, want, text);
     }
+}
+
+#[test]
+fn orders_of_names(rt: HostRuntime) {
     for (text, order) in ORDERS {
         same(&rt, IsoOrder::from_name(text), order, text);
     }

@@ -209,6 +209,10 @@ fn texts(rt: HostRuntime) {
             same(&rt, zero, want.ends_with('Z'), row);
         }
     }
+}
+
+#[test]
+fn bytes(rt: HostRuntime) {
     let read = DateTime::parse_bytes(b"2020-01-01T12:13:14.123456\xe2\x88");
     expect(&rt, read, "invalid_char_tz_sign", "half a minus sign");
     let read = DateTime::parse_bytes_rfc3339(b"0");
@@ -323,6 +327,10 @@ fn clocks(rt: HostRuntime) {
         let day = want.split_once('T').unwrap_or((want, "")).0;
         expect(&rt, Date::today(|| Some(moment), offset), day, row);
     }
+}
+
+#[test]
+fn clocks_that_fail(rt: HostRuntime) {
     let want = "system_time_error";
     expect(&rt, DateTime::now(|| None, 86_400), want, want);
     expect(&rt, Date::today(|| None, 0), want, want);

@@ -109,6 +109,10 @@ fn texts(rt: HostRuntime) {
         expect(&rt, Date::parse_str_rfc3339(&text), want, row);
         expect(&rt, Date::parse_str(&text), want, row);
     }
+}
+
+#[test]
+fn bytes(rt: HostRuntime) {
     let read = Date::parse_bytes_rfc3339(b"1654560000");
     expect(&rt, read, "invalid_char_date_sep", "no number");
     let read = Date::parse_bytes(&[0xff; 10]);
@@ -172,6 +176,10 @@ fn days(rt: HostRuntime) {
         same(&rt, date.timestamp_ms(), second.saturating_mul(1000), row);
         expect_or_none(&rt, date.next_day(), next, row);
     }
+}
+
+#[test]
+fn last_day_and_leap_years(rt: HostRuntime) {
     same(&rt, Date::from_day_number(3_652_425), None, "3652425");
     assert!(rt; is_leap_year(2020) && !is_leap_year(1900) && month_length(2000, 2) == 29);
 }

@@ -180,6 +180,10 @@ fn texts(rt: HostRuntime) {
         expect(&rt, Duration::parse_str(&text), want, row);
         expect(&rt, text.parse::<Duration>(), want, row);
     }
+}
+
+#[test]
+fn bytes_that_are_no_text(rt: HostRuntime) {
     let read = Duration::parse_bytes(&[0xff; 5]);
     expect(&rt, read, "invalid_char_hour", "five bytes ff");
 }
@@ -235,6 +239,10 @@ fn between(rt: HostRuntime) {
         let length = Duration::between(&parsed(&rt, start), &parsed(&rt, end));
         expect(&rt, Ok(length), want, row);
     }
+}
+
+#[test]
+fn between_dates(rt: HostRuntime) {
     for row in BETWEEN_DATES.lines() {
         let [start, end, want, ..] = words(row);
         let length = Duration::between_dates(&parsed(&rt, start), &parsed(&rt, end));
@@ -250,6 +258,10 @@ fn after(rt: HostRuntime) {
         expect(&rt, length.after(&start), want, row);
         expect(&rt, length.negated().before(&start), want, row);
     }
+}
+
+#[test]
+fn after_date(rt: HostRuntime) {
     for row in AFTER_DATE.lines() {
         let [start, length, want, ..] = words(row);
         let (start, length): (_, Duration) = (parsed(&rt, start), parsed(&rt, length));

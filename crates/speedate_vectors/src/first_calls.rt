@@ -11,8 +11,8 @@ use std::cmp::Ordering;
 use std::fmt::Debug;
 use std::process::Abort;
 
-/// What was found is to be what is wanted. Both are shown if it is not, and within a test no two calls want
-/// the same. The test is proved in a fraction of the time that an `assert_eq!` at each place takes.
+/// What was found is to be what is wanted. A failure shows both, and no two calls of a test want the same,
+/// so that it tells the place. An `assert_eq!` at each place would make the proof several times longer.
 fn assert_same<T: PartialEq + Debug + Copy, R: Abort>(rt: &R, found: T, want: T) {
     assert_eq!(rt; found, want);
 }

@@ -10,14 +10,18 @@ use std::str::FromStr;
 pub fn quoted<'a, R: AllocGlobal + Abort>(rt: &R, row: &'a str) -> (&'a str, String, &'a str) {
     let (before, rest) = row.split_once('\'').expect(rt, row);
     let (text, after) = rest.rsplit_once('\'').expect(rt, row);
+    (before.trim_end(), spelled(rt, text), after.trim_start())
+}
+
+/// The text with what is repeated in it.
+fn spelled<R: AllocGlobal + Abort>(rt: &R, text: &str) -> String {
     let (front, rest) = text.split_once('<').unwrap_or((text, ">"));
-    let (run, back) = rest.split_once('>').expect(rt, row);
+    let (run, back) = rest.split_once('>').expect(rt, text);
     let (repeated, count) = run.split_once('*').unwrap_or(("", "0"));
     let run = repeated.repeat(rt.alloc(), value(rt, count));
-    let run = run.ok().expect(rt, row);
-    let text = format!(in rt.alloc(); "{front}{run}{back}");
-    let text = text.ok().expect(rt, row);
-    (before.trim_end(), text, after.trim_start())
+    let run = run.ok().expect(rt, text);
+    let whole = format!(in rt.alloc(); "{front}{run}{back}");
+    whole.ok().expect(rt, text)
 }
 
 /// The first six words of a row, and no text for those that it lacks.
