@@ -9,4 +9,3 @@ mod IsoAmountLemmas
 mod IsoFormLemmas
 mod IsoItemLemmas
 mod IsoTextLemmas
-mod DecimalTextLemmas

@@ -20,7 +20,7 @@ const DAYS_PER_YEAR: u32 = 365;
 
 /// Appends a number of at most eight digits, without leading zeros: `120` for 120.
 #[inline(always)]
-#[tactic(auto, using(crate::proofs::DecimalTextLemmas::printed_digits))]
+#[tactic(auto, using(crate::proofs::DurationTextLemmas::printed_digits))]
 fn push_number<const LENGTH: usize>(number: u32, text: &mut ArrayString<LENGTH>)
     requires few { number < 100000000 }
     requires room { array_string_len text.old + length (decimal number) ≤ LENGTH }
@@ -37,7 +37,7 @@ fn push_number<const LENGTH: usize>(number: u32, text: &mut ArrayString<LENGTH>)
 
 /// Appends a number of at most four digits, without leading zeros.
 #[inline(always)]
-#[tactic(auto, using(crate::proofs::DecimalTextLemmas::printed_digits))]
+#[tactic(auto, using(crate::proofs::DurationTextLemmas::printed_digits))]
 fn push_up_to_four_digits<const LENGTH: usize>(number: u32, text: &mut ArrayString<LENGTH>)
     requires few { number < 10000 }
     requires room { array_string_len text.old + length (decimal number) ≤ LENGTH }
@@ -53,7 +53,7 @@ fn push_up_to_four_digits<const LENGTH: usize>(number: u32, text: &mut ArrayStri
 
 /// Appends a number of one digit or two, without leading zeros.
 #[inline(always)]
-#[tactic(auto, using(crate::proofs::DecimalTextLemmas::printed_digits))]
+#[tactic(auto, using(crate::proofs::DurationTextLemmas::printed_digits))]
 fn push_up_to_two_digits<const LENGTH: usize>(number: u8, text: &mut ArrayString<LENGTH>)
     requires few { number < 100 }
     requires room { array_string_len text.old + length (decimal number) ≤ LENGTH }

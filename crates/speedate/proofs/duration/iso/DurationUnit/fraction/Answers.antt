@@ -1,6 +1,6 @@
-use Rattle.std.proofs.Common.{List, ◌≡◌, ◌∙◌, sym, ap, ap₂, arith, pow-add, ℕ, ◌+◌, ◌-◌, ◌*◌, ◌/◌, ◌^◌, ◌≤◌, length, unsigned_abs, pos, false}
+use Rattle.std.proofs.Common.{◌≡◌, ◌∙◌, sym, ap, ap₂, arith, pow-add, ℕ, ◌+◌, ◌-◌, ◌*◌, ◌/◌, ◌^◌, ◌≤◌, length, unsigned_abs, pos, false}
 use Rattle.std.proofs.Math.Nat.{mul-div-mul_right}
-use Rattle.speedate_base.specs.Digits.{digits_value, fraction_value}
+use Rattle.speedate_base.specs.Digits.{digits_value}
 use Rattle.speedate_base.proofs.DigitRunLemmas.{fraction_value-filled}
 use Rattle.speedate_base.specs.Nearest.{nearest}
 use Rattle.speedate_base.proofs.NearestLemmas.{nearest-exact, scale-some}
@@ -29,16 +29,12 @@ whole-microseconds value second count few =
     ap (λ (n : ℕ). unsigned_abs (nearest (pos n) scale)) (ap (λ (n : ℕ). value * (n * second)) (million count few) ∙ spread)
     ∙ ap unsigned_abs (nearest-exact false (second * (value * 10 ^ (6 - count))) scale (scale-some count))
 
--- what the first six places are, where there are no more
-filled : (digits : List ℕ) (microseconds : ℕ) → microseconds ≡ fraction_value 6 digits → length digits ≤ 6 → microseconds ≡ digits_value digits * 10 ^ (6 - length digits)
-filled digits microseconds is few = is ∙ fraction_value-filled 6 digits few
-
 pub returns-clause-second : goal.returns-clause-second
 returns-clause-second c =
     let digits = c.args.digits.now in
     let second = unit_seconds (unit_parts c.args.self.now) in
     let few : length digits ≤ 6 = omega (arith, c.if-digits-gt-MICROSECOND_LENGTH.false) in
-    ap₂ (λ (n m : ℕ). n * m / 1000000) c.seconds.ensures.second (c.from.ensures ∙ filled digits _ c.requires.microseconds few)
+    ap₂ (λ (n m : ℕ). n * m / 1000000) c.seconds.ensures.second (c.from.ensures ∙ c.requires.microseconds ∙ fraction_value-filled 6 digits few)
     ∙ whole-seconds (digits_value digits) second (length digits) few
 
 pub returns-clause-microsecond : goal.returns-clause-microsecond
@@ -46,5 +42,5 @@ returns-clause-microsecond c =
     let digits = c.args.digits.now in
     let second = unit_seconds (unit_parts c.args.self.now) in
     let few : length digits ≤ 6 = omega (arith, c.if-digits-gt-MICROSECOND_LENGTH.false) in
-    let size = ap₂ (λ (n m : ℕ). n * m) c.seconds.ensures.second (c.from.ensures ∙ filled digits _ c.requires.microseconds few) in
+    let size = ap₂ (λ (n m : ℕ). n * m) c.seconds.ensures.second (c.from.ensures ∙ c.requires.microseconds ∙ fraction_value-filled 6 digits few) in
     ap₂ (λ (n m : ℕ). n - 1000000 * m) (size ∙ sym (whole-microseconds (digits_value digits) second (length digits) few)) (returns-clause-second c)
