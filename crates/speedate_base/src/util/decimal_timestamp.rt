@@ -91,7 +91,7 @@ fn fraction_microseconds(digits: &[u8], unit: UnixUnit, negative: bool) -> u64
         * unit.microseconds)) (10 ^ length digits.now) }
     ensures within { result ≤ 1000000 }
 {
-    // So few digits are whole microseconds.
+    // So few digits are whole microseconds (row `timestamp, decimal`).
     if digits.len() <= unit.digits {
         return filled(digits, unit.digits);
     }
