@@ -109,6 +109,11 @@ impl Call {
         }
     }
 
+    /// The call that a line of the program is.
+    pub fn of_line(kind: Kind, text: Vec<u8>) -> Self {
+        Call::Read { kind, text: Bytes(text), config: Config::default() }
+    }
+
     fn read(draw: &mut Draw) -> Self {
         let (kind, config) = (draw.pick(&KINDS), config(draw));
         let text = Bytes(draw.text(kind));

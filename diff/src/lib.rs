@@ -4,11 +4,13 @@
 
 pub mod answer;
 pub mod call;
+pub mod compare;
 pub mod draw;
 pub mod exact;
 #[allow(unsafe_code)]
 pub mod ffi;
 pub mod known;
 pub mod ours;
+pub mod record;
 pub mod rust;
 pub mod text;

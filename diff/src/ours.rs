@@ -10,6 +10,8 @@ use crate::text::Kind;
 #[path = "side.rs"]
 mod side;
 
+pub use side::reply;
+
 /// The answer to a call.
 pub fn answer(call: &Call) -> Answer {
     match call {

@@ -15,8 +15,8 @@ use crate::text::{FIRST_SECOND, Kind};
 #[path = "side.rs"]
 mod side;
 
-pub use side::read;
 use side::shown;
+pub use side::{read, reply};
 
 const SECONDS_A_DAY: i64 = 86_400;
 

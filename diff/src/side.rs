@@ -76,19 +76,33 @@ fn debug(kind: Kind, text: &[u8], config: &Config) -> Value {
     }
 }
 
-fn print(value: &Value) -> Value {
-    Value::Text(match value {
-        Value::Date(date) => displayed(Date::from(*date)),
-        Value::Time(time) => displayed(Time::from(*time)),
-        Value::DateTime(value) => displayed(DateTime::from(*value)),
-        Value::Duration(duration) => displayed(Duration::from(*duration)),
-        _ => unreachable!("{value:?} has no text"),
-    })
+/// What the program answers to a line, by the answer to its text.
+pub fn reply(answer: &Answer) -> String {
+    match answer {
+        Ok(value) => format!("ok {}", printed(value)),
+        Err(fault) => format!("err {fault}"),
+    }
 }
 
 /// What Display shows of a value, also in a wide field, and Debug.
-fn displayed(value: impl Display + Debug) -> String {
-    format!("{value} {value:>40} {value:?}")
+fn print(value: &Value) -> Value {
+    let value = printed(value);
+    Value::Text(format!("{value} {value:>40} {value:?}"))
+}
+
+trait Printed: Display + Debug {}
+
+impl<T: Display + Debug> Printed for T {}
+
+/// The value as one of a type of this side, which prints it.
+fn printed(value: &Value) -> Box<dyn Printed> {
+    match value {
+        Value::Date(date) => Box::new(Date::from(*date)),
+        Value::Time(time) => Box::new(Time::from(*time)),
+        Value::DateTime(value) => Box::new(DateTime::from(*value)),
+        Value::Duration(duration) => Box::new(Duration::from(*duration)),
+        _ => unreachable!("{value:?} has no text"),
+    }
 }
 
 /// The unit and the behavior that a text names.
