@@ -1,10 +1,11 @@
-"""Tests of the module that is installed: its docstrings, the rows below, arguments of wrong types, texts that `datetime`
-reads too, and an extension that does not load."""
+"""Tests of the module that is installed: its docstrings, the rows below, the recorded lines of diff/, arguments of wrong types,
+and texts that `datetime` reads too."""
 import array
 import datetime
 import doctest
 import importlib.metadata
 import inspect
+import pathlib
 import pickle
 import random
 import unittest
@@ -159,6 +160,33 @@ def drawn(draw):
     return text[:place] + draw.choice("0123456789-:.,+TZ") + text[place + 1:] if place < len(text) else text
 
 
+DIFF = pathlib.Path(__file__).resolve().parents[2] / "diff"
+READERS = {
+    "date": lambda text: speedate.date(text, timestamps=True), "datetime": lambda text: speedate.date_time(text, timestamps=True),
+    "time": speedate.time, "duration": speedate.duration,
+}
+
+
+def reply(line):
+    """What the program answers to a line, or why Python has no such value."""
+    kind, _, text = line.partition(" ")
+    try:
+        return f"ok {speedate.text(READERS[kind](text))}"
+    except speedate.Fault as fault:
+        return f"err {fault.name}"
+    except speedate.Unrepresentable as reason:
+        return reason.name
+
+
+def represented(answer):
+    """The answer where Python has the year 0, all durations, and no negative zero."""
+    if answer.startswith("ok 0000-"):
+        return "year_zero"
+    if answer.startswith("ok -P2739726Y9DT"):
+        return "duration_too_small"
+    return answer.replace("-PT0S", "PT0S")
+
+
 def answer(call):
     try:
         return repr(call())
@@ -173,6 +201,14 @@ class Speedate(unittest.TestCase):
             expression, _, wanted = row.partition(" -> ")
             with self.subTest(expression):
                 self.assertEqual(answer(lambda: eval(expression, names)), wanted)
+
+    def test_recorded_lines(self):
+        for name in ("answers.txt", "known_differences.txt"):
+            rows = [row.split("\t") for row in (DIFF / name).read_text("utf-8").split("\n") if row and not row.startswith("#")]
+            self.assertTrue(rows, name)
+            for line, *_, wanted in rows:
+                with self.subTest(line):
+                    self.assertEqual(reply(line), represented(wanted))
 
     def test_wrong_types(self):
         for call in CALLS:
