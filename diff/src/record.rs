@@ -73,11 +73,11 @@ impl Record {
         Ok(())
     }
 
-    /// Says what there are too few lines of, if anything.
+    /// Says of what there are too few lines, if of anything.
     pub fn check(&self) -> Result<(), String> {
         let errors = errors();
         if errors.is_empty() {
-            return Err("docs/GRAMMAR.md has no errors with lines".to_owned());
+            return Err("docs/GRAMMAR.md has no table of errors".to_owned());
         }
         for error in errors {
             require(REFUSED, self.count(|_, it| it == Some(error)), &format!("refused with {error}"))?;
