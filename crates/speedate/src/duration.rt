@@ -240,7 +240,7 @@ impl Duration {
     fn signed(positive: bool, amount: UnsignedDuration) -> Result<Self, ParseError>
         ensures answer { result gives signed_form positive (unsigned_numbers amount) }
     {
-        // Most amounts are in their normal form as they are parsed (row `duration, clock`).
+        // Most amounts are in their normal form as they are parsed, and need no division.
         if amount.day <= DAYS_MAX
             && amount.second < SECONDS_PER_DAY
             && amount.microsecond <= 999_999

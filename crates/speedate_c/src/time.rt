@@ -92,7 +92,7 @@ pub extern "C" fn speedate_time_parse(
         ≡ with_option (choices_of config) (config_out_of_range, out.old)
         (λ config. after_answer shown_time out.old (time_answer config.behavior text.now)) }
 {
-    // The inputs are so short that a look at each field shows (row `time, Z`).
+    // The default, which nearly every caller has, is not translated field by field.
     if config.is_default() {
         return write_time(Time::parse_bytes(text), out);
     }

@@ -71,7 +71,7 @@ pub fn month_length(year: u16, month: u8) -> u8
 fn is_day(year: u16, month: u8, day: u8) -> bool
     ensures { result ≡ is_in_range 1 (month_length year month) day }
 {
-    // No month is shorter than 28 days, so most days need no look at the calendar (row `date`).
+    // No month is shorter than 28 days, so most days need no look at the calendar.
     day >= 1 && (day <= 28 || day <= month_length(year, month))
 }
 

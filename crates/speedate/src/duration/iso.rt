@@ -73,7 +73,7 @@ impl DurationUnit {
         ensures second_small { result.0 ≤ 31536000 }
         ensures microsecond_small { result.1 ≤ 1000000 }
     {
-        // So few digits are whole microseconds (row `duration, ISO 8601, fraction`).
+        // Six digits or fewer are whole microseconds, and need no rounding.
         if digits.len() > MICROSECOND_LENGTH {
             return self.long_fraction(digits);
         }
@@ -136,8 +136,8 @@ impl Sums {
     /// Parses all items of a duration, and adds them up.
     ///
     /// Most texts are whole numbers of few digits with their designators, a `T`, and such components
-    /// again. These are parsed straight on (row `duration, ISO 8601`), and what is left is parsed item by
-    /// item.
+    /// again. These come first: such a number times its unit fits 32 bits, which leaves the test of the
+    /// sum. What is left is parsed item by item.
     #[inline(always)]
     pub(super) fn read(body: &[u8], order: IsoOrder) -> Result<UnsignedDuration, ParseError>
         ensures answer { result_map unsigned_numbers result ≡ iso_form order body.now }

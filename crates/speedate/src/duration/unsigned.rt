@@ -52,7 +52,7 @@ impl UnsignedDuration {
         let number = digit_run(bytes);
         if byte_at(bytes, number.length) == b':' {
             let clock = Self::from_clock(bytes, number, behavior);
-            // A clock has no letter, so it is not searched for one (row `duration, clock`).
+            // A clock has no letter, so it is not searched for one.
             if clock.is_ok() {
                 return clock;
             }

@@ -26,7 +26,7 @@ pub fn digit_run(bytes: &[u8]) -> DigitRun
     ensures length { result.length ≡ run_length bytes.now 0 }
     ensures value { result.value ≡ min (run_value bytes.now 0) (2 ^ 64 - 1) }
 {
-    // Most runs are short (row `duration, whole days`).
+    // Most runs are short, and one pass gives their length and their value.
     match few_digits(bytes) {
         Some((value, length)) => DigitRun {
             length,

@@ -23,6 +23,9 @@ pub struct Fraction {
 impl Fraction {
     /// The fraction whose digits begin at `place`: three digits that mean 120,000 microseconds for
     /// `b".120Z"` at place 1. Digits past the sixth are counted, and mean nothing.
+    ///
+    /// It takes a place, and not the slice from there: near the end of the text its one load of eight
+    /// bytes begins before the place.
     #[inline(always)]
     pub fn read(bytes: &[u8], place: usize) -> Self
         requires { place ≤ length bytes.now }

@@ -22,7 +22,7 @@ pub fn eight_bytes(bytes: &[u8], place: usize) -> u8x8
     if left >= LANES {
         return u8x8::from_slice(&bytes[place..]);
     }
-    // One load is fewer than two (row `time, 1 to 5 digits`).
+    // One load, which begins before the place, in place of two.
     if bytes.len() >= LANES {
         return last_bytes(&bytes[bytes.len() - LANES..], left);
     }
@@ -51,8 +51,8 @@ fn short_bytes(bytes: &[u8]) -> u8x8
         let [a, b, c] = [byte_at(bytes, 0), byte_at(bytes, 1), byte_at(bytes, 2)];
         return u8x8::from_array([a, b, c, 0, 0, 0, 0, 0]);
     }
-    // The last four bytes may be among the first four, and what they share is moved out: two loads, where
-    // seven bytes are seven (row `time, minutes`).
+    // The last four bytes may be among the first four, and what they share is moved out: two loads, and
+    // not one for each byte.
     let shared = 8 * (LANES - bytes.len());
     let word = four_bytes(bytes) + (four_bytes(&bytes[bytes.len() - 4..]) >> shared) * (1 << 32);
     u64x1::splat(word).to_le_bytes()

@@ -42,8 +42,8 @@ fn is_inferred_seconds(decimal: Decimal<'_>) -> bool
     ensures { result ≡ nat_le (decimal_digits (decimal_value decimal.entry))
         (inferred_seconds_max * decimal_scale (decimal_value decimal.entry)) }
 {
-    // Ten digits spell less than the bound, and twelve of which the first is not 0 spell more (row
-    // `timestamp, decimal`).
+    // Ten digits spell less than the bound, and twelve of which the first is not 0 spell more: only
+    // eleven digits, or leading zeros, ask for the number.
     if decimal.whole.len() <= 10 {
         return true;
     }
@@ -91,7 +91,7 @@ fn fraction_microseconds(digits: &[u8], unit: UnixUnit, negative: bool) -> u64
         * unit.microseconds)) (10 ^ length digits.now) }
     ensures within { result ≤ 1000000 }
 {
-    // So few digits are whole microseconds (row `timestamp, decimal`).
+    // So few digits are whole microseconds, and need no rounding.
     if digits.len() <= unit.digits {
         return filled(digits, unit.digits);
     }

@@ -22,6 +22,9 @@ use std::simd::prelude::*;
 /// The offset in seconds that begins at `place`, if one does, and how many bytes it takes, whatever
 /// follows it: 0 and one byte for `Z` or `z`, 5,400 and six bytes for `+01:30`, none and no byte for
 /// ` GET`.
+///
+/// It takes a place, and not the slice from there: near the end of the text the one load of its
+/// digits begins before the place.
 #[inline(always)]
 pub(crate) fn parse_offset(bytes: &[u8], place: usize) -> Result<(Option<i32>, usize), ParseError>
     requires { place ≤ length bytes.now }
