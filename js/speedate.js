@@ -210,7 +210,7 @@ function sizeOf(number, sign, name) {
 
 // Kinds of values: the name in C, the calls, by their names there until `start` puts the functions into their place, the fields,
 // what reads a value out of the memory, what looks at one that was given, at each field once, and what puts that into the
-// memory. The fields are written out: loops over them take ten times as long.
+// memory. The fields are written out, and not gone through by name.
 const DATE = {
   name: "date",
   calls: {

@@ -30,8 +30,8 @@ impl From<Code> for ParseError {
 
 /// What C writes.
 trait Written {
-    /// The value, of which each number is loaded on its own. C has written a struct by small stores, and a wide load, into
-    /// which the compiler would join these, waits until all of them have left the processor's store buffer.
+    /// The value, of which each number is loaded on its own. C has written a struct by small stores, and the compiler would
+    /// join these loads into a wide one, which no single store in the processor's store buffer can serve.
     fn load(&self) -> Self;
 }
 
