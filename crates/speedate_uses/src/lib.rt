@@ -1,5 +1,5 @@
-//! Uses of the library, as crates of other workspaces would write them: each file is one use, with
-//! its test. `README.md` shows part of one, and `docs/CALLING.md` of another.
+//! Uses of the library, as crates of other workspaces would write them: each file is one use, whose
+//! tests stand in `speedate_uses_tests`. `README.md` shows part of one, and `docs/CALLING.md` of another.
 #![tactic(auto)]
 
 pub mod calendar;
@@ -11,25 +11,3 @@ pub mod schedule;
 pub mod storage;
 pub mod timeout;
 pub mod validator;
-
-#[cfg(test)]
-mod checks {
-    //! What the tests share, so it is proved once.
-
-    use std::fmt::Debug;
-    use std::process::Abort;
-    use std::str::FromStr;
-
-    /// The value that a text is, which is to be one.
-    pub fn value<T: FromStr, R: Abort>(rt: &R, text: &str) -> T
-    where
-        T::Err: Drop,
-    {
-        text.parse().ok().expect(rt, text)
-    }
-
-    /// What was found is to be what a row wants.
-    pub fn same<T: PartialEq + Debug + Copy, R: Abort>(rt: &R, found: T, want: T, row: &str) {
-        assert_eq!(rt; found, want, "{row}");
-    }
-}

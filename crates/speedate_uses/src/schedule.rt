@@ -68,35 +68,3 @@ fn next_multiple(gone: i128, every: i128) -> i128
 {
     (gone.max(0) / every + 1) * every
 }
-
-#[cfg(test)]
-mod tests {
-    use super::next_run;
-    use crate::checks::{same, value};
-    use speedate::{DateTime, Duration};
-
-    /// When a job ran last, how often it runs, now, and when it runs next.
-    const RUNS: &str = "\
-2026-11-22T12:00:00Z       PT1H   2026-11-22T12:00:00Z       2026-11-22T13:00:00Z
-2026-11-22T12:00:00Z       PT1H   2026-11-22T11:00:00Z       2026-11-22T13:00:00Z
-2026-01-01T00:00:00Z       PT7M   2026-01-02T00:00:00Z       2026-01-02T00:02:00Z
-2026-11-22T12:00:00+01:00  PT6H   2026-11-22T12:00:00-05:00  2026-11-23T00:00:00+01:00
-9999-12-31T22:00:00Z       PT1H   9999-12-31T23:00:00Z       date_too_large
-2026-11-22T12:00:00Z       -PT1H  2026-11-22T12:30:00Z       none";
-
-    #[test]
-    fn runs(rt: HostRuntime) {
-        for row in RUNS.lines() {
-            let mut words = row.split_whitespace();
-            let last: DateTime = value(&rt, words.next().unwrap_or(""));
-            let every: Duration = value(&rt, words.next().unwrap_or(""));
-            let now: DateTime = value(&rt, words.next().unwrap_or(""));
-            let want = words.next().unwrap_or("");
-            match next_run(&last, &every, &now) {
-                Ok(Some(time)) => same(&rt, time.to_text().as_str(), want, row),
-                Ok(None) => same(&rt, "none", want, row),
-                Err(fault) => same(&rt, fault.name(), want, row),
-            }
-        }
-    }
-}

@@ -14,23 +14,3 @@ pub fn stored_and_read(time: &Time, config: &TimeConfig) -> Result<Time, ParseEr
     let stored = time.to_text();
     Time::parse_bytes_with_config(stored.as_str().as_bytes(), config)
 }
-
-#[cfg(test)]
-mod tests {
-    use super::stored_and_read;
-    use crate::checks::same;
-    use speedate::{Time, TimeConfig};
-
-    #[test]
-    fn a_time_is_kept(rt: HostRuntime) {
-        let time = Time {
-            hour: 23,
-            minute: 59,
-            second: 59,
-            microsecond: 999_999,
-            tz_offset: Some(-3_600),
-        };
-        let read = stored_and_read(&time, &TimeConfig::default());
-        same(&rt, read, Ok(time), "a time");
-    }
-}

@@ -21,18 +21,3 @@ pub fn timeout_ms(text: &str) -> Result<Option<u64>, ParseError>
     }
     Ok(Some(timeout.signed_total_ms().unsigned_abs()))
 }
-
-#[cfg(test)]
-mod tests {
-    use super::timeout_ms;
-    use crate::checks::same;
-    use speedate::ParseError;
-
-    #[test]
-    fn timeouts(rt: HostRuntime) {
-        same(&rt, timeout_ms("PT30S"), Ok(Some(30_000)), "PT30S");
-        same(&rt, timeout_ms("PT0.0019S"), Ok(Some(1)), "PT0.0019S");
-        same(&rt, timeout_ms("-PT30S"), Ok(None), "-PT30S");
-        same(&rt, timeout_ms("PT"), Err(ParseError::TooShort), "PT");
-    }
-}
