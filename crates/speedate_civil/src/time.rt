@@ -295,12 +295,16 @@ impl Time {
     /// # Errors
     ///
     /// `TimeTooLarge` if they are 86,400 seconds or more together.
-    pub fn from_timestamp(second: u32, microsecond: u32) -> Result<Self, ParseError>
-        ensures answer { result gives timestamp_answer second microsecond None }
+    pub fn from_timestamp(
+        timestamp_second: u32,
+        timestamp_microsecond: u32,
+    ) -> Result<Self, ParseError>
+        ensures answer { result gives timestamp_answer timestamp_second timestamp_microsecond None }
         ensures instant { IfOk result (λ time. microsecond_of_day (time_of_day time)
-            ≡ 1000000 * second + microsecond) }
+            ≡ 1000000 * timestamp_second + timestamp_microsecond) }
     {
-        Self::from_timestamp_with_config(second, microsecond, &TimeConfig::default())
+        let config = TimeConfig::default();
+        Self::from_timestamp_with_config(timestamp_second, timestamp_microsecond, &config)
     }
 
     /// The time of the seconds and microseconds after midnight, with the configured offset, which is

@@ -27,13 +27,14 @@ impl DateTime {
     /// # Errors
     ///
     /// Those of [`DateTime::from_timestamp_with_config`], in its order.
-    pub fn from_timestamp(timestamp: i64, microseconds: u32) -> Result<Self, ParseError>
-        ensures answer { result gives date_time_timestamp_answer unit.Infer None microseconds
-            timestamp }
+    pub fn from_timestamp(timestamp: i64, timestamp_microsecond: u32) -> Result<Self, ParseError>
+        ensures answer { result gives date_time_timestamp_answer unit.Infer None
+            timestamp_microsecond timestamp }
         ensures instant { IfOk result (λ value. local_microsecond (date_and_time value)
-            ≡ meant_microsecond unit.Infer microseconds timestamp) }
+            ≡ meant_microsecond unit.Infer timestamp_microsecond timestamp) }
     {
-        Self::from_timestamp_with_config(timestamp, microseconds, &DateTimeConfig::default())
+        let config = DateTimeConfig::default();
+        Self::from_timestamp_with_config(timestamp, timestamp_microsecond, &config)
     }
 
     /// The date-time of a Unix timestamp, in the unit of the configuration, and additional
