@@ -1,6 +1,6 @@
--- Laws of the order by instants: it is total, among values with offsets and among those without; without offsets it is the
--- order of the texts; and if the offsets are equal it is that of what clocks show.
-use Rattle.std.proofs.Common.{◌≡◌, ℕ, ◌<◌, Bool, true, false, ◌&&◌, ◌∷◌, ◌==◌, ℤ, Option, None, refl, is_some, nat_cmp, Ordering, rules, arith, ◌∙◌, ap, sym}
+-- Laws of the order by instants: it is total, among values with offsets and among those without, but across both it is not
+-- transitive; and without offsets it is the order of the texts.
+use Rattle.std.proofs.Common.{◌≡◌, ℕ, ◌<◌, Bool, true, false, ◌&&◌, ◌∷◌, ◌==◌, ℤ, neg_ℤ, pos, Option, Some, None, refl, is_some, nat_cmp, Ordering, Less, Equal, rules, arith, ◌∙◌, ap, sym}
 use Rattle.std.specs.Cmp.{IsTotalOrder, on_total}
 use Rattle.std.specs.Cmp.Lexicographic.{slice_cmp}
 use Rattle.std.specs.Ordering.{ordering_then, ordering_reverse, on}
@@ -89,3 +89,17 @@ module _ {K : Type 0} (offset : K → Option ℤ) (instant : Bool → K → Inst
       chained true true false one two = absurd (cc)
       chained true false c one two = absurd (cc)
       chained false true c one two = absurd (cc)
+
+-- the time of an hour and a minute
+abbrev clock : ℕ → ℕ → Option ℤ → TimeOfDay
+clock hour minute offset = record { hour = hour; minute = minute; second = 0; microsecond = 0; offset = offset }
+
+-- across values with an offset and without it is not transitive: 00:00:00-01:00 is before 00:30:00, and that is before 01:00:00Z,
+-- which is equal to the first
+pub record IsBeforeNextOnly (first second third : TimeOfDay) : Type 0 where
+  first_second : time_instant_order first second ≡ Less
+  second_third : time_instant_order second third ≡ Less
+  first_third : time_instant_order first third ≡ Equal
+
+pub time_instant_order-across : IsBeforeNextOnly (clock 0 0 (Some (neg_ℤ (pos 3600)))) (clock 0 30 None) (clock 1 0 (Some (pos 0)))
+time_instant_order-across = record { first_second = refl; second_third = refl; first_third = refl }
