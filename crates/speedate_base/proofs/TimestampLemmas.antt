@@ -1,5 +1,6 @@
 -- The instants of timestamps.
-use Rattle.std.proofs.Common.{◌≡◌, ◌≤◌, ℤ, pos, ◌+ℤ◌, ◌*ℤ◌, rules}
+use Rattle.std.proofs.Common.{◌≡◌, ◌≤◌, ℤ, pos, negsuc, ◌+ℤ◌, ◌*ℤ◌, rules, arith}
+use Rattle.std.proofs.lemmas.Int.{ints}
 use Rattle.speedate_base.specs.Timestamp.{Instant, instant_at}
 
 -- an instant in microseconds
@@ -17,3 +18,15 @@ instant_at-is at instant small is = search rules
 -- the instant of a timestamp in seconds
 pub instant_of_seconds : (second : ℤ) → instant_at (pos 1000000 *ℤ second) ≡ record { second = second; microsecond = 0 }
 instant_of_seconds second = search rules
+
+-- the microseconds that are left are less than a second
+left-small : (microsecond : ℤ) → (instant_at microsecond).microsecond ≤ 999999
+left-small (pos n) = omega arith
+left-small (negsuc n) = omega arith
+
+-- microseconds that are carried into a second
+pub instant_at-carried : (second microsecond : ℤ) → instant_at (pos 1000000 *ℤ second +ℤ microsecond)
+    ≡ record { second = second +ℤ (instant_at microsecond).second; microsecond = (instant_at microsecond).microsecond }
+instant_at-carried second microsecond =
+    instant_at-is (pos 1000000 *ℤ second +ℤ microsecond) (record { second = second +ℤ (instant_at microsecond).second; microsecond = (instant_at microsecond).microsecond })
+    (left-small microsecond) (omega (arith, ints, instant_at-microsecond microsecond))
