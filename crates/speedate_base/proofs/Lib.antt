@@ -10,3 +10,4 @@ pub mod PatternLemmas
 mod RoundingLemmas
 mod DecimalLemmas
 mod ScaledLemmas
+mod FaultLemmas

@@ -146,11 +146,7 @@ impl ParseError {
     /// The name and the documentation text.
     fn row(&self) -> (&'static str, &'static str)
         ensures name { result.0.now ≡ fault_name self.now }
-        ensures short { length result.0.now ≤ 29 }
-        ensures distinct { (other : ParseError) → result.0.now ≡ fault_name other
-            → self.now ≡ other }
         ensures documentation { result.1.now ≡ fault_documentation self.now }
-        ensures documentation_short { length result.1.now ≤ 63 }
     {
         rows! { self;
             TooShort                    "too_short"                      "input is too short"
