@@ -1,5 +1,6 @@
 -- What is read at the front of a text is the same without the bytes after it.
 use Rattle.std.proofs.Common.{◌≡◌, ℕ, zero, suc, ◌+◌, ◌-◌, ◌≤◌, Bool, true, false, ◌&&◌, ◌==◌, List, [], ◌∷◌, length, take, drop, slice_index, if◌then◌else◌, Option, ℤ, IfOk, Result, Ok, refl, rules, arith, ap, ap₂, sym, ◌∙◌, le-leb, length-drop, length-take-le, get_or-take, take-take}
+use Rattle.std.proofs.lemmas.Bool.{leb-true}
 use Rattle.std.proofs.lemmas.Bool.Decides.{nat_tests}
 use Rattle.std.proofs.lemmas.Grind.{common_steps}
 use Rattle.std.specs.Char.{is_ascii_digit}
@@ -12,7 +13,7 @@ use Rattle.speedate_civil.specs.Calendar.{Ymd}
 use Rattle.speedate_civil.specs.Time.{Clock, at_hour, clock_answer, clock_front, hour_table, hour_range, minute_clock, minute_digits, minute_table, has_second, has_decimal_mark, end_fault, offset_digits_size, offset_front, signed_front, TimeOfDay, time_front, time_answer, clock_with_offset, ParseError, MicrosecondsPrecisionOverflowBehavior}
 use Rattle.speedate_civil.specs.DateTime.{DateAndTime, date_time_answer, date_time_front, separator_table}
 use Rattle.speedate_civil.specs.Date.{date_front, date_answer, date_numbers, date_table, fault}
-use Rattle.speedate_base.proofs.RequirementLemmas.{meets-all, meets-ok, meets-value}
+use Rattle.speedate_base.proofs.RequirementLemmas.{meets-all, meets-ok}
 use Rattle.speedate_civil.proofs.OffsetLemmas.{offset-cases}
 use Rattle.speedate_civil.proofs.ReadLemmas.{read-map, read-rows, read-then, read-value}
 
@@ -150,10 +151,19 @@ time_front-alone behavior text front read inside =
 date-taken : (text : List ℕ) (count : ℕ) → 10 ≤ count → count ≤ length text → date_front (take count text) ≡ date_front text
 date-taken text count ten inside = grind (arith, common_steps)
 
-pub date_front-alone : (text : List ℕ) (front : Ymd × ℕ) → date_front text ≡ Ok front → front.1 ≤ length text → date_answer (take front.1 text) ≡ Ok front.0
-date_front-alone text front read inside =
-    let size : 10 ≡ front.1 = ap (λ (pair : Ymd × ℕ). pair.1) (meets-value (date_table text) (date_numbers text, 10) front read).1 in
-    taken-alone (λ (date : Ymd). fault.ExtraCharacters) text (date_front (take front.1 text)) front inside (date-taken text front.1 (omega (arith, size)) inside ∙ read)
+-- so a date that was read ends within its text, and is that of its bytes alone
+pub date_front-within : (text : List ℕ) → IfOk (date_front text) (λ front. front.1 ≤ length text)
+date_front-within text =
+    read-rows (λ (front : Ymd × ℕ). front.1 ≤ length text) (date_table text) (Ok (date_numbers text, 10)) (λ rows. leb-true 10 (length text) rows.0)
+
+pub date_front-alone : (text : List ℕ) → IfOk (date_front text) (λ front. date_answer (take front.1 text) ≡ Ok front.0)
+date_front-alone text =
+    read-rows (λ (front : Ymd × ℕ). date_answer (take front.1 text) ≡ Ok front.0) (date_table text) (Ok (date_numbers text, 10))
+    (λ rows.
+    let front : Ymd × ℕ = (date_numbers text, 10) in
+    let inside : 10 ≤ length text = leb-true 10 (length text) rows.0 in
+    taken-alone (λ (date : Ymd). fault.ExtraCharacters) text (date_front (take 10 text)) front inside
+    (date-taken text 10 (omega arith) inside ∙ meets-all (date_table text) (Ok front) rows))
 
 -- a date, a separator and a time are a date-time
 pub date_time_front-is : (behavior : MicrosecondsPrecisionOverflowBehavior) (text : List ℕ) (date : Ymd × ℕ) (time : TimeOfDay × ℕ)

@@ -126,6 +126,14 @@ impl Date {
         ensures alone { IfOk result (λ front. date_answer (take front.1 bytes.now)
             ≡ Ok (ymd front.0)) }
     {
+        Self::front(bytes)
+    }
+
+    /// Parses the date at the front of a text, and how many bytes it takes, whatever follows it.
+    #[inline(always)]
+    fn front(bytes: &[u8]) -> Result<(Self, usize), ParseError>
+        ensures answer { result gives_front date_front bytes.now }
+    {
         if bytes.len() < TEXT_LENGTH {
             return Err(ParseError::TooShort);
         }
