@@ -1,4 +1,4 @@
-use Rattle.std.proofs.Common.{rules, ◌≡◌, ◌∙◌, ap, sym, subst, ℕ, ◌≤◌, true, List, length, get_or, take, drop, ◌-◌, Ok, arith, slice_index, ◌==◌, codes, get_or-drop}
+use Rattle.std.proofs.Common.{rules, ◌≡◌, ◌∙◌, ap, sym, subst, ℕ, ◌<◌, ◌≤◌, true, List, length, get_or, take, drop, ◌-◌, Ok, Err, arith, slice_index, ◌==◌, codes, get_or-drop}
 use Rattle.std.proofs.lemmas.Grind.{common_steps}
 use Rattle.std.proofs.lemmas.Bool.{and_from}
 use Rattle.std.proofs.lemmas.List.{take_rest}
@@ -7,7 +7,7 @@ use Rattle.speedate_base.specs.Ascii.{colon}
 use Rattle.speedate_base.specs.Digits.{two_digits_at, two_digit_value, eight_at, fit_length, fit_digits, neighbours}
 use Rattle.speedate_base.specs.Requirement.{meets, result_map}
 use Rattle.speedate_civil.specs.Reader.{clock_after}
-use Rattle.speedate_civil.specs.Time.{at_hour, clock_front, minute_clock, second_table, MicrosecondsPrecisionOverflowBehavior}
+use Rattle.speedate_civil.specs.Time.{at_hour, clock_front, minute_clock, second_table, MicrosecondsPrecisionOverflowBehavior, fault}
 use Rattle.speedate_base.proofs.PatternLemmas.{fit_length-all}
 use Rattle.speedate_civil.proofs.time.pure.PureTime.parse.Goals as goal
 
@@ -37,6 +37,41 @@ decided : (behavior : MicrosecondsPrecisionOverflowBehavior) (text numbers : Lis
     → get_or numbers 0 0 ≤ 23 → get_or numbers 3 0 ≤ 59 → clock_front behavior text
     ≡ result_map (at_hour (get_or numbers 0 0)) (meets (second_table behavior (drop 3 text)) (Ok (minute_clock (drop 3 text))))
 decided behavior text numbers front long early short = search rules
+
+-- and those that do not hold are the fault
+late-hour : (behavior : MicrosecondsPrecisionOverflowBehavior) (text numbers : List ℕ) → Front text numbers → 5 ≤ length text
+    → 23 < get_or numbers 0 0 → clock_front behavior text ≡ Err fault.OutOfRangeHour
+late-hour behavior text numbers front long late = search rules
+
+late-minute : (behavior : MicrosecondsPrecisionOverflowBehavior) (text numbers : List ℕ) → Front text numbers → 5 ≤ length text
+    → get_or numbers 0 0 ≤ 23 → 59 < get_or numbers 3 0 → clock_front behavior text ≡ Err fault.OutOfRangeMinute
+late-minute behavior text numbers front long early late = search rules
+
+pub returns-in-0-clause-answer : goal.returns-in-0-clause-answer
+returns-in-0-clause-answer c = grind (arith, common_steps)
+
+pub returns-in-2-clause-answer : goal.returns-in-2-clause-answer
+returns-in-2-clause-answer c = grind (arith, common_steps)
+
+pub returns-in_default-clause-answer : goal.returns-in_default-clause-answer
+returns-in_default-clause-answer c = grind (arith, common_steps)
+
+pub returns-then-hour-gt23-clause-answer : goal.returns-then-hour-gt23-clause-answer
+returns-then-hour-gt23-clause-answer c =
+    let bytes = c.args.bytes.now in
+    let place = c.args.place in
+    let text : List ℕ = take (length bytes - place) (drop place bytes) in
+    let front = read text _ _ _ c.eight_bytes-front.ensures.bytes c.fitting-fits.ensures.count c.if-fits-lt5.false c.pairs.ensures.numbers in
+    sym (ap (clock_front c.args.behavior) (sym (take_rest bytes place)) ∙ late-hour c.args.behavior text _ front c.if-text-lt5.false c.if-hour-gt23.true)
+
+pub returns-then-minute-gt59-clause-answer : goal.returns-then-minute-gt59-clause-answer
+returns-then-minute-gt59-clause-answer c =
+    let bytes = c.args.bytes.now in
+    let place = c.args.place in
+    let text : List ℕ = take (length bytes - place) (drop place bytes) in
+    let front = read text _ _ _ c.eight_bytes-front.ensures.bytes c.fitting-fits.ensures.count c.if-fits-lt5.false c.pairs.ensures.numbers in
+    sym (ap (clock_front c.args.behavior) (sym (take_rest bytes place))
+    ∙ late-minute c.args.behavior text _ front c.if-text-lt5.false c.if-hour-gt23.false c.if-minute-gt59.true)
 
 pub returns-in_err-after-clause-answer : goal.returns-in_err-after-clause-answer
 returns-in_err-after-clause-answer c =
