@@ -1,0 +1,21 @@
+use Rattle.std.proofs.Common.{arith}
+use Rattle.std.proofs.lemmas.Grind.{common_steps}
+use Rattle.speedate_civil.proofs.time.Time.push_clock.Goals as goal
+
+pub push-requires : goal.push-requires
+push-requires g c = grind (arith, common_steps)
+
+pub push_str-requires-2 : goal.push_str-requires-2
+push_str-requires-2 g c = grind (arith, common_steps)
+
+pub push-requires-2 : goal.push-requires-2
+push-requires-2 g c = grind (arith, common_steps)
+
+pub push_str-requires-3 : goal.push_str-requires-3
+push_str-requires-3 g c = grind (arith, common_steps)
+
+pub returns-clause-text : goal.returns-clause-text
+returns-clause-text g c = grind (arith, common_steps)
+
+pub returns-clause-length : goal.returns-clause-length
+returns-clause-length g c = grind (arith, common_steps)
