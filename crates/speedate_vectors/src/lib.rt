@@ -18,7 +18,8 @@ mod faults;
 mod first_calls;
 #[cfg(test)]
 mod fractions;
-pub mod laws;
+#[cfg(test)]
+mod laws;
 #[cfg(test)]
 mod numbers;
 #[cfg(test)]
