@@ -14,25 +14,25 @@ at-each test (first ∷ rows) zero other all is = (and_parts (test first) _ all)
 at-each test (first ∷ rows) (suc place) other all is = at-each test rows place other (and_parts (test first) _ all).1 is
 
 -- so each text is short
-pub name-short : (error : ParseError) → length (fault_name error) ≤ 29
-name-short error = leb-true _ _ (at-each (λ (row : FaultRow). nat_le (length row.name) 29) fault_rows (fault_place error) (row error "" "") refl refl)
+pub name-short : (fault : ParseError) → length (fault_name fault) ≤ 29
+name-short fault = leb-true _ _ (at-each (λ (row : FaultRow). nat_le (length row.name) 29) fault_rows (fault_place fault) (row fault "" "") refl refl)
 
-pub documentation-short : (error : ParseError) → length (fault_documentation error) ≤ 63
-documentation-short error =
-    leb-true _ _ (at-each (λ (row : FaultRow). nat_le (length row.documentation) 63) fault_rows (fault_place error) (row error "" "") refl refl)
+pub documentation-short : (fault : ParseError) → length (fault_documentation fault) ≤ 63
+documentation-short fault =
+    leb-true _ _ (at-each (λ (row : FaultRow). nat_le (length row.documentation) 63) fault_rows (fault_place fault) (row fault "" "") refl refl)
 
 -- a name as a number, whose digits are its bytes
 abbrev number : List ℕ → ℕ
 number [] = 0
 number (byte ∷ bytes) = byte + 256 * number bytes
 
--- the first fault whose name is a number
+-- the first fault whose name is a given number
 abbrev named : List FaultRow → ℕ → ParseError
 named [] sought = fault.TooShort
 named (row ∷ rows) sought = if number row.name == sought then row.fault else named rows sought
 
 -- the name of a fault leads back to it
-back : (error : ParseError) → named fault_rows (number (fault_name error)) ≡ error
+back : (fault : ParseError) → named fault_rows (number (fault_name fault)) ≡ fault
 back = elim [
   | fault.TooShort ↦ refl
   | fault.ExtraCharacters ↦ refl
