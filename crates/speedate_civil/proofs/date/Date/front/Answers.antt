@@ -82,8 +82,8 @@ returns-in_default-two_digits c =
 pub returns-then-month-lt1 : goal.returns-then-month-lt1
 returns-then-month-lt1 c =
     let front = read c.args.bytes.now _ _ _ c.eight_bytes-front.ensures.bytes c.fitting-place.ensures.count c.if-place-lt-LANES.false c.pairs.ensures.numbers in
-    let day = day-there _ _ _ _ c.two_digits.ensures.value c.in-Some.is in
-    record { answer = sym (no-month c.args.bytes.now _ front c.if-bytes-lt-TEXT_LENGTH.false day.0 (out-of-range _ c.then-month-lt1.either)) }
+    let day : two_digits_at c.args.bytes.now 8 ≡ true = search rules in
+    record { answer = sym (no-month c.args.bytes.now _ front c.if-bytes-lt-TEXT_LENGTH.false day (out-of-range _ c.then-month-lt1.either)) }
 
 pub returns-then-not-is_day : goal.returns-then-not-is_day
 returns-then-not-is_day c =
