@@ -19,7 +19,7 @@ pub fn shift(line: &[u8]) -> Result<(DateTime, Duration), ParseError>
     Ok((start, length))
 }
 
-/// The duration after a space: the bytes between two readers are matched in a function of their own.
+/// The duration after a space. The `match` between the calls of two parsers is a function of its own.
 fn length_after(rest: &[u8]) -> Result<Duration, ParseError>
     ensures answer { result gives duration_after_space rest.now }
 {
