@@ -1,0 +1,145 @@
+# For bin/gate, bin/build_program, bin/build_c and bin/build_js, which set `name` and `root`: what they build is kept in
+# out/ under one sum of the sources and of the kit, so what was built of others is never found. Status 3: it could not.
+# shellcheck shell=sh disable=SC2086,SC2154
+
+# What the program and the C functions stand on, lowest first.
+libraries='speedate_base speedate_civil speedate'
+
+say() {
+    echo "$name: $1" >&2
+}
+
+fail() {
+    say "$1"
+    exit 3
+}
+
+# Sets `kit`, the folder of the kit.
+find_kit() {
+    kit=$(readlink -f "$(command -v rt)") || fail 'rt, the command of the Rattle kit, is not on the PATH'
+    kit=${kit%/bin/rt}
+}
+
+# sum_of CRATE..: one sum for all that crates are made from: their sources, whatever their dates, and the kit. What stands
+# beside the crates is no part of it.
+sum_of() {
+    find_kit
+    # KIT-ID is what `rt version` prints, which alone would take longer than all the rest here.
+    identity=$(cat "$kit/KIT-ID" 2>/dev/null) || identity=$(rt version </dev/null) || fail 'rt version failed'
+    sources=$(cd "$root/crates" && find ../crates.txt "$@" \( -name out -o -name must-fail \) -prune -o -type f -exec sha256sum {} +) ||
+        fail 'the sources cannot be read'
+    inputs=$(printf '%s\n' "$identity" "$sources" | LC_ALL=C sort) || fail 'sort failed'
+    sum=$(printf '%s\n' "$inputs" | sha256sum) || fail 'sha256sum failed'
+    echo "${sum%% *}"
+}
+
+# keep FILE NAME: keeps a file in out/ under a name with a sum after its last hyphen. It gets the name last and whole, and
+# files with another sum there go.
+keep() {
+    kept=$root/out/$2
+    cp "$1" "$kept.$$" && mv "$kept.$$" "$kept" || return
+    for older in "${kept%-*}"-*; do
+        case $older in "$kept"*) ;; *) rm -f "$older" ;; esac
+    done
+}
+
+# make_once FILE COMMAND..: has a file of out/ made by a command, if it is not there. The second of two first runs waits,
+# and finds what the first has made. Where there is no flock it makes that once more after the first, since rt lets one at
+# a time work in a crate.
+make_once() {
+    [ ! -f "$1" ] || return 0
+    mkdir -p "$root/out" || fail 'the folder out cannot be made'
+    (
+        if command -v flock >/dev/null && ! flock -n 9; then
+            say 'waiting for the build of another run'
+            flock 9 || fail 'flock failed'
+        fi
+        [ ! -f "$1" ] || exit 0
+        shift
+        "$@"
+    ) 9<"$root/bin" || exit 3
+}
+
+# say_crate CRATE CRATE..: says that the first one is being proved, and its place among the others.
+say_crate() {
+    crate=$1 at=0 place=0
+    shift
+    for it in "$@"; do
+        at=$((at + 1))
+        [ "$it" != "$crate" ] || place=$at
+    done
+    say "proving $crate ($place of $at)"
+}
+
+# show_progress CRATE..: hands on the lines of a build, says which crate is being proved, and tells a terminal how far.
+show_progress() {
+    while IFS= read -r line; do
+        printf '%s\n' "$line"
+        case $line in
+        'rt: chose '*) say_crate "${line##* }" "$@" ;;
+        'so far: '*) [ ! -t 2 ] || echo "    ${line#so far: }" >&2 ;;
+        'rt: '*waiting*) say "${line#rt: }" ;;
+        esac
+    done
+}
+
+# prove CRATE COMMAND..: runs a command that proves a crate and builds it, in its folder. What it said stands in a log, and
+# on standard error if it failed.
+prove() {
+    top=$1 log=$root/out/$1.log
+    shift
+    {
+        (cd "$root/crates/$top" && "$@") </dev/null 2>&1
+        echo "ended with status $?"
+    } | show_progress $libraries "$top" >"$log"
+    [ "$(tail -n 1 "$log")" = 'ended with status 0' ] || {
+        cat "$log" >&2
+        return 1
+    }
+}
+
+# build_archive TRIPLE: leaves the static library of these sources and this kit in out/, and sets `archive` to its path.
+build_archive() {
+    triple=$1
+    archive_sum=$(sum_of $libraries speedate_c) || exit 3
+    archive=$root/out/speedate_c-$triple-$archive_sum.a
+    make_once "$archive" make_archive
+}
+
+make_archive() {
+    find_kit
+    libraries_sum=$(sum_of $libraries) || exit 3
+    gate=$root/out/libraries-$libraries_sum.tar
+    made=$(mktemp -d) || fail 'there is no folder for temporary files'
+    trap 'rm -rf "$made"' EXIT
+    if [ -f "$gate" ]; then
+        tar xf "$gate" -C "$made" || fail 'what the gate built cannot be unpacked'
+        say_crate speedate_c $libraries speedate_c
+        prove speedate_c build_over_gate || fail 'the library was not built'
+    else
+        say 'proving and building, which takes about ten minutes the first time'
+        prove speedate_c build_from_sources || fail 'the library was not built'
+    fi
+    sum_now=$(sum_of $libraries speedate_c) || exit 3
+    [ "$sum_now" = "$archive_sum" ] || fail 'the sources changed while they were proved: start it again'
+    keep "$made/libspeedate.a" "${archive##*/}" || fail 'the library cannot be kept'
+}
+
+build_from_sources() {
+    # The libraries of all targets have one name, so each is copied at once.
+    rt lib --target "$triple" && cp out/libspeedate_c.a "$made/libspeedate.a"
+}
+
+# Proves and builds the C functions alone, over the libraries that the gate proved.
+build_over_gate() {
+    set --
+    for it in std $(sed -n 's/^speedate_c .*: //p' "$root/crates.txt"); do
+        folder=$kit/rlibs
+        [ ! -d "$root/crates/$it" ] || folder=$made
+        set -- "$@" --extern "$it=$folder/$it.rlib"
+    done
+    "$kit/bin/rattle" build --crate-name speedate_c src/lib.rt --crate-type staticlib --target "$triple" "$@" \
+        -L "dependency=$kit/rlibs" -L "dependency=$made" --antt-project "$kit/rattle/logic/antt-project.json" \
+        --logic-built "$kit/logic_built" --incremental "$root/out/incremental" --links speedate_c= --jobs 2 \
+        --toolchain "$kit/toolchain" --backend llvm -o "$made/libspeedate.a"
+}
