@@ -138,8 +138,23 @@ build_over_gate() {
         [ ! -d "$root/crates/$it" ] || folder=$made
         set -- "$@" --extern "$it=$folder/$it.rlib"
     done
-    "$kit/bin/rattle" build --crate-name speedate_c src/lib.rt --crate-type staticlib --target "$triple" "$@" \
+    set -- build --crate-name speedate_c src/lib.rt --crate-type staticlib --target "$triple" "$@" \
         -L "dependency=$kit/rlibs" -L "dependency=$made" --antt-project "$kit/rattle/logic/antt-project.json" \
-        --logic-built "$kit/logic_built" --incremental "$root/out/incremental" --links speedate_c= --jobs 2 \
+        --logic-built "$kit/logic_built" --incremental "$root/out/incremental" --links speedate_c= \
         --toolchain "$kit/toolchain" --backend llvm -o "$made/libspeedate.a"
+    count_jobs
+    "$kit/bin/rattle" "$@" --jobs $jobs || {
+        # Killed, most likely for memory.
+        [ $? = 137 ] && "$kit/bin/rattle" "$@" --jobs 1
+    }
+}
+
+# Sets `jobs`: one for each processor for which 2 GB are free, at most four.
+count_jobs() {
+    free=$(sed -n 's/^MemAvailable: *\([0-9]*\) kB$/\1/p' /proc/meminfo)
+    processors=$(nproc)
+    jobs=1
+    while [ $jobs -lt 4 ] && [ $jobs -lt "$processors" ] && [ "$free" -gt $((2000000 * (jobs + 1))) ]; do
+        jobs=$((jobs + 1))
+    done
 }
