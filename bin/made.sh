@@ -113,7 +113,7 @@ make_archive() {
     made=$(mktemp -d) || fail 'there is no folder for temporary files'
     trap 'rm -rf "$made"' EXIT
     if [ -f "$gate" ]; then
-        tar xf "$gate" -C "$made" || fail 'what the gate built cannot be unpacked'
+        tar xf "$gate" -C "$made" || fail "$gate cannot be unpacked: remove it"
         say_crate speedate_c $libraries speedate_c
         prove speedate_c build_over_gate || fail 'the library was not built'
     else
