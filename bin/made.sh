@@ -20,21 +20,21 @@ find_kit() {
     kit=${kit%/bin/rt}
 }
 
-# sum_of CRATE..: one sum for all that crates are made from: their sources, whatever their dates, and the kit. What stands
-# beside the crates is no part of it.
+# sum_of CRATE..: one sum for all that crates are made from: their sources, whatever their dates, and the kit. No other
+# crate is part of it.
 sum_of() {
     find_kit
     # KIT-ID is what `rt version` prints, which alone would take longer than all the rest here.
     identity=$(cat "$kit/KIT-ID" 2>/dev/null) || identity=$(rt version </dev/null) || fail 'rt version failed'
-    sources=$(cd "$root/crates" && find ../crates.txt "$@" \( -name out -o -name must-fail \) -prune -o -type f -exec sha256sum {} +) ||
-        fail 'the sources cannot be read'
+    sources=$(cd "$root/crates" && find ../crates.txt "$@" \( -name out -o -name must-fail \) -prune -o \
+        -type f -exec sha256sum {} +) || fail 'the sources cannot be read'
     inputs=$(printf '%s\n' "$identity" "$sources" | LC_ALL=C sort) || fail 'sort failed'
     sum=$(printf '%s\n' "$inputs" | sha256sum) || fail 'sha256sum failed'
     echo "${sum%% *}"
 }
 
-# keep FILE NAME: keeps a file in out/ under a name with a sum after its last hyphen. It gets the name last and whole, and
-# files with another sum there go.
+# keep FILE NAME: keeps a file in out/ under a name with a sum after its last hyphen. It gets the name last and whole,
+# and files with another sum there go.
 keep() {
     kept=$root/out/$2
     cp "$1" "$kept.$$" && mv "$kept.$$" "$kept" || return
@@ -43,9 +43,9 @@ keep() {
     done
 }
 
-# make_once FILE COMMAND..: has a file of out/ made by a command, if it is not there. The second of two first runs waits,
-# and finds what the first has made. Where there is no flock it makes that once more after the first, since rt lets one at
-# a time work in a crate.
+# make_once FILE COMMAND..: has a file of out/ made by a command, if it is not there. The second of two first runs
+# waits, and finds what the first has made. Where there is no flock it makes that once more after the first, since rt
+# lets one at a time work in a crate.
 make_once() {
     [ ! -f "$1" ] || return 0
     mkdir -p "$root/out" || fail 'the folder out cannot be made'
@@ -83,8 +83,8 @@ show_progress() {
     done
 }
 
-# prove CRATE COMMAND..: runs a command that proves a crate and builds it, in its folder. What it said stands in a log, and
-# on standard error if it failed.
+# prove CRATE COMMAND..: runs a command that proves a crate and builds it, in its folder. What it said stands in a log,
+# and on standard error if it failed.
 prove() {
     top=$1 log=$root/out/$1.log
     shift
