@@ -20,7 +20,6 @@ const DAYS_PER_YEAR: u32 = 365;
 
 /// Appends a number of at most eight digits, without leading zeros: `120` for 120.
 #[inline(always)]
-#[tactic(auto, using(crate::proofs::DurationTextLemmas::printed_digits))]
 fn push_number<const LENGTH: usize>(number: u32, text: &mut ArrayString<LENGTH>)
     requires few { number < 100000000 }
     requires room { array_string_len text.old + length (decimal number) ≤ LENGTH }
@@ -37,7 +36,6 @@ fn push_number<const LENGTH: usize>(number: u32, text: &mut ArrayString<LENGTH>)
 
 /// Appends a number of at most four digits, without leading zeros.
 #[inline(always)]
-#[tactic(auto, using(crate::proofs::DurationTextLemmas::printed_digits))]
 fn push_up_to_four_digits<const LENGTH: usize>(number: u32, text: &mut ArrayString<LENGTH>)
     requires few { number < 10000 }
     requires room { array_string_len text.old + length (decimal number) ≤ LENGTH }
@@ -53,7 +51,6 @@ fn push_up_to_four_digits<const LENGTH: usize>(number: u32, text: &mut ArrayStri
 
 /// Appends a number of one digit or two, without leading zeros.
 #[inline(always)]
-#[tactic(auto, using(crate::proofs::DurationTextLemmas::printed_digits))]
 fn push_up_to_two_digits<const LENGTH: usize>(number: u8, text: &mut ArrayString<LENGTH>)
     requires few { number < 100 }
     requires room { array_string_len text.old + length (decimal number) ≤ LENGTH }
@@ -127,7 +124,6 @@ fn push_last_places<const LENGTH: usize>(number: u8, text: &mut ArrayString<LENG
 
 /// Appends seconds and microseconds, and nothing for none: `7.5S` for 7 and 500,000.
 #[inline(always)]
-#[tactic(auto, using(crate::proofs::DurationTextLemmas::printed_lengths))]
 fn push_seconds<const LENGTH: usize>(second: u32, microsecond: u32, text: &mut ArrayString<LENGTH>)
     requires few { second < 60 }
     requires small { microsecond ≤ 999999 }
@@ -174,7 +170,6 @@ impl Duration {
     /// Appends the text of [`Duration::to_text`]: `ok ` becomes `ok P1DT2H`. There must be room for 31
     /// bytes, the longest text, which is a condition on the caller.
     #[inline(always)]
-    #[tactic(auto, using(crate::proofs::DurationTextLemmas::printed_lengths))]
     pub fn push_onto<const LENGTH: usize>(&self, text: &mut ArrayString<LENGTH>)
         requires room { array_string_len text.old + TEXT_MAX ≤ LENGTH }
         ensures text { text.new.bytes
@@ -189,7 +184,6 @@ impl Duration {
 
     /// Appends what follows the days.
     #[inline(always)]
-    #[tactic(auto, using(crate::proofs::DurationTextLemmas::printed_lengths))]
     fn push_rest<const LENGTH: usize>(&self, text: &mut ArrayString<LENGTH>)
         requires room { array_string_len text.old + 17 ≤ LENGTH }
         ensures text { text.new.bytes ≡ text.old.bytes ++ rest_text (duration_numbers self.now) }
