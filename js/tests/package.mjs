@@ -1,4 +1,4 @@
-// Wrong arguments, options, values, long texts, many calls, and the examples of a document: node package.mjs DOCUMENT.
+// Wrong arguments, options, values, long texts, many calls, and the examples of documents: node package.mjs DOCUMENT..
 import assert from "node:assert/strict";
 import { readFileSync, writeFileSync } from "node:fs";
 import { setFlagsFromString } from "node:v8";
@@ -111,13 +111,18 @@ for (const name of ["README.md", "GRAMMAR.md"])
   for (const [, file, place] of documentOf(name).matchAll(/\]\(([^)#]*)#?([^)]*)\)/g))
     assert.ok(place === "" ? documentOf(file) : places(documentOf(file || name)).includes(place), `${name}: ${file}#${place}`);
 
-// ---- The examples of the document, whose results stand after them ----
+// ---- The examples of the documents, whose results stand after them ----
 
-const script = scriptOf(readFileSync(process.argv[2], "utf8"), "js", "");
-const count = script.match(/^(equals|fails)\(/gm).length;
-assert.ok(count > 5);
 const fails = (call, name) => assert.throws(call, (error) => (error.fault ?? error.name) === name);
 Object.assign(globalThis, { equals: assert.deepEqual, fails });
-writeFileSync("script.mjs", script);
-await import("./script.mjs");
+let count = 0;
+for (const [i, document] of process.argv.slice(2).entries()) {
+  const script = scriptOf(readFileSync(document, "utf8"), "js", "");
+  const examples = script.match(/^(equals|fails)\(/gm) ?? [];
+  assert.ok(examples.length > 1, document);
+  count += examples.length;
+  writeFileSync(`script${i}.mjs`, script);
+  await import(`./script${i}.mjs`);
+}
+assert.ok(count > 7);
 console.log(`${Object.keys(CALLS).length} calls by wrong arguments, long texts, ${count} examples`);
