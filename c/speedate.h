@@ -1,5 +1,5 @@
 /* SPDX-License-Identifier: MIT */
-/* speedate.h: exact dates, times of day, date-times and durations, read from texts and printed.
+/* speedate.h: exact dates, times of day, date-times and durations, parsed from texts and printed.
  *
  * What holds for every call:
  *
@@ -58,7 +58,7 @@ enum SpeedateCode {
     SPEEDATE_INVALID_CHAR_DATE_TIME_SEP = 3,
     /* Year, month and day are not separated by `-`. */
     SPEEDATE_INVALID_CHAR_DATE_SEP = 4,
-    /* A timestamp that is read as a date is not a midnight, or a duration that moves a date is not whole days. */
+    /* A timestamp that is parsed as a date is not a midnight, or a duration that moves a date is not whole days. */
     SPEEDATE_DATE_NOT_EXACT = 5,
     /* The year is not four digits. */
     SPEEDATE_INVALID_CHAR_YEAR = 6,
@@ -194,7 +194,7 @@ int speedate_code_documentation(int code, char *buffer, size_t size, size_t *len
 
 /* ---- Configurations ---- */
 
-/* How texts and timestamps are read. In each field 0 is the default. A field that a call does not use has to be in
+/* How texts and timestamps are parsed. In each field 0 is the default. A field that a call does not use has to be in
  * range too. */
 typedef struct SpeedateConfig {
     /* The offset from UTC, in seconds, that the value of a timestamp gets: less than 24 hours in either direction. For
@@ -282,14 +282,14 @@ typedef struct SpeedateDuration {
 
 /* ---- Dates ---- */
 
-/* Reads a date, "2020-02-29", or in its place a timestamp, "1582934400", in the unit of the configuration. Every whole
+/* Parses a date, "2020-02-29", or in its place a timestamp, "1582934400", in the unit of the configuration. Every whole
  * number is a timestamp, 20200229 too, and has to be a midnight. speedate_date_parse_rfc3339 refuses timestamps. */
 int speedate_date_parse(const char *text, size_t size, SpeedateConfig config, SpeedateDate *out);
 
-/* Reads a date and no timestamp. */
+/* Parses a date and no timestamp. */
 int speedate_date_parse_rfc3339(const char *text, size_t size, SpeedateDate *out);
 
-/* Reads the date at the front of a text, whatever follows it, and writes how many bytes it takes to *taken:
+/* Parses the date at the front of a text, whatever follows it, and writes how many bytes it takes to *taken:
  * 2020-02-29, and 10, from "2020-02-29 opening balance". */
 int speedate_date_parse_front(const char *text, size_t size, SpeedateDate *out, size_t *taken);
 
@@ -297,7 +297,7 @@ int speedate_date_parse_front(const char *text, size_t size, SpeedateDate *out, 
  * SPEEDATE_OUT_OF_RANGE_MONTH and SPEEDATE_OUT_OF_RANGE_DAY that applies. */
 int speedate_date_check(SpeedateDate date);
 
-/* Prints a date: "2020-02-29". The text reads back as the date. */
+/* Prints a date: "2020-02-29". The text parses as the date. */
 int speedate_date_to_text(SpeedateDate date, char *buffer, size_t size, size_t *length);
 
 /* Writes -1 if the first date is the earlier one, 0 if they are equal, otherwise 1. Their texts have the same order. */
@@ -331,15 +331,15 @@ int speedate_date_days_since(SpeedateDate date, SpeedateDate earlier, int32_t *o
 
 /* ---- Times ---- */
 
-/* Reads a time: "12:13:14.5+01:00". */
+/* Parses a time: "12:13:14.5+01:00". */
 int speedate_time_parse(const char *text, size_t size, SpeedateConfig config, SpeedateTime *out);
 
-/* Reads the times of RFC 3339 and no others. Of these it refuses a second 60, and with SPEEDATE_OVERFLOW_ERROR more
+/* Parses the times of RFC 3339 and no others. Of these it refuses a second 60, and with SPEEDATE_OVERFLOW_ERROR more
  * than six digits in a fraction. Of the configuration only overflow_behavior matters. A text that speedate_time_parse
  * refuses has the same fault here. */
 int speedate_time_parse_strict(const char *text, size_t size, SpeedateConfig config, SpeedateTime *out);
 
-/* Reads the time at the front of a text, and writes how many bytes it takes to *taken: 12:13:14Z, and 9, from
+/* Parses the time at the front of a text, and writes how many bytes it takes to *taken: 12:13:14Z, and 9, from
  * "12:13:14Z GET /". */
 int speedate_time_parse_front(const char *text, size_t size, SpeedateConfig config, SpeedateTime *out, size_t *taken);
 
@@ -348,7 +348,7 @@ int speedate_time_parse_front(const char *text, size_t size, SpeedateConfig conf
  * SPEEDATE_OUT_OF_RANGE_TZ (the offset or its flag) that applies. */
 int speedate_time_check(SpeedateTime time);
 
-/* Prints a time: "12:13:14.500000+01:30", "12:13:14Z". The text reads back as the time if the offset is absent or whole
+/* Prints a time: "12:13:14.500000+01:30", "12:13:14Z". The text parses as the time if the offset is absent or whole
  * minutes; the seconds of any other offset are not printed. */
 int speedate_time_to_text(SpeedateTime time, char *buffer, size_t size, size_t *length);
 
@@ -372,20 +372,20 @@ int speedate_time_in_timezone(SpeedateTime time, int32_t offset, SpeedateTime *o
 
 /* ---- Date-times ---- */
 
-/* Reads a date-time, "2020-02-29T12:13:14.5+01:00", or in its place a timestamp, "1582978394.5", in the unit and with
+/* Parses a date-time, "2020-02-29T12:13:14.5+01:00", or in its place a timestamp, "1582978394.5", in the unit and with
  * the offset of the configuration, and without one if that has none. Every number is a timestamp, 20200229 too:
  * speedate_datetime_parse_rfc3339 refuses them. */
 int speedate_datetime_parse(const char *text, size_t size, SpeedateConfig config, SpeedateDateTime *out);
 
-/* Reads the same texts as speedate_datetime_parse, without timestamps. Despite its name it is otherwise as relaxed:
- * RFC 3339 alone is speedate_datetime_parse_strict. */
+/* Parses the same texts as speedate_datetime_parse, without timestamps. Despite its name it is otherwise as relaxed:
+ * RFC 3339 and nothing else is speedate_datetime_parse_strict. */
 int speedate_datetime_parse_rfc3339(const char *text, size_t size, SpeedateConfig config, SpeedateDateTime *out);
 
-/* Reads the date-times of RFC 3339 and no others, as speedate_time_parse_strict reads times. */
+/* Parses the date-times of RFC 3339 and no others, as speedate_time_parse_strict parses times. */
 int speedate_datetime_parse_strict(const char *text, size_t size, SpeedateConfig config, SpeedateDateTime *out);
 
-/* Reads the date-time at the front of a text, and writes how many bytes it takes to *taken: 2026-11-22T12:13:14Z, and
- * 20, from "2026-11-22T12:13:14Z GET /". It reads no timestamp (cut out the word and call speedate_datetime_parse) and
+/* Parses the date-time at the front of a text, and writes how many bytes it takes to *taken: 2026-11-22T12:13:14Z, and
+ * 20, from "2026-11-22T12:13:14Z GET /". It parses no timestamp (cut out the word and call speedate_datetime_parse) and
  * no date alone (call speedate_date_parse_front). An offset has to follow without a space. For texts with nanoseconds
  * set SPEEDATE_OVERFLOW_TRUNCATE. */
 int speedate_datetime_parse_front(const char *text, size_t size, SpeedateConfig config, SpeedateDateTime *out,
@@ -395,7 +395,7 @@ int speedate_datetime_parse_front(const char *text, size_t size, SpeedateConfig 
  * the date is in range, what speedate_time_check returns for the time. */
 int speedate_datetime_check(SpeedateDateTime value);
 
-/* Prints a date-time: "2020-02-29T12:13:14.500000+01:30". The text reads back as the date-time
+/* Prints a date-time: "2020-02-29T12:13:14.500000+01:30". The text parses as the date-time
  * under the condition of speedate_time_to_text. */
 int speedate_datetime_to_text(SpeedateDateTime value, char *buffer, size_t size, size_t *length);
 
@@ -428,7 +428,7 @@ int speedate_datetime_in_timezone(SpeedateDateTime value, int32_t offset, Speeda
 
 /* ---- Durations ---- */
 
-/* Reads a duration: "P1Y2DT3H4M5.5S" (ISO 8601), "-00:01:30.5" (a clock) or "2 days, 10:20" (days and a clock). A year
+/* Parses a duration: "P1Y2DT3H4M5.5S" (ISO 8601), "-00:01:30.5" (a clock) or "2 days, 10:20" (days and a clock). A year
  * is 365 days and a month 30; no call adds calendar months. */
 int speedate_duration_parse(const char *text, size_t size, SpeedateConfig config, SpeedateDuration *out);
 
@@ -442,7 +442,7 @@ int speedate_duration_normalize(SpeedateDuration numbers, SpeedateDuration *out)
  * SPEEDATE_DURATION_DAYS_TOO_LARGE for the days, SPEEDATE_DURATION_VALUE_TOO_LARGE for any other. */
 int speedate_duration_check(SpeedateDuration duration);
 
-/* Prints a duration: "PT1H30M". The text reads back as the duration. */
+/* Prints a duration: "PT1H30M". The text parses as the duration. */
 int speedate_duration_to_text(SpeedateDuration duration, char *buffer, size_t size, size_t *length);
 
 /* Writes -1 if the first duration is the smaller one, 0 if they are equal, otherwise 1. Negative zero is smaller than
@@ -478,7 +478,7 @@ int speedate_duration_before_date(SpeedateDuration duration, SpeedateDate start,
 
 /* ---- Numbers ---- */
 
-/* Reads a whole number, "-012": one optional + or - and one or more digits. Any other text, and a number that does not
+/* Parses a whole number, "-012": one optional + or - and one or more digits. Any other text, and a number that does not
  * fit 64 bits, fails with SPEEDATE_VALUE_OUT_OF_RANGE. */
 int speedate_int_parse(const char *text, size_t size, int64_t *out);
 

@@ -14,8 +14,8 @@ export type SpeedateTime = {
 };
 /** A date and a time of day, as a clock at the offset shows them. */
 export type SpeedateDateTime = SpeedateDate & SpeedateTime;
-/** A length of time: up to 999999999 days of 86400 seconds, 86399 `seconds`, and 999 `milliseconds` and `microseconds` each. Each
- * is 0 or has the sign. Zero may be negative too: `-PT0S` and `PT0S` differ. */
+/** A length of time: `days` of 86400 seconds up to 999999999, `seconds` up to 86399, `milliseconds` and `microseconds` up to
+ * 999. If `sign` is -1, they are 0 or negative. Zero may be negative too: `-PT0S` and `PT0S` differ. */
 export type SpeedateDuration = {
   readonly sign: 1 | -1; readonly days: number; readonly seconds: number; readonly milliseconds: number; readonly microseconds: number;
 };
@@ -38,7 +38,7 @@ export type Front<Value, Text> = { readonly value: Value; readonly size: number 
 /** `infer` is `s` if the timestamp without its sign is at most 20000000000, otherwise `ms`. */
 export type TimestampUnit = "infer" | "s" | "ms" | "us";
 
-/** Timestamps are read too, in this unit: every whole number, 20200229 as well, and of date-times every decimal. A date's has
+/** Timestamps are parsed too, in this unit: every whole number, 20200229 as well, and of date-times every decimal. A date's has
  * to be a midnight. */
 export type TimestampOptions = { timestamps?: TimestampUnit };
 /** The offset that the value of a timestamp gets, in seconds: 0 for Unix time. It is attached, and shifts nothing. Without
@@ -47,7 +47,7 @@ export type OffsetOptions = { timestampOffset?: number };
 /** What happens to digits past the microsecond: `error`, the default, refuses the text; `truncate` drops them, and rounds a
  * timestamp to the nearest microsecond. An ISO 8601 duration is rounded under both. */
 export type OverflowOptions = { overflow?: "error" | "truncate" };
-/** Only the texts of RFC 3339 are read, without a second 60. */
+/** Only the texts of RFC 3339 are accepted, without a second 60. */
 export type StrictOptions = OverflowOptions & { strict?: boolean };
 /** `timestamps` and `strict` cannot be combined. */
 export type DateTimeOptions =
@@ -62,15 +62,15 @@ type Reader<Value, Options> = (text: Text, options?: Options) => Value;
 type FrontReader<Value, Options> = <It extends Text>(text: It, options?: Options) => Front<Value, It>;
 type SafeFrontReader<Value, Options> = <It extends Text>(text: It, options?: Options) => Answer<Front<Value, It>>;
 
-/** Reads a date: `2020-02-29`. */
+/** Parses a date: `2020-02-29`. */
 export const parseDate: Reader<SpeedateDate, TimestampOptions>;
-/** Reads a time of day: `12:13:14.5+01:00`. */
+/** Parses a time of day: `12:13:14.5+01:00`. */
 export const parseTime: Reader<SpeedateTime, StrictOptions>;
-/** Reads a date-time: `2020-02-29T12:13:14.5+01:00`. */
+/** Parses a date-time: `2020-02-29T12:13:14.5+01:00`. */
 export const parseDateTime: Reader<SpeedateDateTime, DateTimeOptions>;
-/** Reads a duration: `PT90M`, `-00:01:30.5` or `2 days, 10:20`. A year is 365 days, and a month 30. */
+/** Parses a duration: `PT90M`, `-00:01:30.5` or `2 days, 10:20`. A year is 365 days, and a month 30. */
 export const parseDuration: Reader<SpeedateDuration, DurationOptions>;
-/** Reads the date at the front of a text, whatever follows it. It has no options. */
+/** Parses the date at the front of a text, whatever follows it. It has no options. */
 export const parseDateFront: FrontReader<SpeedateDate, Record<string, never>>;
 /** The same of a time: `12:13` of `12:13, noon`. */
 export const parseTimeFront: FrontReader<SpeedateTime, OverflowOptions>;
@@ -98,7 +98,7 @@ export function toDate(value: SpeedateDateTime): Date;
 /** The date-time of a Date, at the offset 0. `date_too_small` or `date_too_large` outside the years 0 to 9999. */
 export function fromDate(date: Date): SpeedateDateTime;
 
-/** The one text of a value: `PT1H30M` of 90 minutes. A RangeError where an offset is not whole minutes, since it would read back
+/** The one text of a value: `PT1H30M` of 90 minutes. A RangeError where an offset is not whole minutes, since it would be parsed
  * as another. */
 export function format(value: SpeedateValue): string;
 /** The order of two values, for `sort`: -1 if the first is the smaller one, 0 if they are equal, otherwise 1. Times and

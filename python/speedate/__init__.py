@@ -15,7 +15,7 @@ and `datetime` refuses to compare the two.
 
 A refusal is a `ValueError`: a `Fault` from the library, an `Unrepresentable` where Python has no such value, a plain
 one for an argument that is out of range. An argument of a wrong type is a `TypeError`. So is a `Config` with a unit or
-an offset of timestamps in a call that reads none: `date`, `date_time` and `date_time_column` read timestamps only with
+an offset of timestamps in a call that parses none: `date`, `date_time` and `date_time_column` parse timestamps only with
 `timestamps=True`.
 """
 import dataclasses
@@ -99,7 +99,7 @@ def _choice(name, value, *choices):
 @final
 @dataclasses.dataclass(frozen=True)
 class Config:
-    """How texts and timestamps are read.
+    """How texts and timestamps are parsed.
 
     - `timestamp_unit`: the unit of timestamps, `s`, `ms` or `us`. With `infer`, the default, they are seconds up to
       20,000,000,000 in absolute value, and milliseconds above.

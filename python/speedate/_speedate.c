@@ -842,33 +842,33 @@ static void release(void *module) {
 
 static PyMethodDef methods[] = {
     METHOD(date, "(text, config=None, *, timestamps=False)",
-           "The date that a text is. With `timestamps` a timestamp is read too, which has to be a midnight.\n\n"
+           "Parses a date. With `timestamps=True` also a timestamp, if it is a midnight.\n\n"
            ">>> date(\"2020-02-29\")\n"
            "datetime.date(2020, 2, 29)\n"
            ">>> date(\"1582934400\", timestamps=True)\n"
            "datetime.date(2020, 2, 29)\n"),
     METHOD(time, "(text, config=None)",
-           "The time of day that a text is.\n\n"
+           "Parses a time of day.\n\n"
            ">>> time(\"12:13:14,5Z\")\n"
            "datetime.time(12, 13, 14, 500000, tzinfo=datetime.timezone.utc)\n"),
     METHOD(date_time, "(text, config=None, *, timestamps=False)",
-           "The date-time that a text is. With `timestamps` a timestamp is read too, whole or decimal: `20200229` is one.\n\n"
+           "Parses a date-time. With `timestamps=True` also a timestamp, whole or decimal: `20200229` is one.\n\n"
            ">>> date_time(\"2020-02-29 12:13\")\n"
            "datetime.datetime(2020, 2, 29, 12, 13)\n"
            ">>> date_time(\"1654646404.25\", Config(timestamp_offset=0), timestamps=True)\n"
            "datetime.datetime(2022, 6, 8, 0, 0, 4, 250000, tzinfo=datetime.timezone.utc)\n"),
     METHOD(duration, "(text, config=None)",
-           "The duration that a text is. A year is 365 days, a month 30; `-PT0S` is `timedelta(0)`.\n\n"
+           "Parses a duration. A year is 365 days, a month 30; `-PT0S` is `timedelta(0)`.\n\n"
            "Its sign covers the whole text, while in `str()` of a timedelta it covers the days alone: print by `text`.\n\n"
            ">>> duration(\"-1 day, 23:59:59\")\n"
            "datetime.timedelta(days=-2, seconds=1)\n"),
     METHOD(time_strict, "(text, config=None)",
-           "The time that a text is; only RFC 3339 is accepted.\n\n"
+           "Parses a time of RFC 3339 and nothing else.\n\n"
            ">>> time_strict(\"12:13+01:00\")\n"
            "Traceback (most recent call last):\n"
            "speedate.Fault: invalid_char_time_sep\n"),
     METHOD(date_time_strict, "(text, config=None)",
-           "The date-time that a text is; only RFC 3339 is accepted.\n\n"
+           "Parses a date-time of RFC 3339 and nothing else.\n\n"
            ">>> date_time_strict(\"2020-02-29T12:13:14\")\n"
            "Traceback (most recent call last):\n"
            "speedate.Fault: tz_required\n"),
@@ -890,7 +890,8 @@ static PyMethodDef methods[] = {
            ">>> date_from_timestamp(1582978394, exact=False)\n"
            "datetime.date(2020, 2, 29)\n"),
     METHOD(time_from_timestamp, "(second, microsecond=0, config=None)",
-           "The time so many seconds and microseconds, each of 32 bits, after midnight. It reads no unit.\n\n"
+           "The time `second` seconds and `microsecond` microseconds after midnight, both less than 2**32. Of `config` only\n"
+           "`timestamp_offset` is used.\n\n"
            ">>> time_from_timestamp(36_005, 1_500_000)\n"
            "datetime.time(10, 0, 6, 500000)\n"),
     METHOD(date_time_from_timestamp, "(timestamp, microsecond=0, config=None)",
@@ -901,7 +902,7 @@ static PyMethodDef methods[] = {
            "The microseconds from 1970-01-01T00:00Z to each date-time, as an `array.array(\"q\")`.\n\n"
            "`texts` is an iterable of texts, each as `date_time` takes it, or `bytes`, a `bytearray` or a `memoryview`, whose\n"
            "lines they are: a line feed ends a line, and the last line may lack it. A carriage return is part of its line.\n"
-           "Texts are read as by `date_time_strict` with `strict`, with timestamps among them with `timestamps`.\n\n"
+           "With `strict=True` they are parsed as by `date_time_strict`, and with `timestamps=True` they may be timestamps.\n\n"
            "A text without an offset fails with `tz_required`, or is taken as UTC with `naive=\"utc\"`; so is a timestamp, unless\n"
            "the configuration has an offset: for Unix time it is `Config(timestamp_offset=0)`. The `index` of a `Fault` is the\n"
            "place of its text. With `faults=\"nat\"` the smallest number, NumPy's NaT, stands in that place.\n\n"
