@@ -17,6 +17,8 @@ static void report(int number, int code) {
 }
 
 int main(void) {
+    /* For nine digits of a second, which Go, Docker and Kubernetes print, set its overflow_behavior to
+     * SPEEDATE_OVERFLOW_TRUNCATE: by default they are refused. */
     SpeedateConfig config = SPEEDATE_CONFIG_DEFAULT;
     SpeedateDateTime first, last, moment;
     SpeedateDuration span;

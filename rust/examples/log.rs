@@ -27,7 +27,8 @@ fn main() -> Result<(), Box<dyn Error>> {
     Ok(())
 }
 
-/// The date-time of a line in UTC, and what follows it.
+/// The date-time of a line in UTC, and what follows it. Nine digits of a second, which Go, Docker and Kubernetes print, are
+/// refused, unless the configuration says `Truncate`.
 fn entry(line: &[u8]) -> Result<(DateTime, String), ParseError> {
     let (moment, size) = DateTime::parse_front(line, &TimeConfig::default())?;
     Ok((moment.in_timezone(0)?, String::from_utf8_lossy(&line[size..]).into_owned()))
