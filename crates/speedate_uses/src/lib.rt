@@ -1,5 +1,5 @@
 //! Uses of the library, as crates of other workspaces would write them: each file is one use, whose
-//! tests stand in `speedate_uses_tests`. `README.md` shows part of one, and `docs/CALLING.md` of another.
+//! tests stand in `speedate_uses_tests`. `docs/CALLING.md` shows parts of two.
 #![tactic(auto)]
 
 pub mod calendar;
