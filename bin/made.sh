@@ -2,6 +2,8 @@
 # out/ under one sum of the sources and of the kit, so what was built of others is never found. Status 3: it could not.
 # shellcheck shell=sh disable=SC2086,SC2154
 
+. "$root/bin/at_end.sh"
+
 # What the program and the C functions stand on, lowest first.
 libraries='speedate_base speedate_civil speedate'
 
@@ -111,7 +113,7 @@ make_archive() {
     libraries_sum=$(sum_of $libraries) || exit 3
     gate=$root/out/libraries-$libraries_sum.tar
     made=$(mktemp -d) || fail 'there is no folder for temporary files'
-    trap 'rm -rf "$made"' EXIT
+    at_end 'rm -rf "$made"'
     if [ -f "$gate" ]; then
         tar xf "$gate" -C "$made" || fail "$gate cannot be unpacked: remove it"
         say_crate speedate_c $libraries speedate_c
