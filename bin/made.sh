@@ -16,6 +16,16 @@ fail() {
     exit 3
 }
 
+# Sets `version`, with which CHANGELOG.md begins.
+read_version() {
+    version=$(sed -n '/^## /{s///p;q;}' "$root/CHANGELOG.md")
+    case $version in
+    *[!0-9.]* | .* | *..* | *. | *.*.*.*) ;;
+    *.*.*) return ;;
+    esac
+    fail "CHANGELOG.md begins with no version, but with $version"
+}
+
 # Sets `kit`, the folder of the kit.
 find_kit() {
     kit=$(readlink -f "$(command -v rt)") || fail 'rt, the command of the Rattle kit, is not on the PATH'
@@ -43,6 +53,12 @@ keep() {
     for older in "${kept%-*}"-*; do
         case $older in "$kept"*) ;; *) rm -f "$older" ;; esac
     done
+}
+
+# put FILE PLACE MODE: installs a file, whatever the umask is. It gets its name last and whole.
+put() {
+    (umask 022 && mkdir -p "${2%/*}") || fail "the folder ${2%/*} cannot be made"
+    cp "$1" "$2.$$" && chmod "$3" "$2.$$" && mv "$2.$$" "$2" || fail "$2 cannot be written"
 }
 
 # make_once FILE COMMAND..: has a file of out/ made by a command, if it is not there. The second of two first runs
@@ -90,6 +106,8 @@ show_progress() {
 prove() {
     top=$1 log=$root/out/$1.log
     shift
+    # One of an earlier run would be read in its place.
+    true >"$log" || fail "$log cannot be written"
     {
         (cd "$root/crates/$top" && "$@") </dev/null 2>&1
         echo "ended with status $?"
