@@ -39,13 +39,13 @@ build() {
     shift
     command -v cargo >/dev/null || fail 'cargo is not on the PATH'
     command -v cc >/dev/null || fail 'there is no C compiler (cc), by which cargo links'
-    build_library
     if [ -n "${SPEEDATE_SOURCES-}" ]; then
         copy_crate "$root/out/crate"
         set -- --offline --config "patch.crates-io.speedate.path=\"$root/out/crate\"" "$@"
         [ ! -d "$debian" ] ||
             set -- --config 'source.crates-io.replace-with="debian"' --config "source.debian.directory=\"$debian\"" "$@"
     fi
+    build_library
     # It was written for the crates of the last run, which may have come from elsewhere.
     rm -f "$folder/Cargo.lock"
     (cd "$folder" && cargo build -q --release --target-dir target "$@") ||

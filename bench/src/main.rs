@@ -8,12 +8,21 @@ mod read;
 mod row;
 mod texts;
 
+use std::process::ExitCode;
+
 use row::Table;
 
-fn main() {
+fn main() -> ExitCode {
     let prefix = std::env::args().nth(1).unwrap_or_default();
     let mut table = Table::new(prefix);
     read::rows(&mut table);
     print::rows(&mut table);
     arithmetic::rows(&mut table);
+    match table.prefix_of_none() {
+        Some(prefix) => {
+            eprintln!("bench: no row begins with {prefix}");
+            ExitCode::from(3)
+        }
+        None => ExitCode::SUCCESS,
+    }
 }

@@ -32,18 +32,27 @@ fn called<I, T>(call: &impl Fn(&I) -> T, item: &I) -> T {
 /// The rows whose names begin with a prefix, as a table on standard output.
 pub struct Table {
     prefix: String,
+    is_empty: bool,
 }
 
 impl Table {
     pub fn new(prefix: String) -> Self {
-        println!("{:34} {:>10} {:>12} {:>6}  others", "nanoseconds a call", "Rust crate", "this library", "ratio");
-        Table { prefix }
+        Table { prefix, is_empty: true }
+    }
+
+    /// The prefix, if no row began with it.
+    pub fn prefix_of_none(&self) -> Option<&str> {
+        self.is_empty.then_some(&self.prefix)
     }
 
     /// Times the Rust crate, this library and the others on the items, in turns.
     pub fn row<I>(&mut self, name: &str, items: &[I], rust: Side<I>, ours: Side<I>, others: Vec<Side<I>>) {
         if !name.starts_with(&self.prefix) {
             return;
+        }
+        if self.is_empty {
+            println!("{:34} {:>10} {:>12} {:>6}  others", "nanoseconds a call", "Rust crate", "this library", "ratio");
+            self.is_empty = false;
         }
         let sides: Vec<Side<I>> = [rust, ours].into_iter().chain(others).collect();
         let lowest = lowest_rounds(&sides, items);
