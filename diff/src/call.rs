@@ -10,7 +10,7 @@ use crate::text::{FIRST_SECOND, KINDS, Kind, LAST_SECOND};
 
 /// A text, which shows its bytes escaped and in hex.
 #[derive(Clone)]
-pub struct Bytes(Vec<u8>);
+pub struct Bytes(pub(crate) Vec<u8>);
 
 impl Deref for Bytes {
     type Target = [u8];

@@ -238,3 +238,166 @@ fn fits(text: &[u8], pattern: &[u8]) -> bool {
 fn is_offset(seconds: i32) -> bool {
     seconds.unsigned_abs() < 86_400
 }
+
+#[cfg(test)]
+mod tests {
+    use super::*;
+    use crate::call::Bytes;
+    use crate::ffi::{Date, DateTime, Duration};
+
+    /// The default, which `Default` cannot give a constant.
+    const LAX: Config = Config {
+        timestamp_offset: 0,
+        has_timestamp_offset: 0,
+        timestamp_unit: UNIT_INFER,
+        overflow_behavior: 0,
+        iso_order: 0,
+    };
+    const TRUNCATE: Config = Config { overflow_behavior: OVERFLOW_TRUNCATE, ..LAX };
+    const STRICT: Config = Config { iso_order: ORDER_STRICT, ..LAX };
+
+    /// Of each row a call with both answers, and a wrong answer of this library.
+    fn cases() -> [(Call, Answer, Answer, Answer); KNOWN.len()] {
+        let day = Config { has_timestamp_offset: 1, timestamp_offset: 86_400, ..LAX };
+        [
+            (
+                read(Kind::Duration, "PT20.1253395S", LAX),
+                duration(20, 125_339),
+                duration(20, 125_340),
+                duration(20, 125_341),
+            ),
+            (
+                Call::ReadInOrder { text: Bytes(b"P1D1Y".to_vec()), config: STRICT },
+                Ok(Value::Duration(Duration { day: 366, ..Duration::default() })),
+                fault("duration_unit_order"),
+                fault("duration_invalid_date_unit"),
+            ),
+            (
+                read(Kind::Duration, "00:00:00.123456x", TRUNCATE),
+                duration(0, 123_456),
+                fault("extra_characters"),
+                fault("second_fraction_missing"),
+            ),
+            (
+                read(Kind::DateTime, "1.5e3", LAX),
+                date_time((1970, 1, 1), time(0, 25, 0, 0)),
+                fault("too_short"),
+                fault("invalid_char_year"),
+            ),
+            (
+                read(Kind::DateTime, "-15356304000.505050", LAX),
+                date_time((1483, 5, 18), time(23, 59, 59, 494_949)),
+                date_time((1483, 5, 18), time(23, 59, 59, 494_950)),
+                date_time((1483, 5, 18), time(23, 59, 59, 494_951)),
+            ),
+            (
+                Call::FromFloat { timestamp: 5e-7, config: LAX },
+                date_time((1970, 1, 1), time(0, 0, 0, 1)),
+                date_time((1970, 1, 1), time(0, 0, 0, 0)),
+                date_time((1970, 1, 1), time(0, 0, 0, 2)),
+            ),
+            (
+                read(Kind::DateTime, "20000000000.0000001", TRUNCATE),
+                date_time((2603, 10, 11), time(11, 33, 20, 0)),
+                date_time((1970, 8, 20), time(11, 33, 20, 0)),
+                date_time((1970, 8, 20), time(11, 33, 20, 1)),
+            ),
+            (
+                Call::InTimezone(Value::DateTime(instant((3000, 1, 1), at(time(0, 0, 0, 0), 0))), -3_600),
+                date_time((1971, 1, 12), at(time(4, 47, 56, 400_000), -3_600)),
+                date_time((2999, 12, 31), at(time(23, 0, 0, 0), -3_600)),
+                date_time((2999, 12, 31), at(time(23, 0, 0, 1), -3_600)),
+            ),
+            (
+                Call::InTimezone(Value::Time(at(time(10, 0, 0, 0), 3_600)), 7_200),
+                Ok(Value::Time(at(time(11, 0, 0, 0), 3_600))),
+                Ok(Value::Time(at(time(11, 0, 0, 0), 7_200))),
+                Ok(Value::Time(at(time(12, 0, 0, 0), 7_200))),
+            ),
+            (
+                Call::WithOffset(Value::Time(time(10, 0, 0, 0)), Some(i32::MIN)),
+                fault(PANIC),
+                fault("out_of_range_tz"),
+                fault("time_too_large"),
+            ),
+            (
+                Call::TimeFromTimestamp { second: 1, microsecond: 0, config: day },
+                Ok(Value::Time(at(time(0, 0, 1, 0), 86_400))),
+                fault("out_of_range_tz"),
+                fault("time_too_large"),
+            ),
+        ]
+    }
+
+    fn read(kind: Kind, text: &str, config: Config) -> Call {
+        Call::Read { kind, text: Bytes(text.as_bytes().to_vec()), config }
+    }
+
+    fn fault(name: &str) -> Answer {
+        Err(name.to_owned())
+    }
+
+    fn duration(second: u32, microsecond: u32) -> Answer {
+        Ok(Value::Duration(Duration { second, microsecond, ..Duration::default() }))
+    }
+
+    fn time(hour: u8, minute: u8, second: u8, microsecond: u32) -> Time {
+        Time { hour, minute, second, microsecond, ..Time::default() }
+    }
+
+    fn at(time: Time, offset: i32) -> Time {
+        Time { has_offset: 1, offset, ..time }
+    }
+
+    fn instant((year, month, day): (u16, u8, u8), time: Time) -> DateTime {
+        DateTime { date: Date { year, month, day }, time }
+    }
+
+    fn date_time(date: (u16, u8, u8), time: Time) -> Answer {
+        Ok(Value::DateTime(instant(date, time)))
+    }
+
+    #[test]
+    fn each_row_explains_its_case_and_no_wrong_answer() {
+        for (row, (call, rust, ours, wrong)) in cases().into_iter().enumerate() {
+            let name = KNOWN[row].row;
+            assert_eq!(place(&call, &rust, &ours), Some(row), "{name}");
+            assert_eq!(place(&call, &rust, &wrong), None, "a wrong answer of {name}");
+        }
+    }
+
+    /// A row that explained the case of another would be too wide.
+    #[test]
+    fn no_row_explains_the_case_of_another() {
+        for (row, (call, rust, ours, _)) in cases().iter().enumerate() {
+            for (other, known) in KNOWN.iter().enumerate().filter(|(other, _)| *other != row) {
+                assert!(!(known.explains)(call, rust, ours), "{}: {}", KNOWN[other].row, KNOWN[row].row);
+            }
+        }
+    }
+
+    /// Answers as those of a case, to a call that is a step away from it.
+    #[test]
+    fn no_row_explains_what_is_nearly_a_case() {
+        let almost = Config { has_timestamp_offset: 1, timestamp_offset: 86_399, ..LAX };
+        for (row, call) in [
+            (1, Call::ReadInOrder { text: Bytes(b"P1D1Y".to_vec()), config: LAX }),
+            (1, Call::ReadInOrder { text: Bytes(b"P1Y1D".to_vec()), config: STRICT }),
+            (2, read(Kind::Duration, "00:00:00.123456x", LAX)),
+            (2, read(Kind::Duration, "00:00:00.1234567", TRUNCATE)),
+            (3, read(Kind::DateTime, "1.5", LAX)),
+            (8, Call::InTimezone(Value::Time(at(time(10, 0, 0, 0), 3_600)), 10_800)),
+            (9, Call::WithOffset(Value::Time(time(10, 0, 0, 0)), Some(i32::MIN + 1))),
+            (10, Call::TimeFromTimestamp { second: 1, microsecond: 0, config: almost }),
+        ] {
+            let (_, rust, ours, _) = &cases()[row];
+            assert_eq!(place(&call, rust, ours), None, "{}: {call:?}", KNOWN[row].row);
+        }
+    }
+
+    #[test]
+    fn rows_are_in_the_table() {
+        let differences = include_str!("../../docs/DIFFERENCES.md");
+        assert!(KNOWN.iter().all(|known| known.is_in(differences)));
+    }
+}
