@@ -11,7 +11,7 @@ use crate::{DateConfig, ParseError};
 /// assert_eq!(date, Date { year: 2020, month: 2, day: 29 });
 /// assert_eq!(date.checked_add_days(1).unwrap().to_string(), "2020-03-01");
 /// ```
-#[derive(Debug, PartialEq, Eq, PartialOrd, Clone, Copy)]
+#[derive(Debug, PartialEq, Eq, PartialOrd, Ord, Hash, Clone, Copy)]
 pub struct Date {
     /// 0 to 9999.
     pub year: u16,

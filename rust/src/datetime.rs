@@ -18,7 +18,7 @@ use crate::{Date, DateTimeConfig, MicrosecondsPrecisionOverflowBehavior, ParseEr
 /// assert_eq!(value, DateTime { date, time });
 /// assert_eq!(value.to_string(), "2020-02-29T12:13:14-08:30");
 /// ```
-#[derive(Debug, PartialEq, Eq, Clone, Copy)]
+#[derive(Debug, PartialEq, Eq, Hash, Clone, Copy)]
 pub struct DateTime {
     /// The date.
     pub date: Date,
@@ -135,11 +135,7 @@ impl DateTime {
     /// ```
     #[cfg(feature = "std")]
     pub fn now(tz_offset: i32) -> Result<Self, ParseError> {
-        let since = SystemTime::UNIX_EPOCH.elapsed().map_err(|_| ParseError::SystemTimeError)?;
-        let second = i64::try_from(since.as_secs()).map_err(|_| ParseError::DateTooLarge)?;
-        let config = Config::default().unit(TimestampUnit::Second).offset(Some(0));
-        let now: Self = ffi::speedate_datetime_from_timestamp(second, since.subsec_micros(), config)?;
-        now.in_timezone(tz_offset)
+        now_at(SystemTime::UNIX_EPOCH.elapsed().map_err(|_| ParseError::SystemTimeError)?, tz_offset)
     }
 
     /// The same clock with another offset, in seconds: mostly another instant. A date-time out of range is refused.
@@ -192,6 +188,15 @@ impl From<&DateTimeConfig> for Config {
     }
 }
 
+/// What a clock at an offset shows so long after 1970-01-01T00:00Z.
+#[cfg(feature = "std")]
+fn now_at(since: std::time::Duration, tz_offset: i32) -> Result<DateTime, ParseError> {
+    let second = i64::try_from(since.as_secs()).map_err(|_| ParseError::DateTooLarge)?;
+    let config = Config::default().unit(TimestampUnit::Second).offset(Some(0));
+    let now: DateTime = ffi::speedate_datetime_from_timestamp(second, since.subsec_micros(), config)?;
+    now.in_timezone(tz_offset)
+}
+
 /// The microseconds nearest to a timestamp whose unit has so many; of two that are as near, the later.
 fn microseconds(timestamp: f64, unit: i64) -> i64 {
     /// More microseconds than any date-time has, in either direction.
@@ -205,4 +210,26 @@ fn microseconds(timestamp: f64, unit: i64) -> i64 {
     let fraction = ((timestamp - whole as f64) * (1_u128 << PLACES) as f64) as i128 * i128::from(unit);
     let nearest = (fraction + (1 << (PLACES - 1))) >> PLACES;
     whole * unit + nearest as i64
+}
+
+#[cfg(all(test, feature = "std"))]
+mod tests {
+    use super::*;
+    use std::time::Duration;
+
+    #[test]
+    fn clocks() {
+        let shown =
+            |second, nanosecond, tz_offset| Ok(now_at(Duration::new(second, nanosecond), tz_offset)?.to_string());
+        assert_eq!(shown(1_582_978_394, 123_456_789, 3_600), Ok("2020-02-29T13:13:14.123456+01:00".to_owned()));
+        assert_eq!(shown(1_582_934_399, 0, -86_340), Ok("2020-02-28T00:00:59-23:59".to_owned()));
+        // In milliseconds, which such a second would be taken for, it is a day of 1970.
+        assert_eq!(shown(20_000_000_001, 0, 0), Ok("2603-10-11T11:33:21Z".to_owned()));
+        assert_eq!(shown(1, 0, 86_400), Err(ParseError::OutOfRangeTz));
+        assert_eq!(shown(253_402_300_799, 0, 1), Err(ParseError::DateTooLarge));
+        assert_eq!(
+            [1 << 63, u64::MAX].map(|second| shown(second, 0, 0)),
+            [(); 2].map(|()| Err(ParseError::DateTooLarge))
+        );
+    }
 }

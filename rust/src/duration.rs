@@ -16,7 +16,7 @@ use crate::{DateTime, ParseError, TimeConfig};
 /// assert_eq!(duration, Duration { positive: true, day: 1, second: 5_400, microsecond: 0 });
 /// assert_eq!(duration.to_string(), "P1DT1H30M");
 /// ```
-#[derive(Debug, PartialEq, Eq, Clone)]
+#[derive(Debug, PartialEq, Eq, Hash, Clone)]
 pub struct Duration {
     /// Whether it is not negative.
     pub positive: bool,
@@ -55,10 +55,18 @@ impl Value for Duration {
     }
 }
 
-/// The order of lengths with their signs; negative zero is less than zero. A duration out of range has no order.
+/// The order of lengths with their signs; negative zero is less than zero. If a duration is out of range, its fields decide
+/// in the same order: the sign, and then days, seconds and microseconds with it.
+impl Ord for Duration {
+    fn cmp(&self, other: &Self) -> Ordering {
+        ffi::speedate_duration_compare(self, other).map_or_else(|_| self.cmp_fields(other), |order: i32| order.cmp(&0))
+    }
+}
+
+/// As [`cmp`](Ord::cmp).
 impl PartialOrd for Duration {
     fn partial_cmp(&self, other: &Self) -> Option<Ordering> {
-        ffi::speedate_duration_compare(self, other).ok().map(|order: i32| order.cmp(&0))
+        Some(self.cmp(other))
     }
 }
 
@@ -98,6 +106,12 @@ impl Duration {
     /// The date-time that is this duration before another, at its offset. What is out of range is refused.
     pub fn before(&self, start: &DateTime) -> Result<DateTime, ParseError> {
         (self, start).checked(ffi::speedate_duration_before(self, start))
+    }
+
+    fn cmp_fields(&self, other: &Self) -> Ordering {
+        let size = |it: &Self| (it.day, it.second, it.microsecond);
+        let order = size(self).cmp(&size(other));
+        self.positive.cmp(&other.positive).then(if self.positive { order } else { order.reverse() })
     }
 
     /// The whole seconds, cut toward zero, with the sign. It panics if the duration is out of range.

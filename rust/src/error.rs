@@ -12,6 +12,9 @@ macro_rules! parse_errors {
         /// assert_eq!(error.to_string(), "out_of_range_day");
         /// assert_eq!(error.get_documentation(), Some("day value is outside expected range"));
         /// ```
+        ///
+        /// [`InvalidCharSecondFraction`](Self::InvalidCharSecondFraction) stands for an error that the package does not
+        /// know, as a later library could have one; none of today's gives it.
         #[derive(Debug, PartialEq, Eq, Clone)]
         pub enum ParseError {
             $(#[doc = $text] $variant,)*
@@ -31,7 +34,11 @@ macro_rules! parse_errors {
                 }
             }
 
+            /// What stands for an error that has no variant here.
+            pub(crate) const UNKNOWN: Self = Self::InvalidCharSecondFraction;
+
             /// The error that has this number in `c/speedate.h`.
+            #[inline]
             pub(crate) fn numbered(number: i32) -> Option<Self> {
                 match number {
                     $($number => Some(Self::$variant),)*

@@ -19,11 +19,12 @@ impl Code {
 }
 
 impl From<Code> for ParseError {
+    #[inline]
     fn from(code: Code) -> Self {
         match code {
             // Of a configuration only the offset can be out of range.
             Code::CONFIG_OUT_OF_RANGE => Self::OutOfRangeTz,
-            Code(number) => Self::numbered(number).unwrap_or_else(|| unreachable!("no call here fails with {number}")),
+            Code(number) => Self::numbered(number).unwrap_or(Self::UNKNOWN),
         }
     }
 }
@@ -315,4 +316,19 @@ printers! {
 printers! {
     fn speedate_code_name(code: c_int);
     fn speedate_code_documentation(code: c_int);
+}
+
+#[cfg(test)]
+mod tests {
+    use super::*;
+
+    #[test]
+    fn unknown_codes_have_one_error() {
+        for number in [c_int::MIN, -1, 0, 41, 42, 43, 99, 100, 101, 103, 104, 105, c_int::MAX] {
+            assert_eq!(ParseError::from(Code(number)), ParseError::InvalidCharSecondFraction);
+        }
+        let known: [ParseError; 40] = core::array::from_fn(|place| Code(place as c_int + 1).into());
+        assert_eq!(known.iter().filter(|error| **error == ParseError::UNKNOWN).count(), 1);
+        assert_eq!(ParseError::from(Code::CONFIG_OUT_OF_RANGE), ParseError::OutOfRangeTz);
+    }
 }

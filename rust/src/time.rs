@@ -17,7 +17,7 @@ use crate::{ConfigError, ParseError, TimeConfig};
 /// assert_eq!(time, Time { hour: 12, minute: 13, second: 14, microsecond: 500_000, tz_offset: Some(5_400) });
 /// assert_eq!(time.to_string(), "12:13:14.500000+01:30");
 /// ```
-#[derive(Debug, PartialEq, Eq, Clone, Copy)]
+#[derive(Debug, PartialEq, Eq, Hash, Clone, Copy)]
 pub struct Time {
     /// 0 to 23.
     pub hour: u8,

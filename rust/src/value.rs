@@ -26,7 +26,7 @@ pub(crate) trait Value: Debug {
     /// The answer of a call that can refuse: a value out of range has the error of its field.
     fn checked<T>(&self, answer: Result<T, Code>) -> Result<T, ParseError> {
         answer.map_err(|code| match code {
-            Code::VALUE_OUT_OF_RANGE => self.check().expect_err("the call found a field out of range"),
+            Code::VALUE_OUT_OF_RANGE => self.check().err().unwrap_or(ParseError::UNKNOWN),
             _ => code.into(),
         })
     }
@@ -46,8 +46,8 @@ impl<A: Value, B: Value> Value for (&A, &B) {
 
 #[cold]
 fn out_of_range<V: Value + ?Sized>(value: &V) -> ! {
-    let error = value.check().expect_err("the call found a field out of range");
-    panic!("`{}` is out of range in {value:?}", value.field(&error))
+    let field = value.check().err().map_or("a field", |error| value.field(&error));
+    panic!("`{field}` is out of range in {value:?}")
 }
 
 /// Defines how values of a type are parsed and printed, by its functions of C.

@@ -42,6 +42,16 @@ fn ties() {
     }
 }
 
+/// The floats nearest to decimal ties, most of which no float is.
+#[test]
+fn nearly_ties() {
+    for half in (1..4_000_i64).step_by(2).chain((0..2_000).map(|place| place * 4_503_000_000_000 + 1)) {
+        let half = half as f64;
+        try_neighbors(half / 2e6, TimestampUnit::Second);
+        try_neighbors(half / 2e3, TimestampUnit::Millisecond);
+    }
+}
+
 #[test]
 fn what_is_no_number() {
     let answer = |timestamp| DateTime::from_float_with_config(timestamp, &DateTimeConfig::default());

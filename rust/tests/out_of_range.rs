@@ -8,27 +8,34 @@ const DATE: Date = Date { year: 2020, month: 2, day: 29 };
 const TIME: Time = Time { hour: 12, minute: 13, second: 14, microsecond: 0, tz_offset: Some(0) };
 const DURATION: Duration = Duration { positive: true, day: 1, second: 2, microsecond: 3 };
 
-const DATES: [(Date, ParseError, &str); 4] = [
+const DATES: [(Date, ParseError, &str); 6] = [
     (Date { year: 10_000, ..DATE }, ParseError::DateTooLarge, "year"),
     (Date { month: 0, ..DATE }, ParseError::OutOfRangeMonth, "month"),
     (Date { month: 13, ..DATE }, ParseError::OutOfRangeMonth, "month"),
     (Date { year: 2021, ..DATE }, ParseError::OutOfRangeDay, "day"),
+    (Date { year: 10_000, month: 13, day: 0 }, ParseError::DateTooLarge, "year"),
+    (Date { month: 0, day: 32, ..DATE }, ParseError::OutOfRangeMonth, "month"),
 ];
 
-const TIMES: [(Time, ParseError, &str); 6] = [
+const TIMES: [(Time, ParseError, &str); 10] = [
     (Time { hour: 24, ..TIME }, ParseError::OutOfRangeHour, "hour"),
     (Time { minute: 60, ..TIME }, ParseError::OutOfRangeMinute, "minute"),
     (Time { second: 60, ..TIME }, ParseError::OutOfRangeSecond, "second"),
     (Time { microsecond: 1_000_000, ..TIME }, ParseError::TimeTooLarge, "microsecond"),
     (Time { tz_offset: Some(86_400), ..TIME }, ParseError::OutOfRangeTz, "tz_offset"),
     (Time { tz_offset: Some(i32::MIN), ..TIME }, ParseError::OutOfRangeTz, "tz_offset"),
+    (Time { hour: 24, minute: 60, ..TIME }, ParseError::OutOfRangeHour, "hour"),
+    (Time { minute: 60, second: 60, ..TIME }, ParseError::OutOfRangeMinute, "minute"),
+    (Time { second: 60, microsecond: 1_000_000, ..TIME }, ParseError::OutOfRangeSecond, "second"),
+    (Time { microsecond: 1_000_000, tz_offset: Some(-86_400), ..TIME }, ParseError::TimeTooLarge, "microsecond"),
 ];
 
-const DURATIONS: [(Duration, ParseError, &str); 4] = [
+const DURATIONS: [(Duration, ParseError, &str); 5] = [
     (Duration { day: 1_000_000_000, ..DURATION }, ParseError::DurationDaysTooLarge, "day"),
     (Duration { second: 86_400, ..DURATION }, ParseError::DurationValueTooLarge, "second"),
     (Duration { microsecond: 1_000_000, ..DURATION }, ParseError::DurationValueTooLarge, "microsecond"),
     (Duration { second: 86_400, microsecond: 1_000_000, ..DURATION }, ParseError::DurationValueTooLarge, "second"),
+    (Duration { day: 1_000_000_000, second: 86_400, ..DURATION }, ParseError::DurationDaysTooLarge, "day"),
 ];
 
 /// Asserts that each call panics, and names the field.
@@ -63,7 +70,8 @@ fn date_times() {
     let good = DateTime { date: DATE, time: TIME };
     let dates = DATES.map(|(date, error, field)| (DateTime { date, ..good }, error, field));
     let times = TIMES.map(|(time, error, field)| (DateTime { time, ..good }, error, field));
-    for (it, error, field) in dates.into_iter().chain(times) {
+    let both = TIMES.map(|(time, ..)| (DateTime { date: DATES[0].0, time }, ParseError::DateTooLarge, "year"));
+    for (it, error, field) in dates.into_iter().chain(times).chain(both) {
         assert_panics!(field; it.to_string(), it.timestamp(), it.timestamp_ms(), it.timestamp_tz(), it.timestamp_tz_ms());
         assert_panics!(field; Duration::between(&it, &good), Duration::between(&good, &it));
         let moved = [it.in_timezone(0), it.with_timezone_offset(it.time.tz_offset)];
@@ -76,10 +84,35 @@ fn date_times() {
 #[test]
 fn durations() {
     let start = DateTime { date: DATE, time: TIME };
+    let bad = DateTime { date: DATES[0].0, ..start };
     for (it, error, field) in DURATIONS {
         assert_panics!(field; it.to_string(), it.signed_total_seconds(), it.signed_total_ms(), it.signed_microseconds());
-        assert_eq!([it.after(&start), it.before(&start)], [Err(error.clone()), Err(error)]);
-        assert!(it.eq(&it) && it.partial_cmp(&DURATION).is_none());
+        assert_eq!([it.after(&start), it.before(&start)], [Err(error.clone()), Err(error.clone())]);
+        assert_eq!([it.after(&bad), it.before(&bad)], [Err(error.clone()), Err(error)]);
+        assert!(it.eq(&it) && it.cmp(&DURATION).is_gt());
+    }
+}
+
+/// The order of durations is total, also of those that are out of range.
+#[test]
+fn order_of_durations() {
+    let sizes = [
+        (0, 0, 0),
+        (0, 0, 1),
+        (0, 0, u32::MAX),
+        (0, 1, 0),
+        (0, u32::MAX, 0),
+        (1, 0, 0),
+        (1, 86_400, 0),
+        (u32::MAX, 0, 0),
+    ];
+    let durations = |positive| sizes.map(|(day, second, microsecond)| Duration { positive, day, second, microsecond });
+    let rising: Vec<_> = durations(false).into_iter().rev().chain(durations(true)).collect();
+    for (first_place, first) in rising.iter().enumerate() {
+        for (second_place, second) in rising.iter().enumerate() {
+            assert_eq!(first.cmp(second), first_place.cmp(&second_place));
+            assert_eq!(first.partial_cmp(second), Some(first.cmp(second)));
+        }
     }
 }
 

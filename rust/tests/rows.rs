@@ -86,6 +86,8 @@ impl Row<'_> {
                 self.has(2, Duration::new(positive, day, second, microsecond))
             }
             "duration_to_text" => self.has_text(2, self.get::<Duration>(1)?),
+            // Durations out of range have an order too.
+            "duration_compare" if self.0[3] == "value_out_of_range" => return None,
             "duration_compare" => self.has_order::<Duration>()?,
             "duration_signed_total_seconds" => self.has_total(self.get::<Duration>(1)?.signed_total_seconds()),
             "duration_signed_total_ms" => self.has_total(self.get::<Duration>(1)?.signed_total_ms()),
@@ -101,12 +103,18 @@ impl Row<'_> {
         T::of(self.0.get(place)?)
     }
 
-    /// Whether the code and what is written have these places. A value out of range has the error of its field.
+    /// Whether the code and what is written have these places.
     fn has<T: Field + PartialEq>(&self, place: usize, answer: Result<T, impl ToString>) -> bool {
         match answer {
             Ok(value) => self.0[place] == "ok" && self.get(place + 1) == Some(value),
-            Err(error) => self.0[place] == error.to_string() || self.0[place] == "value_out_of_range",
+            Err(error) => self.error(place) == error.to_string(),
         }
+    }
+
+    /// The error of a code. Where this is that of a value out of range, Rust has the error of the field.
+    fn error(&self, place: usize) -> &str {
+        let of_field = self.0[1..place].iter().find_map(|value| checked(value));
+        of_field.filter(|_| self.0[place] == "value_out_of_range").unwrap_or(self.0[place])
     }
 
     fn has_front<T: Field + PartialEq>(&self, place: usize, answer: Result<(T, usize), ParseError>) -> bool {
@@ -126,6 +134,15 @@ impl Row<'_> {
         let order = self.get::<T>(1)?.partial_cmp(&self.get(2)?);
         Some(order.map_or(self.0[3] == "value_out_of_range", |order| self.get(4) == Some(order as i32)))
     }
+}
+
+/// The error with which a row of a `_check` call refuses a value.
+fn checked(value: &str) -> Option<&'static str> {
+    ROWS.lines().find_map(|row| {
+        let (call, rest) = row.split_once('|')?;
+        let error = rest.strip_prefix(value)?.strip_prefix('|')?;
+        (call.ends_with("_check") && error != "ok").then_some(error)
+    })
 }
 
 /// What a field says, if the API has it.
