@@ -45,6 +45,7 @@ macro_rules! config {
 
         impl $name {
             /// A builder of the default.
+            #[must_use]
             pub fn builder() -> $builder {
                 $builder::new()
             }
@@ -58,12 +59,14 @@ macro_rules! config {
 
         impl $builder {
             /// A builder of the default.
+            #[must_use]
             pub fn new() -> Self {
                 Self::default()
             }
 
             $(
                 #[doc = concat!("Sets `", stringify!($field), "`.")]
+                #[must_use]
                 pub fn $field(mut self, $field: $kind) -> Self {
                     self.$field = $field.into();
                     self
@@ -71,6 +74,7 @@ macro_rules! config {
             )*
 
             /// The configuration.
+            #[must_use]
             pub fn build(self) -> $name {
                 $name { $($field: self.$field.map_or_else(Default::default, Into::into),)* }
             }

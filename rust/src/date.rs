@@ -41,16 +41,28 @@ impl Value for Date {
 
 impl Date {
     /// The date of a text. A timestamp is refused.
+    ///
+    /// # Errors
+    ///
+    /// Why the text is refused.
     pub fn parse_str_rfc3339(str: &str) -> Result<Self, ParseError> {
         Self::parse_bytes_rfc3339(str.as_bytes())
     }
 
     /// [`parse_str`](Self::parse_str) with a configuration.
+    ///
+    /// # Errors
+    ///
+    /// Why the text is refused.
     pub fn parse_str_with_config(str: &str, config: &DateConfig) -> Result<Self, ParseError> {
         Self::parse_bytes_with_config(str.as_bytes(), config)
     }
 
     /// [`parse_str_rfc3339`](Self::parse_str_rfc3339) of bytes.
+    ///
+    /// # Errors
+    ///
+    /// Why the text is refused.
     pub fn parse_bytes_rfc3339(bytes: &[u8]) -> Result<Self, ParseError> {
         Ok(ffi::speedate_date_parse_rfc3339(bytes)?)
     }
@@ -61,6 +73,10 @@ impl Date {
     /// let (date, size) = speedate::Date::parse_front(b"2020-02-29 opening balance").unwrap();
     /// assert_eq!((date.day, size), (29, 10));
     /// ```
+    ///
+    /// # Errors
+    ///
+    /// Why there is no date at the front.
     pub fn parse_front(bytes: &[u8]) -> Result<(Self, usize), ParseError> {
         Ok(ffi::speedate_date_parse_front(bytes)?)
     }
@@ -73,33 +89,49 @@ impl Date {
     /// let date = Date::from_timestamp(1_582_934_401, false, &DateConfig::default()).unwrap();
     /// assert_eq!(date.to_string(), "2020-02-29");
     /// ```
+    ///
+    /// # Errors
+    ///
+    /// [`DateNotExact`](ParseError::DateNotExact) if it has to be a midnight and is none,
+    /// [`DateTooSmall`](ParseError::DateTooSmall) before the year 0000, [`DateTooLarge`](ParseError::DateTooLarge)
+    /// after the year 9999.
     pub fn from_timestamp(timestamp: i64, require_exact: bool, config: &DateConfig) -> Result<Self, ParseError> {
         Ok(ffi::speedate_date_from_timestamp(timestamp, require_exact, config)?)
     }
 
     /// The second at which the date begins, counted from 1970-01-01. It panics if the date is out of range.
+    #[must_use]
     pub fn timestamp(&self) -> i64 {
         self.total(ffi::speedate_date_timestamp(self))
     }
 
     /// The millisecond at which the date begins, counted from 1970-01-01. It panics if the date is out of range.
+    #[must_use]
     pub fn timestamp_ms(&self) -> i64 {
         self.total(ffi::speedate_date_timestamp_ms(self))
     }
 
     /// The date that a clock at an offset from UTC, in seconds, now shows.
+    ///
+    /// # Errors
+    ///
+    /// [`OutOfRangeTz`](ParseError::OutOfRangeTz) if the offset is a day or more,
+    /// [`DateTooLarge`](ParseError::DateTooLarge) after the year 9999, and
+    /// [`SystemTimeError`](ParseError::SystemTimeError) if the clock shows a time before 1970.
     #[cfg(feature = "std")]
     pub fn today(tz_offset: i32) -> Result<Self, ParseError> {
         Ok(crate::DateTime::now(tz_offset)?.date)
     }
 
     /// The day of the year, 1 to 366. It panics if the date is out of range.
+    #[must_use]
     pub fn ordinal_day(&self) -> u16 {
         self.total(ffi::speedate_date_ordinal_day(self))
     }
 
     /// The date so many days later, or earlier if they are negative. It is `None` before 0000-01-01, after 9999-12-31, and
     /// if the date is out of range.
+    #[must_use]
     pub fn checked_add_days(&self, days: i32) -> Option<Self> {
         ffi::speedate_date_add_days(self, days).ok()
     }
@@ -111,6 +143,7 @@ impl Date {
     /// let [date, earlier] = ["2020-03-01", "2020-02-28"].map(|text| speedate::Date::parse_str(text).unwrap());
     /// assert_eq!(date.days_since(&earlier), 2);
     /// ```
+    #[must_use]
     pub fn days_since(&self, earlier: &Self) -> i32 {
         (self, earlier).total(ffi::speedate_date_days_since(self, earlier))
     }

@@ -53,27 +53,57 @@ impl PartialOrd for DateTime {
 }
 
 impl DateTime {
-    /// The date-time of a text. A timestamp is refused.
+    /// The date-time of the same texts as [`parse_str`](Self::parse_str), without timestamps. Despite its name it is otherwise
+    /// as relaxed: RFC 3339 and nothing else is [`parse_bytes_strict`](Self::parse_bytes_strict).
+    ///
+    /// ```
+    /// use speedate::{DateTime, MicrosecondsPrecisionOverflowBehavior::Error, ParseError};
+    ///
+    /// assert_eq!(DateTime::parse_str_rfc3339("2022-01-01 12:13").unwrap().to_string(), "2022-01-01T12:13:00");
+    /// let strict = DateTime::parse_bytes_strict(b"2022-01-01 12:13", Error);
+    /// assert_eq!(strict, Err(ParseError::InvalidCharDateTimeSep));
+    /// ```
+    ///
+    /// # Errors
+    ///
+    /// Why the text is refused.
     pub fn parse_str_rfc3339(str: &str) -> Result<Self, ParseError> {
         Self::parse_bytes_rfc3339(str.as_bytes())
     }
 
     /// [`parse_str`](Self::parse_str) with a configuration.
+    ///
+    /// # Errors
+    ///
+    /// Why the text is refused; for a timestamp also [`OutOfRangeTz`](ParseError::OutOfRangeTz) if the configured
+    /// offset is a day or more.
     pub fn parse_str_with_config(str: &str, config: &DateTimeConfig) -> Result<Self, ParseError> {
         Self::parse_bytes_with_config(str.as_bytes(), config)
     }
 
     /// [`parse_str_rfc3339`](Self::parse_str_rfc3339) of bytes.
+    ///
+    /// # Errors
+    ///
+    /// Why the text is refused.
     pub fn parse_bytes_rfc3339(bytes: &[u8]) -> Result<Self, ParseError> {
         Self::parse_bytes_rfc3339_with_config(bytes, &TimeConfig::default())
     }
 
     /// [`parse_str_rfc3339`](Self::parse_str_rfc3339) of bytes, with a configuration, of which the behavior matters.
+    ///
+    /// # Errors
+    ///
+    /// Why the text is refused.
     pub fn parse_bytes_rfc3339_with_config(bytes: &[u8], config: &TimeConfig) -> Result<Self, ParseError> {
         Ok(ffi::speedate_datetime_parse_rfc3339(bytes, config)?)
     }
 
     /// The date-time of an input that is RFC 3339 alone, without a second 60.
+    ///
+    /// # Errors
+    ///
+    /// Why the text is refused.
     pub fn parse_bytes_strict(
         bytes: &[u8],
         behavior: MicrosecondsPrecisionOverflowBehavior,
@@ -89,11 +119,21 @@ impl DateTime {
     /// let (value, size) = speedate::DateTime::parse_front(line, &Default::default()).unwrap();
     /// assert_eq!((value.to_string().as_str(), size), ("2026-11-22T12:13:14Z", 20));
     /// ```
+    ///
+    /// # Errors
+    ///
+    /// Why there is no date-time at the front.
     pub fn parse_front(bytes: &[u8], config: &TimeConfig) -> Result<(Self, usize), ParseError> {
         Ok(ffi::speedate_datetime_parse_front(bytes, config)?)
     }
 
     /// [`from_timestamp`](Self::from_timestamp), in the unit and with the offset of a configuration.
+    ///
+    /// # Errors
+    ///
+    /// [`TimeTooLarge`](ParseError::TimeTooLarge) if a sum that leads to it is too large,
+    /// [`DateTooSmall`](ParseError::DateTooSmall) before the year 0000, [`DateTooLarge`](ParseError::DateTooLarge)
+    /// after the year 9999, and [`OutOfRangeTz`](ParseError::OutOfRangeTz) if the configured offset is a day or more.
     pub fn from_timestamp_with_config(
         timestamp: i64,
         timestamp_microsecond: u32,
@@ -104,6 +144,11 @@ impl DateTime {
 
     /// The date-time of a timestamp in the unit and with the offset of a configuration. The exact value of the float is
     /// rounded to the nearest microsecond, a tie to the later one. Not-a-number counts as 0.
+    ///
+    /// # Errors
+    ///
+    /// [`DateTooSmall`](ParseError::DateTooSmall) before the year 0000, [`DateTooLarge`](ParseError::DateTooLarge)
+    /// after the year 9999, and [`OutOfRangeTz`](ParseError::OutOfRangeTz) if the configured offset is a day or more.
     pub fn from_float_with_config(timestamp: f64, mode: &DateTimeConfig) -> Result<Self, ParseError> {
         let is_second = match mode.timestamp_unit {
             TimestampUnit::Second => true,
@@ -123,6 +168,12 @@ impl DateTime {
     /// let value = speedate::DateTime::from_timestamp(1_582_978_394, 123).unwrap();
     /// assert_eq!(value.to_string(), "2020-02-29T12:13:14.000123");
     /// ```
+    ///
+    /// # Errors
+    ///
+    /// [`TimeTooLarge`](ParseError::TimeTooLarge) if a sum that leads to it is too large,
+    /// [`DateTooSmall`](ParseError::DateTooSmall) before the year 0000, [`DateTooLarge`](ParseError::DateTooLarge)
+    /// after the year 9999.
     pub fn from_timestamp(timestamp: i64, timestamp_microsecond: u32) -> Result<Self, ParseError> {
         Self::from_timestamp_with_config(timestamp, timestamp_microsecond, &DateTimeConfig::default())
     }
@@ -133,35 +184,54 @@ impl DateTime {
     /// let [utc, paris] = [0, 3_600].map(|offset| speedate::DateTime::now(offset).unwrap());
     /// assert!(utc <= paris && paris.time.tz_offset == Some(3_600));
     /// ```
+    ///
+    /// # Errors
+    ///
+    /// [`OutOfRangeTz`](ParseError::OutOfRangeTz) if the offset is a day or more,
+    /// [`DateTooLarge`](ParseError::DateTooLarge) after the year 9999, and
+    /// [`SystemTimeError`](ParseError::SystemTimeError) if the clock shows a time before 1970.
     #[cfg(feature = "std")]
     pub fn now(tz_offset: i32) -> Result<Self, ParseError> {
         now_at(SystemTime::UNIX_EPOCH.elapsed().map_err(|_| ParseError::SystemTimeError)?, tz_offset)
     }
 
-    /// The same clock with another offset, in seconds: mostly another instant. A date-time out of range is refused.
+    /// The same clock with another offset, in seconds: mostly another instant.
+    ///
+    /// # Errors
+    ///
+    /// The error of the first field that is out of range: [`OutOfRangeTz`](ParseError::OutOfRangeTz) if the offset is a
+    /// day or more.
     pub fn with_timezone_offset(&self, tz_offset: Option<i32>) -> Result<Self, ParseError> {
         let value = Self { time: Time { tz_offset, ..self.time }, ..*self };
         value.check().map(|()| value)
     }
 
-    /// The same instant, as a clock at another offset, in seconds, shows it. A date-time without an offset is refused, and
-    /// so is one out of range.
+    /// The same instant, as a clock at another offset, in seconds, shows it.
     ///
     /// ```
     /// let value = speedate::DateTime::parse_str("2020-02-29T23:00Z").unwrap();
     /// assert_eq!(value.in_timezone(7_200).unwrap().to_string(), "2020-03-01T01:00:00+02:00");
     /// assert_eq!(value.with_timezone_offset(Some(7_200)).unwrap().to_string(), "2020-02-29T23:00:00+02:00");
     /// ```
+    ///
+    /// # Errors
+    ///
+    /// The error of the first field that is out of range; [`OutOfRangeTz`](ParseError::OutOfRangeTz) if the offset is a
+    /// day or more, [`TzRequired`](ParseError::TzRequired) if the date-time has none,
+    /// [`DateTooSmall`](ParseError::DateTooSmall) before the year 0000, [`DateTooLarge`](ParseError::DateTooLarge)
+    /// after the year 9999.
     pub fn in_timezone(&self, tz_offset: i32) -> Result<Self, ParseError> {
         self.checked(ffi::speedate_datetime_in_timezone(self, tz_offset))
     }
 
     /// The seconds since 1970-01-01T00:00:00, as if the clock were in UTC. It panics if the date-time is out of range.
+    #[must_use]
     pub fn timestamp(&self) -> i64 {
         self.total(ffi::speedate_datetime_timestamp(self))
     }
 
     /// [`timestamp`](Self::timestamp) in milliseconds, rounded down.
+    #[must_use]
     pub fn timestamp_ms(&self) -> i64 {
         self.total(ffi::speedate_datetime_timestamp_ms(self))
     }
@@ -172,11 +242,13 @@ impl DateTime {
     /// ```
     /// assert_eq!(speedate::DateTime::parse_str("1970-01-02T00:00+01:00").unwrap().timestamp_tz(), 82_800);
     /// ```
+    #[must_use]
     pub fn timestamp_tz(&self) -> i64 {
         self.total(ffi::speedate_datetime_timestamp_tz(self))
     }
 
     /// [`timestamp_tz`](Self::timestamp_tz) in milliseconds, rounded down.
+    #[must_use]
     pub fn timestamp_tz_ms(&self) -> i64 {
         self.total(ffi::speedate_datetime_timestamp_tz_ms(self))
     }

@@ -79,6 +79,11 @@ impl Duration {
     /// let duration = Duration { positive: false, day: 2, second: 101, microsecond: 123 };
     /// assert_eq!(Duration::new(false, 1, 86_500, 1_000_123), Ok(duration));
     /// ```
+    ///
+    /// # Errors
+    ///
+    /// [`DurationValueTooLarge`](ParseError::DurationValueTooLarge) if a sum is over 4,294,967,295,
+    /// [`DurationDaysTooLarge`](ParseError::DurationDaysTooLarge) if the days are over 999,999,999.
     pub fn new(positive: bool, day: u32, second: u32, microsecond: u32) -> Result<Self, ParseError> {
         Ok(ffi::speedate_duration_normalize(&Self { positive, day, second, microsecond })?)
     }
@@ -94,16 +99,29 @@ impl Duration {
     /// assert_eq!(end.to_string(), "2020-03-01T00:30:00Z");
     /// assert_eq!(Duration::between(&start, &end).to_string(), "PT1H30M");
     /// ```
+    #[must_use]
     pub fn between(earlier: &DateTime, later: &DateTime) -> Self {
         (earlier, later).total(ffi::speedate_duration_between(earlier, later))
     }
 
-    /// The date-time that is this duration after another, at its offset. What is out of range is refused.
+    /// The date-time that is this duration after another, at its offset.
+    ///
+    /// # Errors
+    ///
+    /// The error of the first field that is out of range, first of the duration;
+    /// [`DateTooSmall`](ParseError::DateTooSmall) before the year 0000, [`DateTooLarge`](ParseError::DateTooLarge)
+    /// after the year 9999.
     pub fn after(&self, start: &DateTime) -> Result<DateTime, ParseError> {
         (self, start).checked(ffi::speedate_duration_after(self, start))
     }
 
-    /// The date-time that is this duration before another, at its offset. What is out of range is refused.
+    /// The date-time that is this duration before another, at its offset.
+    ///
+    /// # Errors
+    ///
+    /// The error of the first field that is out of range, first of the duration;
+    /// [`DateTooSmall`](ParseError::DateTooSmall) before the year 0000, [`DateTooLarge`](ParseError::DateTooLarge)
+    /// after the year 9999.
     pub fn before(&self, start: &DateTime) -> Result<DateTime, ParseError> {
         (self, start).checked(ffi::speedate_duration_before(self, start))
     }
@@ -115,16 +133,19 @@ impl Duration {
     }
 
     /// The whole seconds, cut toward zero, with the sign. It panics if the duration is out of range.
+    #[must_use]
     pub fn signed_total_seconds(&self) -> i64 {
         self.total(ffi::speedate_duration_signed_total_seconds(self))
     }
 
     /// The whole milliseconds, cut toward zero, with the sign. It panics if the duration is out of range.
+    #[must_use]
     pub fn signed_total_ms(&self) -> i64 {
         self.total(ffi::speedate_duration_signed_total_ms(self))
     }
 
     /// The microseconds that the whole seconds leave, with the sign. It panics if the duration is out of range.
+    #[must_use]
     pub fn signed_microseconds(&self) -> i32 {
         self.total(ffi::speedate_duration_signed_microseconds(self))
     }

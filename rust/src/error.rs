@@ -22,6 +22,7 @@ macro_rules! parse_errors {
 
         impl ParseError {
             /// The sentence that explains the error. Every error has one.
+            #[must_use]
             pub fn get_documentation(&self) -> Option<&'static str> {
                 Some(match self {
                     $(Self::$variant => $text,)*
@@ -114,6 +115,7 @@ pub enum ConfigError {
 
 impl ConfigError {
     /// None: these errors have no sentences.
+    #[must_use]
     pub fn get_documentation(&self) -> Option<&'static str> {
         None
     }

@@ -18,9 +18,11 @@
 //!
 //! Fields are public, so `Date { year: 2021, month: 2, day: 29 }` compiles. What a method does with such a value depends
 //! on what it returns: a `Result` is the error of the first field that is out of range, as `Err(OutOfRangeDay)`; an
-//! `Option` is `None`; anything else, and Display, panics with the field's name. `==` and Debug take any value.
+//! `Option` is `None`; anything else, and Display, panics with the field's name. `==`, hashes and Debug take any value, and so
+//! do the orders of dates and of durations.
 #![cfg_attr(not(feature = "std"), no_std)]
 #![deny(missing_docs)]
+#![warn(clippy::missing_errors_doc, clippy::must_use_candidate, clippy::return_self_not_must_use)]
 #![deny(unsafe_code)]
 
 mod config;

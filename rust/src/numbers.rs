@@ -5,11 +5,13 @@ use crate::ffi::speedate_int_parse;
 /// ```
 /// assert_eq!(speedate::int_parse_str("-42"), Some(-42));
 /// ```
+#[must_use]
 pub fn int_parse_str(s: &str) -> Option<i64> {
     int_parse_bytes(s.as_bytes())
 }
 
 /// [`int_parse_str`] of bytes.
+#[must_use]
 pub fn int_parse_bytes(s: &[u8]) -> Option<i64> {
     speedate_int_parse(s).ok()
 }
@@ -27,6 +29,7 @@ pub enum IntFloat {
 
 impl IntFloat {
     /// Whether the input is no number.
+    #[must_use]
     pub fn is_err(&self) -> bool {
         matches!(self, IntFloat::Err)
     }
@@ -40,11 +43,13 @@ impl IntFloat {
 /// assert!(matches!(speedate::float_parse_str("1.5e3"), speedate::IntFloat::Float(1500.0)));
 /// assert!(["1e3", "inf", "1.5 "].iter().all(|text| speedate::float_parse_str(text).is_err()));
 /// ```
+#[must_use]
 pub fn float_parse_str(s: &str) -> IntFloat {
     float_parse_bytes(s.as_bytes())
 }
 
 /// [`float_parse_str`] of bytes.
+#[must_use]
 pub fn float_parse_bytes(s: &[u8]) -> IntFloat {
     match int_parse_bytes(s) {
         Some(int) => IntFloat::Int(int),

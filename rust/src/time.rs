@@ -66,6 +66,10 @@ impl Time {
     ///
     /// assert_eq!(Time::parse_bytes_strict(b"12:13:14", Error), Err(ParseError::TzRequired));
     /// ```
+    ///
+    /// # Errors
+    ///
+    /// Why the text is refused. One that [`parse_str`](Self::parse_str) refuses too has the same error here.
     pub fn parse_bytes_strict(
         bytes: &[u8],
         behavior: MicrosecondsPrecisionOverflowBehavior,
@@ -79,6 +83,10 @@ impl Time {
     /// let (time, size) = speedate::Time::parse_front(b"12:13, noon", &Default::default()).unwrap();
     /// assert_eq!((time.minute, size), (13, 5));
     /// ```
+    ///
+    /// # Errors
+    ///
+    /// Why there is no time at the front.
     pub fn parse_front(bytes: &[u8], config: &TimeConfig) -> Result<(Self, usize), ParseError> {
         Ok(ffi::speedate_time_parse_front(bytes, config)?)
     }
@@ -88,11 +96,20 @@ impl Time {
     /// ```
     /// assert_eq!(speedate::Time::from_timestamp(3_740, 123).unwrap().to_string(), "01:02:20.000123");
     /// ```
+    ///
+    /// # Errors
+    ///
+    /// [`TimeTooLarge`](ParseError::TimeTooLarge) if it is on another day.
     pub fn from_timestamp(timestamp_second: u32, timestamp_microsecond: u32) -> Result<Self, ParseError> {
         Self::from_timestamp_with_config(timestamp_second, timestamp_microsecond, &TimeConfig::default())
     }
 
     /// [`from_timestamp`](Self::from_timestamp), with the offset of a configuration.
+    ///
+    /// # Errors
+    ///
+    /// [`TimeTooLarge`](ParseError::TimeTooLarge) if it is on another day, and
+    /// [`OutOfRangeTz`](ParseError::OutOfRangeTz) if the configured offset is a day or more.
     pub fn from_timestamp_with_config(
         timestamp_second: u32,
         timestamp_microsecond: u32,
@@ -103,29 +120,41 @@ impl Time {
     }
 
     /// The seconds since midnight, whatever the offset. It panics if the time is out of range.
+    #[must_use]
     pub fn total_seconds(&self) -> u32 {
         self.total(ffi::speedate_time_total_seconds(self))
     }
 
     /// The milliseconds since midnight, rounded down, whatever the offset. It panics if the time is out of range.
+    #[must_use]
     pub fn total_ms(&self) -> u32 {
         self.total(ffi::speedate_time_total_ms(self))
     }
 
-    /// The same clock with another offset, in seconds: mostly another instant. A time out of range is refused.
+    /// The same clock with another offset, in seconds: mostly another instant.
+    ///
+    /// # Errors
+    ///
+    /// The error of the first field that is out of range: [`OutOfRangeTz`](ParseError::OutOfRangeTz) if the offset is a
+    /// day or more.
     pub fn with_timezone_offset(&self, tz_offset: Option<i32>) -> Result<Self, ParseError> {
         let time = Self { tz_offset, ..*self };
         time.check().map(|()| time)
     }
 
-    /// The same instant, as a clock at another offset, in seconds, shows it on the same day. A time without an offset is
-    /// refused, and so is one out of range.
+    /// The same instant, as a clock at another offset, in seconds, shows it on the same day.
     ///
     /// ```
     /// let time = speedate::Time::parse_str("15:00Z").unwrap();
     /// assert_eq!(time.in_timezone(7_200).unwrap().to_string(), "17:00:00+02:00");
     /// assert_eq!(time.with_timezone_offset(Some(7_200)).unwrap().to_string(), "15:00:00+02:00");
     /// ```
+    ///
+    /// # Errors
+    ///
+    /// The error of the first field that is out of range; [`OutOfRangeTz`](ParseError::OutOfRangeTz) if the offset is a
+    /// day or more, [`TzRequired`](ParseError::TzRequired) if the time has none,
+    /// [`TimeTooLarge`](ParseError::TimeTooLarge) if that clock shows another day.
     pub fn in_timezone(&self, tz_offset: i32) -> Result<Self, ParseError> {
         self.checked(ffi::speedate_time_in_timezone(self, tz_offset))
     }

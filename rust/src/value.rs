@@ -71,18 +71,30 @@ macro_rules! value {
 
         impl $name {
             $(#[$parse_str])*
+            ///
+            /// # Errors
+            ///
+            /// Why the text is refused.
             #[inline]
             pub fn parse_str(str: &str) -> Result<Self, ParseError> {
                 Self::parse_bytes(str.as_bytes())
             }
 
             /// [`parse_str`](Self::parse_str) of bytes.
+            ///
+            /// # Errors
+            ///
+            /// Why the text is refused.
             #[inline]
             pub fn parse_bytes(bytes: &[u8]) -> Result<Self, ParseError> {
                 Self::parse_bytes_with_config(bytes, &$config::default())
             }
 
             /// [`parse_str`](Self::parse_str) of bytes, with a configuration.
+            ///
+            /// # Errors
+            ///
+            /// Why the text, or a configured offset that it needs, is refused.
             #[inline]
             pub fn parse_bytes_with_config(bytes: &[u8], config: &$config) -> Result<Self, ParseError> {
                 Ok(ffi::$parse(bytes, config)?)
