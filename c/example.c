@@ -17,8 +17,6 @@ static void report(int number, int code) {
 }
 
 int main(void) {
-    /* For nine digits of a second, which Go, Docker and Kubernetes print, set its overflow_behavior to
-     * SPEEDATE_OVERFLOW_TRUNCATE: by default they are refused. */
     SpeedateConfig config = SPEEDATE_CONFIG_DEFAULT;
     SpeedateDateTime first, last, moment;
     SpeedateDuration span;
@@ -26,6 +24,9 @@ int main(void) {
     size_t room = 0, taken, length;
     ssize_t size;
     int seen = 0;
+    /* Of nine digits of a second, which Go, Docker and Kubernetes print, those after the sixth are dropped; by default
+     * they are refused. */
+    config.overflow_behavior = SPEEDATE_OVERFLOW_TRUNCATE;
     for (int number = 1; (size = getline(&line, &room, stdin)) > 0; number++) {
         int code = speedate_datetime_parse_front(line, (size_t)size, config, &moment, &taken);
         if (code == SPEEDATE_OK)

@@ -8,7 +8,7 @@
 use std::error::Error;
 use std::io::{stdin, BufRead};
 
-use speedate::{DateTime, Duration, ParseError, TimeConfig};
+use speedate::{DateTime, Duration, MicrosecondsPrecisionOverflowBehavior::Truncate, ParseError, TimeConfig};
 
 fn main() -> Result<(), Box<dyn Error>> {
     let mut moments = Vec::new();
@@ -27,9 +27,10 @@ fn main() -> Result<(), Box<dyn Error>> {
     Ok(())
 }
 
-/// The date-time of a line in UTC, and what follows it. Nine digits of a second, which Go, Docker and Kubernetes print, are
-/// refused, unless the configuration says `Truncate`.
+/// The date-time of a line in UTC, and what follows it. Of nine digits of a second, which Go, Docker and Kubernetes print, those
+/// after the sixth are dropped; by default they are refused.
 fn entry(line: &[u8]) -> Result<(DateTime, String), ParseError> {
-    let (moment, size) = DateTime::parse_front(line, &TimeConfig::default())?;
+    let config = TimeConfig::builder().microseconds_precision_overflow_behavior(Truncate).build();
+    let (moment, size) = DateTime::parse_front(line, &config)?;
     Ok((moment.in_timezone(0)?, String::from_utf8_lossy(&line[size..]).into_owned()))
 }
