@@ -244,6 +244,7 @@ mod tests {
     use super::*;
     use crate::call::Bytes;
     use crate::ffi::{Date, DateTime, Duration};
+    use crate::ours;
 
     /// The default, which `Default` cannot give a constant.
     const LAX: Config = Config {
@@ -363,6 +364,15 @@ mod tests {
             let name = KNOWN[row].row;
             assert_eq!(place(&call, &rust, &ours), Some(row), "{name}");
             assert_eq!(place(&call, &rust, &wrong), None, "a wrong answer of {name}");
+            assert_eq!(ours::answer(&call), ours, "{name}");
+        }
+    }
+
+    /// Four rows say nothing of it.
+    #[test]
+    fn no_other_row_explains_any_answer_of_the_rust_crate() {
+        for (row, (call, _, ours, _)) in cases().iter().enumerate().filter(|(row, _)| ![1, 2, 3, 10].contains(row)) {
+            assert_eq!(place(call, &fault("another"), ours), None, "{}", KNOWN[row].row);
         }
     }
 
