@@ -10,11 +10,11 @@ fail() {
 # Where the library is installed, for rust/build.rs.
 export SPEEDATE_DIR="$root/out/prefix"
 
-# Installs the library where it is missing, or older than a source.
+# Installs the library where it is missing, or older than a source or than the header, which rust/build.rs compares.
 build_library() {
     library=$SPEEDATE_DIR/lib/libspeedate.a
     newer=$(find "$root/crates/speedate_base/src" "$root/crates/speedate_civil/src" "$root/crates/speedate/src" \
-        "$root/crates/speedate_c/src" -newer "$library" 2>/dev/null)
+        "$root/crates/speedate_c/src" "$root/c/speedate.h" -newer "$library" 2>/dev/null)
     if [ ! -f "$library" ] || [ -n "$newer" ]; then
         "$root/bin/build_c" --prefix "$SPEEDATE_DIR" >&2 || fail 'the library could not be built'
     fi
