@@ -93,7 +93,8 @@ fn prefix_by(variable: &str) -> Result<Option<PathBuf>, String> {
 fn folder_by_pkg_config(variable: &str) -> Option<PathBuf> {
     println!("cargo::rerun-if-env-changed=PKG_CONFIG_PATH");
     let output = Command::new("pkg-config").arg(format!("--variable={variable}")).arg("speedate").output().ok()?;
-    output.status.success().then(|| String::from_utf8_lossy(&output.stdout).trim_end().into())
+    // It puts a backslash before a space.
+    output.status.success().then(|| String::from_utf8_lossy(&output.stdout).trim_end().replace("\\ ", " ").into())
 }
 
 /// The text of a file, which cargo watches from now on.
