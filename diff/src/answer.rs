@@ -17,16 +17,16 @@ pub enum Value {
     Front(Box<Value>, usize),
 }
 
-/// A value, or the name of a fault.
+/// A value, or the name of an error.
 pub type Answer = Result<Value, String>;
 
-/// In place of a fault: the Rust crate panicked.
+/// In place of an error: the Rust crate panicked.
 pub const PANIC: &str = "panic";
 
-/// In place of a fault: the text has no such value at its front, whatever the fault.
+/// In place of an error: the text has no such value at its front, whatever the error.
 pub const NO_FRONT: &str = "no such front";
 
-/// Whether the answer is the fault of this name.
+/// Whether the answer is the error of this name.
 pub fn is_fault(answer: &Answer, name: &str) -> bool {
     answer.as_ref().is_err_and(|fault| fault == name)
 }

@@ -14,7 +14,7 @@ const END: i128 = 1 << 32;
 /// More than any number of a duration, or any timestamp, may be.
 const TOO_LARGE: i128 = 1 << 70;
 
-/// The answer to a text, and how far it is from where answers become faults.
+/// The answer to a text, and how far it is from where answers become errors.
 pub struct Exact {
     pub answer: Answer,
     /// The microseconds of the value, or those that it would have.
@@ -24,7 +24,7 @@ pub struct Exact {
 }
 
 impl Exact {
-    /// How many microseconds another answer is away: from the value, or if it is a fault, from the nearest end.
+    /// How many microseconds another answer is away: from the value, or if it is an error, from the nearest end.
     pub fn gap(&self, other: &Answer) -> Option<i128> {
         match other {
             Ok(value) => microseconds(value).map(|other| (other - self.microseconds).abs()),
@@ -122,7 +122,7 @@ impl<'a> IsoFraction<'a> {
         rust::read(Kind::Duration, &[self.before, self.after].concat(), config)
     }
 
-    /// The duration of the text. Its faults that are none of size are those of the text without the digits.
+    /// The duration of the text. Its errors that are none of size are those of the text without the digits.
     pub fn exact(&self, config: &Config) -> Option<Exact> {
         let (dates, clock) = self.sums()?;
         let (floor, extra) = fraction_of_unit(self.digits, self.unit * 1_000_000, true);

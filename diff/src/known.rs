@@ -62,7 +62,7 @@ fn is_iso_fraction(call: &Call, rust: &Answer, ours: &Answer) -> bool {
     *ours == exact.answer && (is_rounded || is_lost)
 }
 
-/// The strict order refuses components that are out of order or repeated. Up to there the text has no other fault,
+/// The strict order refuses components that are out of order or repeated. Up to there the text has no other error,
 /// but that it may be too long a duration.
 fn is_iso_order(call: &Call, _rust: &Answer, ours: &Answer) -> bool {
     let Call::ReadInOrder { text, config } = call else {
@@ -111,7 +111,7 @@ fn is_cut_clock(call: &Call, _rust: &Answer, ours: &Answer) -> bool {
         && !cut.iter().all(u8::is_ascii_digit)
 }
 
-/// A decimal with an exponent is no number here: the fault is that of a text that is no date-time.
+/// A decimal with an exponent is no number here: the error is that of a text that is no date-time.
 fn is_exponent(call: &Call, _rust: &Answer, ours: &Answer) -> bool {
     let Call::Read { kind: Kind::DateTime, text, config } = call else {
         return false;

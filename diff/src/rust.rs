@@ -70,7 +70,7 @@ fn called(call: &Call) -> Answer {
 }
 
 /// The longest front of the text that is a value. Where this library finds none, there may be a shorter one, since a
-/// value that goes on has to go on without a fault; but the whole text must not be a value.
+/// value that goes on has to go on without an error; but the whole text must not be a value.
 fn read_front(kind: Kind, text: &[u8], config: &Config) -> Answer {
     let shortest = if ours::read_front(kind, text, config).is_ok() { 0 } else { text.len() };
     let front = |size| Some(Value::Front(Box::new(read(kind, &text[..size], config).ok()?), size));

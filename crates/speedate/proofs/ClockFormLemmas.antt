@@ -1,5 +1,7 @@
--- Where the hours of a clock end, and where no letter of a day stands: among digits, and in a clock.
+-- Where the hours of a clock end, and where no letter of a day stands: among digits, and in a
+-- clock.
 use Rattle.std.proofs.Common.{rules, arith, ◌∙◌, ap, sym, get_or, inl, inr, ap₂, ◌≡◌, ℕ, ◌-◌, ◌^◌, ◌<◌, min, Bool, true, false, List, length, take, ◌==◌, ◌&&◌, nat_lt, nat_le, refl, ◌+◌, ◌||◌, [], ◌∷◌, drop, if◌then◌else◌, Ok}
+use Rattle.speedate_civil.specs.Base.{Behavior, ParseError}
 use Rattle.std.specs.Char.{is_ascii_digit}
 use Rattle.std.specs.List.{list_all, list_any, prefix_len}
 use Rattle.std.proofs.lemmas.Bool.{cases_lt, eqb-true}
@@ -10,14 +12,14 @@ use Rattle.speedate_base.specs.Ascii.{colon}
 use Rattle.speedate_base.specs.Digits.{run_length, digits_value, two_digits_at}
 use Rattle.speedate_base.proofs.DigitRunLemmas.{run_length-ended, run-whole}
 use Rattle.speedate_base.proofs.NumberLemmas.{run-digits}
-use Rattle.speedate.specs.ClockForm.{hours, colon_place, has_hours, after_hours, from_minute, hours_table, hours_range, clock_numbers, clock_form, MicrosecondsPrecisionOverflowBehavior}
+use Rattle.speedate.specs.ClockForm.{hours, colon_place, has_hours, after_hours, from_minute, hours_table, hours_range, clock_numbers, clock_form}
 use Rattle.std.proofs.lemmas.List.Folds.{list_any-append}
-use Rattle.speedate_base.specs.Requirement.{◌else_fault◌, ◌implies◌, meets, result_and_then}
-use Rattle.speedate_base.proofs.RequirementLemmas.{and_then-ok, meets-ok, meets-value}
+use Rattle.speedate_base.specs.Requirement.{◌else_fault◌, ◌implies◌, first_fault_or, result_and_then}
+use Rattle.speedate_base.proofs.RequirementLemmas.{and_then-ok, first_fault_or-ok, first_fault_or-value}
 use Rattle.speedate_civil.specs.Time.{Clock, has_decimal_mark, has_second, minute_clock, minute_digits, minute_table, minute_front, clock_answer}
 use Rattle.speedate.specs.DayForm.{is_day_letter}
 use Rattle.speedate.specs.Duration.{has_days}
-use Rattle.speedate.specs.DurationNumbers.{UnsignedDuration, fault}
+use Rattle.speedate.specs.DurationNumbers.{UnsignedDuration}
 
 digit-no_colon : (byte : ℕ) → is_ascii_digit byte ≡ true → (byte == colon) ≡ false
 digit-no_colon byte digit = grind (arith, nat_tests)
@@ -26,48 +28,63 @@ colon-no_digit : (byte : ℕ) → (byte == colon) ≡ true → is_ascii_digit by
 colon-no_digit byte same = grind (arith, nat_tests)
 
 -- where `:` follows the digits at the front, they are the hours
-pub colon_place-run : (text : List ℕ) → get_or text (run_length text 0) 0 ≡ colon → (run_length text 0 < length text) × (colon_place text ≡ run_length text 0)
-colon_place-run text ends = search (rules, get_or_past, position_or_len_is, digit-no_colon, prefix_len_passes)
+pub colon_place-run : (text : List ℕ) → get_or text (run_length text 0) 0 ≡ colon
+    → (run_length text 0 < length text) × (colon_place text ≡ run_length text 0)
+colon_place-run text ends =
+    search (rules, get_or_past, position_or_len_is, digit-no_colon, prefix_len_passes)
 
 -- where there is a `:`, the hours are digits if and only if the first digits end there
-pub hours-run : (text : List ℕ) → nat_lt (colon_place text) (length text) ≡ true → list_all is_ascii_digit (hours text) ≡ true → run_length text 0 ≡ colon_place text
+pub hours-run : (text : List ℕ) → nat_lt (colon_place text) (length text) ≡ true
+    → list_all is_ascii_digit (hours text) ≡ true → run_length text 0 ≡ colon_place text
 hours-run text some digits = search (rules, run_length-ended, colon-no_digit, passes_at_first)
 
-pub hours-are_run : (text : List ℕ) → run_length text 0 ≡ colon_place text → list_all is_ascii_digit (hours text) ≡ true
-hours-are_run text same = ap (λ (n : ℕ). list_all is_ascii_digit (take n text)) (sym same) ∙ run-digits text
+pub hours-are_run : (text : List ℕ) → run_length text 0 ≡ colon_place text
+    → list_all is_ascii_digit (hours text) ≡ true
+hours-are_run text same =
+    ap (λ (n : ℕ). list_all is_ascii_digit (take n text)) (sym same) ∙ run-digits text
 
 -- so hours begin a text where `:` follows its first digits, and these are at most ten
-has_hours-of : (text : List ℕ) (ends : Bool) → (get_or text (run_length text 0) 0 == colon) ≡ ends → has_hours text ≡ (ends && nat_le (run_length text 0) 10)
-has_hours-of text ends other = search (rules, hours-run, passes_at_first, colon_place-run, eqb-true, hours-are_run)
+has_hours-of : (text : List ℕ) (ends : Bool) → (get_or text (run_length text 0) 0 == colon) ≡ ends
+    → has_hours text ≡ (ends && nat_le (run_length text 0) 10)
+has_hours-of text ends other =
+    search (rules, hours-run, passes_at_first, colon_place-run, eqb-true, hours-are_run)
 
-pub has_hours-run : (text : List ℕ) → has_hours text ≡ ((get_or text (run_length text 0) 0 == colon) && nat_le (run_length text 0) 10)
+pub has_hours-run : (text : List ℕ)
+    → has_hours text ≡ ((get_or text (run_length text 0) 0 == colon)
+    && nat_le (run_length text 0) 10)
 has_hours-run text = has_hours-of text _ refl
 
 -- what the reader of hours cites
 pub ruleset hours_rules = (nat_tests, has_hours-run, colon_place-run)
 
 -- a number of hours that does not fit 64 bits is refused like the largest that does
-pub after_hours-saturated : (behavior : MicrosecondsPrecisionOverflowBehavior) (hours : ℕ) (rest : List ℕ)
+pub after_hours-saturated : (behavior : Behavior) (hours : ℕ) (rest : List ℕ)
     → after_hours behavior (min hours (2 ^ 64 - 1)) rest ≡ after_hours behavior hours rest
 after_hours-saturated behavior hours rest = elim (cases_lt hours (2 ^ 64)) [
-  | inl fits ↦ let same : min hours (2 ^ 64 - 1) ≡ hours = omega (arith, fits) in ap (λ (n : ℕ). after_hours behavior n rest) same
+  | inl fits ↦
+      let same : min hours (2 ^ 64 - 1) ≡ hours =
+      omega (arith, fits) in ap (λ (n : ℕ). after_hours behavior n rest) same
   | inr past ↦
-      let one : nat_le (min hours (2 ^ 64 - 1)) 2400000000 ≡ false = grind (arith, nat_tests, past) in
+      let one : nat_le (min hours (2 ^ 64 - 1)) 2400000000 ≡ false =
+      grind (arith, nat_tests, past) in
       let two : nat_le hours 2400000000 ≡ false = grind (arith, nat_tests, past) in
       rw (one, two) refl
 ]
 
-digits-no_letter : (text : List ℕ) → list_all is_ascii_digit text ≡ true → list_any is_day_letter text ≡ false
+digits-no_letter : (text : List ℕ) → list_all is_ascii_digit text ≡ true
+    → list_any is_day_letter text ≡ false
 digits-no_letter [] all = refl
 digits-no_letter (byte ∷ text) all = grind (arith, nat_tests, all, digits-no_letter text)
 
 -- so the letter stands in a text if and only if it stands after the first digits
-pub letter-after_digits : (text : List ℕ) → list_any is_day_letter (drop (run_length text 0) text) ≡ list_any is_day_letter text
+pub letter-after_digits : (text : List ℕ)
+    → list_any is_day_letter (drop (run_length text 0) text) ≡ list_any is_day_letter text
 letter-after_digits text =
     let front : List ℕ = take (run_length text 0) text in
     let rest : List ℕ = drop (run_length text 0) text in
     let none = digits-no_letter front (run-digits text) in
-    sym (ap (λ (one : Bool). one || list_any is_day_letter rest) none) ∙ sym (list_any-append is_day_letter front rest)
+    sym (ap (λ (one : Bool). one || list_any is_day_letter rest) none)
+    ∙ sym (list_any-append is_day_letter front rest)
     ∙ ap (list_any is_day_letter) (take-append-drop (run_length text 0) text)
 
 -- what the search for the letter cites
@@ -75,16 +92,19 @@ pub ruleset letter_rules = (nat_tests, take_rest, letter-after_digits)
 
 -- digits that end a text, after a point
 after-point : (a b c d e p : ℕ) (last : List ℕ) (point : Bool) → ((p == 46) || (p == 44)) ≡ point
-    → ((if point then 6 + prefix_len is_ascii_digit last else 5) == length (a ∷ b ∷ c ∷ d ∷ e ∷ p ∷ last)) ≡ true → list_any is_day_letter (p ∷ last) ≡ false
+    → ((if point then 6 + prefix_len is_ascii_digit last else 5) == length
+    (a ∷ b ∷ c ∷ d ∷ e ∷ p ∷ last)) ≡ true → list_any is_day_letter (p ∷ last) ≡ false
 after-point a b c d e p last true is sized =
-    let whole : (prefix_len is_ascii_digit last == length last) ≡ true = grind (arith, nat_tests, sized) in
+    let whole : (prefix_len is_ascii_digit last == length last) ≡ true =
+    grind (arith, nat_tests, sized) in
     grind (arith, nat_tests, is, digits-no_letter last (sym (run-whole last) ∙ whole))
 after-point a b c d e p last false is sized = absurd (grind (arith, nat_tests, sized))
 
 -- what follows the minute of a clock that takes all of a text
 after-minute : (a b c : ℕ) (more : List ℕ) (second : Bool)
     → (second implies two_digits_at (a ∷ b ∷ c ∷ more) 3) ≡ true
-    → ((if second && has_decimal_mark (a ∷ b ∷ c ∷ more) then 6 + run_length (a ∷ b ∷ c ∷ more) 6 else (if second then 5 else 2)) == length (a ∷ b ∷ c ∷ more)) ≡ true
+    → ((if second && has_decimal_mark (a ∷ b ∷ c ∷ more) then 6 + run_length (a ∷ b ∷ c ∷ more) 6
+    else (if second then 5 else 2)) == length (a ∷ b ∷ c ∷ more)) ≡ true
     → (second ≡ true) × (list_any is_day_letter more ≡ false)
 after-minute a b c more false asked sized = absurd (grind (arith, nat_tests, sized))
 after-minute a b c [] true asked sized = (refl, refl)
@@ -94,7 +114,8 @@ after-minute a b c (d ∷ e ∷ p ∷ last) true asked sized =
     (refl, grind (arith, nat_tests, asked, after-point a b c d e p last _ refl sized))
 
 -- no letter stands in a clock, from its minute on, that takes all of a text
-minute-no_letter : (rest : List ℕ) → two_digits_at rest 0 ≡ true → (has_second rest implies two_digits_at rest 3) ≡ true
+minute-no_letter : (rest : List ℕ) → two_digits_at rest 0 ≡ true
+    → (has_second rest implies two_digits_at rest 3) ≡ true
     → ((minute_clock rest).size == length rest) ≡ true → list_any is_day_letter rest ≡ false
 minute-no_letter [] minute asked sized = refl
 minute-no_letter (a ∷ []) minute asked sized = grind (arith, nat_tests, minute)
@@ -107,26 +128,37 @@ colon-no_letter : (byte : ℕ) → (byte == colon) ≡ true → is_day_letter by
 colon-no_letter byte same = grind (arith, nat_tests)
 
 -- no letter stands in a clock, and it has five bytes at least
-pub clock-no_letter : (behavior : MicrosecondsPrecisionOverflowBehavior) (text : List ℕ) (value : UnsignedDuration) → clock_form behavior text ≡ Ok value
+pub clock-no_letter : (behavior : Behavior) (text : List ℕ) (value : UnsignedDuration)
+    → clock_form behavior text ≡ Ok value
     → has_days text ≡ false
 unfolding clock_form
 clock-no_letter behavior text value same =
     let first = colon_place text in
     let rest : List ℕ = from_minute text in
     let count = digits_value (hours text) in
-    let ends = λ (clock : Clock). (clock.size == length rest else_fault fault.ExtraCharacters) ∷ [] in
-    let front = meets-ok (hours_table text) (after_hours behavior count rest) value same in
-    let whole_clock = λ (clock : Clock). meets (ends clock) (Ok (clock_numbers count clock)) in
-    let ranges = meets-ok (hours_range behavior count rest) (result_and_then whole_clock (minute_front behavior rest)) value front.1 in
+    let ends = λ (clock : Clock). (clock.size == length rest else_fault ParseError.ExtraCharacters)
+    ∷ [] in
+    let front = first_fault_or-ok (hours_table text) (after_hours behavior count rest) value same in
+    let whole_clock =
+    λ (clock : Clock). first_fault_or (ends clock) (Ok (clock_numbers count clock)) in
+    let ranges =
+    first_fault_or-ok (hours_range behavior count rest)
+    (result_and_then whole_clock (minute_front behavior rest)) value front.1 in
     let read = and_then-ok whole_clock (minute_front behavior rest) value ranges.1 in
-    let minute = meets-ok (minute_digits rest) (clock_answer behavior rest) read.0 read.1 in
-    let clock = meets-value (minute_table behavior rest) (minute_clock rest) read.0 minute.1 in
-    let whole = meets-ok (ends read.0) (Ok (clock_numbers count read.0)) value read.2 in
+    let minute =
+    first_fault_or-ok (minute_digits rest) (clock_answer behavior rest) read.0 read.1 in
+    let clock = first_fault_or-value (minute_table behavior rest) (minute_clock rest)
+    read.0 minute.1 in
+    let whole = first_fault_or-ok (ends read.0) (Ok (clock_numbers count read.0)) value read.2 in
     let sized = ap (λ (clock : Clock). clock.size == length rest) clock.1 ∙ whole.0.0 in
     let none = minute-no_letter rest minute.0.0 clock.0.1.0 sized in
     let within : first < length text = grind (arith, nat_tests, front.0.1.0) in
     let at_colon = passes_at_first (λ byte. byte == colon) text 0 within in
     let long : nat_lt (length text) 5 ≡ false = grind (arith, nat_tests, front.0.0) in
-    let letters = sym (letter-after_digits text) ∙ ap (λ (n : ℕ). list_any is_day_letter (drop n text)) (hours-run text front.0.1.0 front.0.1.1.1.0)
-    ∙ ap (list_any is_day_letter) (drop_more text first 0 within) ∙ ap₂ (λ (one others : Bool). one || others) (colon-no_letter _ at_colon) none in
+    let letters =
+    sym (letter-after_digits text)
+    ∙ ap (λ (n : ℕ). list_any is_day_letter (drop n text))
+    (hours-run text front.0.1.0 front.0.1.1.1.0)
+    ∙ ap (list_any is_day_letter) (drop_more text first 0 within)
+    ∙ ap₂ (λ (one others : Bool). one || others) (colon-no_letter _ at_colon) none in
     ap₂ (λ (one others : Bool). one || others) long letters

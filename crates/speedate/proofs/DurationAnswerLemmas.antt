@@ -1,18 +1,20 @@
 -- How the answer to an ISO 8601 duration goes on from item to item.
 use Rattle.std.proofs.Common.{rules, arith, ap, sym, ◌∙◌, lt_irrefl, ◌≡◌, ℕ, zero, suc, ◌-◌, ◌<◌, Bool, false, not, List, [], ◌∷◌, ◌++◌, length, drop, slice_index, if◌then◌else◌, Result, Ok, Err, refl}
+use Rattle.speedate_civil.specs.Base.{Behavior, IsoOrder, ParseError}
 use Rattle.std.proofs.Math.Seq.{drop-append_seam}
 use Rattle.std.proofs.lemmas.List.{length-append}
 use Rattle.speedate_base.specs.Ascii.{capital_p, capital_t}
 use Rattle.speedate_base.specs.Numbers.{IsSign}
-use Rattle.speedate_base.specs.Requirement.{meets, result_and_then}
-use Rattle.speedate_base.proofs.RequirementLemmas.{meets-all, meets-and_then}
-use Rattle.speedate.specs.Duration.{iso_after, iso_from, iso_form, unsigned_answer, duration_answer, MicrosecondsPrecisionOverflowBehavior}
-use Rattle.speedate.specs.DurationNumbers.{signed_form, ParseError, fault}
-use Rattle.speedate.specs.IsoForm.{Item, TimeDesignator, item_text, Sums, item_at, item_table, with_item, sums_amount, IsoOrder}
-use Rattle.speedate.specs.Reader.{item_front}
+use Rattle.speedate_base.specs.Requirement.{first_fault_or, result_and_then}
+use Rattle.speedate_base.proofs.RequirementLemmas.{first_fault_or-all, first_fault_or-and_then}
+use Rattle.speedate.specs.Duration.{iso_after, iso_from, iso_form, unsigned_answer, duration_answer}
+use Rattle.speedate.specs.DurationNumbers.{signed_form}
+use Rattle.speedate.specs.IsoForm.{Item, TimeDesignator, item_text, IsoSums, item_at, item_table, with_item, sums_amount}
+use Rattle.speedate.specs.IsoParts.{item_front}
 
 -- the answer after the bytes of an item
-pub iso_after-skipped : (skipped : ℕ) (sums : Sums) (text : List ℕ) → iso_after skipped sums text ≡ iso_from sums (drop skipped text)
+pub iso_after-skipped : (skipped : ℕ) (sums : IsoSums) (text : List ℕ)
+    → iso_after skipped sums text ≡ iso_from sums (drop skipped text)
 unfolding iso_after
 iso_after-skipped zero sums text = refl
 iso_after-skipped (suc skipped) sums [] = refl
@@ -22,43 +24,57 @@ iso_after-skipped (suc skipped) sums (byte ∷ text) = iso_after-skipped skipped
 pub item_text-some : (item : Item) → 0 < length (item_text item)
 item_text-some item = search (rules, length-append)
 
--- a text that is not empty has the row of the item that begins it, and then the answer to what follows
-pub iso_from-step : (sums : Sums) (text : List ℕ) → 0 < length text
-    → iso_from sums text ≡ meets (item_table sums (item_at text)) (iso_from (with_item (item_at text) sums) (drop (length (item_text (item_at text))) text))
+-- a text that is not empty has the row of the item that begins it, and then the answer to what
+-- follows
+pub iso_from-step : (sums : IsoSums) (text : List ℕ) → 0 < length text
+    → iso_from sums text ≡ first_fault_or (item_table sums (item_at text))
+    (iso_from (with_item (item_at text) sums) (drop (length (item_text (item_at text))) text))
 unfolding iso_after
 iso_from-step sums [] some = absurd (lt_irrefl 0 some)
 iso_from-step sums (byte ∷ rest) some =
     let item = item_at (byte ∷ rest) in
     let size = length (item_text item) in
     let one : suc (size - 1) ≡ size = omega (arith, item_text-some item) in
-    ap (meets (item_table sums item)) (iso_after-skipped (size - 1) (with_item item sums) rest ∙ ap (λ (n : ℕ). iso_from (with_item item sums) (drop n (byte ∷ rest))) one)
+    ap (first_fault_or (item_table sums item))
+    (iso_after-skipped (size - 1) (with_item item sums) rest
+    ∙ ap (λ (n : ℕ). iso_from (with_item item sums) (drop n (byte ∷ rest))) one)
 
 -- so its answer goes on from the sums and the place after that item, or is its fault
-pub iso_from-front : (sums : Sums) (text : List ℕ) (front : Result (Sums × ℕ) ParseError) → 0 < length text → front ≡ item_front sums (item_at text)
+pub iso_from-front : (sums : IsoSums) (text : List ℕ) (front : Result (IsoSums × ℕ) ParseError)
+    → 0 < length text → front ≡ item_front sums (item_at text)
     → result_and_then (λ next. iso_from next.0 (drop next.1 text)) front ≡ iso_from sums text
-iso_from-front sums text front some same = search (rules, meets-and_then, iso_from-step)
+iso_from-front sums text front some same = search (rules, first_fault_or-and_then, iso_from-step)
 
 -- and where nothing is left, it is what the items add up to
-pub iso_from-end : (sums : Sums) (text : List ℕ) → length text ≡ 0 → iso_from sums text ≡ (if sums.some then Ok (sums_amount sums) else Err fault.TooShort)
+pub iso_from-end : (sums : IsoSums) (text : List ℕ) → length text ≡ 0
+    → iso_from sums text ≡ (if sums.has_component then Ok (sums_amount sums)
+    else Err ParseError.TooShort)
 unfolding iso_after
 iso_from-end sums [] none = refl
 iso_from-end sums (byte ∷ rest) none = absurd (cc)
 
 -- an item that is read from its text has its row
-pub iso_from-item : (sums : Sums) (item : Item) (rest : List ℕ) → item_at (item_text item ++ rest) ≡ item
-    → iso_from sums (item_text item ++ rest) ≡ meets (item_table sums item) (iso_from (with_item item sums) rest)
-iso_from-item sums item rest is = search (rules, length-append, item_text-some, iso_from-step, drop-append_seam)
+pub iso_from-item : (sums : IsoSums) (item : Item) (rest : List ℕ)
+    → item_at (item_text item ++ rest) ≡ item
+    → iso_from sums (item_text item ++ rest)
+    ≡ first_fault_or (item_table sums item) (iso_from (with_item item sums) rest)
+iso_from-item sums item rest is =
+    search (rules, length-append, item_text-some, iso_from-step, drop-append_seam)
 
 -- and so has a first `T`
-pub iso_from-time : (sums : Sums) (text : List ℕ) → slice_index text 0 ≡ capital_t → sums.is_time ≡ false
+pub iso_from-time : (sums : IsoSums) (text : List ℕ) → slice_index text 0 ≡ capital_t
+    → sums.is_time ≡ false
     → iso_from (with_item TimeDesignator sums) (drop 1 text) ≡ iso_from sums text
 iso_from-time sums [] first none = absurd (cc)
 iso_from-time sums (byte ∷ rest) first none =
-    sym (ap (λ (byte : ℕ). iso_from sums (byte ∷ rest)) first ∙ iso_from-item sums TimeDesignator rest refl
-    ∙ meets-all (item_table sums TimeDesignator) _ (ap not none, tt))
+    sym (ap (λ (byte : ℕ). iso_from sums (byte ∷ rest)) first
+    ∙ iso_from-item sums TimeDesignator rest refl
+    ∙ first_fault_or-all (item_table sums TimeDesignator) _ (ap not none, tt))
 
 -- after a sign and a `P` the answer is that of ISO 8601
-pub duration_answer-iso : (order : IsoOrder) (behavior : MicrosecondsPrecisionOverflowBehavior) (negative : Bool) (sign body : List ℕ) → IsSign negative sign
-    → duration_answer order behavior (sign ++ capital_p ∷ body) ≡ result_and_then (signed_form (not negative)) (iso_form order body)
+pub duration_answer-iso : (order : IsoOrder) (behavior : Behavior) (negative : Bool)
+    (sign body : List ℕ) → IsSign negative sign
+    → duration_answer order behavior (sign ++ capital_p ∷ body)
+    ≡ result_and_then (signed_form (not negative)) (iso_form order body)
 unfolding unsigned_answer
 duration_answer-iso order behavior negative sign body is = search (rules)

@@ -1,6 +1,7 @@
--- Durations by their amounts: their one normal form, amounts with their sign, the duration between two values, and the value a
--- duration after another.
+-- Durations by their amounts: their one normal form, amounts with their sign, the duration between
+-- two values, and the value a duration after another.
 use Rattle.std.proofs.Common.{rules, arith, ◌∙◌, ap, sym, ◌≡◌, ℕ, ◌<◌, ◌≤◌, Bool, true, not, ◌||◌, ◌==◌, ℤ, pos, neg_ℤ, ◌+ℤ◌, ◌-ℤ◌, ◌*ℤ◌, ◌≤ℤ◌, Option, Result, Ok, Err, IfOk, unsigned_abs, refl, [], ◌∷◌, if◌then◌else◌, ok_or, unwrap_or, int_cmp}
+use Rattle.speedate_civil.specs.Base.{ParseError}
 use Rattle.std.proofs.lemmas.Int.{ints}
 use Rattle.std.proofs.lemmas.Result.{IfOk-weaker}
 use Rattle.speedate_base.specs.Numbers.{with_sign}
@@ -10,23 +11,24 @@ use Rattle.speedate_civil.specs.declared.datetime.DateTime.{DateTime}
 use Rattle.speedate_civil.specs.DateTime.{DateAndTime, IsDateAndTime, local_second, local_microsecond, utc_microsecond, date_and_time, IsShownAt, instant_date_time}
 use Rattle.speedate_civil.proofs.DateTimeInstantLemmas.{instant_date_time-shown}
 use Rattle.speedate_civil.proofs.DateTimeTimestampLemmas.{instant_date_time-local}
-use Rattle.speedate_civil.proofs.DateTimeValueLemmas.{is_date_and_time, offset-small, local_second-late, local_second-early}
-use Rattle.speedate.specs.Duration.{duration_numbers, Duration, signed_amount, duration_of_amount, amount_answer, with_positive_zero, duration_between, date_time_after, negated, date_after_days, is_whole_days}
-use Rattle.speedate.specs.DurationNumbers.{DurationNumbers, IsDuration, amount_microseconds, of_amount, normal_form, signed_day, signed_seconds, signed_microsecond, ParseError, fault}
+use Rattle.speedate.specs.Duration.{duration_numbers, Duration, signed_amount, duration_of_amount, amount_answer, with_positive_zero, duration_between, date_time_later, negated, date_later, is_whole_days}
+use Rattle.speedate.specs.DurationNumbers.{DurationNumbers, IsDuration, amount_microseconds, of_amount, normal_form, signed_day, signed_seconds, signed_microsecond}
 use Rattle.speedate_base.specs.Requirement.{◌else_fault◌}
-use Rattle.speedate_base.proofs.RequirementLemmas.{meets-all}
+use Rattle.speedate_base.proofs.RequirementLemmas.{first_fault_or-all}
 use Rattle.speedate_civil.specs.declared.date.Date.{Date}
 use Rattle.speedate_civil.specs.Calendar.{Ymd, day_number, date_counted, days_between}
 use Rattle.speedate_civil.specs.Date.{ymd}
-use Rattle.speedate_civil.proofs.DateNumberedLemmas.{date_numbered-is}
-use Rattle.speedate_civil.proofs.DateValueLemmas.{is_day}
+use Rattle.speedate_civil.proofs.DateOrderLemmas.{date_numbered-is}
+use Rattle.speedate_civil.proofs.ValueLemmas.{is_day, is_date_and_time, offset-small, local_second-late, local_second-early}
 
 -- numbers in their ranges are those of their amount
-pub of_amount-only : (numbers : DurationNumbers) → IsDuration numbers → of_amount numbers.positive (amount_microseconds numbers) ≡ numbers
+pub of_amount-only : (numbers : DurationNumbers) → IsDuration numbers
+    → of_amount numbers.positive (amount_microseconds numbers) ≡ numbers
 of_amount-only numbers valid = search rules
 
 -- the normal form of a duration is itself
-pub normal_form-same : (numbers : DurationNumbers) → IsDuration numbers → normal_form numbers ≡ Ok numbers
+pub normal_form-same : (numbers : DurationNumbers) → IsDuration numbers
+    → normal_form numbers ≡ Ok numbers
 normal_form-same numbers valid = search rules
 
 pub is_duration : (duration : Duration) → IsDuration (duration_numbers duration)
@@ -42,128 +44,172 @@ pub signed_amount-kept : (amount : ℤ) → signed_amount (duration_of_amount am
 signed_amount-kept amount = search (rules)
 
 -- the duration of an amount with its sign: none has the positive one
-signed-kept : (positive : Bool) (size : ℕ) → duration_of_amount (with_sign (not positive) size) ≡ of_amount (positive || (size == 0)) size
+signed-kept : (positive : Bool) (size : ℕ)
+    → duration_of_amount (with_sign (not positive) size) ≡ of_amount (positive || (size == 0)) size
 signed-kept positive size = search (rules)
 
 -- a duration comes back from its amount, but positive zero for negative zero
-amount-back : (numbers : DurationNumbers) → IsDuration numbers → duration_of_amount (signed_amount numbers) ≡ with_positive_zero numbers
+amount-back : (numbers : DurationNumbers) → IsDuration numbers
+    → duration_of_amount (signed_amount numbers) ≡ with_positive_zero numbers
 amount-back numbers valid = search (rules, signed-kept, of_amount-only)
 
-pub amount_answer-back : (numbers : DurationNumbers) → IsDuration numbers → amount_answer (signed_amount numbers) ≡ Ok (with_positive_zero numbers)
+pub amount_answer-back : (numbers : DurationNumbers) → IsDuration numbers
+    → amount_answer (signed_amount numbers) ≡ Ok (with_positive_zero numbers)
 amount_answer-back numbers valid = search (rules, amount-back)
 
 -- what lies so much later, and what lies so much earlier
-pub between-later : (earlier later amount : ℤ) → amount ≡ later -ℤ earlier → later ≡ earlier +ℤ amount
+pub between-later : (earlier later amount : ℤ) → amount ≡ later -ℤ earlier
+    → later ≡ earlier +ℤ amount
 between-later earlier later amount same = omega (arith, ints)
 
 difference : (earlier later amount : ℤ) → later ≡ earlier +ℤ amount → later -ℤ earlier ≡ amount
 difference earlier later amount same = omega (arith, ints)
 
-pub opposite : (later earlier amount back : ℤ) → amount ≡ neg_ℤ back → later ≡ earlier +ℤ amount → earlier ≡ later +ℤ back
+pub opposite : (later earlier amount back : ℤ) → amount ≡ neg_ℤ back → later ≡ earlier +ℤ amount
+    → earlier ≡ later +ℤ back
 opposite later earlier amount back turned same = omega (arith, ints)
 
-pub opposite-apart : (amount back other : ℤ) → amount ≡ neg_ℤ back → amount -ℤ neg_ℤ other ≡ other -ℤ back
+pub opposite-apart : (amount back other : ℤ) → amount ≡ neg_ℤ back
+    → amount -ℤ neg_ℤ other ≡ other -ℤ back
 opposite-apart amount back other turned = omega (arith, ints)
 
 -- so the duration between two date-times that lie so far apart is the one of that amount
 pub between-exact : (earlier later : DateAndTime) (numbers : DurationNumbers) → IsDuration numbers
-    → utc_microsecond later ≡ utc_microsecond earlier +ℤ signed_amount numbers → duration_between earlier later ≡ with_positive_zero numbers
-between-exact earlier later numbers valid same = ap duration_of_amount (difference _ _ _ same) ∙ amount-back numbers valid
+    → utc_microsecond later ≡ utc_microsecond earlier +ℤ signed_amount numbers
+    → duration_between earlier later ≡ with_positive_zero numbers
+between-exact earlier later numbers valid same =
+    ap duration_of_amount (difference _ _ _ same) ∙ amount-back numbers valid
 
 -- at one offset clocks are as far apart as the instants are
 moved : (second local offset amount : ℤ) (microsecond own : ℕ)
     → pos 1000000 *ℤ second +ℤ pos microsecond ≡ (pos 1000000 *ℤ local +ℤ pos own) +ℤ amount
-    → pos 1000000 *ℤ (second -ℤ offset) +ℤ pos microsecond ≡ (pos 1000000 *ℤ (local -ℤ offset) +ℤ pos own) +ℤ amount
+    → pos 1000000 *ℤ (second -ℤ offset) +ℤ pos microsecond
+    ≡ (pos 1000000 *ℤ (local -ℤ offset) +ℤ pos own) +ℤ amount
 moved second local offset amount microsecond own same = omega (arith, ints, same)
 
 unmoved : (second local offset amount : ℤ) (microsecond own : ℕ)
-    → pos 1000000 *ℤ (second -ℤ offset) +ℤ pos microsecond ≡ (pos 1000000 *ℤ (local -ℤ offset) +ℤ pos own) +ℤ amount
+    → pos 1000000 *ℤ (second -ℤ offset) +ℤ pos microsecond
+    ≡ (pos 1000000 *ℤ (local -ℤ offset) +ℤ pos own) +ℤ amount
     → (pos 1000000 *ℤ local +ℤ pos own) +ℤ amount ≡ pos 1000000 *ℤ second +ℤ pos microsecond
 unmoved second local offset amount microsecond own same = omega (arith, ints, same)
 
 -- a clock that shows an instant so much later lies so much later
-pub shown-later : (start value : DateAndTime) (amount : ℤ) → IsShownAt start.time.offset (instant_at (local_microsecond start +ℤ amount)) value
+pub shown-later : (start value : DateAndTime) (amount : ℤ)
+    → IsShownAt start.time.offset (instant_at (local_microsecond start +ℤ amount)) value
     → utc_microsecond value ≡ utc_microsecond start +ℤ amount
 shown-later start value amount shown = search (rules, moved, instant_at-microsecond)
 
 -- so the answer to an amount lies so much later
-ended : (answer : Result DateAndTime ParseError) (amount : ℤ) (start : DateAndTime) → date_time_after amount start ≡ answer
+ended : (answer : Result DateAndTime ParseError) (amount : ℤ) (start : DateAndTime)
+    → date_time_later amount start ≡ answer
     → IfOk answer (λ end. utc_microsecond end ≡ utc_microsecond start +ℤ amount)
 ended answer amount start same = search (rules, shown-later, instant_date_time-shown)
 
-pub date_time_after-ends : (amount : ℤ) (start : DateAndTime) → IfOk (date_time_after amount start) (λ end. utc_microsecond end ≡ utc_microsecond start +ℤ amount)
-date_time_after-ends amount start = ended (date_time_after amount start) amount start refl
+pub date_time_later-ends : (amount : ℤ) (start : DateAndTime)
+    → IfOk (date_time_later amount start)
+    (λ end. utc_microsecond end ≡ utc_microsecond start +ℤ amount)
+date_time_later-ends amount start = ended (date_time_later amount start) amount start refl
 
 -- and a date-time that lies so much later, at the same offset, is the answer
-pub date_time_after-exact : (amount : ℤ) (start end : DateAndTime) → IsDateAndTime end → end.time.offset ≡ start.time.offset
-    → utc_microsecond end ≡ utc_microsecond start +ℤ amount → date_time_after amount start ≡ Ok end
-date_time_after-exact amount start end valid attached same =
-    let instant : Instant = record { second = local_second end; microsecond = end.time.microsecond } in
-    let later = ap (λ (given : Option ℤ). pos 1000000 *ℤ (local_second end -ℤ unwrap_or given (pos 0)) +ℤ pos end.time.microsecond) (sym attached) ∙ same in
+pub date_time_later-exact : (amount : ℤ) (start end : DateAndTime) → IsDateAndTime end
+    → end.time.offset ≡ start.time.offset
+    → utc_microsecond end ≡ utc_microsecond start +ℤ amount → date_time_later amount start ≡ Ok end
+date_time_later-exact amount start end valid attached same =
+    let instant : Instant =
+    record { second = local_second end; microsecond = end.time.microsecond } in
+    let later = ap (λ (given : Option ℤ). pos 1000000
+    *ℤ (local_second end -ℤ unwrap_or given (pos 0)) +ℤ pos end.time.microsecond)
+    (sym attached) ∙ same in
     ap (λ (n : ℤ). instant_date_time start.time.offset (instant_at n))
-    (unmoved (local_second end) (local_second start) (unwrap_or start.time.offset (pos 0)) amount end.time.microsecond start.time.microsecond later)
-    ∙ ap (instant_date_time start.time.offset) (instant_at-is (local_microsecond end) instant valid.time.microsecond refl)
-    ∙ ap (λ (given : Option ℤ). instant_date_time given instant) (sym attached) ∙ instant_date_time-local end valid
+    (unmoved (local_second end) (local_second start) (unwrap_or start.time.offset (pos 0))
+    amount end.time.microsecond start.time.microsecond later)
+    ∙ ap (instant_date_time start.time.offset)
+    (instant_at-is (local_microsecond end) instant valid.time.microsecond refl)
+    ∙ ap (λ (given : Option ℤ). instant_date_time given instant) (sym attached)
+    ∙ instant_date_time-local end valid
 
 -- what lies as far apart is in the same order
-apart-order : (first second one two : ℤ) → first -ℤ second ≡ one -ℤ two → int_cmp first second ≡ int_cmp one two
+apart-order : (first second one two : ℤ) → first -ℤ second ≡ one -ℤ two
+    → int_cmp first second ≡ int_cmp one two
 apart-order first second one two same = search rules
 
-amounts-apart : (first second start amount other one two : ℤ) → first ≡ start +ℤ amount → second ≡ start +ℤ other → amount -ℤ other ≡ one -ℤ two
+amounts-apart : (first second start amount other one two : ℤ) → first ≡ start +ℤ amount
+    → second ≡ start +ℤ other → amount -ℤ other ≡ one -ℤ two
     → first -ℤ second ≡ one -ℤ two
 amounts-apart first second start amount other one two here there same = omega (arith, ints)
 
 -- so the ends of two amounts are in the order of the amounts
-pub ends-order : (start end : DateAndTime) (amount other one two : ℤ) → amount -ℤ other ≡ one -ℤ two → utc_microsecond end ≡ utc_microsecond start +ℤ amount
-    → IfOk (date_time_after other start) (λ next. int_cmp (utc_microsecond end) (utc_microsecond next) ≡ int_cmp one two)
+pub ends-order : (start end : DateAndTime) (amount other one two : ℤ)
+    → amount -ℤ other ≡ one -ℤ two → utc_microsecond end ≡ utc_microsecond start +ℤ amount
+    → IfOk (date_time_later other start)
+    (λ next. int_cmp (utc_microsecond end) (utc_microsecond next) ≡ int_cmp one two)
 ends-order start end amount other one two apart same =
-    IfOk-weaker (date_time_after other start) _ _
-    (λ next is. apart-order (utc_microsecond end) (utc_microsecond next) one two (amounts-apart _ _ (utc_microsecond start) amount other one two same is apart))
-    (date_time_after-ends other start)
+    IfOk-weaker (date_time_later other start) _ _
+    (λ next is. apart-order (utc_microsecond end) (utc_microsecond next) one two
+    (amounts-apart _ _ (utc_microsecond start) amount other one two same is apart))
+    (date_time_later-ends other start)
 
 -- after the duration between two date-times comes the instant of the second
-pub between-ends : (earlier later : DateAndTime) (amount : ℤ) → amount ≡ utc_microsecond later -ℤ utc_microsecond earlier
-    → IfOk (date_time_after amount earlier) (λ end. utc_microsecond end ≡ utc_microsecond later)
+pub between-ends : (earlier later : DateAndTime) (amount : ℤ)
+    → amount ≡ utc_microsecond later -ℤ utc_microsecond earlier
+    → IfOk (date_time_later amount earlier) (λ end. utc_microsecond end ≡ utc_microsecond later)
 between-ends earlier later amount same =
-    IfOk-weaker (date_time_after amount earlier) _ _ (λ end is. is ∙ sym (between-later _ _ amount same)) (date_time_after-ends amount earlier)
+    IfOk-weaker (date_time_later amount earlier) _ _
+    (λ end is. is ∙ sym (between-later _ _ amount same)) (date_time_later-ends amount earlier)
 
 -- and as much earlier than the end lies the start
 pub ends-back : (result : Result DateTime ParseError) (start : DateTime) (amount back : ℤ)
     → IfOk result (λ end. end.time.tz_offset ≡ start.time.tz_offset) → amount ≡ neg_ℤ back
-    → IfOk result (λ end. utc_microsecond (date_and_time end) ≡ utc_microsecond (date_and_time start) +ℤ amount)
-    → IfOk result (λ end. date_time_after back (date_and_time end) ≡ Ok (date_and_time start))
+    → IfOk result (λ end. utc_microsecond (date_and_time end)
+    ≡ utc_microsecond (date_and_time start) +ℤ amount)
+    → IfOk result (λ end. date_time_later back (date_and_time end) ≡ Ok (date_and_time start))
 ends-back (Ok end) start amount back attached turned same =
-    date_time_after-exact back (date_and_time end) (date_and_time start) (is_date_and_time start) (sym attached) (opposite _ _ amount back turned same)
+    date_time_later-exact back (date_and_time end) (date_and_time start) (is_date_and_time start)
+    (sym attached) (opposite _ _ amount back turned same)
 ends-back (Err fault) start amount back attached turned same = tt
 
 -- there are fewer than 3,652,427 days between two date-times
-few-days : (amount : ℤ) → unsigned_abs amount < 315569692800000000 → (duration_of_amount amount).day ≤ 3652426
+few-days : (amount : ℤ) → unsigned_abs amount < 315569692800000000
+    → (duration_of_amount amount).day ≤ 3652426
 few-days amount small = search (rules)
 
-apart : (one two : ℕ) (second seconds offset other : ℤ) → first_second ≤ℤ second → second ≤ℤ last_second → first_second ≤ℤ seconds → seconds ≤ℤ last_second
-    → unsigned_abs offset < seconds_per_day → unsigned_abs other < seconds_per_day → one ≤ 999999 → two ≤ 999999
-    → unsigned_abs ((pos 1000000 *ℤ (second -ℤ offset) +ℤ pos one) -ℤ (pos 1000000 *ℤ (seconds -ℤ other) +ℤ pos two)) < 315569692800000000
-apart one two second seconds offset other late early later earlier near by small little = omega (arith, ints)
+apart : (one two : ℕ) (second seconds offset other : ℤ) → first_second ≤ℤ second
+    → second ≤ℤ last_second → first_second ≤ℤ seconds → seconds ≤ℤ last_second
+    → unsigned_abs offset < seconds_per_day → unsigned_abs other < seconds_per_day → one ≤ 999999
+    → two ≤ 999999
+    → unsigned_abs ((pos 1000000 *ℤ (second -ℤ offset) +ℤ pos one)
+    -ℤ (pos 1000000 *ℤ (seconds -ℤ other) +ℤ pos two)) < 315569692800000000
+apart one two second seconds offset other late early later earlier near by small little =
+    omega (arith, ints)
 
 pub between-days : (earlier later : DateAndTime) → IsDateAndTime earlier → IsDateAndTime later
     → (duration_of_amount (utc_microsecond later -ℤ utc_microsecond earlier)).day ≤ 3652426
-between-days earlier later valid other = search (rules, few-days, apart, local_second-late, local_second-early, offset-small)
+between-days earlier later valid other =
+    search (rules, few-days, apart, local_second-late, local_second-early, offset-small)
 
 -- the same days the other way lead back
-days-back : (positive : Bool) (day start end : ℕ) → pos end -ℤ pos start ≡ with_sign (not positive) day
+days-back : (positive : Bool) (day start end : ℕ)
+    → pos end -ℤ pos start ≡ with_sign (not positive) day
     → pos end +ℤ with_sign (not (not positive)) day ≡ pos start
 days-back positive day start end same = search (rules)
 
-pub date-back : (numbers : DurationNumbers) (start : Date) (end : Ymd) → is_whole_days numbers ≡ true
-    → days_between (ymd start) end ≡ signed_day numbers → date_after_days (negated numbers) end ≡ Ok (ymd start)
+pub date-back : (numbers : DurationNumbers) (start : Date) (end : Ymd)
+    → is_whole_days numbers ≡ true
+    → days_between (ymd start) end ≡ signed_day numbers
+    → date_later (negated numbers) end ≡ Ok (ymd start)
 date-back numbers start end whole moved =
     let date = ymd start in
-    let outside = if not numbers.positive then fault.DateTooLarge else fault.DateTooSmall in
-    meets-all ((is_whole_days numbers else_fault fault.DateNotExact) ∷ []) _ (whole, tt)
-    ∙ ap (λ (n : ℤ). ok_or (date_counted n) outside) (days-back numbers.positive numbers.day (day_number date) (day_number end) moved)
-    ∙ ap (λ (date : Option Ymd). ok_or date outside) (date_numbered-is (day_number date) date (is_day start) start.year_in_range refl)
+    let outside =
+    if not numbers.positive then ParseError.DateTooLarge else ParseError.DateTooSmall in
+    first_fault_or-all ((is_whole_days numbers else_fault ParseError.DateNotExact) ∷ []) _
+    (whole, tt)
+    ∙ ap (λ (n : ℤ). ok_or (date_counted n) outside)
+    (days-back numbers.positive numbers.day (day_number date) (day_number end) moved)
+    ∙ ap (λ (date : Option Ymd). ok_or date outside)
+    (date_numbered-is (day_number date) date (is_day start) start.year_in_range refl)
 
 -- days the other way are the negative ones
-pub turned : (positive : Bool) (day start end : ℕ) → pos end -ℤ pos start ≡ with_sign (not (not positive)) day
+pub turned : (positive : Bool) (day start end : ℕ)
+    → pos end -ℤ pos start ≡ with_sign (not (not positive)) day
     → pos start -ℤ pos end ≡ with_sign (not positive) day
 turned positive day start end same = search (rules)

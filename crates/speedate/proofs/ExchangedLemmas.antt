@@ -1,112 +1,146 @@
--- In the lax order the answer to a text of a duration does not depend on the order of two neighbouring components of one side.
+-- In the lax order the answer to a text of a duration does not depend on the order of two
+-- neighbouring components of one side.
 use Rattle.std.proofs.Common.{rules, arith, ap, sym, ◌∙◌, append_assoc, ◌≡◌, ℕ, ◌≤◌, Bool, not, ◌&&◌, List, [], ◌∷◌, ◌++◌, nat_le, if◌then◌else◌, Option, Result, Err, refl, flat_map}
+use Rattle.speedate_civil.specs.Base.{Behavior, IsoOrder, ParseError}
 use Rattle.std.proofs.lemmas.Int.{ints}
 use Rattle.std.proofs.lemmas.Bool.Decides.{nat_tests}
 use Rattle.speedate_base.specs.Digits.{digits_value}
-use Rattle.speedate_base.specs.Requirement.{meets, result_and_then}
-use Rattle.speedate.specs.Duration.{iso_from, duration_answer, MicrosecondsPrecisionOverflowBehavior}
+use Rattle.speedate_base.specs.Requirement.{first_fault_or, result_and_then}
+use Rattle.speedate.specs.Duration.{iso_from, duration_answer}
 use Rattle.speedate.proofs.DurationAnswerLemmas.{iso_from-item, duration_answer-iso}
-use Rattle.speedate.specs.DurationNumbers.{DurationNumbers, UnsignedDuration, signed_form, ParseError, fault}
+use Rattle.speedate.specs.DurationNumbers.{DurationNumbers, UnsignedDuration, signed_form}
 use Rattle.speedate.specs.IsoOrder.{IsWhole, AreWhole, IsPlain, AreExchanged}
-use Rattle.speedate.specs.IsoForm.{DurationUnit, units, ComponentText, Item, Component, item_text, item_at, item_table, Sums, no_sums, with_component, with_item, with_items, IsoOrder, order}
+use Rattle.speedate.specs.IsoForm.{IsoUnit, units, ComponentText, Item, Component, item_text, item_at, item_table, IsoSums, no_sums, with_component, with_item, with_items}
 use Rattle.speedate.proofs.IsoItemLemmas.{item_at-component}
 
 -- what is one item by its bytes is read as it, whatever follows
-item_at-whole : (sums : Sums) (item : Item) (rest : List ℕ) → IsWhole sums item → item_at (item_text item ++ rest) ≡ item
+item_at-whole : (sums : IsoSums) (item : Item) (rest : List ℕ) → IsWhole sums item
+    → item_at (item_text item ++ rest) ≡ item
 item_at-whole sums item rest whole = search (rules, item_at-component)
 
 -- sums after which any unit may come
-abbrev IsFree : Sums → Type 0
-IsFree sums = (sums.order ≡ order.Lax) × (sums.next_units ≡ units sums.is_time)
+abbrev IsFree : IsoSums → Type 0
+IsFree sums = (sums.order ≡ IsoOrder.Lax) × (sums.next_units ≡ units sums.is_time)
 
 -- in the lax order those after an item are such sums again
-component-free : (unit : Option DurationUnit) (component : ComponentText) (sums : Sums) → IsFree sums → IsFree (with_component unit component sums)
+component-free : (unit : Option IsoUnit) (component : ComponentText) (sums : IsoSums)
+    → IsFree sums → IsFree (with_component unit component sums)
 component-free unit component sums free = search (rules)
 
-item-free : (item : Item) (sums : Sums) → IsFree sums → IsFree (with_item item sums)
+item-free : (item : Item) (sums : IsoSums) → IsFree sums → IsFree (with_item item sums)
 item-free item sums free = search (rules, component-free)
 
 -- whether its number and the sums with it are counted in 32 bits
-abbrev fits : Sums → ComponentText → Bool
+abbrev fits : IsoSums → ComponentText → Bool
 fits sums component =
     nat_le (digits_value component.number) 4294967295
-    && (nat_le (with_item (Component component) sums).day 4294967295 && nat_le (with_item (Component component) sums).second 4294967295)
+    && (nat_le (with_item (Component component) sums).day 4294967295
+    && nat_le (with_item (Component component) sums).second 4294967295)
 
 -- two rows with the same fault can be joined
 two-rows : {A : Type 0} (number sums : Bool) (fault : ParseError) (next : Result A ParseError)
-    → (if number then (if sums then next else Err fault) else Err fault) ≡ (if number && sums then next else Err fault)
+    → (if number then (if sums then next else Err fault) else Err fault)
+    ≡ (if number && sums then next else Err fault)
 two-rows number sums fault next = search (rules)
 
 -- the table of a component that can be refused for its size alone is that test
-plain-table : {A : Type 0} (sums : Sums) (component : ComponentText) (next : Result A ParseError) → IsFree sums → IsPlain sums component
-    → meets (item_table sums (Component component)) next ≡ (if fits sums component then next else Err fault.DurationValueTooLarge)
+plain-table : {A : Type 0} (sums : IsoSums) (component : ComponentText) (next : Result A ParseError)
+    → IsFree sums → IsPlain sums component
+    → first_fault_or (item_table sums (Component component)) next
+    ≡ (if fits sums component then next else Err ParseError.DurationValueTooLarge)
 plain-table sums component next free plain = search rules
 
 -- a component takes nothing from the sums
-component-grows : (unit : Option DurationUnit) (component : ComponentText) (sums : Sums)
-    → (sums.day ≤ (with_component unit component sums).day) × (sums.second ≤ (with_component unit component sums).second)
+component-grows : (unit : Option IsoUnit) (component : ComponentText) (sums : IsoSums)
+    → (sums.day ≤ (with_component unit component sums).day)
+    × (sums.second ≤ (with_component unit component sums).second)
 component-grows unit component sums = search (rules)
 
 -- so the sums of two components do not depend on their order
-sums-exchanged : (first second : ComponentText) (sums : Sums) → IsFree sums
-    → with_item (Component second) (with_item (Component first) sums) ≡ with_item (Component first) (with_item (Component second) sums)
+sums-exchanged : (first second : ComponentText) (sums : IsoSums) → IsFree sums
+    → with_item (Component second) (with_item (Component first) sums)
+    ≡ with_item (Component first) (with_item (Component second) sums)
 sums-exchanged first second sums free = search rules
 
 -- a component after another one can still be refused for its size alone
-plain-next : (sums : Sums) (first second : ComponentText) → IsPlain sums first → IsPlain sums second → IsPlain (with_item (Component first) sums) second
+plain-next : (sums : IsoSums) (first second : ComponentText) → IsPlain sums first
+    → IsPlain sums second → IsPlain (with_item (Component first) sums) second
 plain-next sums first second one two = search rules
 
 -- where both fit in one order, they fit in the other
-fits-exchanged : (sums : Sums) (first second : ComponentText) → IsFree sums
-    → (fits sums first && fits (with_item (Component first) sums) second) ≡ (fits sums second && fits (with_item (Component second) sums) first)
-fits-exchanged sums first second free = grind (arith, ints, nat_tests, sums-exchanged, component-grows)
+fits-exchanged : (sums : IsoSums) (first second : ComponentText) → IsFree sums
+    → (fits sums first && fits (with_item (Component first) sums) second)
+    ≡ (fits sums second && fits (with_item (Component second) sums) first)
+fits-exchanged sums first second free =
+    grind (arith, ints, nat_tests, sums-exchanged, component-grows)
 
 -- the answer to two components and what follows: that after them where both fit
-pair-answer : (sums : Sums) (first second : ComponentText) (rest : List ℕ) → IsFree sums → IsPlain sums first → IsPlain sums second
+pair-answer : (sums : IsoSums) (first second : ComponentText) (rest : List ℕ) → IsFree sums
+    → IsPlain sums first → IsPlain sums second
     → iso_from sums (item_text (Component first) ++ (item_text (Component second) ++ rest))
     ≡ (if fits sums first && fits (with_item (Component first) sums) second
-    then iso_from (with_item (Component second) (with_item (Component first) sums)) rest else Err fault.DurationValueTooLarge)
+    then iso_from (with_item (Component second) (with_item (Component first) sums)) rest
+    else Err ParseError.DurationValueTooLarge)
 pair-answer sums first second rest free one two =
     let next = with_item (Component first) sums in
     let last = iso_from (with_item (Component second) next) rest in
     let plain = plain-next sums first second one two in
-    let later = iso_from-item next (Component second) rest (item_at-whole next (Component second) rest plain.0)
+    let later = iso_from-item next (Component second) rest
+    (item_at-whole next (Component second) rest plain.0)
     ∙ plain-table next second last (item-free (Component first) sums free) plain in
-    iso_from-item sums (Component first) (item_text (Component second) ++ rest) (item_at-whole sums (Component first) (item_text (Component second) ++ rest) one.0)
-    ∙ plain-table sums first _ free one ∙ ap (λ (next : Result UnsignedDuration ParseError). if fits sums first then next else Err fault.DurationValueTooLarge) later
-    ∙ two-rows (fits sums first) (fits next second) fault.DurationValueTooLarge last
+    iso_from-item sums (Component first) (item_text (Component second) ++ rest)
+    (item_at-whole sums (Component first) (item_text (Component second) ++ rest) one.0)
+    ∙ plain-table sums first _ free one
+    ∙ ap (λ (next : Result UnsignedDuration ParseError). if fits sums first then next
+    else Err ParseError.DurationValueTooLarge) later
+    ∙ two-rows (fits sums first) (fits next second) ParseError.DurationValueTooLarge last
 
 -- it does not depend on their order
-pair-exchanged : (sums : Sums) (first second : ComponentText) (rest : List ℕ) → IsFree sums → IsPlain sums first → IsPlain sums second
+pair-exchanged : (sums : IsoSums) (first second : ComponentText) (rest : List ℕ) → IsFree sums
+    → IsPlain sums first → IsPlain sums second
     → iso_from sums (item_text (Component first) ++ (item_text (Component second) ++ rest))
     ≡ iso_from sums (item_text (Component second) ++ (item_text (Component first) ++ rest))
-pair-exchanged sums first second rest free one two = search (rules, pair-answer, fits-exchanged, sums-exchanged)
+pair-exchanged sums first second rest free one two =
+    search (rules, pair-answer, fits-exchanged, sums-exchanged)
 
 -- nor where they stand after items, whether these are refused or not
-after-exchanged : (sums : Sums) (items : List Item) (first second : ComponentText) (rest : List ℕ) → IsFree sums → AreWhole sums items
+after-exchanged : (sums : IsoSums) (items : List Item) (first second : ComponentText) (rest : List ℕ)
+    → IsFree sums → AreWhole sums items
     → IsPlain (with_items items sums) first → IsPlain (with_items items sums) second
-    → iso_from sums (flat_map item_text items ++ (item_text (Component first) ++ (item_text (Component second) ++ rest)))
-    ≡ iso_from sums (flat_map item_text items ++ (item_text (Component second) ++ (item_text (Component first) ++ rest)))
-after-exchanged sums [] first second rest free whole one two = pair-exchanged sums first second rest free one two
+    → iso_from sums (flat_map item_text items ++ (item_text (Component first)
+    ++ (item_text (Component second) ++ rest)))
+    ≡ iso_from sums (flat_map item_text items ++ (item_text (Component second)
+    ++ (item_text (Component first) ++ rest)))
+after-exchanged sums [] first second rest free whole one two =
+    pair-exchanged sums first second rest free one two
 after-exchanged sums (item ∷ items) first second rest free whole one two =
-    let read = λ (text : List ℕ). ap (iso_from sums) (append_assoc (item_text item) (flat_map item_text items) text)
-    ∙ iso_from-item sums item (flat_map item_text items ++ text) (item_at-whole sums item (flat_map item_text items ++ text) whole.0) in
+    let read = λ (text : List ℕ). ap (iso_from sums)
+    (append_assoc (item_text item) (flat_map item_text items) text)
+    ∙ iso_from-item sums item (flat_map item_text items ++ text)
+    (item_at-whole sums item (flat_map item_text items ++ text) whole.0) in
     read (item_text (Component first) ++ (item_text (Component second) ++ rest))
-    ∙ ap (meets (item_table sums item)) (after-exchanged (with_item item sums) items first second rest (item-free item sums free) whole.1 one two)
+    ∙ ap (first_fault_or (item_table sums item))
+    (after-exchanged (with_item item sums) items first second rest (item-free item sums free)
+    whole.1 one two)
     ∙ sym (read (item_text (Component second) ++ (item_text (Component first) ++ rest)))
 
 -- texts that differ only in that order have the same answer
-pub duration_answer-exchanged : (asked : IsoOrder) (behavior : MicrosecondsPrecisionOverflowBehavior) (one two : List ℕ) (answer : Result DurationNumbers ParseError)
-    → answer ≡ duration_answer asked behavior one → asked ≡ order.Lax → AreExchanged one two → answer ≡ duration_answer asked behavior two
+pub duration_answer-exchanged : (asked : IsoOrder) (behavior : Behavior) (one two : List ℕ)
+    (answer : Result DurationNumbers ParseError)
+    → answer ≡ duration_answer asked behavior one → asked ≡ IsoOrder.Lax → AreExchanged one two
+    → answer ≡ duration_answer asked behavior two
 duration_answer-exchanged asked behavior one two answer is lax are =
     let items = flat_map item_text are.items in
     let first = item_text (Component are.first) in
     let second = item_text (Component are.second) in
     let body : List ℕ = items ++ (first ++ (second ++ are.rest)) in
     let exchanged : List ℕ = items ++ (second ++ (first ++ are.rest)) in
-    let same = after-exchanged (no_sums order.Lax) are.items are.first are.second are.rest (refl, refl) are.are_whole are.is_plain_first are.is_plain_second in
-    let read = λ (text : List ℕ). duration_answer order.Lax behavior text in
+    let same = after-exchanged (no_sums IsoOrder.Lax) are.items are.first are.second are.rest
+    (refl, refl) are.are_whole are.is_plain_first are.is_plain_second in
+    let read = λ (text : List ℕ). duration_answer IsoOrder.Lax behavior text in
     is ∙ rw lax
-    (ap read are.is_one ∙ duration_answer-iso order.Lax behavior are.negative are.sign body are.is_sign
+    (ap read are.is_one
+    ∙ duration_answer-iso IsoOrder.Lax behavior are.negative are.sign body are.is_sign
     ∙ ap (result_and_then (signed_form (not are.negative))) same
-    ∙ sym (ap read are.is_two ∙ duration_answer-iso order.Lax behavior are.negative are.sign exchanged are.is_sign))
+    ∙ sym (ap read are.is_two
+    ∙ duration_answer-iso IsoOrder.Lax behavior are.negative are.sign exchanged are.is_sign))

@@ -1,34 +1,36 @@
--- Where the order of the standard is asked for, a duration is what the lax order makes of it, or is refused for its order.
+-- Where the order of the standard is asked for, a duration is what the lax order makes of it, or is
+-- refused for its order.
 use Rattle.std.proofs.Common.{rules, arith, ap, sym, ◌∙◌, subst, inl, ◌≡◌, ℕ, zero, suc, ◌-◌, Bool, true, false, not, ◌&&◌, List, [], ◌∷◌, ◌++◌, length, take, drop, slice_index, ◌==◌, if◌then◌else◌, Option, Some, Result, Ok, Err, refl, flat_map, is_some}
+use Rattle.speedate_civil.specs.Base.{Behavior, IsoOrder, ParseError}
 use Rattle.std.proofs.lemmas.Bool.{eqb-true, false≢true}
 use Rattle.std.proofs.lemmas.Bool.Decides.{nat_tests}
 use Rattle.std.proofs.lemmas.List.{append-nil, take-append-drop}
 use Rattle.speedate_base.specs.Ascii.{capital_p}
 use Rattle.speedate_base.specs.Numbers.{has_minus, sign_size}
 use Rattle.speedate_base.proofs.NumberLemmas.{sign-of_text}
-use Rattle.speedate_base.specs.Requirement.{meets, AllHold, result_and_then}
-use Rattle.speedate_base.proofs.RequirementLemmas.{meets-all}
-use Rattle.speedate.specs.DurationNumbers.{DurationNumbers, signed_form, ParseError, fault}
-use Rattle.speedate.specs.Duration.{form_answer, iso_after, iso_from, iso_form, unsigned_answer, duration_answer, MicrosecondsPrecisionOverflowBehavior}
+use Rattle.speedate_base.specs.Requirement.{first_fault_or, AllHold, result_and_then}
+use Rattle.speedate_base.proofs.RequirementLemmas.{first_fault_or-all}
+use Rattle.speedate.specs.DurationNumbers.{DurationNumbers, signed_form}
+use Rattle.speedate.specs.Duration.{form_answer, iso_after, iso_from, iso_form, unsigned_answer, duration_answer}
 use Rattle.speedate.proofs.DurationAnswerLemmas.{iso_from-item, duration_answer-iso}
 use Rattle.speedate.specs.IsoOrder.{IsLaxOrRefused, IsAnswerInOrder, are_in_order, IsMadeOf, is_iso}
-use Rattle.speedate.specs.IsoForm.{DurationUnit, units, unit_in, ComponentText, Item, TimeDesignator, Component, item_text, item_at, item_table, units_after, Sums, no_sums, with_component, with_item, with_items, AreGood, sums_amount, Ends, IsoOrder, order}
+use Rattle.speedate.specs.IsoForm.{IsoUnit, units, unit_in, ComponentText, Item, TimeDesignator, Component, item_text, item_at, item_table, units_after, IsoSums, no_sums, with_component, with_item, with_items, AreGood, sums_amount, Ends}
 use Rattle.speedate.proofs.IsoFormLemmas.{Answer, answer-only, iso_after-is}
 use Rattle.speedate.proofs.IsoItemLemmas.{item_at-text}
 
 -- sums after which any unit of the side may come, and those after which only some may
-abbrev as_lax : Sums → Sums
-as_lax sums = record sums { order = order.Lax; next_units = units sums.is_time }
+abbrev as_lax : IsoSums → IsoSums
+as_lax sums = record sums { order = IsoOrder.Lax; next_units = units sums.is_time }
 
-abbrev as_strict : List DurationUnit → Sums → Sums
-as_strict next sums = record sums { order = order.Strict; next_units = next }
+abbrev as_strict : List IsoUnit → IsoSums → IsoSums
+as_strict next sums = record sums { order = IsoOrder.Strict; next_units = next }
 
 -- an item adds the same to both
-component-lax : (unit : Option DurationUnit) (component : ComponentText) (sums : Sums)
+component-lax : (unit : Option IsoUnit) (component : ComponentText) (sums : IsoSums)
     → as_lax (with_component unit component sums) ≡ with_component unit component (as_lax sums)
 component-lax unit component sums = search (rules)
 
-item-lax : (item : Item) (sums : Sums) → as_lax (with_item item sums) ≡ with_item item (as_lax sums)
+item-lax : (item : Item) (sums : IsoSums) → as_lax (with_item item sums) ≡ with_item item (as_lax sums)
 item-lax item sums = search (rules, component-lax)
 
 -- a row that both tables have
@@ -37,139 +39,190 @@ row-both : (test : Bool) (fault : ParseError) (lax answer : Answer) → IsLaxOrR
 row-both test fault lax answer both = search (rules)
 
 -- so the table of an item lets both through, refuses both alike, or refuses for the order
-table-both : (sums : Sums) (item : Item) (lax answer : Answer) → IsLaxOrRefused lax answer
-    → IsLaxOrRefused (meets (item_table (as_lax sums) item) lax) (meets (item_table sums item) answer)
+table-both : (sums : IsoSums) (item : Item) (lax answer : Answer) → IsLaxOrRefused lax answer
+    → IsLaxOrRefused (first_fault_or (item_table (as_lax sums) item) lax)
+    (first_fault_or (item_table sums item) answer)
 table-both sums TimeDesignator lax answer both = row-both (not sums.is_time) _ lax answer both
 table-both sums (Component component) lax answer both = search rules
 
 -- after any items
-iso-both : (skipped : ℕ) (sums : Sums) (text : List ℕ) → IsLaxOrRefused (iso_after skipped (as_lax sums) text) (iso_after skipped sums text)
+iso-both : (skipped : ℕ) (sums : IsoSums) (text : List ℕ)
+    → IsLaxOrRefused (iso_after skipped (as_lax sums) text) (iso_after skipped sums text)
 unfolding iso_after
 iso-both skipped sums [] = inl refl
 iso-both zero sums (byte ∷ rest) =
     let item = item_at (byte ∷ rest) in
     let size = length (item_text item) - 1 in
     table-both sums item _ _
-    (subst (λ (next : Sums). IsLaxOrRefused (iso_after size next rest) (iso_after size (with_item item sums) rest))
+    (subst (λ (next : IsoSums). IsLaxOrRefused (iso_after size next rest)
+    (iso_after size (with_item item sums) rest))
     (item-lax item sums) (iso-both size (with_item item sums) rest))
 iso-both (suc skipped) sums (byte ∷ rest) = iso-both skipped sums rest
 
 both-signed : (positive : Bool) (lax answer : Answer) → IsLaxOrRefused lax answer
-    → IsLaxOrRefused (result_and_then (signed_form positive) lax) (result_and_then (signed_form positive) answer)
+    → IsLaxOrRefused (result_and_then (signed_form positive) lax)
+    (result_and_then (signed_form positive) answer)
 both-signed positive lax answer h0 = search (rules)
 
-unsigned-both : (asked : IsoOrder) (behavior : MicrosecondsPrecisionOverflowBehavior) (text : List ℕ) (iso : Bool)
-    → IsLaxOrRefused (if iso then iso_form order.Lax (drop 1 text) else form_answer behavior text)
+unsigned-both : (asked : IsoOrder) (behavior : Behavior) (text : List ℕ) (iso : Bool)
+    → IsLaxOrRefused (if iso then iso_form IsoOrder.Lax (drop 1 text)
+    else form_answer behavior text)
     (if iso then iso_form asked (drop 1 text) else form_answer behavior text)
 unsigned-both asked behavior text iso = search (rules, iso-both)
 
 -- so the answer in any order is the lax one, or the text is refused for its order
-pub duration-both : (asked : IsoOrder) (behavior : MicrosecondsPrecisionOverflowBehavior) (text : List ℕ)
-    → IsLaxOrRefused (duration_answer order.Lax behavior text) (duration_answer asked behavior text)
+pub duration-both : (asked : IsoOrder) (behavior : Behavior) (text : List ℕ)
+    → IsLaxOrRefused (duration_answer IsoOrder.Lax behavior text)
+    (duration_answer asked behavior text)
 unfolding unsigned_answer
 duration-both asked behavior text = search (rules, both-signed, unsigned-both)
 
 -- the unit of a designator has that designator
-unit-designator : (units : List DurationUnit) (designator : ℕ) (unit : DurationUnit) → unit_in units designator ≡ Some unit → unit.designator ≡ designator
+unit-designator : (units : List IsoUnit) (designator : ℕ) (unit : IsoUnit)
+    → unit_in units designator ≡ Some unit → unit.designator ≡ designator
 unit-designator [] designator unit same = absurd (cc)
-unit-designator (one ∷ units) designator unit same = grind (arith, nat_tests, same, unit-designator units designator unit)
+unit-designator (one ∷ units) designator unit same =
+    grind (arith, nat_tests, same, unit-designator units designator unit)
 
--- a component with a unit adds to the sums of the strict order what it adds to the others, and leaves what follows its unit
-component-strict : (unit : Option DurationUnit) (component : ComponentText) (next : List DurationUnit) (sums : Sums) → unit_in (units sums.is_time) component.designator ≡ unit
-    → is_some unit ≡ true → as_strict (units_after component.designator next) (with_component unit component sums) ≡ with_component unit component (as_strict next sums)
+-- a component with a unit adds to the sums of the strict order what it adds to the others, and
+-- leaves what follows its unit
+component-strict : (unit : Option IsoUnit) (component : ComponentText)
+    (next : List IsoUnit) (sums : IsoSums)
+    → unit_in (units sums.is_time) component.designator ≡ unit
+    → is_some unit ≡ true → as_strict (units_after component.designator next)
+    (with_component unit component sums) ≡ with_component unit component (as_strict next sums)
 component-strict unit component next sums is has = search (rules, false≢true)
 
 -- what good items add up to
-abbrev lax_end : Sums → Answer
-lax_end sums = if sums.some then Ok (sums_amount sums) else Err fault.TooShort
+abbrev lax_end : IsoSums → Answer
+lax_end sums = if sums.has_component then Ok (sums_amount sums) else Err ParseError.TooShort
 
-abbrev strict_end : Bool → Sums → Answer
-strict_end in_order sums = if in_order then lax_end sums else Err fault.DurationUnitOrder
+abbrev strict_end : Bool → IsoSums → Answer
+strict_end in_order sums = if in_order then lax_end sums else Err ParseError.DurationUnitOrder
 
 -- the strict table of a component that meets the lax one asks for its order alone
-table-strict : (next : List DurationUnit) (sums : Sums) (component : ComponentText) (answer : Answer) → AllHold (item_table sums (Component component))
-    → meets (item_table (as_strict next sums) (Component component)) answer ≡ (if is_some (unit_in next component.designator) then answer else Err fault.DurationUnitOrder)
+table-strict : (next : List IsoUnit) (sums : IsoSums) (component : ComponentText)
+    (answer : Answer) → AllHold (item_table sums (Component component))
+    → first_fault_or (item_table (as_strict next sums) (Component component)) answer
+    ≡ (if is_some (unit_in next component.designator) then answer
+    else Err ParseError.DurationUnitOrder)
 table-strict next sums component answer all = search rules
 
-strict-end : (comes in_order : Bool) (sums : Sums) → (if comes then strict_end in_order sums else Err fault.DurationUnitOrder) ≡ strict_end (comes && in_order) sums
+strict-end : (comes in_order : Bool) (sums : IsoSums)
+    → (if comes then strict_end in_order sums else Err ParseError.DurationUnitOrder)
+    ≡ strict_end (comes && in_order) sums
 strict-end comes in_order sums = search (rules)
 
 -- so good items are refused if and only if they are not in order
-items-strict : (next : List DurationUnit) (sums : Sums) (items : List Item) → AreGood sums items
-    → iso_from (as_strict next sums) (flat_map item_text items) ≡ strict_end (are_in_order next items) (with_items items sums)
+items-strict : (next : List IsoUnit) (sums : IsoSums) (items : List Item) → AreGood sums items
+    → iso_from (as_strict next sums) (flat_map item_text items)
+    ≡ strict_end (are_in_order next items) (with_items items sums)
 unfolding iso_after
 items-strict next sums [] good = refl
 items-strict next sums (TimeDesignator ∷ items) good =
-    iso_from-item (as_strict next sums) TimeDesignator (flat_map item_text items) refl ∙ meets-all (item_table sums TimeDesignator) _ good.1
+    iso_from-item (as_strict next sums) TimeDesignator (flat_map item_text items) refl
+    ∙ first_fault_or-all (item_table sums TimeDesignator) _ good.1
     ∙ items-strict (units true) (with_item TimeDesignator sums) items good.2
 items-strict next sums (Component component ∷ items) good =
     let item = Component component in
     let rest = flat_map item_text items in
     let after = units_after component.designator next in
     let comes = is_some (unit_in next component.designator) in
-    let same = component-strict (unit_in (units sums.is_time) component.designator) component next sums refl good.1.1.1.1.0 in
-    iso_from-item (as_strict next sums) item rest (item_at-text sums item rest good.0 good.1) ∙ table-strict next sums component _ good.1
-    ∙ ap (λ (answer : Answer). if comes then answer else Err fault.DurationUnitOrder) (ap (λ (sums : Sums). iso_from sums rest) (sym same) ∙ items-strict after (with_item item sums) items good.2)
+    let same = component-strict (unit_in (units sums.is_time) component.designator)
+    component next sums refl good.1.1.1.1.0 in
+    iso_from-item (as_strict next sums) item rest (item_at-text sums item rest good.0 good.1)
+    ∙ table-strict next sums component _ good.1
+    ∙ ap (λ (answer : Answer). if comes then answer else Err ParseError.DurationUnitOrder)
+    (ap (λ (sums : IsoSums). iso_from sums rest) (sym same)
+    ∙ items-strict after (with_item item sums) items good.2)
     ∙ strict-end comes (are_in_order after items) (with_items items (with_item item sums))
 
 -- and without the order they are what they add up to
-items-lax : (sums : Sums) (items : List Item) → AreGood sums items → iso_from sums (flat_map item_text items) ≡ lax_end (with_items items sums)
+items-lax : (sums : IsoSums) (items : List Item) → AreGood sums items
+    → iso_from sums (flat_map item_text items) ≡ lax_end (with_items items sums)
 items-lax sums items good =
     let text = flat_map item_text items in
-    answer-only sums text _ _ (iso_after-is 0 sums text) (items, [], record { is_text = sym (append-nil text); are_good = good; ends = refl })
+    answer-only sums text _ _ (iso_after-is 0 sums text)
+    (items, [], record { is_text = sym (append-nil text); are_good = good; ends = refl })
 
 chosen : (positive in_order : Bool) (lax : Answer)
-    → result_and_then (signed_form positive) (if in_order then lax else Err fault.DurationUnitOrder)
-    ≡ (if in_order then result_and_then (signed_form positive) lax else Err fault.DurationUnitOrder)
+    → result_and_then (signed_form positive)
+    (if in_order then lax else Err ParseError.DurationUnitOrder)
+    ≡ (if in_order then result_and_then (signed_form positive) lax
+    else Err ParseError.DurationUnitOrder)
 chosen positive in_order lax = search (rules)
 
 -- so a text of good items has what they add up to, with its sign
-pub answer-made : (behavior : MicrosecondsPrecisionOverflowBehavior) (text : List ℕ) (items : List Item) → (is : IsMadeOf text items)
-    → duration_answer order.Lax behavior text ≡ result_and_then (signed_form (not is.negative)) (lax_end (with_items items (no_sums order.Lax)))
+pub answer-made : (behavior : Behavior) (text : List ℕ) (items : List Item)
+    → (is : IsMadeOf text items)
+    → duration_answer IsoOrder.Lax behavior text
+    ≡ result_and_then (signed_form (not is.negative))
+    (lax_end (with_items items (no_sums IsoOrder.Lax)))
 answer-made behavior text items is =
-    ap (duration_answer order.Lax behavior) is.is_text ∙ duration_answer-iso order.Lax behavior is.negative is.sign (flat_map item_text items) is.is_sign
-    ∙ ap (result_and_then (signed_form (not is.negative))) (items-lax (no_sums order.Lax) items is.are_good)
+    ap (duration_answer IsoOrder.Lax behavior) is.is_text
+    ∙ duration_answer-iso IsoOrder.Lax behavior is.negative is.sign (flat_map item_text items)
+    is.is_sign
+    ∙ ap (result_and_then (signed_form (not is.negative)))
+    (items-lax (no_sums IsoOrder.Lax) items is.are_good)
 
--- and is refused for its order if and only if they are not in order, and otherwise has the lax answer
-answer-strict : (asked : IsoOrder) (behavior : MicrosecondsPrecisionOverflowBehavior) (text : List ℕ) (items : List Item)
-    → asked ≡ order.Strict → IsMadeOf text items
-    → duration_answer asked behavior text ≡ (if are_in_order (units false) items then duration_answer order.Lax behavior text else Err fault.DurationUnitOrder)
+-- and is refused for its order if and only if they are not in order, and otherwise has the lax
+-- answer
+answer-strict : (asked : IsoOrder) (behavior : Behavior) (text : List ℕ) (items : List Item)
+    → asked ≡ IsoOrder.Strict → IsMadeOf text items
+    → duration_answer asked behavior text
+    ≡ (if are_in_order (units false) items then duration_answer IsoOrder.Lax behavior text
+    else Err ParseError.DurationUnitOrder)
 answer-strict asked behavior text items strict is =
     let in_order = are_in_order (units false) items in
-    let read = λ (order : IsoOrder). ap (duration_answer order behavior) is.is_text ∙ duration_answer-iso order behavior is.negative is.sign (flat_map item_text items) is.is_sign in
-    ap (λ (asked : IsoOrder). duration_answer asked behavior text) strict ∙ read order.Strict
-    ∙ ap (result_and_then (signed_form (not is.negative))) (items-strict (units false) (no_sums order.Lax) items is.are_good)
-    ∙ chosen (not is.negative) in_order (lax_end (with_items items (no_sums order.Lax)))
-    ∙ ap (λ (lax : Result DurationNumbers ParseError). if in_order then lax else Err fault.DurationUnitOrder) (sym (answer-made behavior text items is))
+    let read = λ (order : IsoOrder). ap (duration_answer order behavior) is.is_text
+    ∙ duration_answer-iso order behavior is.negative is.sign (flat_map item_text items)
+    is.is_sign in
+    ap (λ (asked : IsoOrder). duration_answer asked behavior text) strict ∙ read IsoOrder.Strict
+    ∙ ap (result_and_then (signed_form (not is.negative)))
+    (items-strict (units false) (no_sums IsoOrder.Lax) items is.are_good)
+    ∙ chosen (not is.negative) in_order (lax_end (with_items items (no_sums IsoOrder.Lax)))
+    ∙ ap (λ (lax : Result DurationNumbers ParseError). if in_order then lax
+    else Err ParseError.DurationUnitOrder) (sym (answer-made behavior text items is))
 
 -- a clock and days are not asked for an order
-answer-no_iso : (asked : IsoOrder) (behavior : MicrosecondsPrecisionOverflowBehavior) (text : List ℕ) → is_iso text ≡ false
-    → duration_answer asked behavior text ≡ duration_answer order.Lax behavior text
+answer-no_iso : (asked : IsoOrder) (behavior : Behavior) (text : List ℕ) → is_iso text ≡ false
+    → duration_answer asked behavior text ≡ duration_answer IsoOrder.Lax behavior text
 unfolding unsigned_answer
 answer-no_iso asked behavior text other = rw other refl
 
 -- an ISO 8601 duration begins with a `P` after its sign
-first-byte : (text : List ℕ) → (slice_index text 0 == capital_p) ≡ true → text ≡ capital_p ∷ drop 1 text
+first-byte : (text : List ℕ) → (slice_index text 0 == capital_p) ≡ true
+    → text ≡ capital_p ∷ drop 1 text
 first-byte text is = search (rules, false≢true, eqb-true)
 
 -- what is read has nothing after its good items, and a component among them
-ends-read : (positive : Bool) (sums : Sums) (rest : List ℕ) (form : Answer) (numbers : DurationNumbers) → Ends sums rest form
-    → Ok numbers ≡ result_and_then (signed_form positive) form → (rest ≡ []) × (sums.some ≡ true)
+ends-read : (positive : Bool) (sums : IsoSums) (rest : List ℕ) (form : Answer)
+    (numbers : DurationNumbers) → Ends sums rest form
+    → Ok numbers ≡ result_and_then (signed_form positive) form
+    → (rest ≡ []) × (sums.has_component ≡ true)
 ends-read positive sums rest form numbers ends same = search (rules)
 
 -- so an ISO 8601 duration that the lax order reads is made of good items
-answer-items : (behavior : MicrosecondsPrecisionOverflowBehavior) (text : List ℕ) (numbers : DurationNumbers) → is_iso text ≡ true
-    → duration_answer order.Lax behavior text ≡ Ok numbers → (items : List Item) × IsMadeOf text items
+answer-items : (behavior : Behavior) (text : List ℕ) (numbers : DurationNumbers)
+    → is_iso text ≡ true
+    → duration_answer IsoOrder.Lax behavior text ≡ Ok numbers
+    → (items : List Item) × IsMadeOf text items
 answer-items behavior text numbers iso same =
     let sign : List ℕ = take (sign_size text) text in
     let rest = drop (sign_size text) text in
     let body : List ℕ = drop 1 rest in
     let is_sign = sign-of_text text in
-    let begins : text ≡ sign ++ capital_p ∷ body = sym (take-append-drop (sign_size text) text) ∙ ap (λ (rest : List ℕ). sign ++ rest) (first-byte rest iso) in
-    let read = sym same ∙ ap (duration_answer order.Lax behavior) begins ∙ duration_answer-iso order.Lax behavior (has_minus text) sign body is_sign in
-    let from = iso_after-is 0 (no_sums order.Lax) body in
-    let ended = ends-read (not (has_minus text)) (with_items from.0 (no_sums order.Lax)) from.1 (iso_form order.Lax body) numbers from.2.ends read in
-    let is_body = from.2.is_text ∙ ap (λ (end : List ℕ). flat_map item_text from.0 ++ end) ended.0 ∙ append-nil (flat_map item_text from.0) in
+    let begins : text ≡ sign ++ capital_p ∷ body =
+    sym (take-append-drop (sign_size text) text)
+    ∙ ap (λ (rest : List ℕ). sign ++ rest) (first-byte rest iso) in
+    let read = sym same ∙ ap (duration_answer IsoOrder.Lax behavior) begins
+    ∙ duration_answer-iso IsoOrder.Lax behavior (has_minus text) sign body is_sign in
+    let from = iso_after-is 0 (no_sums IsoOrder.Lax) body in
+    let ended = ends-read (not (has_minus text)) (with_items from.0 (no_sums IsoOrder.Lax)) from.1
+    (iso_form IsoOrder.Lax body) numbers from.2.ends read in
+    let is_body =
+    from.2.is_text ∙ ap (λ (end : List ℕ). flat_map item_text from.0 ++ end) ended.0
+    ∙ append-nil (flat_map item_text from.0) in
     let is_made : IsMadeOf text from.0 = record {
       negative = has_minus text;
       sign = sign;
@@ -181,6 +234,8 @@ answer-items behavior text numbers iso same =
     (from.0, is_made)
 
 -- the answer in the order that is asked for
-pub duration_answer-in_order : (asked : IsoOrder) (behavior : MicrosecondsPrecisionOverflowBehavior) (text : List ℕ) (answer : Result DurationNumbers ParseError)
+pub duration_answer-in_order : (asked : IsoOrder) (behavior : Behavior) (text : List ℕ)
+    (answer : Result DurationNumbers ParseError)
     → answer ≡ duration_answer asked behavior text → IsAnswerInOrder asked behavior text answer
-duration_answer-in_order asked behavior text answer same = search (rules, duration-both, answer-items, answer-strict, answer-no_iso)
+duration_answer-in_order asked behavior text answer same =
+    search (rules, duration-both, answer-items, answer-strict, answer-no_iso)

@@ -1,39 +1,45 @@
 -- What is read of an ISO 8601 duration is the sum of the amounts of its items.
 use Rattle.std.proofs.Common.{rules, arith, ap, sym, ◌∙◌, subst, ◌≡◌, ℕ, ◌+◌, ◌*◌, Bool, true, false, not, List, [], ◌∷◌, ◌++◌, drop, if◌then◌else◌, Option, Some, None, Result, Ok, Err, IfOk, refl, is_some}
+use Rattle.speedate_civil.specs.Base.{Behavior, IsoOrder, ParseError}
 use Rattle.std.proofs.lemmas.Bool.{false≢true}
 use Rattle.speedate_base.specs.Ascii.{capital_p}
 use Rattle.speedate_base.specs.Digits.{digits_value}
 use Rattle.speedate_base.specs.Numbers.{has_minus, IsSign}
 use Rattle.speedate_base.specs.Requirement.{result_and_then}
 use Rattle.speedate_base.specs.Timestamp.{seconds_per_day}
-use Rattle.speedate_base.proofs.RequirementLemmas.{meets-value}
-use Rattle.speedate.specs.Duration.{duration_answer, duration_numbers, ◌gives◌, Duration, MicrosecondsPrecisionOverflowBehavior}
+use Rattle.speedate_base.proofs.RequirementLemmas.{first_fault_or-value}
+use Rattle.speedate.specs.Duration.{duration_answer, duration_numbers, ◌gives◌, Duration}
 use Rattle.speedate.proofs.FractionLemmas.{fraction_amount, fraction_amount-is}
-use Rattle.speedate.specs.DurationNumbers.{DurationNumbers, amount_microseconds, of_amount, normal_table, signed_form, ParseError, fault}
-use Rattle.speedate.specs.IsoForm.{DurationUnit, units, unit_in, ComponentText, Item, TimeDesignator, Component, Sums, no_sums, with_component, with_item, with_items, AreGood, sums_amount, IsoOrder, order}
+use Rattle.speedate.specs.DurationNumbers.{DurationNumbers, amount_microseconds, of_amount, normal_table, signed_form}
+use Rattle.speedate.specs.IsoForm.{IsoUnit, units, unit_in, ComponentText, Item, TimeDesignator, Component, IsoSums, no_sums, with_component, with_item, with_items, AreGood, sums_amount}
 use Rattle.speedate.specs.IsoAmount.{unit_microseconds, IsComponentAmount, IsSumOf, IsAmountOf}
 use Rattle.speedate.specs.IsoOrder.{IsMadeOf}
 use Rattle.speedate.proofs.InOrderLemmas.{answer-made, duration-both}
 
 -- an answer in any order is the lax one
-lax-of_read : (asked : IsoOrder) (behavior : MicrosecondsPrecisionOverflowBehavior) (text : List ℕ) (numbers : DurationNumbers)
-    → duration_answer asked behavior text ≡ Ok numbers → duration_answer order.Lax behavior text ≡ Ok numbers
+lax-of_read : (asked : IsoOrder) (behavior : Behavior) (text : List ℕ) (numbers : DurationNumbers)
+    → duration_answer asked behavior text ≡ Ok numbers
+    → duration_answer IsoOrder.Lax behavior text ≡ Ok numbers
 lax-of_read asked behavior text numbers same = search (rules, duration-both)
 
 -- the microseconds of sums
-abbrev total : Sums → ℕ
+abbrev total : IsoSums → ℕ
 total sums = (sums.day * seconds_per_day + sums.second) * 1000000 + sums.microsecond
 
 -- the amount of a component of a unit
-abbrev component_amount : DurationUnit → ComponentText → ℕ
-component_amount unit component = digits_value component.number * unit_microseconds unit + fraction_amount unit (drop 1 component.fraction)
+abbrev component_amount : IsoUnit → ComponentText → ℕ
+component_amount unit component =
+    digits_value component.number * unit_microseconds unit
+    + fraction_amount unit (drop 1 component.fraction)
 
 -- a component adds it to the sums
-component-adds : (unit : DurationUnit) (component : ComponentText) (sums : Sums)
-    → total (with_component (Some unit) component sums) ≡ total sums + component_amount unit component
+component-adds : (unit : IsoUnit) (component : ComponentText) (sums : IsoSums)
+    → total (with_component (Some unit) component sums)
+    ≡ total sums + component_amount unit component
 component-adds unit component sums = grind arith
 
-component_amount-is : (unit : DurationUnit) (component : ComponentText) (is_time : Bool) → unit_in (units is_time) component.designator ≡ Some unit
+component_amount-is : (unit : IsoUnit) (component : ComponentText) (is_time : Bool)
+    → unit_in (units is_time) component.designator ≡ Some unit
     → IsComponentAmount is_time component (component_amount unit component)
 component_amount-is unit component is_time is = record {
   unit = unit;
@@ -44,53 +50,90 @@ component_amount-is unit component is_time is = record {
 }
 
 -- items add a sum to sums
-abbrev AddsSum : Bool → List Item → Sums → Sums → Type 0
-AddsSum is_time items sums after = (sum : ℕ) × IsSumOf is_time items sum × (total after ≡ total sums + sum)
+abbrev AddsSum : Bool → List Item → IsoSums → IsoSums → Type 0
+AddsSum is_time items sums after =
+    (sum : ℕ) × IsSumOf is_time items sum × (total after ≡ total sums + sum)
 
-component-sum : (unit : Option DurationUnit) (component : ComponentText) (items : List Item) (sums after : Sums)
+component-sum : (unit : Option IsoUnit) (component : ComponentText) (items : List Item)
+    (sums after : IsoSums)
     → unit_in (units sums.is_time) component.designator ≡ unit → is_some unit ≡ true
-    → AddsSum (with_component unit component sums).is_time items (with_component unit component sums) after → AddsSum sums.is_time (Component component ∷ items) sums after
+    → AddsSum (with_component unit component sums).is_time items
+    (with_component unit component sums) after
+    → AddsSum sums.is_time (Component component ∷ items) sums after
 component-sum None component items sums after is has adds = absurd (false≢true has)
 component-sum (Some unit) component items sums after is has adds =
     let amount = component_amount unit component in
-    let joined : total after ≡ total sums + (amount + adds.0) = omega (arith, adds.2, component-adds unit component sums) in
-    (amount + adds.0, (amount, adds.0, component_amount-is unit component sums.is_time is, adds.1, refl), joined)
+    let joined : total after ≡ total sums + (amount + adds.0) =
+    omega (arith, adds.2, component-adds unit component sums) in (
+      amount + adds.0,
+      (
+        amount,
+        adds.0,
+        component_amount-is unit component sums.is_time is,
+        adds.1,
+        refl,
+      ),
+      joined,
+    )
 
 -- so good items add the sum of their amounts
-items-sum : (sums : Sums) (items : List Item) → AreGood sums items → AddsSum sums.is_time items sums (with_items items sums)
+items-sum : (sums : IsoSums) (items : List Item) → AreGood sums items
+    → AddsSum sums.is_time items sums (with_items items sums)
 items-sum sums [] good = (0, refl, omega arith)
-items-sum sums (TimeDesignator ∷ items) good = items-sum (with_item TimeDesignator sums) items good.2
+items-sum sums (TimeDesignator ∷ items) good =
+    items-sum (with_item TimeDesignator sums) items good.2
 items-sum sums (Component component ∷ items) good =
-    component-sum (unit_in (units sums.is_time) component.designator) component items sums (with_items items (with_item (Component component) sums)) refl good.1.1.1.1.0
+    component-sum (unit_in (units sums.is_time) component.designator) component items sums
+    (with_items items (with_item (Component component) sums)) refl good.1.1.1.1.0
     (items-sum (with_item (Component component) sums) items good.2)
 
 -- the numbers that have an amount have it
-amount-kept : (positive : Bool) (amount : ℕ) → amount_microseconds (of_amount positive amount) ≡ amount
+amount-kept : (positive : Bool) (amount : ℕ)
+    → amount_microseconds (of_amount positive amount) ≡ amount
 amount-kept positive amount = omega arith
 
 -- a text begins with its sign
-minus-of_sign : (negative : Bool) (sign rest : List ℕ) → IsSign negative sign → has_minus (sign ++ capital_p ∷ rest) ≡ negative
+minus-of_sign : (negative : Bool) (sign rest : List ℕ) → IsSign negative sign
+    → has_minus (sign ++ capital_p ∷ rest) ≡ negative
 minus-of_sign negative sign rest is = search rules
 
--- so the numbers that are read of a text of good items have the sum of their amounts, and the sign of the text
-answer-amount : (asked : IsoOrder) (behavior : MicrosecondsPrecisionOverflowBehavior) (text : List ℕ) (items : List Item) (numbers : DurationNumbers)
-    → duration_answer asked behavior text ≡ Ok numbers → IsMadeOf text items → IsAmountOf text items numbers
+-- so the numbers that are read of a text of good items have the sum of their amounts, and the sign
+-- of the text
+answer-amount : (asked : IsoOrder) (behavior : Behavior) (text : List ℕ) (items : List Item)
+    (numbers : DurationNumbers)
+    → duration_answer asked behavior text ≡ Ok numbers → IsMadeOf text items
+    → IsAmountOf text items numbers
 answer-amount asked behavior text items numbers same is =
-    let sums = with_items items (no_sums order.Lax) in
-    let adds = items-sum (no_sums order.Lax) items is.are_good in
-    let read = sym (answer-made behavior text items is) ∙ lax-of_read asked behavior text numbers same in
-    let ended = ap (λ (some : Bool). result_and_then (signed_form (not is.negative)) (if some then Ok (sums_amount sums) else Err fault.TooShort)) (sym is.some) ∙ read in
-    let given : DurationNumbers = record { positive = not is.negative; day = sums.day; second = sums.second; microsecond = sums.microsecond } in
-    let form = meets-value (normal_table given) (of_amount (not is.negative) (amount_microseconds given)) numbers ended in
+    let sums = with_items items (no_sums IsoOrder.Lax) in
+    let adds = items-sum (no_sums IsoOrder.Lax) items is.are_good in
+    let read = sym (answer-made behavior text items is)
+    ∙ lax-of_read asked behavior text numbers same in
+    let ended = ap (λ (some : Bool). result_and_then (signed_form (not is.negative))
+    (if some then Ok (sums_amount sums) else Err ParseError.TooShort)) (sym is.some) ∙ read in
+    let given : DurationNumbers =
+    record {
+      positive = not is.negative;
+      day = sums.day;
+      second = sums.second;
+      microsecond = sums.microsecond;
+    } in
+    let form = first_fault_or-value (normal_table given)
+    (of_amount (not is.negative) (amount_microseconds given)) numbers ended in
     let sum : total sums ≡ adds.0 = omega (arith, adds.2) in
-    let amount = ap amount_microseconds (sym form.1) ∙ amount-kept (not is.negative) (total sums) ∙ sum in
+    let amount =
+    ap amount_microseconds (sym form.1) ∙ amount-kept (not is.negative) (total sums) ∙ sum in
     record {
       amount = subst (IsSumOf false items) (sym amount) adds.1;
-      sign = ap (λ (numbers : DurationNumbers). numbers.positive) (sym form.1) ∙ ap not (sym (ap has_minus is.is_text ∙ minus-of_sign is.negative is.sign _ is.is_sign));
+      sign = ap (λ (numbers : DurationNumbers). numbers.positive) (sym form.1)
+          ∙ ap not (sym (ap has_minus is.is_text ∙ minus-of_sign is.negative is.sign _ is.is_sign));
     }
 
 -- and so has the duration
-pub duration_answer-amount : (asked : IsoOrder) (behavior : MicrosecondsPrecisionOverflowBehavior) (text : List ℕ) (result : Result Duration ParseError)
-    → result gives duration_answer asked behavior text → IfOk result (λ value. (items : List Item) → IsMadeOf text items → IsAmountOf text items (duration_numbers value))
-duration_answer-amount asked behavior text (Ok value) same = λ items is. answer-amount asked behavior text items (duration_numbers value) (sym same) is
+pub duration_answer-amount : (asked : IsoOrder) (behavior : Behavior) (text : List ℕ)
+    (result : Result Duration ParseError)
+    → result gives duration_answer asked behavior text
+    → IfOk result (λ value. (items : List Item) → IsMadeOf text items
+    → IsAmountOf text items (duration_numbers value))
+duration_answer-amount asked behavior text (Ok value) same =
+    λ items is. answer-amount asked behavior text items (duration_numbers value) (sym same) is
 duration_answer-amount asked behavior text (Err fault) same = tt

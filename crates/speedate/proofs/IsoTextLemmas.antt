@@ -1,5 +1,6 @@
 -- The text by which a duration is printed is read as the duration.
 use Rattle.std.proofs.Common.{rules, arith, ap, sym, ◌∙◌, append_assoc, lit<, ◌≡◌, ℕ, ◌+◌, ◌*◌, ◌/◌, ◌%◌, ◌^◌, ◌<◌, ◌≤◌, Bool, true, false, not, ◌&&◌, ◌==◌, if◌then◌else◌, List, [], ◌∷◌, ◌++◌, length, drop, Some, Result, Ok, codes, refl, decimal, is_some}
+use Rattle.speedate_civil.specs.Base.{Behavior, IsoOrder, ParseError}
 use Rattle.std.proofs.lemmas.Int.{ints}
 use Rattle.std.specs.Char.{is_ascii_digit}
 use Rattle.std.specs.List.{list_all}
@@ -11,16 +12,16 @@ use Rattle.std.proofs.lemmas.Str.Parse.{IsDigitsTest, IsNumeralModel, numerals_b
 use Rattle.speedate_base.specs.Ascii.{full_stop, capital_d, capital_h, capital_m, capital_s, capital_t, capital_y}
 use Rattle.speedate_base.specs.Digits.{six_digit_text, digits_value}
 use Rattle.speedate_base.specs.Requirement.{AllHold, result_and_then}
-use Rattle.speedate_base.proofs.RequirementLemmas.{meets-all}
+use Rattle.speedate_base.proofs.RequirementLemmas.{first_fault_or-all}
 use Rattle.speedate_base.proofs.TextLemmas.{text-distinct}
-use Rattle.speedate.specs.Duration.{iso_from, iso_form, unsigned_answer, duration_answer, counted_text, without_last_zeros, short_fraction_text, seconds_text, hours_text, days_text, start_text, rest_text, is_whole_days, duration_text, MicrosecondsPrecisionOverflowBehavior, behavior}
+use Rattle.speedate.specs.Duration.{iso_from, iso_form, unsigned_answer, duration_answer, counted_text, without_last_zeros, short_fraction_text, seconds_text, hours_text, days_text, start_text, rest_text, is_whole_days, duration_text}
 use Rattle.speedate.proofs.DurationAnswerLemmas.{iso_from-item, iso_from-end}
 use Rattle.speedate.proofs.IsoItemLemmas.{item_at-component}
 use Rattle.speedate.specs.IsoOrder.{IsLaxOrRefused}
 use Rattle.speedate.proofs.InOrderLemmas.{duration-both}
 use Rattle.speedate.proofs.DurationLemmas.{normal_form-same}
-use Rattle.speedate.specs.DurationNumbers.{DurationNumbers, UnsignedDuration, IsDuration, signed_form, ParseError}
-use Rattle.speedate.specs.IsoForm.{DurationUnit, unit, units, unit_in, units_after, ComponentText, TimeDesignator, Component, IsItem, IsFraction, Sums, fraction_seconds, fraction_microseconds, with_number, with_component, with_item, are_counted, item_table, IsoOrder, order}
+use Rattle.speedate.specs.DurationNumbers.{DurationNumbers, UnsignedDuration, IsDuration, signed_form}
+use Rattle.speedate.specs.IsoForm.{IsoUnit, unit, units, unit_in, units_after, ComponentText, TimeDesignator, Component, IsItem, IsFraction, IsoSums, fraction_seconds, fraction_microseconds, with_number, with_component, with_item, are_counted, item_table}
 
 -- a number without leading zeros is digits that spell it
 abbrev AreDigits : List ℕ → Type 0
@@ -30,60 +31,97 @@ digits_test : IsDigitsTest AreDigits
 digits_test = search rules
 
 digits_model : IsNumeralModel AreDigits digits_value
-digits_model = numerals_by_weight AreDigits digits_test digits_value (record { empty = refl; more = λ c cs range. refl })
+digits_model =
+    numerals_by_weight AreDigits digits_test digits_value
+    (record { empty = refl; more = λ c cs range. refl })
 
 -- no fraction is no seconds and no microseconds
-no-seconds : (unit : DurationUnit) → fraction_seconds unit [] ≡ 0
+no-seconds : (unit : IsoUnit) → fraction_seconds unit [] ≡ 0
 no-seconds unit = omega arith
 
-no-microseconds : (unit : DurationUnit) → fraction_microseconds unit [] ≡ 0
+no-microseconds : (unit : IsoUnit) → fraction_microseconds unit [] ≡ 0
 no-microseconds unit = search rules
 
 -- sums in the order of the standard, with no fraction so far
-abbrev at : List DurationUnit → Bool → Bool → ℕ → ℕ → Sums
+abbrev at : List IsoUnit → Bool → Bool → ℕ → ℕ → IsoSums
 at next is_time some day second =
-    record { order = order.Strict; next_units = next; is_time = is_time; fraction = false; some = some; day = day; second = second; microsecond = 0 }
+    record {
+      order = IsoOrder.Strict;
+      next_units = next;
+      is_time = is_time;
+      has_fraction = false;
+      has_component = some;
+      day = day;
+      second = second;
+      microsecond = 0;
+    }
 
 -- a number, its fraction and its unit lead to the sums with that number of the unit
-component-leads : (sums : Sums) (unit : DurationUnit) (number : ℕ) (fraction rest : List ℕ) → unit_in (units sums.is_time) unit.designator ≡ Some unit
-    → is_some (unit_in sums.next_units unit.designator) ≡ true → sums.fraction ≡ false → IsFraction fraction → number ≤ 4294967295
-    → (with_number unit number fraction sums).day ≤ 4294967295 → (with_number unit number fraction sums).second ≤ 4294967295
-    → iso_from sums (decimal number ++ fraction ++ unit.designator ∷ [] ++ rest) ≡ iso_from (with_number unit number fraction sums) rest
+component-leads : (sums : IsoSums) (unit : IsoUnit) (number : ℕ) (fraction rest : List ℕ)
+    → unit_in (units sums.is_time) unit.designator ≡ Some unit
+    → is_some (unit_in sums.next_units unit.designator) ≡ true → sums.has_fraction ≡ false
+    → IsFraction fraction → number ≤ 4294967295
+    → (with_number unit number fraction sums).day ≤ 4294967295
+    → (with_number unit number fraction sums).second ≤ 4294967295
+    → iso_from sums (decimal number ++ fraction ++ unit.designator ∷ [] ++ rest)
+    ≡ iso_from (with_number unit number fraction sums) rest
 component-leads sums unit number fraction rest found comes whole is few few_days few_seconds =
-    let component : ComponentText = record { number = decimal number; fraction = fraction; designator = unit.designator } in
+    let component : ComponentText =
+    record { number = decimal number; fraction = fraction; designator = unit.designator } in
     let small : number < 2 ^ 64 = omega (arith, few) in
     let spelled = digits_value-decimal digits_model number small in
     let fits : digits_value (decimal number) ≤ 4294967295 = omega (arith, spelled, few) in
     let sum : with_item (Component component) sums ≡ with_number unit number fraction sums =
-    ap (λ one. with_component one component sums) found ∙ ap (λ (n : ℕ). with_number unit n fraction sums) spelled in
+    ap (λ one. with_component one component sums) found
+    ∙ ap (λ (n : ℕ). with_number unit n fraction sums) spelled in
     let counted = and_from _ _ (le-leb _ 4294967295 few_days) (le-leb _ 4294967295 few_seconds) in
     let digits = lt-ltb 0 (length (decimal number)) (decimal_nonempty number small) in
     let is_item : IsItem (Component component) = (digits_decimal digits_model number small, is) in
-    let all : AllHold (item_table sums (Component component)) =
-    (digits, (le-leb _ 4294967295 fits, (ap not whole, (ap is_some found, (comes, (ap are_counted sum ∙ counted, tt)))))) in
-    iso_from-item sums (Component component) rest (item_at-component sums.is_time component rest is_item digits (ap is_some found))
-    ∙ meets-all (item_table sums (Component component)) _ all ∙ ap (λ (sums : Sums). iso_from sums rest) sum
+    let all : AllHold (item_table sums (Component component)) = (
+      digits,
+      (
+        le-leb _ 4294967295 fits,
+        (ap not whole, (ap is_some found, (comes, (ap are_counted sum ∙ counted, tt)))),
+      ),
+    ) in
+    iso_from-item sums (Component component) rest
+    (item_at-component sums.is_time component rest is_item digits (ap is_some found))
+    ∙ first_fault_or-all (item_table sums (Component component)) _ all
+    ∙ ap (λ (sums : IsoSums). iso_from sums rest) sum
 
 -- a number and its unit, or nothing for none, lead to the sums with that number of the unit
-counted-leads : (next : List DurationUnit) (is_time some none : Bool) (unit : DurationUnit) (number day second : ℕ) (rest : List ℕ) → (number == 0) ≡ none
-    → unit_in (units is_time) unit.designator ≡ Some unit → is_some (unit_in next unit.designator) ≡ true → number ≤ 4294967295
+counted-leads : (next : List IsoUnit) (is_time some none : Bool) (unit : IsoUnit)
+    (number day second : ℕ) (rest : List ℕ) → (number == 0) ≡ none
+    → unit_in (units is_time) unit.designator ≡ Some unit
+    → is_some (unit_in next unit.designator) ≡ true → number ≤ 4294967295
     → day + number * unit.day ≤ 4294967295 → second + number * unit.second ≤ 4294967295
-    → iso_from (at next is_time some day second) ((if none then [] else decimal number ++ unit.designator ∷ []) ++ rest)
-    ≡ iso_from (at (if none then next else units_after unit.designator next) is_time (if none then some else true) (day + number * unit.day) (second + number * unit.second)) rest
-counted-leads next is_time some true unit number day second rest none found comes few few_days few_seconds =
+    → iso_from (at next is_time some day second)
+    ((if none then [] else decimal number ++ unit.designator ∷ []) ++ rest)
+    ≡ iso_from (at (if none then next else units_after unit.designator next) is_time
+    (if none then some else true) (day + number * unit.day) (second + number * unit.second))
+    rest
+counted-leads next is_time some true unit number day second rest none found comes few few_days
+    few_seconds =
     let zero_is = eqb-true number 0 none in
     let days : day ≡ day + number * unit.day = grind (arith, zero_is) in
     let seconds : second ≡ second + number * unit.second = grind (arith, zero_is) in
     λ i. iso_from (at next is_time some (days i) (seconds i)) rest
-counted-leads next is_time some false unit number day second rest other found comes few few_days few_seconds =
+counted-leads next is_time some false unit number day second rest other found comes few few_days
+    few_seconds =
     let sums = at next is_time some day second in
     let after = with_number unit number [] sums in
     let days : after.day ≡ day + number * unit.day = omega (arith, no-seconds unit) in
     let seconds : after.second ≡ second + number * unit.second = omega (arith, no-seconds unit) in
     let microseconds : after.microsecond ≡ 0 = omega (arith, no-microseconds unit) in
-    ap (λ (digits : List ℕ). iso_from sums (digits ++ unit.designator ∷ [] ++ rest)) (sym (append-nil (decimal number)))
-    ∙ component-leads sums unit number [] rest found comes refl tt few (omega (arith, days, few_days)) (omega (arith, seconds, few_seconds))
-    ∙ (λ i. iso_from (record after { day = days i; second = seconds i; microsecond = microseconds i }) rest)
+    ap (λ (digits : List ℕ). iso_from sums (digits ++ unit.designator ∷ [] ++ rest))
+    (sym (append-nil (decimal number)))
+    ∙ component-leads sums unit number [] rest found comes refl tt few
+    (omega (arith, days, few_days)) (omega (arith, seconds, few_seconds))
+    ∙ (λ i. iso_from (record after {
+      day = days i;
+      second = seconds i;
+      microsecond = microseconds i;
+    }) rest)
 
 -- a fraction of a second that is printed is its microseconds
 abbrev IsMicroseconds : List ℕ → ℕ → Type 0
@@ -92,13 +130,17 @@ IsMicroseconds fraction microsecond =
     × (fraction_microseconds (unit capital_s 0 1) (drop 1 fraction) ≡ microsecond)
 
 fraction-of : (microsecond : ℕ) (none : Bool) → (microsecond == 0) ≡ none → microsecond ≤ 999999
-    → IsMicroseconds (if none then [] else full_stop ∷ without_last_zeros (six_digit_text microsecond)) microsecond
-fraction-of microsecond none other small = grind (arith, ints, nat_tests, other, small, eqb-true, no-seconds, no-microseconds)
+    → IsMicroseconds (if none then [] else full_stop
+    ∷ without_last_zeros (six_digit_text microsecond)) microsecond
+fraction-of microsecond none other small =
+    grind (arith, ints, nat_tests, other, small, eqb-true, no-seconds, no-microseconds)
 
 -- seconds with their fraction are read as the end of a text
-seconds-end : (next : List DurationUnit) (some : Bool) (number microsecond day second : ℕ) → is_some (unit_in next capital_s) ≡ true
+seconds-end : (next : List IsoUnit) (some : Bool) (number microsecond day second : ℕ)
+    → is_some (unit_in next capital_s) ≡ true
     → number ≤ 4294967295 → microsecond ≤ 999999 → day ≤ 4294967295 → second + number ≤ 4294967295
-    → iso_from (at next true some day second) (decimal number ++ short_fraction_text microsecond ++ capital_s ∷ [])
+    → iso_from (at next true some day second)
+    (decimal number ++ short_fraction_text microsecond ++ capital_s ∷ [])
     ≡ Ok (record { day = day; second = second + number; microsecond = microsecond })
 seconds-end next some number microsecond day second comes few small few_days few_seconds =
     let sums = at next true some day second in
@@ -109,78 +151,114 @@ seconds-end next some number microsecond day second comes few small few_days few
     let seconds : after.second ≡ second + number = omega (arith, means.1) in
     let microseconds : after.microsecond ≡ microsecond = omega (arith, means.2) in
     ap (iso_from sums) (sym (append-nil (decimal number ++ fraction ++ capital_s ∷ [])))
-    ∙ component-leads sums (unit capital_s 0 1) number fraction [] refl comes refl means.0 few (omega (arith, days, few_days)) (omega (arith, seconds, few_seconds))
-    ∙ iso_from-end after [] refl ∙ (λ i. Ok (record { day = days i; second = seconds i; microsecond = microseconds i }))
+    ∙ component-leads sums (unit capital_s 0 1) number fraction [] refl comes refl means.0 few
+    (omega (arith, days, few_days)) (omega (arith, seconds, few_seconds))
+    ∙ iso_from-end after [] refl ∙ (λ i. Ok (record {
+      day = days i;
+      second = seconds i;
+      microsecond = microseconds i;
+    }))
 
 -- and where nothing is printed for none
-seconds-read : (next : List DurationUnit) (some none : Bool) (number microsecond day second : ℕ) → ((number == 0) && (microsecond == 0)) ≡ none
-    → is_some (unit_in next capital_s) ≡ true → number ≤ 4294967295 → microsecond ≤ 999999 → day ≤ 4294967295 → second + number ≤ 4294967295
+seconds-read : (next : List IsoUnit) (some none : Bool) (number microsecond day second : ℕ)
+    → ((number == 0) && (microsecond == 0)) ≡ none
+    → is_some (unit_in next capital_s) ≡ true → number ≤ 4294967295 → microsecond ≤ 999999
+    → day ≤ 4294967295 → second + number ≤ 4294967295
     → (if none then some else true) ≡ true
-    → iso_from (at next true some day second) (if none then [] else decimal number ++ short_fraction_text microsecond ++ capital_s ∷ [])
+    → iso_from (at next true some day second)
+    (if none then [] else decimal number ++ short_fraction_text microsecond ++ capital_s ∷ [])
     ≡ Ok (record { day = day; second = second + number; microsecond = microsecond })
-seconds-read next some none number microsecond day second other comes few small few_days few_seconds has = search (rules, and_parts, eqb-true, iso_from-end, seconds-end)
+seconds-read next some none number microsecond day second other comes few small few_days
+    few_seconds has = search (rules, and_parts, eqb-true, iso_from-end, seconds-end)
 
 -- the units that may still come
-days-come : (years : Bool) → is_some (unit_in (if years then units false else units_after capital_y (units false)) capital_d) ≡ true
+days-come : (years : Bool) → is_some (unit_in
+    (if years then units false else units_after capital_y (units false)) capital_d) ≡ true
 days-come years = grind (arith, nat_tests)
 
-minutes-come : (hours : Bool) → is_some (unit_in (if hours then units true else units_after capital_h (units true)) capital_m) ≡ true
+minutes-come : (hours : Bool)
+    → is_some (unit_in (if hours then units true else units_after capital_h (units true))
+    capital_m) ≡ true
 minutes-come hours = grind (arith, nat_tests)
 
-seconds-come : (hours minutes : Bool) → (let next = if hours then units true else units_after capital_h (units true) in
+seconds-come : (hours minutes : Bool)
+    → (let next = if hours then units true else units_after capital_h (units true) in
     is_some (unit_in (if minutes then next else units_after capital_m next) capital_s)) ≡ true
 seconds-come hours minutes = grind (arith, nat_tests)
 
--- there are days if and only if years or days of one are printed, and otherwise there is something after the `T`
-days-some : (day : ℕ) → (if day % 365 == 0 then (if day / 365 == 0 then false else true) else true) ≡ not (day == 0)
+-- there are days if and only if years or days of one are printed, and otherwise there is something
+-- after the `T`
+days-some : (day : ℕ) → (if day % 365 == 0 then (if day / 365 == 0 then false else true) else true)
+    ≡ not (day == 0)
 days-some day = grind (arith, nat_tests)
 
 hours-some : (second microsecond : ℕ) (some : Bool) → ((second == 0) && (microsecond == 0)) ≡ false
-    → (if (second % 60 == 0) && (microsecond == 0) then (if second / 60 % 60 == 0 then (if second / 3600 == 0 then some else true) else true) else true) ≡ true
+    → (if (second % 60 == 0) && (microsecond == 0)
+    then (if second / 60 % 60 == 0 then (if second / 3600 == 0 then some else true) else true)
+    else true) ≡ true
 hours-some second microsecond some other = grind (arith, nat_tests)
 
 -- the amount of a duration
 abbrev amount_of : DurationNumbers → UnsignedDuration
-amount_of numbers = record { day = numbers.day; second = numbers.second; microsecond = numbers.microsecond }
+amount_of numbers =
+    record { day = numbers.day; second = numbers.second; microsecond = numbers.microsecond }
 
 -- hours, minutes and seconds are read as the end of a text
-hours-read : (numbers : DurationNumbers) (some : Bool) → IsDuration numbers → is_whole_days numbers ≡ false
-    → iso_from (at (units true) true some numbers.day 0) (hours_text numbers) ≡ Ok (amount_of numbers)
+hours-read : (numbers : DurationNumbers) (some : Bool) → IsDuration numbers
+    → is_whole_days numbers ≡ false
+    → iso_from (at (units true) true some numbers.day 0) (hours_text numbers)
+    ≡ Ok (amount_of numbers)
 hours-read numbers some valid other =
     let hour = numbers.second / 3600 in
     let minute = numbers.second / 60 % 60 in
     let last = seconds_text (numbers.second % 60) numbers.microsecond in
     let few : numbers.day ≤ 4294967295 = omega (arith, valid.day) in
     let day_is : numbers.day + hour * 0 + minute * 0 ≡ numbers.day = omega arith in
-    let second_is : 0 + hour * 3600 + minute * 60 + numbers.second % 60 ≡ numbers.second = omega arith in
-    ap (iso_from (at (units true) true some numbers.day 0)) (append_assoc (counted_text hour capital_h) (counted_text minute capital_m) last)
-    ∙ counted-leads (units true) true some (hour == 0) (unit capital_h 0 3600) hour numbers.day 0 (counted_text minute capital_m ++ last) refl refl refl
+    let second_is : 0 + hour * 3600 + minute * 60 + numbers.second % 60 ≡ numbers.second =
+    omega arith in
+    ap (iso_from (at (units true) true some numbers.day 0))
+    (append_assoc (counted_text hour capital_h) (counted_text minute capital_m) last)
+    ∙ counted-leads (units true) true some (hour == 0) (unit capital_h 0 3600) hour numbers.day 0
+    (counted_text minute capital_m ++ last) refl refl refl
     (omega (arith, valid.second)) (omega (arith, few)) (omega (arith, valid.second))
-    ∙ counted-leads _ true _ (minute == 0) (unit capital_m 0 60) minute _ _ last refl refl (minutes-come (hour == 0)) (omega arith) (omega (arith, few)) (omega (arith, valid.second))
-    ∙ seconds-read _ _ _ (numbers.second % 60) numbers.microsecond _ _ refl (seconds-come (hour == 0) (minute == 0)) (omega arith) valid.microsecond (omega (arith, few))
+    ∙ counted-leads _ true _ (minute == 0) (unit capital_m 0 60) minute _ _ last refl refl
+    (minutes-come (hour == 0)) (omega arith) (omega (arith, few)) (omega (arith, valid.second))
+    ∙ seconds-read _ _ _ (numbers.second % 60) numbers.microsecond _ _ refl
+    (seconds-come (hour == 0) (minute == 0)) (omega arith) valid.microsecond (omega (arith, few))
     (omega (arith, valid.second)) (hours-some numbers.second numbers.microsecond some other)
     ∙ (λ i. Ok (record { day = day_is i; second = second_is i; microsecond = numbers.microsecond }))
 
 -- whole days end, and `T0S` stands where there are none
-whole-read : (next : List DurationUnit) (day : ℕ) (none : Bool) → day ≤ 4294967295
-    → iso_from (at next false (not none) day 0) (if none then codes "T0S" else []) ≡ Ok (record { day = day; second = 0; microsecond = 0 })
+whole-read : (next : List IsoUnit) (day : ℕ) (none : Bool) → day ≤ 4294967295
+    → iso_from (at next false (not none) day 0) (if none then codes "T0S" else [])
+    ≡ Ok (record { day = day; second = 0; microsecond = 0 })
 whole-read next day true few =
     iso_from-item (at next false false day 0) TimeDesignator (codes "0S") refl
-    ∙ ap (λ (digits : List ℕ). iso_from (at (units true) true false day 0) (digits ++ capital_s ∷ [])) (sym (append-nil (decimal 0) ∙ decimal_digit 0 (lit< tt)))
+    ∙ ap (λ (digits : List ℕ). iso_from (at (units true) true false day 0)
+    (digits ++ capital_s ∷ [])) (sym (append-nil (decimal 0) ∙ decimal_digit 0 (lit< tt)))
     ∙ seconds-end (units true) false 0 0 day 0 refl (omega arith) (omega arith) few (omega arith)
 whole-read next day false few = iso_from-end (at next false true day 0) [] refl
 
 -- so is what follows the days
-rest-read : (next : List DurationUnit) (numbers : DurationNumbers) (whole none : Bool) → IsDuration numbers → is_whole_days numbers ≡ whole
-    → iso_from (at next false (not none) numbers.day 0) (if whole then (if none then codes "T0S" else []) else capital_t ∷ hours_text numbers) ≡ Ok (amount_of numbers)
+rest-read : (next : List IsoUnit) (numbers : DurationNumbers) (whole none : Bool)
+    → IsDuration numbers → is_whole_days numbers ≡ whole
+    → iso_from (at next false (not none) numbers.day 0)
+    (if whole then (if none then codes "T0S" else []) else capital_t ∷ hours_text numbers)
+    ≡ Ok (amount_of numbers)
 rest-read next numbers true none valid whole =
     let tests = and_parts (numbers.second == 0) (numbers.microsecond == 0) whole in
     whole-read next numbers.day none (omega (arith, valid.day))
-    ∙ (λ i. Ok (record { day = numbers.day; second = sym (eqb-true numbers.second 0 tests.0) i; microsecond = sym (eqb-true numbers.microsecond 0 tests.1) i }))
+    ∙ (λ i. Ok (record {
+      day = numbers.day;
+      second = sym (eqb-true numbers.second 0 tests.0) i;
+      microsecond = sym (eqb-true numbers.microsecond 0 tests.1) i;
+    }))
 rest-read next numbers false none valid other =
-    iso_from-item (at next false (not none) numbers.day 0) TimeDesignator (hours_text numbers) refl ∙ hours-read numbers (not none) valid other
+    iso_from-item (at next false (not none) numbers.day 0) TimeDesignator (hours_text numbers) refl
+    ∙ hours-read numbers (not none) valid other
 
-text-read : (numbers : DurationNumbers) → IsDuration numbers → iso_form order.Strict (days_text numbers ++ rest_text numbers) ≡ Ok (amount_of numbers)
+text-read : (numbers : DurationNumbers) → IsDuration numbers
+    → iso_form IsoOrder.Strict (days_text numbers ++ rest_text numbers) ≡ Ok (amount_of numbers)
 text-read numbers valid =
     let year = numbers.day / 365 in
     let day = numbers.day % 365 in
@@ -189,36 +267,46 @@ text-read numbers valid =
     let next = if day == 0 then left else units_after capital_d left in
     let days : 0 + year * 365 + day * 1 ≡ numbers.day = omega arith in
     let seconds : 0 + year * 0 + day * 0 ≡ 0 = omega arith in
-    ap (iso_form order.Strict) (append_assoc (counted_text year capital_y) (counted_text day capital_d) rest)
-    ∙ counted-leads (units false) false false (year == 0) (unit capital_y 365 0) year 0 0 (counted_text day capital_d ++ rest) refl refl refl
+    ap (iso_form IsoOrder.Strict)
+    (append_assoc (counted_text year capital_y) (counted_text day capital_d) rest)
+    ∙ counted-leads (units false) false false (year == 0) (unit capital_y 365 0) year 0 0
+    (counted_text day capital_d ++ rest) refl refl refl
     (omega (arith, valid.day)) (omega (arith, valid.day)) (omega arith)
-    ∙ counted-leads left false _ (day == 0) (unit capital_d 1 0) day _ _ rest refl refl (days-come (year == 0)) (omega arith) (omega (arith, valid.day)) (omega arith)
+    ∙ counted-leads left false _ (day == 0) (unit capital_d 1 0) day _ _ rest refl refl
+    (days-come (year == 0)) (omega arith) (omega (arith, valid.day)) (omega arith)
     ∙ (λ i. iso_from (at next false (days-some numbers.day i) (days i) (seconds i)) rest)
     ∙ rest-read next numbers (is_whole_days numbers) (numbers.day == 0) valid refl
 
 -- a `P` with a sign or without one stands for what is after it
-start-answer : (order : IsoOrder) (behavior : MicrosecondsPrecisionOverflowBehavior) (positive : Bool) (text : List ℕ)
-    → duration_answer order behavior (start_text positive ++ text) ≡ result_and_then (signed_form positive) (iso_form order text)
+start-answer : (order : IsoOrder) (behavior : Behavior) (positive : Bool) (text : List ℕ)
+    → duration_answer order behavior (start_text positive ++ text)
+    ≡ result_and_then (signed_form positive) (iso_form order text)
 unfolding unsigned_answer
 start-answer order behavior positive text = search (rules)
 
 -- the printed text of a duration is answered by it where the order of the standard is asked for
-strict-reads : (behavior : MicrosecondsPrecisionOverflowBehavior) (numbers : DurationNumbers) → IsDuration numbers
-    → duration_answer order.Strict behavior (duration_text numbers) ≡ Ok numbers
-strict-reads behavior numbers valid = search (rules, append_assoc, start-answer, text-read, normal_form-same)
+strict-reads : (behavior : Behavior) (numbers : DurationNumbers) → IsDuration numbers
+    → duration_answer IsoOrder.Strict behavior (duration_text numbers) ≡ Ok numbers
+strict-reads behavior numbers valid =
+    search (rules, append_assoc, start-answer, text-read, normal_form-same)
 
 -- so the lax order answers it too
-lax-reads : {A : Type 0} (lax strict : Result A ParseError) (value : A) → IsLaxOrRefused lax strict → strict ≡ Ok value → lax ≡ Ok value
+lax-reads : {A : Type 0} (lax strict : Result A ParseError) (value : A) → IsLaxOrRefused lax strict
+    → strict ≡ Ok value → lax ≡ Ok value
 lax-reads lax strict value h0 read = search (rules)
 
-pub duration_text-reads : (order : IsoOrder) (behavior : MicrosecondsPrecisionOverflowBehavior) (numbers : DurationNumbers) → IsDuration numbers
+pub duration_text-reads : (order : IsoOrder) (behavior : Behavior) (numbers : DurationNumbers)
+    → IsDuration numbers
     → duration_answer order behavior (duration_text numbers) ≡ Ok numbers
-duration_text-reads order.Strict behavior numbers valid = strict-reads behavior numbers valid
-duration_text-reads order.Lax behavior numbers valid =
-    lax-reads _ _ numbers (duration-both order.Strict behavior (duration_text numbers)) (strict-reads behavior numbers valid)
+duration_text-reads IsoOrder.Strict behavior numbers valid = strict-reads behavior numbers valid
+duration_text-reads IsoOrder.Lax behavior numbers valid =
+    lax-reads _ _ numbers (duration-both IsoOrder.Strict behavior (duration_text numbers))
+    (strict-reads behavior numbers valid)
 
 -- so two durations with the same text are equal
-pub duration_text-distinct : (first second : DurationNumbers) → IsDuration first → IsDuration second → duration_text first ≡ duration_text second → first ≡ second
+pub duration_text-distinct : (first second : DurationNumbers) → IsDuration first
+    → IsDuration second → duration_text first ≡ duration_text second → first ≡ second
 duration_text-distinct first second one two =
-    text-distinct duration_text (duration_answer order.Lax behavior.Error) first second
-    (duration_text-reads order.Lax behavior.Error first one) (duration_text-reads order.Lax behavior.Error second two)
+    text-distinct duration_text (duration_answer IsoOrder.Lax Behavior.Error) first second
+    (duration_text-reads IsoOrder.Lax Behavior.Error first one)
+    (duration_text-reads IsoOrder.Lax Behavior.Error second two)

@@ -1,21 +1,22 @@
--- A duration as a clock shows it: hours, a minute, and a second with a fraction. This form is the library's own.
--- `text` begins with the hours; from the minute on it is a time of day.
+-- A duration as a clock shows it: hours, a minute, and a second with a fraction. This form is the
+-- library's own. `text` begins with the hours; from the minute on it is a time of day.
 use Rattle.std.specs.Prelude.{ℕ, ◌+◌, ◌*◌, ◌/◌, ◌%◌, Bool, ◌&&◌, List, [], ◌∷◌, length, take, drop, nat_le, nat_lt, ◌==◌, Result, Ok}
 use Rattle.std.specs.Char.{is_ascii_digit}
 use Rattle.std.specs.List.{list_all, position_or_len}
-pub use Rattle.speedate_base.specs.declared.config.MicrosecondsPrecisionOverflowBehavior.{MicrosecondsPrecisionOverflowBehavior}
+use Rattle.speedate_civil.specs.Base.{Behavior, ParseError}
 use Rattle.speedate_base.specs.Ascii.{colon}
 use Rattle.speedate_base.specs.Digits.{digits_value}
 use Rattle.speedate_base.specs.Config.{refuses_digits}
-use Rattle.speedate_base.specs.Requirement.{Requirement, ◌else_fault◌, ◌implies◌, meets, result_and_then}
+use Rattle.speedate_base.specs.Requirement.{Requirement, ◌else_fault◌, ◌implies◌, first_fault_or, result_and_then}
 use Rattle.speedate_civil.specs.Time.{Clock, minute_front}
-use Rattle.speedate.specs.DurationNumbers.{UnsignedDuration, ParseError, fault}
+use Rattle.speedate.specs.DurationNumbers.{UnsignedDuration}
 
 -- how many bytes come before the first `:`, or how many there are if there is none
 abbrev pub colon_place : List ℕ → ℕ
 colon_place text = position_or_len (λ byte. byte == colon) text
 
--- a text is its hours, `:`, and what follows from its minute on; all of a text without a `:` is hours
+-- a text is its hours, `:`, and what follows from its minute on; all of a text without a `:` is
+-- hours
 abbrev pub hours : List ℕ → List ℕ
 hours text = take (colon_place text) text
 
@@ -24,24 +25,29 @@ from_minute text = drop (colon_place text + 1) text
 
 -- a text begins with at most ten digits, or none, and a `:`
 abbrev pub has_hours : List ℕ → Bool
-has_hours text = nat_lt (colon_place text) (length text) && nat_le (colon_place text) 10 && list_all is_ascii_digit (hours text)
+has_hours text =
+    nat_lt (colon_place text) (length text) && nat_le (colon_place text) 10
+    && list_all is_ascii_digit (hours text)
 
--- what a text has to meet to begin with hours: it has at least five bytes, and begins with at most ten digits, or none, and `:`
+-- what a text has to meet to begin with hours: it has at least five bytes, and begins with at most
+-- ten digits, or none, and `:`
 abbrev pub hours_table : List ℕ → List Requirement
 hours_table text =
-    (nat_le 5 (length text) else_fault fault.TooShort)
-    ∷ (nat_lt (colon_place text) (length text) else_fault fault.InvalidCharHour)
-    ∷ (nat_le (colon_place text) 10 else_fault fault.DurationHourValueTooLarge)
-    ∷ (list_all is_ascii_digit (hours text) else_fault fault.InvalidCharHour)
+    (nat_le 5 (length text) else_fault ParseError.TooShort)
+    ∷ (nat_lt (colon_place text) (length text) else_fault ParseError.InvalidCharHour)
+    ∷ (nat_le (colon_place text) 10 else_fault ParseError.DurationHourValueTooLarge)
+    ∷ (list_all is_ascii_digit (hours text) else_fault ParseError.InvalidCharHour)
     ∷ []
 
--- what a text that begins with hours has to meet to go on to the minute: there are at most 2,400,000,000 hours, and what
--- follows them has at least two bytes, and at most 12 if digits are refused
-abbrev pub hours_range : MicrosecondsPrecisionOverflowBehavior → ℕ → List ℕ → List Requirement
+-- what a text that begins with hours has to meet to go on to the minute: there are at most
+-- 2,400,000,000 hours, and what follows them has at least two bytes, and at most 12 if digits are
+-- refused
+abbrev pub hours_range : Behavior → ℕ → List ℕ → List Requirement
 hours_range behavior hours rest =
-    (nat_le hours 2400000000 else_fault fault.DurationHourValueTooLarge)
-    ∷ ((refuses_digits behavior implies nat_le (length rest) 12) else_fault fault.SecondFractionTooLong)
-    ∷ (nat_le 2 (length rest) else_fault fault.TooShort)
+    (nat_le hours 2400000000 else_fault ParseError.DurationHourValueTooLarge)
+    ∷ ((refuses_digits behavior implies nat_le (length rest) 12)
+    else_fault ParseError.SecondFractionTooLong)
+    ∷ (nat_le 2 (length rest) else_fault ParseError.TooShort)
     ∷ []
 
 -- a number of hours, and the minute, second and microsecond of a clock
@@ -52,14 +58,19 @@ clock_numbers hours clock = record {
   microsecond = clock.microsecond;
 }
 
--- the duration of a number of hours and of a clock, from its minute on, that takes all that follows them
-abbrev pub after_hours : MicrosecondsPrecisionOverflowBehavior → ℕ → List ℕ → Result UnsignedDuration ParseError
+-- the duration of a number of hours and of a clock, from its minute on, that takes all that follows
+-- them
+abbrev pub after_hours : Behavior → ℕ → List ℕ → Result UnsignedDuration ParseError
 after_hours behavior hours rest =
-    meets (hours_range behavior hours rest)
-    (result_and_then (λ clock. meets ((clock.size == length rest else_fault fault.ExtraCharacters) ∷ []) (Ok (clock_numbers hours clock)))
+    first_fault_or (hours_range behavior hours rest)
+    (result_and_then
+    (λ clock. first_fault_or
+    ((clock.size == length rest else_fault ParseError.ExtraCharacters) ∷ [])
+    (Ok (clock_numbers hours clock)))
     (minute_front behavior rest))
 
 -- the duration that a text says as a clock, or the text's fault
-unfoldable pub clock_form : MicrosecondsPrecisionOverflowBehavior → List ℕ → Result UnsignedDuration ParseError
+unfoldable pub clock_form : Behavior → List ℕ → Result UnsignedDuration ParseError
 clock_form behavior text =
-    meets (hours_table text) (after_hours behavior (digits_value (hours text)) (from_minute text))
+    first_fault_or (hours_table text)
+    (after_hours behavior (digits_value (hours text)) (from_minute text))

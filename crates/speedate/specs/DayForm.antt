@@ -1,20 +1,24 @@
--- A duration as days and a clock, `1 day, 10:20`. This form is the library's own. `text` begins with the days.
+-- A duration as days and a clock, `1 day, 10:20`. This form is the library's own. `text` begins
+-- with the days.
 use Rattle.std.specs.Prelude.{ℕ, ◌+◌, Bool, not, ◌||◌, List, [], ◌∷◌, codes, length, drop, slice_index, nat_eq, nat_le, nat_lt, ◌==◌, if◌then◌else◌, Result, Ok}
+use Rattle.speedate_civil.specs.Base.{Behavior, ParseError}
 use Rattle.std.specs.List.{list_any, starts_with}
 use Rattle.speedate_base.specs.Ascii.{capital_d, small_d}
 use Rattle.speedate_base.specs.Digits.{run_length, run_value}
-use Rattle.speedate_base.specs.Requirement.{Requirement, ◌else_fault◌, meets, result_and_then, ◌>>=◌}
-use Rattle.speedate.specs.ClockForm.{clock_form, MicrosecondsPrecisionOverflowBehavior}
-use Rattle.speedate.specs.DurationNumbers.{UnsignedDuration, ParseError, fault}
+use Rattle.speedate_base.specs.Requirement.{Requirement, ◌else_fault◌, first_fault_or, result_and_then, ◌>>=◌}
+use Rattle.speedate.specs.ClockForm.{clock_form}
+use Rattle.speedate.specs.DurationNumbers.{UnsignedDuration}
 
 -- the letter of a day
 abbrev pub is_day_letter : ℕ → Bool
 is_day_letter byte = (byte == small_d) || (byte == capital_d)
 
--- how many bytes the first of some texts has that a text begins with: 0 if it begins with none of them
+-- how many bytes the first of some texts has that a text begins with: 0 if it begins with none of
+-- them
 abbrev pub size_of_one : List (List ℕ) → List ℕ → ℕ
 size_of_one [] text = 0
-size_of_one (one ∷ others) text = if starts_with nat_eq text one then length one else size_of_one others text
+size_of_one (one ∷ others) text =
+    if starts_with nat_eq text one then length one else size_of_one others text
 
 -- what may follow the `d` in the word `days` or `day`, small or in capitals
 abbrev pub day_endings : List (List ℕ)
@@ -24,8 +28,9 @@ day_endings = codes "ays" ∷ codes "AYS" ∷ codes "ay" ∷ codes "AY" ∷ []
 abbrev pub gaps : List (List ℕ)
 gaps = codes ", " ∷ codes "," ∷ codes " " ∷ []
 
--- a text is a number, a space or none, the letter of a day, an ending or none, a gap or none, and then a clock or nothing:
--- the places of the letter, of the ending and of the gap, and how many bytes come before the clock
+-- a text is a number, a space or none, the letter of a day, an ending or none, a gap or none, and
+-- then a clock or nothing: the places of the letter, of the ending and of the gap, and how many
+-- bytes come before the clock
 abbrev pub letter_place : List ℕ → ℕ
 letter_place text = run_length text 0 + size_of_one (codes " " ∷ []) (drop (run_length text 0) text)
 
@@ -41,30 +46,35 @@ days_size text = gap_place text + size_of_one gaps (drop (gap_place text) text)
 -- the ending after the letter of a day is whole, or none is begun
 abbrev pub has_whole_ending : List ℕ → Bool
 has_whole_ending text =
-    list_any (starts_with nat_eq text) day_endings || not (list_any (starts_with nat_eq text) (codes "a" ∷ codes "A" ∷ []))
+    list_any (starts_with nat_eq text) day_endings
+    || not (list_any (starts_with nat_eq text) (codes "a" ∷ codes "A" ∷ []))
 
 -- what a text has to meet to begin with days
 abbrev pub days_table : List ℕ → List Requirement
 days_table text =
-    (nat_lt 0 (run_length text 0) else_fault fault.DurationInvalidNumber)
-    ∷ (nat_le (run_value text 0) 4294967295 else_fault fault.DurationValueTooLarge)
-    ∷ (is_day_letter (slice_index text (letter_place text)) else_fault fault.DurationInvalidDays)
-    ∷ (has_whole_ending (drop (ending_place text) text) else_fault fault.DurationInvalidDays)
+    (nat_lt 0 (run_length text 0) else_fault ParseError.DurationInvalidNumber)
+    ∷ (nat_le (run_value text 0) 4294967295 else_fault ParseError.DurationValueTooLarge)
+    ∷ (is_day_letter (slice_index text (letter_place text))
+    else_fault ParseError.DurationInvalidDays)
+    ∷ (has_whole_ending (drop (ending_place text) text) else_fault ParseError.DurationInvalidDays)
     ∷ []
 
 -- the days at the front of a text, and how many bytes come before the clock, or the text's fault
 abbrev pub days_front : List ℕ → Result (ℕ × ℕ) ParseError
-days_front text = meets (days_table text) (Ok (run_value text 0, days_size text))
+days_front text = first_fault_or (days_table text) (Ok (run_value text 0, days_size text))
 
 -- the numbers of days and of what follows them: of nothing, or of a clock of fewer than 24 hours
-unfoldable pub after_days : MicrosecondsPrecisionOverflowBehavior → ℕ → List ℕ → Result UnsignedDuration ParseError
+unfoldable pub after_days : Behavior → ℕ → List ℕ → Result UnsignedDuration ParseError
 after_days behavior days rest =
     if length rest == 0 then Ok (record { day = days; second = 0; microsecond = 0 })
-    else result_and_then (λ clock. meets ((clock.day == 0 else_fault fault.DurationHourValueTooLarge) ∷ []) (Ok (record clock { day = days })))
+    else result_and_then
+    (λ clock. first_fault_or
+    ((clock.day == 0 else_fault ParseError.DurationHourValueTooLarge) ∷ [])
+    (Ok (record clock { day = days })))
     (clock_form behavior rest)
 
 -- the numbers that a text says as days and a clock, the days of any size, or the text's fault
-unfoldable pub day_form : MicrosecondsPrecisionOverflowBehavior → List ℕ → Result UnsignedDuration ParseError
+unfoldable pub day_form : Behavior → List ℕ → Result UnsignedDuration ParseError
 day_form behavior text = do
   days ← days_front text
   after_days behavior days.0 (drop days.1 text)

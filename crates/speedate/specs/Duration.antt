@@ -3,20 +3,19 @@ use Rattle.std.specs.Prelude.{◌≡◌, MatchBool, ℕ, zero, suc, ◌-◌, Boo
 use Rattle.std.specs.Fmt.{decimal}
 use Rattle.std.specs.List.{list_any}
 use Rattle.std.specs.Option.{ok_or}
-pub use Rattle.speedate_base.specs.declared.config.MicrosecondsPrecisionOverflowBehavior.{MicrosecondsPrecisionOverflowBehavior, MicrosecondsPrecisionOverflowBehavior as behavior}
+use Rattle.speedate_civil.specs.Base.{Behavior, IsoOrder, ParseError}
 use Rattle.speedate_base.specs.Ascii.{capital_p, hyphen, full_stop, digit_zero, capital_d, capital_h, capital_m, capital_s, capital_t, capital_y}
 use Rattle.speedate_base.specs.Digits.{six_digit_text}
 use Rattle.speedate_base.specs.Numbers.{has_minus, sign_size, with_sign}
-use Rattle.speedate_base.specs.Requirement.{meets, result_and_then, ◌else_fault◌, result_map}
+use Rattle.speedate_base.specs.Requirement.{first_fault_or, result_and_then, ◌else_fault◌, result_map}
 use Rattle.speedate_base.specs.Timestamp.{instant_at}
 use Rattle.speedate_civil.specs.Calendar.{Ymd, date_added, days_between}
 use Rattle.speedate_civil.specs.DateTime.{DateAndTime, local_microsecond, utc_microsecond, instant_date_time}
 pub use Rattle.speedate.specs.declared.duration.Duration.{Duration}
-use Rattle.speedate.specs.declared.duration.unsigned.UnsignedDuration.{UnsignedDuration as StructUnsignedDuration}
 use Rattle.speedate.specs.ClockForm.{clock_form}
 use Rattle.speedate.specs.DayForm.{is_day_letter, day_form}
-use Rattle.speedate.specs.DurationNumbers.{DurationNumbers, UnsignedDuration, signed_form, signed_day, amount_microseconds, of_amount, ParseError, fault}
-use Rattle.speedate.specs.IsoForm.{Item, Sums, no_sums, item_text, item_at, item_table, with_item, sums_amount, IsEndedFront, IsAnswerFrom, IsoOrder}
+use Rattle.speedate.specs.DurationNumbers.{DurationNumbers, UnsignedDuration, signed_form, signed_day, amount_microseconds, of_amount}
+use Rattle.speedate.specs.IsoForm.{Item, IsoSums, no_sums, item_text, item_at, item_table, with_item, sums_amount, IsEndedFront, IsAnswerFrom}
 
 -- the numbers of a duration
 abbrev pub duration_numbers : Duration → DurationNumbers
@@ -32,23 +31,22 @@ infix 15 ◌gives◌
 abbrev pub ◌gives◌ : Result Duration ParseError → Result DurationNumbers ParseError → Type 0
 result gives answer = result_map duration_numbers result ≡ answer
 
--- the numbers of a duration without its sign
-abbrev pub unsigned_numbers : StructUnsignedDuration → UnsignedDuration
-unsigned_numbers duration = record { day = duration.day; second = duration.second; microsecond = duration.microsecond }
+-- The answer to a text of a duration, as a function, which reads the items of an ISO 8601 duration
+-- from the left, and as a relation. Which form a text has is the library's own rule.
 
--- The answer to a text of a duration, as a function, which reads the items of an ISO 8601 duration from the left, and as a
--- relation. Which form a text has is the library's own rule.
-
--- the answer to what is left of an ISO 8601 duration after some items; the skipped bytes are those of the last item
-unfoldable pub iso_after : ℕ → Sums → List ℕ → Result UnsignedDuration ParseError
-iso_after skipped sums [] = if sums.some then Ok (sums_amount sums) else Err fault.TooShort
+-- the answer to what is left of an ISO 8601 duration after some items; the skipped bytes are those
+-- of the last item
+unfoldable pub iso_after : ℕ → IsoSums → List ℕ → Result UnsignedDuration ParseError
+iso_after skipped sums [] =
+    if sums.has_component then Ok (sums_amount sums) else Err ParseError.TooShort
 iso_after zero sums (byte ∷ rest) =
     let item = item_at (byte ∷ rest) in
-    meets (item_table sums item) (iso_after (length (item_text item) - 1) (with_item item sums) rest)
+    first_fault_or (item_table sums item)
+    (iso_after (length (item_text item) - 1) (with_item item sums) rest)
 iso_after (suc skipped) sums (byte ∷ rest) = iso_after skipped sums rest
 
 -- the answer to the text that follows some items of an ISO 8601 duration
-abbrev pub iso_from : Sums → List ℕ → Result UnsignedDuration ParseError
+abbrev pub iso_from : IsoSums → List ℕ → Result UnsignedDuration ParseError
 iso_from sums text = iso_after 0 sums text
 
 -- the amount that an ISO 8601 duration says after its `P`, or the text's fault
@@ -60,44 +58,57 @@ abbrev pub has_days : List ℕ → Bool
 has_days text = nat_lt (length text) 5 || list_any is_day_letter text
 
 -- the amount that a text says as days or as a clock, or the text's fault
-unfoldable pub form_answer : MicrosecondsPrecisionOverflowBehavior → List ℕ → Result UnsignedDuration ParseError
+unfoldable pub form_answer : Behavior → List ℕ → Result UnsignedDuration ParseError
 form_answer behavior text =
-    if length text == 0 then Err fault.TooShort
+    if length text == 0 then Err ParseError.TooShort
     else (if has_days text then day_form behavior text else clock_form behavior text)
 
--- the answer to the text of a duration without its sign: that of an ISO 8601 duration if it begins with `P`
-unfoldable pub unsigned_answer : IsoOrder → MicrosecondsPrecisionOverflowBehavior → List ℕ → Result UnsignedDuration ParseError
+-- the answer to the text of a duration without its sign: that of an ISO 8601 duration if it begins
+-- with `P`
+unfoldable pub unsigned_answer : IsoOrder → Behavior → List ℕ → Result UnsignedDuration ParseError
 unsigned_answer order behavior text =
-    if slice_index text 0 == capital_p then iso_form order (drop 1 text) else form_answer behavior text
+    if slice_index text 0 == capital_p then iso_form order (drop 1 text)
+    else form_answer behavior text
 
--- the answer to a text of a duration: the duration that it is, or its fault. The sign and the normal form are applied last
-abbrev pub duration_answer : IsoOrder → MicrosecondsPrecisionOverflowBehavior → List ℕ → Result DurationNumbers ParseError
+-- the answer to a text of a duration: the duration that it is, or its fault. The sign and the
+-- normal form are applied last
+abbrev pub duration_answer : IsoOrder → Behavior → List ℕ → Result DurationNumbers ParseError
 duration_answer order behavior text =
-    result_and_then (signed_form (not (has_minus text))) (unsigned_answer order behavior (drop (sign_size text) text))
+    result_and_then (signed_form (not (has_minus text)))
+    (unsigned_answer order behavior (drop (sign_size text) text))
 
 -- what follows the sign and the `P` of an ISO 8601 duration
 abbrev pub iso_body : List ℕ → List ℕ
 iso_body text = drop 1 (drop (sign_size text) text)
 
--- the answer to a text of a duration, as a relation: after the sign and a `P` the text is good items and an end
-abbrev pub IsDurationAnswer : IsoOrder → MicrosecondsPrecisionOverflowBehavior → List ℕ → Result DurationNumbers ParseError → Type 0
+-- the answer to a text of a duration, as a relation: after the sign and a `P` the text is good
+-- items and an end
+abbrev pub IsDurationAnswer : IsoOrder → Behavior → List ℕ → Result DurationNumbers ParseError
+    → Type 0
 IsDurationAnswer order behavior text answer =
     let rest = drop (sign_size text) text in
     (form : Result UnsignedDuration ParseError)
-    × MatchBool (slice_index rest 0 == capital_p) (IsAnswerFrom (no_sums order) (iso_body text) form) (form ≡ form_answer behavior rest)
+    × MatchBool (slice_index rest 0 == capital_p)
+    (IsAnswerFrom (no_sums order) (iso_body text) form) (form ≡ form_answer behavior rest)
     × (answer ≡ result_and_then (signed_form (not (has_minus text))) form)
 
--- an answer to a text of a duration is the grammar's: the relation `IsDurationAnswer` allows it, and allows no other; and of
--- an ISO 8601 duration only one front of good items is followed by an end, whatever is answered there
-pub record IsGrammarAnswer (order : IsoOrder) (behavior : MicrosecondsPrecisionOverflowBehavior) (text : List ℕ) (answer : Result DurationNumbers ParseError) : Type 0 where
+-- an answer to a text of a duration is the grammar's: the relation `IsDurationAnswer` allows it,
+-- and allows no other; and of an ISO 8601 duration only one front of good items is followed by an
+-- end, whatever is answered there
+pub record IsGrammarAnswer (order : IsoOrder) (behavior : Behavior) (text : List ℕ)
+    (answer : Result DurationNumbers ParseError) : Type 0 where
   pub is_allowed : IsDurationAnswer order behavior text answer
-  pub is_only : (other : Result DurationNumbers ParseError) → IsDurationAnswer order behavior text other → other ≡ answer
-  pub is_only_front : (items others : List Item) (rest other : List ℕ) (first second : Result UnsignedDuration ParseError)
-      → IsEndedFront (no_sums order) (iso_body text) items rest first → IsEndedFront (no_sums order) (iso_body text) others other second
+  pub is_only : (other : Result DurationNumbers ParseError)
+      → IsDurationAnswer order behavior text other → other ≡ answer
+  pub is_only_front : (items others : List Item) (rest other : List ℕ)
+      (first second : Result UnsignedDuration ParseError)
+      → IsEndedFront (no_sums order) (iso_body text) items rest first
+      → IsEndedFront (no_sums order) (iso_body text) others other second
       → (items ≡ others) × (rest ≡ other)
 
--- The text of a duration (ISO 8601, duration): years of 365 days, days, hours, minutes and seconds, each if it is not 0.
--- Departs from it: a sign may come first, and the years and days are fixed amounts.
+-- The text of a duration (ISO 8601, duration): years of 365 days, days, hours, minutes and seconds,
+-- each if it is not 0. Departs from it: a sign may come first, and the years and days are fixed
+-- amounts.
 
 -- a number and its designator, or nothing for 0
 abbrev pub counted_text : ℕ → ℕ → List ℕ
@@ -115,7 +126,8 @@ without_last_zeros (digit ∷ digits) = kept_digit digit (without_last_zeros dig
 
 -- a point and the digits of a microsecond without the zeros at their end, or nothing for 0
 abbrev pub short_fraction_text : ℕ → List ℕ
-short_fraction_text microsecond = if microsecond == 0 then [] else full_stop ∷ without_last_zeros (six_digit_text microsecond)
+short_fraction_text microsecond =
+    if microsecond == 0 then [] else full_stop ∷ without_last_zeros (six_digit_text microsecond)
 
 -- a duration is whole days
 abbrev pub is_whole_days : DurationNumbers → Bool
@@ -123,24 +135,28 @@ is_whole_days numbers = (numbers.second == 0) && (numbers.microsecond == 0)
 
 -- the years and the days of a duration in print
 abbrev pub days_text : DurationNumbers → List ℕ
-days_text numbers = counted_text (numbers.day / 365) capital_y ++ counted_text (numbers.day % 365) capital_d
+days_text numbers =
+    counted_text (numbers.day / 365) capital_y ++ counted_text (numbers.day % 365) capital_d
 
 -- the seconds of a duration with their fraction in print
 abbrev pub seconds_text : ℕ → ℕ → List ℕ
 seconds_text second microsecond =
-    if (second == 0) && (microsecond == 0) then [] else decimal second ++ short_fraction_text microsecond ++ capital_s ∷ []
+    if (second == 0) && (microsecond == 0) then []
+    else decimal second ++ short_fraction_text microsecond ++ capital_s ∷ []
 
 -- the hours, minutes and seconds of a duration in print
 abbrev pub hours_text : DurationNumbers → List ℕ
 hours_text numbers =
-    counted_text (numbers.second / 3600) capital_h ++ counted_text (numbers.second / 60 % 60) capital_m
+    counted_text (numbers.second / 3600) capital_h
+    ++ counted_text (numbers.second / 60 % 60) capital_m
     ++ seconds_text (numbers.second % 60) numbers.microsecond
 
--- what follows the days of a duration in print: `T`, hours, minutes and seconds; nothing after whole days; `T0S` if there is
--- nothing else
+-- what follows the days of a duration in print: `T`, hours, minutes and seconds; nothing after
+-- whole days; `T0S` if there is nothing else
 abbrev pub rest_text : DurationNumbers → List ℕ
 rest_text numbers =
-    if is_whole_days numbers then (if numbers.day == 0 then codes "T0S" else []) else capital_t ∷ hours_text numbers
+    if is_whole_days numbers then (if numbers.day == 0 then codes "T0S" else [])
+    else capital_t ∷ hours_text numbers
 
 -- the start of a duration in print: `P`, after `-` if the duration is negative
 abbrev pub start_text : Bool → List ℕ
@@ -150,7 +166,8 @@ start_text positive = if positive then capital_p ∷ [] else hyphen ∷ capital_
 abbrev pub duration_text : DurationNumbers → List ℕ
 duration_text numbers = start_text numbers.positive ++ days_text numbers ++ rest_text numbers
 
--- The duration between two values, and the value a duration after another, by microseconds of any size.
+-- The duration between two values, and the value a duration after another, by microseconds of any
+-- size.
 
 -- the amount of a duration in microseconds, with its sign
 abbrev pub signed_amount : DurationNumbers → ℤ
@@ -165,7 +182,9 @@ duration_of_amount (negsuc below) = of_amount false (suc below)
 abbrev pub amount_answer : ℤ → Result DurationNumbers ParseError
 amount_answer amount =
     let duration = duration_of_amount amount in
-    meets ((nat_le duration.day 999999999 else_fault fault.DurationDaysTooLarge) ∷ []) (Ok duration)
+    first_fault_or
+    ((nat_le duration.day 999999999 else_fault ParseError.DurationDaysTooLarge) ∷ [])
+    (Ok duration)
 
 -- a duration with the other sign
 abbrev pub negated : DurationNumbers → DurationNumbers
@@ -173,16 +192,20 @@ negated numbers = record numbers { positive = not numbers.positive }
 
 -- a duration, but positive zero for negative zero
 abbrev pub with_positive_zero : DurationNumbers → DurationNumbers
-with_positive_zero numbers = record numbers { positive = numbers.positive || (amount_microseconds numbers == 0) }
+with_positive_zero numbers =
+    record numbers { positive = numbers.positive || (amount_microseconds numbers == 0) }
 
--- the duration from one date-time to another, by their instants in UTC; it is negative if the other one is earlier
+-- the duration from one date-time to another, by their instants in UTC; it is negative if the other
+-- one is earlier
 abbrev pub duration_between : DateAndTime → DateAndTime → DurationNumbers
-duration_between earlier later = duration_of_amount (utc_microsecond later -ℤ utc_microsecond earlier)
+duration_between earlier later =
+    duration_of_amount (utc_microsecond later -ℤ utc_microsecond earlier)
 
--- the date-time a number of microseconds after another, at its offset, or the fault of a date that is outside the years 0000 to
--- 9999 there
-abbrev pub date_time_after : ℤ → DateAndTime → Result DateAndTime ParseError
-date_time_after amount start = instant_date_time start.time.offset (instant_at (local_microsecond start +ℤ amount))
+-- the date-time a number of microseconds after another, at its offset, or the fault of a date that
+-- is outside the years 0000 to 9999 there
+abbrev pub date_time_later : ℤ → DateAndTime → Result DateAndTime ParseError
+date_time_later amount start =
+    instant_date_time start.time.offset (instant_at (local_microsecond start +ℤ amount))
 
 -- the duration from one date to another, in whole days; zero is positive
 abbrev pub duration_between_dates : Ymd → Ymd → DurationNumbers
@@ -190,9 +213,10 @@ duration_between_dates earlier later =
     let days = days_between earlier later in
     record { positive = int_le (pos 0) days; day = unsigned_abs days; second = 0; microsecond = 0 }
 
--- the date a duration after another, or the fault: of a duration which is not whole days, or of a date outside the years 0000
--- to 9999, which is after them if the duration is positive
-abbrev pub date_after_days : DurationNumbers → Ymd → Result Ymd ParseError
-date_after_days numbers start =
-    meets ((is_whole_days numbers else_fault fault.DateNotExact) ∷ [])
-    (ok_or (date_added (signed_day numbers) start) (if numbers.positive then fault.DateTooLarge else fault.DateTooSmall))
+-- the date a duration after another, or the fault: of a duration which is not whole days, or of a
+-- date outside the years 0000 to 9999, which is after them if the duration is positive
+abbrev pub date_later : DurationNumbers → Ymd → Result Ymd ParseError
+date_later numbers start =
+    first_fault_or ((is_whole_days numbers else_fault ParseError.DateNotExact) ∷ [])
+    (ok_or (date_added (signed_day numbers) start)
+    (if numbers.positive then ParseError.DateTooLarge else ParseError.DateTooSmall))

@@ -52,7 +52,7 @@
 
 mod duration;
 
-pub use duration::Duration;
+pub use duration::{DAYS_MAX, Duration};
 pub use speedate_base::config::{
     DateConfig, DateConfigBuilder, DateTimeConfig, DateTimeConfigBuilder, IsoOrder,
     MicrosecondsPrecisionOverflowBehavior, TimeConfig, TimeConfigBuilder, TimestampUnit,

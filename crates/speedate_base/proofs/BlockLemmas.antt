@@ -12,46 +12,57 @@ use Rattle.speedate_base.proofs.DigitRunLemmas.{run-front, run-on, digits_value-
 abbrev pub block : List ℕ → ℕ → List ℕ
 block bytes place = take 8 (drop place bytes)
 
-pub block-length : (bytes : List ℕ) (place : ℕ) → place + 8 ≤ length bytes → length (block bytes place) ≡ 8
+pub block-length : (bytes : List ℕ) (place : ℕ) → place + 8 ≤ length bytes
+    → length (block bytes place) ≡ 8
 block-length bytes place within = search (rules, length-take-le, length-drop)
 
 -- where eight digits stand in front, they are all digits
-pub block-all : (bytes : List ℕ) (place count : ℕ) → place + 8 ≤ length bytes → count ≡ prefix_len is_ascii_digit (block bytes place) → 8 ≤ count
+pub block-all : (bytes : List ℕ) (place count : ℕ) → place + 8 ≤ length bytes
+    → count ≡ prefix_len is_ascii_digit (block bytes place) → 8 ≤ count
     → list_all is_ascii_digit (block bytes place) ≡ true
 block-all bytes place count within is full = search rules
 
 -- and the run goes on after them
-pub block_on : (bytes : List ℕ) (place count : ℕ) → place + 8 ≤ length bytes → count ≡ prefix_len is_ascii_digit (block bytes place) → 8 ≤ count
+pub block_on : (bytes : List ℕ) (place count : ℕ) → place + 8 ≤ length bytes
+    → count ≡ prefix_len is_ascii_digit (block bytes place) → 8 ≤ count
     → run_length bytes place ≡ 8 + run_length bytes (place + 8)
 block_on bytes place count within is full =
-    run-on (drop place bytes) 8 (omega (arith, length-drop place bytes, within)) (block-all bytes place count within is full)
+    run-on (drop place bytes) 8 (omega (arith, length-drop place bytes, within))
+    (block-all bytes place count within is full)
     ∙ ap (λ (rest : List ℕ). 8 + prefix_len is_ascii_digit rest) (drop-drop 8 place bytes)
 
 -- where fewer do, the run ends there
-pub block-ends : (bytes : List ℕ) (place count : ℕ) → place + 8 ≤ length bytes → count ≡ prefix_len is_ascii_digit (block bytes place) → count < 8
+pub block-ends : (bytes : List ℕ) (place count : ℕ) → place + 8 ≤ length bytes
+    → count ≡ prefix_len is_ascii_digit (block bytes place) → count < 8
     → run_length bytes place ≡ count
 block-ends bytes place count within is less = search (rules, run-front, block-length)
 
 -- eight more digits
 pub block-more : (bytes : List ℕ) (place : ℕ) → place + 8 ≤ length bytes
-    → digits_value (take (place + 8) bytes) ≡ 100000000 * digits_value (take place bytes) + digits_value (block bytes place)
+    → digits_value (take (place + 8) bytes)
+    ≡ 100000000 * digits_value (take place bytes) + digits_value (block bytes place)
 block-more bytes place within = search (rules, take-add, digits_value-append, block-length)
 
 -- the number that digits spell, or the place of the first other byte
 abbrev pub number_or_place : List ℕ → ℕ → Result ℕ ℕ
-number_or_place digits number = if run_length digits 0 == length digits then Ok number else Err (run_length digits 0)
+number_or_place digits number =
+    if run_length digits 0 == length digits then Ok number else Err (run_length digits 0)
 
-pub is_number : (digits : List ℕ) (number : ℕ) → list_all is_ascii_digit digits ≡ true → number_or_place digits number ≡ Ok number
+pub is_number : (digits : List ℕ) (number : ℕ) → list_all is_ascii_digit digits ≡ true
+    → number_or_place digits number ≡ Ok number
 is_number digits number all = search (rules, run-whole)
 
-pub is-place : (digits : List ℕ) (number place : ℕ) → run_length digits 0 ≡ place → place < length digits → number_or_place digits number ≡ Err place
+pub is-place : (digits : List ℕ) (number place : ℕ) → run_length digits 0 ≡ place
+    → place < length digits → number_or_place digits number ≡ Err place
 is-place digits number place is within = search rules
 
 -- and only then
-pub from-number : (digits : List ℕ) (number read : ℕ) → Ok read ≡ number_or_place digits number → (list_all is_ascii_digit digits ≡ true) × (read ≡ number)
+pub from-number : (digits : List ℕ) (number read : ℕ) → Ok read ≡ number_or_place digits number
+    → (list_all is_ascii_digit digits ≡ true) × (read ≡ number)
 from-number digits number read same = search (rules, run-whole)
 
-pub from-place : (digits : List ℕ) (number place : ℕ) → Err place ≡ number_or_place digits number → (place ≡ run_length digits 0) × (place < length digits)
+pub from-place : (digits : List ℕ) (number place : ℕ) → Err place ≡ number_or_place digits number
+    → (place ≡ run_length digits 0) × (place < length digits)
 from-place digits number place same = grind (arith, nat_tests, prefix_len-le-length)
 
 -- so the first other byte from a place on stands where the run from there ends

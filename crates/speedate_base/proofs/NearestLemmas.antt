@@ -1,4 +1,5 @@
--- The whole number that is nearest to a fraction is found by rounding down what is twice the fraction.
+-- The whole number that is nearest to a fraction is found by rounding down what is twice the
+-- fraction.
 use Rattle.std.proofs.Common.{zero, suc, ◌≡◌, ℕ, ◌+◌, ◌-◌, ◌*◌, ◌/◌, ◌^◌, ◌<◌, ◌≤◌, Bool, true, false, if◌then◌else◌, ℤ, pos, negsuc, neg_ℤ, ◌∙◌, ap, sym, inl, inr, arith, rules, lit<, mul-le-mul_left, mul-le-mul_right}
 use Rattle.std.proofs.lemmas.Nat.{pow-add}
 use Rattle.std.proofs.lemmas.Bool.{cases_lt}
@@ -38,32 +39,50 @@ same-nearest n d (negsuc m) (negsuc k) some first second =
 pub nearest-only : (n : ℤ) (d : ℕ) (m : ℤ) → 0 < d → IsNearest n d m → m ≡ nearest n d
 nearest-only n d m some is = same-nearest n d m (nearest n d) some is (nearest-is n d some)
 
--- what is left of rounding where twice the size was rounded first: down, or up for a negative number
+-- what is left of rounding where twice the size was rounded first: down, or up for a negative
+-- number
 abbrev pub halved : Bool → ℕ → ℕ
 halved negative twice = if negative then twice / 2 else (twice + 1) / 2
 
 -- a number below zero is rounded up by its size
 down : (n d : ℕ) → 0 < d → nearest (neg_ℤ (pos n)) d ≡ neg_ℤ (pos ((2 * n + (d - 1)) / (2 * d)))
-down n d some = grind (arith, ints, nat_tests, cases_lt d (2 * n), add-mul-div_right (2 * n - d - 1) 1, div-eq_of_lt)
+down n d some =
+    grind (
+      arith,
+      ints,
+      nat_tests,
+      cases_lt d (2 * n),
+      add-mul-div_right (2 * n - d - 1) 1,
+      div-eq_of_lt,
+    )
 
 -- the nearest number, by its size
 pub nearest-halved : (negative : Bool) (n d : ℕ) → 0 < d
-    → nearest (with_sign negative n) d ≡ with_sign negative (halved negative (quotient negative (2 * n) d))
-nearest-halved false n d some = grind (arith, ints, add-mul-div_right (2 * n) 1 some, div-div-eq-div-mul (2 * n + d) d 2)
-nearest-halved true n d some = grind (arith, down n d some, div-div-eq-div-mul (2 * n + (d - 1)) d 2)
+    → nearest (with_sign negative n) d
+    ≡ with_sign negative (halved negative (quotient negative (2 * n) d))
+nearest-halved false n d some =
+    grind (arith, ints, add-mul-div_right (2 * n) 1 some, div-div-eq-div-mul (2 * n + d) d 2)
+nearest-halved true n d some =
+    grind (arith, down n d some, div-div-eq-div-mul (2 * n + (d - 1)) d 2)
 
 pub ruleset nearest_rules = (nearest-halved, nearest-only, scale-some)
 
 -- a quotient of a part that was rounded in the same way first
-pub quotient-carried : (up : Bool) (a b c d : ℕ) → 0 < c → 0 < d → quotient up (a + quotient up b c) d ≡ quotient up (b + a * c) (c * d)
+pub quotient-carried : (up : Bool) (a b c d : ℕ) → 0 < c → 0 < d
+    → quotient up (a + quotient up b c) d ≡ quotient up (b + a * c) (c * d)
 quotient-carried up a b c zero some_c some_d = absurd (omega arith)
 quotient-carried false a b c (suc d) some_c some_d =
     grind (arith, add-mul-div_right b a some_c, div-div-eq-div-mul (b + a * c) c (suc d))
 quotient-carried true a b c (suc d) some_c some_d =
-    grind (arith, add-mul-div_right (b + (c - 1)) (a + d) some_c, div-div-eq-div-mul (b + (c - 1) + (a + d) * c) c (suc d))
+    grind (
+      arith,
+      add-mul-div_right (b + (c - 1)) (a + d) some_c,
+      div-div-eq-div-mul (b + (c - 1) + (a + d) * c) c (suc d),
+    )
 
 -- a part of a unit, and the rest of one, divided by the scale of the part
-pub part_down : (value unit rest scale : ℕ) → value < scale → rest ≤ 2 * unit → (2 * (value * unit) + rest) / scale ≤ 2 * unit
+pub part_down : (value unit rest scale : ℕ) → value < scale → rest ≤ 2 * unit
+    → (2 * (value * unit) + rest) / scale ≤ 2 * unit
 part_down value unit rest scale some few =
     let sum = 2 * (value * unit) + rest in
     let less : value + 1 ≤ scale = omega arith in
@@ -81,21 +100,28 @@ part_up value unit rest scale some few =
 pub ruleset part_rules = (part_down, part_up)
 
 -- whole numbers beside a fraction are not rounded
-pub quotient-whole : (up : Bool) (a n d : ℕ) → 0 < d → quotient up (n + a * d) d ≡ quotient up n d + a
-quotient-whole up a n d some = grind (arith, add-mul-div_right n a some, add-mul-div_right (n + (d - 1)) a some)
+pub quotient-whole : (up : Bool) (a n d : ℕ) → 0 < d
+    → quotient up (n + a * d) d ≡ quotient up n d + a
+quotient-whole up a n d some =
+    grind (arith, add-mul-div_right n a some, add-mul-div_right (n + (d - 1)) a some)
 
-pub halved-whole : (negative : Bool) (twice a : ℕ) → halved negative (twice + 2 * a) ≡ halved negative twice + a
+pub halved-whole : (negative : Bool) (twice a : ℕ)
+    → halved negative (twice + 2 * a) ≡ halved negative twice + a
 halved-whole negative twice a = search rules
 
 -- a fraction whose digits are whole numbers of what it is counted in is not rounded
-pub nearest-exact : (negative : Bool) (n d : ℕ) → 0 < d → nearest (with_sign negative (n * d)) d ≡ with_sign negative n
+pub nearest-exact : (negative : Bool) (n d : ℕ) → 0 < d
+    → nearest (with_sign negative (n * d)) d ≡ with_sign negative n
 nearest-exact negative n d some = grind (arith, ints, nat_tests)
 
 -- so a fraction of no more digits than are whole numbers is filled up with zeros
-pub nearest_filled : (negative : Bool) (worth places count value filled : ℕ) → count ≤ places → worth ≡ 10 ^ places
-    → filled ≡ value * 10 ^ (places - count) → with_sign negative filled ≡ nearest (with_sign negative (value * worth)) (10 ^ count)
+pub nearest_filled : (negative : Bool) (worth places count value filled : ℕ) → count ≤ places
+    → worth ≡ 10 ^ places
+    → filled ≡ value * 10 ^ (places - count)
+    → with_sign negative filled ≡ nearest (with_sign negative (value * worth)) (10 ^ count)
 nearest_filled negative worth places count value filled few is_worth is =
     let sum : (places - count) + count ≡ places = omega arith in
-    let power : 10 ^ (places - count) * 10 ^ count ≡ 10 ^ places = sym (pow-add 10 (places - count) count) ∙ ap (λ (n : ℕ). 10 ^ n) sum in
+    let power : 10 ^ (places - count) * 10 ^ count ≡ 10 ^ places =
+    sym (pow-add 10 (places - count) count) ∙ ap (λ (n : ℕ). 10 ^ n) sum in
     let product : value * worth ≡ filled * 10 ^ count = rw (is_worth, is) (grind (arith, power)) in
     rw product (sym (nearest-exact negative filled (10 ^ count) (scale-some count)))

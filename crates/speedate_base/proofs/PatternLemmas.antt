@@ -7,7 +7,9 @@ use lib.Lanes.{number_l}
 use Rattle.speedate_base.specs.Digits.{eight_at, fits_byte, fit_length}
 
 -- a list of eight is made of eight
-pub by_eight : (P : List ℕ → Type 0) → ((a b c d e f g h : ℕ) → P (a ∷ b ∷ c ∷ d ∷ e ∷ f ∷ g ∷ h ∷ [])) → (bytes : List ℕ) → length bytes ≡ 8 → P bytes
+pub by_eight : (P : List ℕ → Type 0)
+    → ((a b c d e f g h : ℕ) → P (a ∷ b ∷ c ∷ d ∷ e ∷ f ∷ g ∷ h ∷ [])) → (bytes : List ℕ)
+    → length bytes ≡ 8 → P bytes
 by_eight P each [] long = absurd (omega arith)
 by_eight P each (a ∷ []) long = absurd (omega arith)
 by_eight P each (a ∷ b ∷ []) long = absurd (omega arith)
@@ -20,8 +22,11 @@ by_eight P each (a ∷ b ∷ c ∷ d ∷ e ∷ f ∷ g ∷ h ∷ []) long = each
 by_eight P each (a ∷ b ∷ c ∷ d ∷ e ∷ f ∷ g ∷ h ∷ i ∷ more) long = absurd (omega arith)
 
 -- so std's number of eight bytes is their number in base 256, the first byte lowest
-pub from_le_bytes-number : (bytes : List ℕ) → length bytes ≡ 8 → from_le_bytes w64 bytes ≡ number_l 256 bytes
-from_le_bytes-number = by_eight (λ (bytes : List ℕ). from_le_bytes w64 bytes ≡ number_l 256 bytes) (λ a b c d e f g h. omega arith)
+pub from_le_bytes-number : (bytes : List ℕ) → length bytes ≡ 8
+    → from_le_bytes w64 bytes ≡ number_l 256 bytes
+from_le_bytes-number =
+    by_eight (λ (bytes : List ℕ). from_le_bytes w64 bytes ≡ number_l 256 bytes)
+    (λ a b c d e f g h. omega arith)
 
 -- a lane less the pattern's byte
 abbrev pub less : ℕ → ℕ → ℕ
@@ -38,14 +43,17 @@ abbrev pub AllFit : ℕ → List ℕ → List ℕ → Type 0
 AllFit zero forms bytes = Unit {0}
 AllFit (suc count) [] bytes = ⊥
 AllFit (suc count) (form ∷ forms) [] = ⊥
-AllFit (suc count) (form ∷ forms) (byte ∷ bytes) = (fits_byte form byte ≡ true) × AllFit count forms bytes
+AllFit (suc count) (form ∷ forms) (byte ∷ bytes) =
+    (fits_byte form byte ≡ true) × AllFit count forms bytes
 
 -- where one more byte fits, the first one does, and the others behind it
-pub first-fits : (count rest : ℕ) (test : Bool) → suc count ≤ (if test then 1 + rest else 0) → (test ≡ true) × (count ≤ rest)
+pub first-fits : (count rest : ℕ) (test : Bool) → suc count ≤ (if test then 1 + rest else 0)
+    → (test ≡ true) × (count ≤ rest)
 first-fits count rest test enough = search rules
 
 -- where the first bytes fit, each of them does
-pub fit_length-all : (count : ℕ) (forms bytes : List ℕ) → count ≤ fit_length forms bytes → AllFit count forms bytes
+pub fit_length-all : (count : ℕ) (forms bytes : List ℕ) → count ≤ fit_length forms bytes
+    → AllFit count forms bytes
 fit_length-all zero forms bytes enough = tt
 fit_length-all (suc count) [] bytes enough = absurd (omega arith)
 fit_length-all (suc count) (form ∷ forms) [] enough = absurd (omega arith)

@@ -15,25 +15,43 @@ use Rattle.speedate_base.specs.Nearest.{quotient}
 use Rattle.speedate_base.proofs.NearestLemmas.{scale-some, quotient-carried}
 
 split : (digits : List ℕ) (count : ℕ) → list_all is_ascii_digit digits ≡ true
-    → (list_all is_ascii_digit (take count digits) && list_all is_ascii_digit (drop count digits)) ≡ true
-split digits count all = grind (arith, list_all-append is_ascii_digit (take count digits) (drop count digits), take-append-drop count digits)
+    → (list_all is_ascii_digit (take count digits) && list_all is_ascii_digit (drop count digits))
+    ≡ true
+split digits count all =
+    grind (
+      arith,
+      list_all-append is_ascii_digit (take count digits) (drop count digits),
+      take-append-drop count digits,
+    )
 
 -- parts of digits are digits
-pub front_all : (digits : List ℕ) (count : ℕ) → list_all is_ascii_digit digits ≡ true → list_all is_ascii_digit (take count digits) ≡ true
+pub front_all : (digits : List ℕ) (count : ℕ) → list_all is_ascii_digit digits ≡ true
+    → list_all is_ascii_digit (take count digits) ≡ true
 front_all digits count all = (and_parts _ _ (split digits count all)).0
 
-pub rest_all : (digits : List ℕ) (count : ℕ) → list_all is_ascii_digit digits ≡ true → list_all is_ascii_digit (drop count digits) ≡ true
+pub rest_all : (digits : List ℕ) (count : ℕ) → list_all is_ascii_digit digits ≡ true
+    → list_all is_ascii_digit (drop count digits) ≡ true
 rest_all digits count all = (and_parts _ _ (split digits count all)).1
 
 -- what few digits spell with zeros after them
-pub filled-small : (digits : List ℕ) (count : ℕ) → length digits ≤ count → list_all is_ascii_digit digits ≡ true
+pub filled-small : (digits : List ℕ) (count : ℕ) → length digits ≤ count
+    → list_all is_ascii_digit digits ≡ true
     → digits_value digits * 10 ^ (count - length digits) < 10 ^ count
 filled-small digits count few all =
-    grind (arith, nat_tests, pow-add 10 (length digits) (count - length digits), digits_value-lt digits all, mul-le-mul_right, scale-some)
+    grind (
+      arith,
+      nat_tests,
+      pow-add 10 (length digits) (count - length digits),
+      digits_value-lt digits all,
+      mul-le-mul_right,
+      scale-some,
+    )
 
-pub filled-fits : (digits : List ℕ) (count : ℕ) → length digits ≤ count → count ≤ 8 → list_all is_ascii_digit digits ≡ true
+pub filled-fits : (digits : List ℕ) (count : ℕ) → length digits ≤ count → count ≤ 8
+    → list_all is_ascii_digit digits ≡ true
     → digits_value digits * 10 ^ (count - length digits) < 10 ^ 8
-filled-fits digits count few small all = below-power 8 count _ small (filled-small digits count few all)
+filled-fits digits count few small all =
+    below-power 8 count _ small (filled-small digits count few all)
 
 pub ruleset filled_rules = (is_number, filled-small, filled-fits)
 
@@ -46,20 +64,29 @@ scale-few count few =
 pub ruleset last_rules = (is_number, digits_value-lt, scale-few)
 
 -- a block before digits
-pub block-taken : (up : Bool) (unit : ℕ) (digits : List ℕ) (place value later twice : ℕ) → 8 ≤ place → place ≤ length digits
+pub block-taken : (up : Bool) (unit : ℕ) (digits : List ℕ) (place value later twice : ℕ)
+    → 8 ≤ place → place ≤ length digits
     → value ≡ digits_value (take 8 (drop (place - 8) digits))
-    → later ≡ quotient up (2 * (digits_value (drop place digits) * unit)) (10 ^ length (drop place digits))
+    → later ≡ quotient up (2 * (digits_value (drop place digits) * unit))
+    (10 ^ length (drop place digits))
     → twice ≡ quotient up (2 * (value * unit) + later) 100000000
-    → twice ≡ quotient up (2 * (digits_value (drop (place - 8) digits) * unit)) (10 ^ length (drop (place - 8) digits))
+    → twice ≡ quotient up (2 * (digits_value (drop (place - 8) digits) * unit))
+    (10 ^ length (drop (place - 8) digits))
 block-taken up unit digits place value later twice some within is taken_later taken =
     let all : List ℕ = drop (place - 8) digits in
     let rest : List ℕ = drop place digits in
     let scale = 10 ^ length rest in
     let there : place - 8 + 8 ≡ place = omega arith in
-    let behind : drop 8 all ≡ rest = drop-drop 8 (place - 8) digits ∙ ap (λ (n : ℕ). drop n digits) there in
+    let behind : drop 8 all ≡ rest =
+    drop-drop 8 (place - 8) digits ∙ ap (λ (n : ℕ). drop n digits) there in
     let whole : digits_value all ≡ value * scale + digits_value rest =
     grind (arith, take-append-drop 8 all, behind, digits_value-append (take 8 all) rest) in
-    let long : length all ≡ length rest + 8 = omega (arith, length-drop place digits, length-drop (place - 8) digits) in
-    let power : 10 ^ length all ≡ scale * 100000000 = grind (arith, long, pow-add 10 (length rest) 8) in
-    let sum : 2 * (digits_value rest * unit) + 2 * (value * unit) * scale ≡ 2 * (digits_value all * unit) = rw whole (grind arith) in
-    rw (power, ← sum, taken, taken_later) (quotient-carried up (2 * (value * unit)) (2 * (digits_value rest * unit)) scale 100000000 (scale-some (length rest)) (lit< tt))
+    let long : length all ≡ length rest + 8 =
+    omega (arith, length-drop place digits, length-drop (place - 8) digits) in
+    let power : 10 ^ length all ≡ scale * 100000000 =
+    grind (arith, long, pow-add 10 (length rest) 8) in
+    let sum : 2 * (digits_value rest * unit) + 2 * (value * unit) * scale
+    ≡ 2 * (digits_value all * unit) = rw whole (grind arith) in
+    rw (power, ← sum, taken, taken_later)
+    (quotient-carried up (2 * (value * unit)) (2 * (digits_value rest * unit)) scale 100000000
+    (scale-some (length rest)) (lit< tt))

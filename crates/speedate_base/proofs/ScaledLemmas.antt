@@ -20,7 +20,8 @@ counted places fraction = min (length fraction) places
 -- what a decimal is as units of the last place, by its whole part and those digits
 abbrev units : ℕ → List ℕ → List ℕ → ℕ
 units places whole fraction =
-    digits_value whole * 10 ^ places + digits_value (take (counted places fraction) fraction) * 10 ^ (places - counted places fraction)
+    digits_value whole * 10 ^ places + digits_value (take (counted places fraction) fraction)
+    * 10 ^ (places - counted places fraction)
 
 -- and what the other digits are
 abbrev left : ℕ → List ℕ → ℕ
@@ -28,23 +29,30 @@ left places fraction = digits_value (drop (counted places fraction) fraction) * 
 
 -- the digits that are left and the places are as many as the places that are missing and all digits
 powers : (places : ℕ) (fraction : List ℕ)
-    → 10 ^ length (drop (counted places fraction) fraction) * 10 ^ places ≡ 10 ^ (places - counted places fraction) * 10 ^ length fraction
+    → 10 ^ length (drop (counted places fraction) fraction) * 10 ^ places
+    ≡ 10 ^ (places - counted places fraction) * 10 ^ length fraction
 powers places fraction =
     let count = counted places fraction in
-    let sums : length (drop count fraction) + places ≡ places - count + length fraction = omega (arith, length-drop count fraction) in
-    sym (pow-add 10 (length (drop count fraction)) places) ∙ ap (λ (n : ℕ). 10 ^ n) sums ∙ pow-add 10 (places - count) (length fraction)
+    let sums : length (drop count fraction) + places ≡ places - count + length fraction =
+    omega (arith, length-drop count fraction) in
+    sym (pow-add 10 (length (drop count fraction)) places) ∙ ap (λ (n : ℕ). 10 ^ n) sums
+    ∙ pow-add 10 (places - count) (length fraction)
 
 -- together they are the decimal
 parts-sum : (places : ℕ) (whole fraction : List ℕ)
-    → digits_value (whole ++ fraction) * 10 ^ places ≡ units places whole fraction * 10 ^ length fraction + left places fraction
+    → digits_value (whole ++ fraction) * 10 ^ places
+    ≡ units places whole fraction * 10 ^ length fraction + left places fraction
 parts-sum places whole fraction =
     let count = counted places fraction in
     let first = digits_value (take count fraction) in
-    let cut = sym (ap digits_value (take-append-drop count fraction)) ∙ digits_value-append (take count fraction) (drop count fraction) in
-    rw (digits_value-append whole fraction, cut) (grind (arith, ap (λ (n : ℕ). first * n) (powers places fraction)))
+    let cut = sym (ap digits_value (take-append-drop count fraction))
+    ∙ digits_value-append (take count fraction) (drop count fraction) in
+    rw (digits_value-append whole fraction, cut)
+    (grind (arith, ap (λ (n : ℕ). first * n) (powers places fraction)))
 
 -- what is left is less than one
-left-small : (places : ℕ) (fraction : List ℕ) → list_all is_ascii_digit fraction ≡ true → left places fraction < 10 ^ length fraction
+left-small : (places : ℕ) (fraction : List ℕ) → list_all is_ascii_digit fraction ≡ true
+    → left places fraction < 10 ^ length fraction
 left-small places fraction all =
     let rest = drop (counted places fraction) fraction in
     grind (
@@ -64,17 +72,22 @@ divided n q d r is small = grind (arith, add-mul-div_right r q, div-eq_of_lt)
 
 -- so the decimal divided by its scale is these
 pub scaled_units : (places : ℕ) (whole fraction : List ℕ) → list_all is_ascii_digit fraction ≡ true
-    → (digits_value (whole ++ fraction) * 10 ^ places) / 10 ^ length fraction ≡ units places whole fraction
-scaled_units places whole fraction all = (divided _ _ _ _ (parts-sum places whole fraction) (left-small places fraction all)).0
+    → (digits_value (whole ++ fraction) * 10 ^ places) / 10 ^ length fraction
+    ≡ units places whole fraction
+scaled_units places whole fraction all =
+    (divided _ _ _ _ (parts-sum places whole fraction) (left-small places fraction all)).0
 
 pub scaled_left : (places : ℕ) (whole fraction : List ℕ) → list_all is_ascii_digit fraction ≡ true
     → (digits_value (whole ++ fraction) * 10 ^ places) % 10 ^ length fraction ≡ left places fraction
-scaled_left places whole fraction all = (divided _ _ _ _ (parts-sum places whole fraction) (left-small places fraction all)).1
+scaled_left places whole fraction all =
+    (divided _ _ _ _ (parts-sum places whole fraction) (left-small places fraction all)).1
 
 -- a size that is capped at each step fits if and only if the exact one does
 pub capped_fits : (negative : Bool) (a b p q one two : ℕ) → 0 < p → 0 < q
-    → one ≡ min (min a (2 ^ 64 - 1) * p) (2 ^ 64 - 1) → two ≡ min (min b (2 ^ 64 - 1) * q) (2 ^ 64 - 1)
+    → one ≡ min (min a (2 ^ 64 - 1) * p) (2 ^ 64 - 1)
+    → two ≡ min (min b (2 ^ 64 - 1) * q) (2 ^ 64 - 1)
     → signed_answer negative (min (one + two) (2 ^ 64 - 1)) ≡ signed_answer negative (a * p + b * q)
-capped_fits negative a b p q one two some_p some_q is_one is_two = grind (arith, nat_tests, mul-le-mul_right)
+capped_fits negative a b p q one two some_p some_q is_one is_two =
+    grind (arith, nat_tests, mul-le-mul_right)
 
 pub ruleset scaled_rules = (nat_tests, scale-some, scaled_units, scaled_left, capped_fits)

@@ -8,15 +8,18 @@ abbrev pub instant_microsecond : Instant → ℤ
 instant_microsecond instant = pos 1000000 *ℤ instant.second +ℤ pos instant.microsecond
 
 -- the instant at a microsecond has that many
-pub instant_at-microsecond : (microsecond : ℤ) → instant_microsecond (instant_at microsecond) ≡ microsecond
+pub instant_at-microsecond : (microsecond : ℤ)
+    → instant_microsecond (instant_at microsecond) ≡ microsecond
 instant_at-microsecond microsecond = search rules
 
 -- the instant at the microsecond of an instant
-pub instant_at-is : (at : ℤ) (instant : Instant) → instant.microsecond ≤ 999999 → at ≡ instant_microsecond instant → instant_at at ≡ instant
+pub instant_at-is : (at : ℤ) (instant : Instant) → instant.microsecond ≤ 999999
+    → at ≡ instant_microsecond instant → instant_at at ≡ instant
 instant_at-is at instant small is = search rules
 
 -- the instant of a timestamp in seconds
-pub instant_of_seconds : (second : ℤ) → instant_at (pos 1000000 *ℤ second) ≡ record { second = second; microsecond = 0 }
+pub instant_of_seconds : (second : ℤ)
+    → instant_at (pos 1000000 *ℤ second) ≡ record { second = second; microsecond = 0 }
 instant_of_seconds second = search rules
 
 -- the microseconds that are left are less than a second
@@ -25,8 +28,16 @@ left-small (pos n) = omega arith
 left-small (negsuc n) = omega arith
 
 -- microseconds that are carried into a second
-pub instant_at-carried : (second microsecond : ℤ) → instant_at (pos 1000000 *ℤ second +ℤ microsecond)
-    ≡ record { second = second +ℤ (instant_at microsecond).second; microsecond = (instant_at microsecond).microsecond }
+pub instant_at-carried : (second microsecond : ℤ)
+    → instant_at (pos 1000000 *ℤ second +ℤ microsecond)
+    ≡ record {
+      second = second +ℤ (instant_at microsecond).second;
+      microsecond = (instant_at microsecond).microsecond;
+    }
 instant_at-carried second microsecond =
-    instant_at-is (pos 1000000 *ℤ second +ℤ microsecond) (record { second = second +ℤ (instant_at microsecond).second; microsecond = (instant_at microsecond).microsecond })
+    instant_at-is (pos 1000000 *ℤ second +ℤ microsecond)
+    (record {
+      second = second +ℤ (instant_at microsecond).second;
+      microsecond = (instant_at microsecond).microsecond;
+    })
     (left-small microsecond) (omega (arith, ints, instant_at-microsecond microsecond))

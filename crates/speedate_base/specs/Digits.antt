@@ -1,5 +1,6 @@
--- Digits at places of a text and in runs (RFC 3339 5.6, DIGIT: std's `is_ascii_digit`), and texts of a fixed form.
--- After the end of a text `slice_index` is 0, which is no digit, no sign and no separator.
+-- Digits at places of a text and in runs (RFC 3339 5.6, DIGIT: std's `is_ascii_digit`), and texts
+-- of a fixed form. After the end of a text `slice_index` is 0, which is no digit, no sign and no
+-- separator.
 use Rattle.std.specs.Prelude.{ℕ, ◌+◌, ◌-◌, ◌*◌, ◌/◌, ◌%◌, Bool, ◌&&◌, List, [], ◌∷◌, ◌++◌, slice_index, zero, suc, ◌^◌, length, take, drop, ◌||◌, ◌==◌, if◌then◌else◌}
 use Rattle.std.specs.Char.{is_ascii_digit}
 use Rattle.std.specs.List.{prefix_len}
@@ -11,7 +12,8 @@ one_digit_value byte = byte - digit_zero
 
 -- both bytes from a place on are digits
 abbrev pub two_digits_at : List ℕ → ℕ → Bool
-two_digits_at text place = is_ascii_digit (slice_index text place) && is_ascii_digit (slice_index text (place + 1))
+two_digits_at text place =
+    is_ascii_digit (slice_index text place) && is_ascii_digit (slice_index text (place + 1))
 
 -- the number that two digits from a place on spell
 abbrev pub two_digit_value : List ℕ → ℕ → ℕ
@@ -61,23 +63,28 @@ digits_value (digit ∷ digits) = one_digit_value digit * 10 ^ length digits + d
 abbrev pub run_value : List ℕ → ℕ → ℕ
 run_value text place = digits_value (run_digits text place)
 
--- what digits are worth as the first of a number of places: those past the places are dropped, and missing ones are 0
+-- what digits are worth as the first of a number of places: those past the places are dropped, and
+-- missing ones are 0
 abbrev pub fraction_value : ℕ → List ℕ → ℕ
 fraction_value zero digits = 0
 fraction_value (suc places) [] = 0
-fraction_value (suc places) (digit ∷ digits) = one_digit_value digit * 10 ^ places + fraction_value places digits
+fraction_value (suc places) (digit ∷ digits) =
+    one_digit_value digit * 10 ^ places + fraction_value places digits
 
 -- a byte is a decimal mark: `.` or `,`
 abbrev pub is_decimal_mark : ℕ → Bool
 is_decimal_mark byte = (byte == full_stop) || (byte == comma)
 
--- Texts of a fixed form, written as they look: in a pattern `0` stands for a digit, and any other byte for itself.
+-- Texts of a fixed form, written as they look: in a pattern `0` stands for a digit, and any other
+-- byte for itself.
 
 -- the eight bytes from a place on: 0 for those after the end of the text
 abbrev pub eight_at : List ℕ → ℕ → List ℕ
 eight_at text place =
-    slice_index text place ∷ slice_index text (place + 1) ∷ slice_index text (place + 2) ∷ slice_index text (place + 3)
-    ∷ slice_index text (place + 4) ∷ slice_index text (place + 5) ∷ slice_index text (place + 6) ∷ slice_index text (place + 7) ∷ []
+    slice_index text place ∷ slice_index text (place + 1)
+    ∷ slice_index text (place + 2) ∷ slice_index text (place + 3)
+    ∷ slice_index text (place + 4) ∷ slice_index text (place + 5)
+    ∷ slice_index text (place + 6) ∷ slice_index text (place + 7) ∷ []
 
 -- a byte is as a pattern has it: a digit for `0`, and for any other byte that byte
 abbrev pub fits_byte : ℕ → ℕ → Bool
@@ -87,17 +94,19 @@ fits_byte form byte = if form == digit_zero then is_ascii_digit byte else byte =
 abbrev pub fit_length : List ℕ → List ℕ → ℕ
 fit_length [] bytes = 0
 fit_length (form ∷ forms) [] = 0
-fit_length (form ∷ forms) (byte ∷ bytes) = if fits_byte form byte then 1 + fit_length forms bytes else 0
+fit_length (form ∷ forms) (byte ∷ bytes) =
+    if fits_byte form byte then 1 + fit_length forms bytes else 0
 
--- what the first `count` bytes stand for, which fit a pattern: a digit for its value, any other byte for 0; each byte after
--- them stands for 0
+-- what the first `count` bytes stand for, which fit a pattern: a digit for its value, any other
+-- byte for 0; each byte after them stands for 0
 abbrev pub fit_digits : ℕ → List ℕ → List ℕ → List ℕ
 fit_digits count [] bytes = []
 fit_digits count (form ∷ forms) [] = []
 fit_digits zero (form ∷ forms) (byte ∷ bytes) = 0 ∷ fit_digits zero forms bytes
 fit_digits (suc count) (form ∷ forms) (byte ∷ bytes) = (byte - form) ∷ fit_digits count forms bytes
 
--- the numbers that any two neighbours spell, and the last one before a 0: 12, 23 and 30 for the digits 1, 2 and 3
+-- the numbers that any two neighbours spell, and the last one before a 0: 12, 23 and 30 for the
+-- digits 1, 2 and 3
 abbrev pub neighbours : List ℕ → List ℕ
 neighbours [] = []
 neighbours (tens ∷ []) = 10 * tens ∷ []

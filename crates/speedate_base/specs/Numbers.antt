@@ -1,9 +1,10 @@
--- Whole numbers and decimals, as texts and as what is read of them. This grammar is the library's own.
+-- Whole numbers and decimals, as texts and as what is read of them. This grammar is the library's
+-- own.
 use Rattle.std.specs.Prelude.{◌≡◌, ◌⊎◌, MatchBool, codes, ℕ, ◌+◌, ◌*◌, ◌/◌, ◌%◌, ◌^◌, Bool, ◌&&◌, ◌||◌, List, [], ◌∷◌, ◌++◌, length, slice_index, nat_lt, nat_le, ◌==◌, if◌then◌else◌, Option, Some, None, ℤ, pos, neg_ℤ, int_lt, unsigned_abs, true, false}
 use Rattle.std.specs.Char.{is_ascii_digit}
 use Rattle.std.specs.List.{list_all}
 use Rattle.speedate_base.specs.declared.numbers.int_float.Decimal.{Decimal}
-pub use Rattle.speedate_base.specs.declared.numbers.int_float.IntFloat.{IntFloat, IntFloat as number}
+pub use Rattle.speedate_base.specs.declared.numbers.int_float.IntFloat.{IntFloat}
 use Rattle.speedate_base.specs.Ascii.{plus_sign, hyphen, full_stop}
 use Rattle.speedate_base.specs.Digits.{run_length, run_digits, run_value, digits_value}
 
@@ -25,15 +26,18 @@ fits_i64 negative size = if negative then nat_le size (2 ^ 63) else nat_lt size 
 
 -- a size with its sign, if it fits 64 bits with a sign
 abbrev pub signed_answer : Bool → ℕ → Option ℤ
-signed_answer negative size = if fits_i64 negative size then Some (with_sign negative size) else None
+signed_answer negative size =
+    if fits_i64 negative size then Some (with_sign negative size) else None
 
--- the whole number that a text is, if it is an optional sign and one or more digits, and fits 64 bits with a sign
+-- the whole number that a text is, if it is an optional sign and one or more digits, and fits 64
+-- bits with a sign
 abbrev pub whole_number : List ℕ → Option ℤ
 whole_number text =
     let start = sign_size text in
     let digits = run_length text start in
     let size = run_value text start in
-    if nat_lt 0 digits && (start + digits == length text) then signed_answer (has_minus text) size else None
+    if nat_lt 0 digits && (start + digits == length text) then signed_answer (has_minus text) size
+    else None
 
 -- a decimal by its parts
 pub record DecimalParts : Type 0 where
@@ -44,7 +48,8 @@ pub record DecimalParts : Type 0 where
 -- the decimal of a sign and digits on both sides of the point, of which there is one at least
 abbrev pub decimal_of_digits : DecimalParts → Option DecimalParts
 decimal_of_digits decimal =
-    if list_all is_ascii_digit decimal.whole && list_all is_ascii_digit decimal.fraction && nat_lt 0 (length decimal.whole + length decimal.fraction)
+    if list_all is_ascii_digit decimal.whole && list_all is_ascii_digit decimal.fraction
+    && nat_lt 0 (length decimal.whole + length decimal.fraction)
     then Some decimal else None
 
 -- the place of a decimal's point, after its sign and the digits before it
@@ -57,7 +62,8 @@ is_decimal text =
     let whole = run_length text (sign_size text) in
     let point = point_place text in
     let fraction = run_length text (point + 1) in
-    (slice_index text point == full_stop) && (point + 1 + fraction == length text) && nat_lt 0 (whole + fraction)
+    (slice_index text point == full_stop) && (point + 1 + fraction == length text)
+    && nat_lt 0 (whole + fraction)
 
 -- the parts of a text that is a decimal
 abbrev pub decimal_parts : List ℕ → DecimalParts
@@ -113,24 +119,30 @@ IsSign negative sign = MatchBool negative (sign ≡ codes "-") ((sign ≡ []) �
 -- a text is the sign, the digits, the point and the digits of a decimal
 abbrev pub JoinsTo : DecimalParts → List ℕ → Type 0
 JoinsTo decimal text =
-    (sign : List ℕ) × IsSign decimal.negative sign × (text ≡ sign ++ decimal.whole ++ full_stop ∷ decimal.fraction)
+    (sign : List ℕ) × IsSign decimal.negative sign
+    × (text ≡ sign ++ decimal.whole ++ full_stop ∷ decimal.fraction)
 
 -- the parts of a `Decimal`
 abbrev pub decimal_value : Decimal → DecimalParts
-decimal_value decimal = record { negative = decimal.negative; whole = decimal.whole.now; fraction = decimal.fraction.now }
+decimal_value decimal =
+    record {
+      negative = decimal.negative;
+      whole = decimal.whole.now;
+      fraction = decimal.fraction.now;
+    }
 
 -- what was read, as a number
 abbrev pub number_value : IntFloat → Number
-number_value (number.Int n) = Whole n
-number_value (number.Float decimal) = Fractional (decimal_value decimal)
-number_value number.Err = NoNumber
+number_value (IntFloat.Int n) = Whole n
+number_value (IntFloat.Float decimal) = Fractional (decimal_value decimal)
+number_value IntFloat.Err = NoNumber
 
 -- a decimal that was read joins to its text
 abbrev pub JoinsToFloat : IntFloat → List ℕ → Type 0
-JoinsToFloat (number.Float decimal) text = JoinsTo (decimal_value decimal) text
+JoinsToFloat (IntFloat.Float decimal) text = JoinsTo (decimal_value decimal) text
 JoinsToFloat other text = Unit {0}
 
 -- what was read is no number
 abbrev pub is_no_number : IntFloat → Bool
-is_no_number number.Err = true
+is_no_number IntFloat.Err = true
 is_no_number other = false

@@ -1,18 +1,18 @@
 //! Configurations: the unit of timestamps, how times are parsed, and which offset the values of
 //! timestamps get.
 
-ghost use Rattle.std.specs.Prelude.{◌≡◌, IfOk, Ok};
+ghost use Rattle.std.specs.Prelude.{◌≡◌, Ok};
 ghost use Rattle.std.specs.Option.{ForSome};
-ghost use Rattle.speedate_base.specs.declared.config.TimestampUnit.TheVariants as unit;
 ghost use Rattle.speedate_base.specs.Offset.{IsOffset, offset_table};
-ghost use Rattle.speedate_base.specs.Requirement.{meets, result_map};
+ghost use Rattle.speedate_base.specs.Requirement.{first_fault_or, result_map};
 
 mod choice;
 mod date_time;
+mod offset;
 
 use crate::faults::ParseError;
-use crate::util::SECONDS_PER_DAY;
 pub use date_time::{DateTimeConfig, DateTimeConfigBuilder};
+pub use offset::require_offset;
 use std::marker::Model;
 
 /// The unit of a timestamp: what a number in place of a date or a date-time counts. The default infers
@@ -61,19 +61,6 @@ pub enum IsoOrder {
     Strict,
 }
 
-/// Refuses an offset of 24 hours or more, in seconds, east or west of UTC: it fails with `OutOfRangeTz`
-/// for `Some(86_400)` and `Some(i32::MIN)`. If there is no offset, there is nothing to refuse.
-#[inline]
-pub fn require_offset(offset: Option<i32>) -> Result<(), ParseError>
-    ensures answer { result ≡ meets (offset_table offset) (Ok tt) }
-    ensures range { IfOk result (λ _. ForSome offset IsOffset) }
-{
-    match offset {
-        Some(seconds) if seconds.unsigned_abs() >= SECONDS_PER_DAY => Err(ParseError::OutOfRangeTz),
-        _ => Ok(()),
-    }
-}
-
 /// How dates are parsed: the unit of timestamps. The default infers it;
 /// `DateConfig::builder().timestamp_unit(TimestampUnit::Second).build()` takes seconds.
 #[derive(Clone, Copy, Debug, PartialEq, Eq, Default)]
@@ -85,7 +72,7 @@ pub struct DateConfig {
 impl DateConfig {
     /// A builder of a configuration: `DateConfig::builder().build()` is the default one.
     pub fn builder() -> DateConfigBuilder
-        ensures default { result.timestamp_unit ≡ unit.Infer }
+        ensures default { result.timestamp_unit ≡ TimestampUnit.Infer }
     {
         DateConfigBuilder::new()
     }
@@ -111,7 +98,7 @@ impl Model for DateConfigBuilder {
 impl DateConfigBuilder {
     /// A builder of the default configuration; `DateConfig::builder()` is the same.
     pub fn new() -> Self
-        ensures default { result.timestamp_unit ≡ unit.Infer }
+        ensures default { result.timestamp_unit ≡ TimestampUnit.Infer }
     {
         Self::default()
     }
@@ -236,7 +223,7 @@ impl TimeConfigBuilder {
     /// `OutOfRangeTz` if it is 24 hours or more, as `Some(86_400)` is.
     pub fn try_unix_timestamp_offset(self, offset: Option<i32>) -> Result<Self, ParseError>
         ensures choices { result_map time_choices result
-            ≡ meets (offset_table offset) (Ok (with_offset offset (time_choices self))) }
+            ≡ first_fault_or (offset_table offset) (Ok (with_offset offset (time_choices self))) }
     {
         require_offset(offset)?;
         Ok(self.unix_timestamp_offset(offset))

@@ -120,7 +120,6 @@ impl ParseError {
     ghost use Rattle.std.specs.Prelude.{◌≤◌, IfSome, length, Some};
     ghost use Rattle.std.specs.Option.{option_map};
     ghost use Rattle.speedate_base.specs.Fault.{fault_documentation, fault_name};
-    ghost use Rattle.speedate_base.specs.declared.faults.ParseError.{ParseError};
 
     /// The snake-case name, of at most 29 bytes: `too_short` for `ParseError::TooShort`. No other error
     /// has it.

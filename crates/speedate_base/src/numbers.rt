@@ -12,7 +12,7 @@ use digits::spelled_number;
 pub use digits::{DigitRun, byte_at, digit_run, few_digits, is_decimal_mark, run_end, two_digits};
 pub use fraction::{Fraction, takes_digits};
 pub use int_float::{Decimal, IntFloat};
-pub use lanes::{LANES, eight_bytes, fitting, pairs};
+pub use lanes::{LANES, eight_bytes, fit_length, two_digit_numbers};
 
 /// The whole number that a text is: -12 for `"-012"`.
 ///
@@ -35,7 +35,7 @@ pub fn int_parse_bytes(bytes: &[u8]) -> Option<i64>
         return None;
     }
     match spelled_number(digits) {
-        Ok(size) => signed(negative, size),
+        Ok(size) => checked_with_sign(negative, size),
         Err(_) => None,
     }
 }
@@ -65,7 +65,7 @@ pub fn float_parse_bytes(bytes: &[u8]) -> IntFloat<'_>
     let (negative, start) = sign(bytes);
     let digits = &bytes[start..];
     match spelled_number(digits) {
-        Ok(size) if !digits.is_empty() => match signed(negative, size) {
+        Ok(size) if !digits.is_empty() => match checked_with_sign(negative, size) {
             Some(number) => IntFloat::Int(number),
             None => IntFloat::Err,
         },
@@ -122,7 +122,7 @@ pub fn with_sign(negative: bool, size: u64) -> i64
 }
 
 /// A size with its sign, if it fits an `i64`.
-fn signed(negative: bool, size: u64) -> Option<i64>
+fn checked_with_sign(negative: bool, size: u64) -> Option<i64>
     ensures value { result ≡ signed_answer negative size }
 {
     if size <= i64::MAX as u64 {

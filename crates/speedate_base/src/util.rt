@@ -11,7 +11,7 @@ mod unix_time;
 use crate::config::TimestampUnit;
 use crate::faults::ParseError;
 pub use decimal_timestamp::{decimal_to_seconds_micros, decimal_unit};
-pub use rounding::{LARGEST_UNIT, nearest_microseconds, twice_microseconds};
+pub use rounding::{LARGEST_UNIT_MICROSECONDS, nearest_microseconds, twice_microseconds};
 pub use unix_time::{FIRST_SECOND, LAST_SECOND, UnixTime, UnixUnit};
 
 /// The seconds of a day.

@@ -3,7 +3,7 @@ use Rattle.std.specs.Prelude.{ℕ, ◌+◌, ◌-◌, ℤ, pos, negsuc, unsigned_
 use Rattle.std.specs.Option.{option_map, option_or}
 use Rattle.std.specs.Ordering.{int_eq}
 use Rattle.std.specs.declared.cmp.Ordering.{Ordering, Ordering as ordering}
-pub use Rattle.speedate.specs.declared.ParseError.{ParseError}
+use Rattle.speedate.specs.Base.{ParseError}
 use Rattle.speedate.specs.Fault.{FaultRow, fault_rows, fault_place, fault_name, fault_documentation}
 
 -- what was asked for is written
@@ -41,14 +41,24 @@ fault_of code = if int_le (pos 1) code then slice_get faults (unsigned_abs code 
 -- the name and the documentation text of a code that is no fault
 abbrev pub refusal_row : ℤ → Option (List ℕ × List ℕ)
 refusal_row code =
-    if int_eq code value_out_of_range then Some (codes "value_out_of_range", codes "a value or a flag is out of range")
-    else (if int_eq code config_out_of_range then Some (codes "config_out_of_range", codes "a number of the configuration is out of range")
-    else (if int_eq code buffer_too_small then Some (codes "buffer_too_small", codes "the buffer is too small for the text")
-    else (if int_eq code no_such_date then Some (codes "no_such_date", codes "the years 0000 to 9999 have no such date") else None)))
+    if int_eq code value_out_of_range
+    then Some (codes "value_out_of_range", codes "a value or a flag is out of range")
+    else (if int_eq code config_out_of_range
+    then Some (
+      codes "config_out_of_range",
+      codes "a number of the configuration is out of range",
+    )
+    else (if int_eq code buffer_too_small
+    then Some (codes "buffer_too_small", codes "the buffer is too small for the text")
+    else (if int_eq code no_such_date
+    then Some (codes "no_such_date", codes "the years 0000 to 9999 have no such date")
+    else None)))
 
 -- the name and the documentation text of a code
 abbrev pub code_row : ℤ → Option (List ℕ × List ℕ)
-code_row code = option_or (option_map (λ fault. (fault_name fault, fault_documentation fault)) (fault_of code)) (refusal_row code)
+code_row code =
+    option_or (option_map (λ fault. (fault_name fault, fault_documentation fault)) (fault_of code))
+    (refusal_row code)
 
 -- the code of an answer
 abbrev pub answer_code : {A : Type 0} → Result A ParseError → ℤ

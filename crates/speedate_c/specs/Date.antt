@@ -1,7 +1,8 @@
 -- What a date from outside says, and how a date is written.
 use Rattle.std.specs.Prelude.{Result}
+use Rattle.speedate.specs.Base.{ParseError}
 use Rattle.speedate.specs.Calendar.{Ymd}
-use Rattle.speedate.specs.Date.{new_date_answer, ParseError}
+use Rattle.speedate.specs.Date.{new_date_answer}
 use Rattle.speedate_c.specs.declared.date.SpeedateDate.{SpeedateDate}
 
 -- the date of its numbers, or the fault of the first that is out of range

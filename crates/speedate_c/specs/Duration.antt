@@ -1,8 +1,9 @@
 -- What a duration from outside says, and how a duration is written.
 use Rattle.std.specs.Prelude.{ℕ, ◌==◌, nat_le, nat_lt, Bool, true, false, List, [], ◌∷◌, Result, Ok}
-use Rattle.speedate.specs.DurationNumbers.{DurationNumbers, ParseError, fault}
+use Rattle.speedate.specs.Base.{ParseError}
+use Rattle.speedate.specs.DurationNumbers.{DurationNumbers}
 use Rattle.speedate.specs.Timestamp.{seconds_per_day}
-use Rattle.speedate.specs.Requirement.{Requirement, ◌else_fault◌, meets}
+use Rattle.speedate.specs.Requirement.{Requirement, ◌else_fault◌, first_fault_or}
 use Rattle.speedate_c.specs.declared.duration.SpeedateDuration.{SpeedateDuration}
 
 -- the numbers of a duration from outside, whatever they are
@@ -17,15 +18,15 @@ numbers_of duration = record {
 -- what a duration from outside has to meet: the flag is 0 or 1, and the numbers are in their ranges
 abbrev pub duration_table : SpeedateDuration → List Requirement
 duration_table duration =
-    (nat_le duration.negative 1 else_fault fault.DurationValueTooLarge)
-    ∷ (nat_le duration.day 999999999 else_fault fault.DurationDaysTooLarge)
-    ∷ (nat_lt duration.second seconds_per_day else_fault fault.DurationValueTooLarge)
-    ∷ (nat_le duration.microsecond 999999 else_fault fault.DurationValueTooLarge)
+    (nat_le duration.negative 1 else_fault ParseError.DurationValueTooLarge)
+    ∷ (nat_le duration.day 999999999 else_fault ParseError.DurationDaysTooLarge)
+    ∷ (nat_lt duration.second seconds_per_day else_fault ParseError.DurationValueTooLarge)
+    ∷ (nat_le duration.microsecond 999999 else_fault ParseError.DurationValueTooLarge)
     ∷ []
 
 -- the duration of its numbers, or the fault of the first that is out of range
 abbrev pub duration_of : SpeedateDuration → Result DurationNumbers ParseError
-duration_of duration = meets (duration_table duration) (Ok (numbers_of duration))
+duration_of duration = first_fault_or (duration_table duration) (Ok (numbers_of duration))
 
 -- the flag of a sign
 abbrev pub shown_sign : Bool → ℕ

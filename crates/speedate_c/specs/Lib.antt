@@ -1,5 +1,5 @@
 pub mod Code
-pub mod After
+pub mod Written
 pub mod Config
 pub mod Date
 pub mod Time

@@ -1,14 +1,17 @@
 -- What a time from outside says, and how a time is written.
 use Rattle.std.specs.Prelude.{ℕ, ℤ, pos, Option, Some, None, Result}
-use Rattle.speedate.specs.Time.{new_time_answer, TimeOfDay, ParseError}
+use Rattle.speedate.specs.Base.{ParseError}
+use Rattle.speedate.specs.Time.{new_time_answer, TimeOfDay}
 use Rattle.speedate.specs.Requirement.{result_and_then, result_map}
 use Rattle.speedate_c.specs.Config.{offset_answer}
 use Rattle.speedate_c.specs.declared.time.SpeedateTime.{SpeedateTime}
 
--- the time of its numbers, or the fault of the first that is out of range; the offset is looked at last
+-- the time of its numbers, or the fault of the first that is out of range; the offset is looked at
+-- last
 abbrev pub time_of : SpeedateTime → Result TimeOfDay ParseError
 time_of time =
-    result_and_then (λ clock. result_map (λ offset. record clock { offset = offset }) (offset_answer time.has_offset time.offset))
+    result_and_then (λ clock. result_map (λ offset. record clock { offset = offset })
+    (offset_answer time.has_offset time.offset))
     (new_time_answer time.hour time.minute time.second time.microsecond None)
 
 -- the flag of an offset and its seconds

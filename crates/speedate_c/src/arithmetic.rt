@@ -1,8 +1,8 @@
 //! The duration between two values, and the value a duration after another, as C sees them.
 
 ghost use Rattle.std.specs.Prelude.{◌≡◌, neg_ℤ};
-ghost use Rattle.speedate.specs.Duration.{date_after_days, date_time_after, duration_between, duration_between_dates, negated, signed_amount};
-ghost use Rattle.speedate_c.specs.After.{after_answer, after_value, with_value};
+ghost use Rattle.speedate.specs.Duration.{date_later, date_time_later, duration_between, duration_between_dates, negated, signed_amount};
+ghost use Rattle.speedate_c.specs.Written.{written_answer, written_value, with_value};
 ghost use Rattle.speedate_c.specs.Code.{value_out_of_range};
 ghost use Rattle.speedate_c.specs.Date.{date_of, shown_date};
 ghost use Rattle.speedate_c.specs.DateTime.{date_time_of, shown_date_time};
@@ -24,7 +24,7 @@ pub extern "C" fn speedate_duration_between(
     ensures answer { (result, out.new)
         ≡ with_value (date_time_of earlier) (value_out_of_range, out.old)
         (λ earlier. with_value (date_time_of later) (value_out_of_range, out.old)
-        (λ later. after_value (shown_duration (duration_between earlier later)))) }
+        (λ later. written_value (shown_duration (duration_between earlier later)))) }
 {
     let earlier = value_or_return!(earlier);
     let later = value_or_return!(later);
@@ -43,8 +43,8 @@ pub extern "C" fn speedate_duration_after(
     ensures answer { (result, out.new)
         ≡ with_value (duration_of duration) (value_out_of_range, out.old)
         (λ duration. with_value (date_time_of start) (value_out_of_range, out.old)
-        (λ start. after_answer shown_date_time out.old
-        (date_time_after (signed_amount duration) start))) }
+        (λ start. written_answer shown_date_time out.old
+        (date_time_later (signed_amount duration) start))) }
 {
     let duration = value_or_return!(duration);
     let start = value_or_return!(start);
@@ -63,8 +63,8 @@ pub extern "C" fn speedate_duration_before(
     ensures answer { (result, out.new)
         ≡ with_value (duration_of duration) (value_out_of_range, out.old)
         (λ duration. with_value (date_time_of start) (value_out_of_range, out.old)
-        (λ start. after_answer shown_date_time out.old
-        (date_time_after (neg_ℤ (signed_amount duration)) start))) }
+        (λ start. written_answer shown_date_time out.old
+        (date_time_later (neg_ℤ (signed_amount duration)) start))) }
 {
     let duration = value_or_return!(duration);
     let start = value_or_return!(start);
@@ -81,7 +81,7 @@ pub extern "C" fn speedate_duration_between_dates(
 ) -> i32
     ensures answer { (result, out.new) ≡ with_value (date_of earlier) (value_out_of_range, out.old)
         (λ earlier. with_value (date_of later) (value_out_of_range, out.old)
-        (λ later. after_value (shown_duration (duration_between_dates earlier later)))) }
+        (λ later. written_value (shown_duration (duration_between_dates earlier later)))) }
 {
     let earlier = value_or_return!(earlier);
     let later = value_or_return!(later);
@@ -100,7 +100,7 @@ pub extern "C" fn speedate_duration_after_date(
     ensures answer { (result, out.new)
         ≡ with_value (duration_of duration) (value_out_of_range, out.old)
         (λ duration. with_value (date_of start) (value_out_of_range, out.old)
-        (λ start. after_answer shown_date out.old (date_after_days duration start))) }
+        (λ start. written_answer shown_date out.old (date_later duration start))) }
 {
     let duration = value_or_return!(duration);
     let start = value_or_return!(start);
@@ -119,7 +119,7 @@ pub extern "C" fn speedate_duration_before_date(
     ensures answer { (result, out.new)
         ≡ with_value (duration_of duration) (value_out_of_range, out.old)
         (λ duration. with_value (date_of start) (value_out_of_range, out.old)
-        (λ start. after_answer shown_date out.old (date_after_days (negated duration) start))) }
+        (λ start. written_answer shown_date out.old (date_later (negated duration) start))) }
 {
     let duration = value_or_return!(duration);
     let start = value_or_return!(start);
@@ -134,7 +134,7 @@ pub extern "C" fn speedate_duration_negate(
 ) -> i32
     ensures answer { (result, out.new)
         ≡ with_value (duration_of duration) (value_out_of_range, out.old)
-        (λ duration. after_value (shown_duration (negated duration))) }
+        (λ duration. written_value (shown_duration (negated duration))) }
 {
     write_of!(duration => *out = SpeedateDuration::from_value(&duration.negated()))
 }

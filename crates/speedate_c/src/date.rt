@@ -5,7 +5,7 @@ ghost use Rattle.std.specs.Prelude.{◌≡◌, ◌≢◌, ◌≤◌, length, sli
 ghost use Rattle.speedate.specs.Date.{ymd, date_answer, date_front, date_text, date_or_timestamp, date_timestamp_answer, ◌gives◌};
 ghost use Rattle.speedate.specs.Calendar.{date_order, date_added, date_numbered, day_number, days_between, midnight_millisecond, midnight_second, ordinal_day};
 ghost use Rattle.speedate.specs.Requirement.{result_map};
-ghost use Rattle.speedate_c.specs.After.{after_answer, after_front, after_optional_date, after_text, after_value, with_option, with_value};
+ghost use Rattle.speedate_c.specs.Written.{written_answer, written_front, written_optional_date, written_text, written_value, with_option, with_value};
 ghost use Rattle.speedate_c.specs.Code.{answer_code, buffer_too_small, config_out_of_range, order_number, success, value_out_of_range};
 ghost use Rattle.speedate_c.specs.Config.{choices_of, flags};
 ghost use Rattle.speedate_c.specs.Date.{date_of, shown_date};
@@ -50,7 +50,7 @@ impl SpeedateDate {
 
 /// Writes the date of an answer, and gives the code.
 pub(crate) fn write_date(answer: Result<Date, ParseError>, out: &mut SpeedateDate) -> i32
-    ensures after { (result, out.new) ≡ after_answer shown_date out.old (result_map ymd answer) }
+    ensures after { (result, out.new) ≡ written_answer shown_date out.old (result_map ymd answer) }
 {
     let date = answer_or_return!(answer);
     *out = SpeedateDate::from_value(&date);
@@ -60,7 +60,7 @@ pub(crate) fn write_date(answer: Result<Date, ParseError>, out: &mut SpeedateDat
 /// Writes a date, if there is one, and gives the code.
 fn write_some(date: Option<Date>, out: &mut SpeedateDate) -> i32
     ensures after { (result, out.new)
-        ≡ after_optional_date shown_date out.old (option_map ymd date) }
+        ≡ written_optional_date shown_date out.old (option_map ymd date) }
 {
     match date {
         Some(date) => {
@@ -74,7 +74,7 @@ fn write_some(date: Option<Date>, out: &mut SpeedateDate) -> i32
 /// Prints a date into a buffer, and gives the code.
 fn print_date(date: &Date, buffer: &mut [u8], text_length: &mut usize) -> i32
     ensures after { (result, buffer.new, text_length.new)
-        ≡ after_text (date_text (ymd date.now)) buffer.old text_length.old }
+        ≡ written_text (date_text (ymd date.now)) buffer.old text_length.old }
     ensures room { 11 ≤ length buffer.old → result ≡ success }
 {
     write_text(date.to_text().as_str(), buffer, text_length)
@@ -92,7 +92,7 @@ pub extern "C" fn speedate_date_parse(
 ) -> i32
     ensures answer { (result, out.new)
         ≡ with_option (choices_of config) (config_out_of_range, out.old)
-        (λ config. after_answer shown_date out.old (date_or_timestamp config.unit text.now)) }
+        (λ config. written_answer shown_date out.old (date_or_timestamp config.unit text.now)) }
 {
     let config = config_or_return!(config.to_date_config());
     write_date(Date::parse_bytes_with_config(text, &config), out)
@@ -102,7 +102,7 @@ pub extern "C" fn speedate_date_parse(
 /// from `2020-02-29`.
 #[unsafe(no_mangle)]
 pub extern "C" fn speedate_date_parse_rfc3339(text: &[u8], out: &mut SpeedateDate) -> i32
-    ensures answer { (result, out.new) ≡ after_answer shown_date out.old (date_answer text.now) }
+    ensures answer { (result, out.new) ≡ written_answer shown_date out.old (date_answer text.now) }
 {
     write_date(Date::parse_bytes_rfc3339(text), out)
 }
@@ -116,7 +116,7 @@ pub extern "C" fn speedate_date_parse_front(
     size: &mut usize,
 ) -> i32
     ensures answer { (result, out.new, size.new)
-        ≡ after_front shown_date out.old size.old (date_front text.now) }
+        ≡ written_front shown_date out.old size.old (date_front text.now) }
 {
     let (date, count) = answer_or_return!(Date::parse_front(text));
     *out = SpeedateDate::from_value(&date);
@@ -144,7 +144,7 @@ pub extern "C" fn speedate_date_to_text(
 ) -> i32
     ensures answer { (result, buffer.new, text_length.new)
         ≡ with_value (date_of date) (value_out_of_range, buffer.old, text_length.old)
-        (λ date. after_text (date_text date) buffer.old text_length.old) }
+        (λ date. written_text (date_text date) buffer.old text_length.old) }
     ensures room { 11 ≤ length buffer.old → result ≢ buffer_too_small }
 {
     let date = value_or_return!(date);
@@ -161,7 +161,7 @@ pub extern "C" fn speedate_date_compare(
 ) -> i32
     ensures answer { (result, out.new) ≡ with_value (date_of first) (value_out_of_range, out.old)
         (λ first. with_value (date_of second) (value_out_of_range, out.old)
-        (λ second. after_value (order_number (date_order first second)))) }
+        (λ second. written_value (order_number (date_order first second)))) }
 {
     write_of!(first, second => *out = order_number(first.cmp(&second)))
 }
@@ -181,7 +181,7 @@ pub extern "C" fn speedate_date_from_timestamp(
     ensures answer { (result, out.new)
         ≡ with_option (choices_of config) (config_out_of_range, out.old)
         (λ config. with_option (slice_get flags require_exact) (value_out_of_range, out.old)
-        (λ exact. after_answer shown_date out.old
+        (λ exact. written_answer shown_date out.old
         (date_timestamp_answer config.unit exact timestamp))) }
 {
     let config = config_or_return!(config.to_date_config());
@@ -195,7 +195,7 @@ pub extern "C" fn speedate_date_from_timestamp(
 #[unsafe(no_mangle)]
 pub extern "C" fn speedate_date_timestamp(date: SpeedateDate, out: &mut i64) -> i32
     ensures answer { (result, out.new) ≡ with_value (date_of date) (value_out_of_range, out.old)
-        (λ date. after_value (midnight_second date)) }
+        (λ date. written_value (midnight_second date)) }
 {
     write_of!(date => *out = date.timestamp())
 }
@@ -205,7 +205,7 @@ pub extern "C" fn speedate_date_timestamp(date: SpeedateDate, out: &mut i64) -> 
 #[unsafe(no_mangle)]
 pub extern "C" fn speedate_date_timestamp_ms(date: SpeedateDate, out: &mut i64) -> i32
     ensures answer { (result, out.new) ≡ with_value (date_of date) (value_out_of_range, out.old)
-        (λ date. after_value (midnight_millisecond date)) }
+        (λ date. written_value (midnight_millisecond date)) }
 {
     write_of!(date => *out = date.timestamp_ms())
 }
@@ -215,7 +215,7 @@ pub extern "C" fn speedate_date_timestamp_ms(date: SpeedateDate, out: &mut i64) 
 #[unsafe(no_mangle)]
 pub extern "C" fn speedate_date_day_number(date: SpeedateDate, out: &mut u32) -> i32
     ensures answer { (result, out.new) ≡ with_value (date_of date) (value_out_of_range, out.old)
-        (λ date. after_value (day_number date)) }
+        (λ date. written_value (day_number date)) }
 {
     write_of!(date => *out = date.day_number())
 }
@@ -225,7 +225,7 @@ pub extern "C" fn speedate_date_day_number(date: SpeedateDate, out: &mut u32) ->
 #[unsafe(no_mangle)]
 pub extern "C" fn speedate_date_from_day_number(number: u32, out: &mut SpeedateDate) -> i32
     ensures answer { (result, out.new)
-        ≡ after_optional_date shown_date out.old (date_numbered number) }
+        ≡ written_optional_date shown_date out.old (date_numbered number) }
 {
     write_some(Date::from_day_number(number), out)
 }
@@ -234,7 +234,7 @@ pub extern "C" fn speedate_date_from_day_number(number: u32, out: &mut SpeedateD
 #[unsafe(no_mangle)]
 pub extern "C" fn speedate_date_ordinal_day(date: SpeedateDate, out: &mut u16) -> i32
     ensures answer { (result, out.new) ≡ with_value (date_of date) (value_out_of_range, out.old)
-        (λ date. after_value (ordinal_day date)) }
+        (λ date. written_value (ordinal_day date)) }
 {
     write_of!(date => *out = date.ordinal_day())
 }
@@ -249,7 +249,7 @@ pub extern "C" fn speedate_date_add_days(
     out: &mut SpeedateDate,
 ) -> i32
     ensures answer { (result, out.new) ≡ with_value (date_of date) (value_out_of_range, out.old)
-        (λ date. after_optional_date shown_date out.old (date_added days date)) }
+        (λ date. written_optional_date shown_date out.old (date_added days date)) }
 {
     let date = value_or_return!(date);
     write_some(date.checked_add_days(days), out)
@@ -265,7 +265,7 @@ pub extern "C" fn speedate_date_days_since(
 ) -> i32
     ensures answer { (result, out.new) ≡ with_value (date_of date) (value_out_of_range, out.old)
         (λ date. with_value (date_of earlier) (value_out_of_range, out.old)
-        (λ earlier. after_value (days_between earlier date))) }
+        (λ earlier. written_value (days_between earlier date))) }
 {
     write_of!(date, earlier => *out = date.days_since(&earlier))
 }

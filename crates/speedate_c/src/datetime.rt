@@ -4,7 +4,7 @@ ghost use Rattle.std.specs.Prelude.{◌≡◌, ◌≢◌, ◌≤◌, length};
 ghost use Rattle.speedate.specs.DateTime.{local_millisecond, local_second, utc_millisecond, utc_second, date_and_time, date_time_answer, date_time_front, date_time_text, date_time_or_timestamp, date_time_timestamp_answer, date_time_instant_order, date_time_in_timezone, ◌gives◌};
 ghost use Rattle.speedate.specs.Standard.{strict_date_time_answer};
 ghost use Rattle.speedate.specs.Requirement.{result_map};
-ghost use Rattle.speedate_c.specs.After.{after_answer, after_front, after_text, after_value, with_option, with_value};
+ghost use Rattle.speedate_c.specs.Written.{written_answer, written_front, written_text, written_value, with_option, with_value};
 ghost use Rattle.speedate_c.specs.Code.{answer_code, buffer_too_small, config_out_of_range, order_number, success, value_out_of_range};
 ghost use Rattle.speedate_c.specs.Config.{choices_of};
 ghost use Rattle.speedate_c.specs.DateTime.{date_time_of, shown_date_time};
@@ -59,7 +59,7 @@ pub(crate) fn write_date_time(
     out: &mut SpeedateDateTime,
 ) -> i32
     ensures after { (result, out.new)
-        ≡ after_answer shown_date_time out.old (result_map date_and_time answer) }
+        ≡ written_answer shown_date_time out.old (result_map date_and_time answer) }
 {
     let value = answer_or_return!(answer);
     *out = SpeedateDateTime::from_value(&value);
@@ -79,7 +79,7 @@ pub extern "C" fn speedate_datetime_parse(
 ) -> i32
     ensures answer { (result, out.new)
         ≡ with_option (choices_of config) (config_out_of_range, out.old)
-        (λ config. after_answer shown_date_time out.old
+        (λ config. written_answer shown_date_time out.old
         (date_time_or_timestamp config.unit config.behavior config.offset text.now)) }
 {
     let config = config_or_return!(config.to_config());
@@ -97,7 +97,7 @@ pub extern "C" fn speedate_datetime_parse_rfc3339(
 ) -> i32
     ensures answer { (result, out.new)
         ≡ with_option (choices_of config) (config_out_of_range, out.old)
-        (λ config. after_answer shown_date_time out.old
+        (λ config. written_answer shown_date_time out.old
         (date_time_answer config.behavior text.now)) }
 {
     let config = config_or_return!(config.to_config());
@@ -116,7 +116,7 @@ pub extern "C" fn speedate_datetime_parse_strict(
 ) -> i32
     ensures answer { (result, out.new)
         ≡ with_option (choices_of config) (config_out_of_range, out.old)
-        (λ config. after_answer shown_date_time out.old
+        (λ config. written_answer shown_date_time out.old
         (strict_date_time_answer config.behavior text.now)) }
 {
     let config = config_or_return!(config.to_config());
@@ -136,7 +136,7 @@ pub extern "C" fn speedate_datetime_parse_front(
 ) -> i32
     ensures answer { (result, out.new, size.new)
         ≡ with_option (choices_of config) (config_out_of_range, out.old, size.old)
-        (λ config. after_front shown_date_time out.old size.old
+        (λ config. written_front shown_date_time out.old size.old
         (date_time_front config.behavior text.now)) }
 {
     let config = config_or_return!(config.to_config());
@@ -166,7 +166,7 @@ pub extern "C" fn speedate_datetime_to_text(
 ) -> i32
     ensures answer { (result, buffer.new, text_length.new)
         ≡ with_value (date_time_of value) (value_out_of_range, buffer.old, text_length.old)
-        (λ value. after_text (date_time_text value) buffer.old text_length.old) }
+        (λ value. written_text (date_time_text value) buffer.old text_length.old) }
     ensures room { 33 ≤ length buffer.old → result ≢ buffer_too_small }
 {
     let value = value_or_return!(value);
@@ -178,7 +178,7 @@ pub extern "C" fn speedate_datetime_to_text(
 #[inline(always)]
 fn print_date_time(value: &DateTime, buffer: &mut [u8], text_length: &mut usize) -> i32
     ensures after { (result, buffer.new, text_length.new)
-        ≡ after_text (date_time_text (date_and_time value.now)) buffer.old text_length.old }
+        ≡ written_text (date_time_text (date_and_time value.now)) buffer.old text_length.old }
     ensures room { 33 ≤ length buffer.old → result ≡ success }
 {
     let mut text = ArrayString::<TEXT_MAX>::new();
@@ -197,7 +197,7 @@ pub extern "C" fn speedate_datetime_compare(
     ensures answer { (result, out.new)
         ≡ with_value (date_time_of first) (value_out_of_range, out.old)
         (λ first. with_value (date_time_of second) (value_out_of_range, out.old)
-        (λ second. after_value (order_number (date_time_instant_order first second)))) }
+        (λ second. written_value (order_number (date_time_instant_order first second)))) }
 {
     write_of!(first, second => *out = order_number(first.cmp_instant(&second)))
 }
@@ -217,7 +217,7 @@ pub extern "C" fn speedate_datetime_from_timestamp(
 ) -> i32
     ensures answer { (result, out.new)
         ≡ with_option (choices_of config) (config_out_of_range, out.old)
-        (λ config. after_answer shown_date_time out.old
+        (λ config. written_answer shown_date_time out.old
         (date_time_timestamp_answer config.unit config.offset microsecond timestamp)) }
 {
     let config = config_or_return!(config.to_config());
@@ -231,7 +231,7 @@ pub extern "C" fn speedate_datetime_from_timestamp(
 pub extern "C" fn speedate_datetime_timestamp(value: SpeedateDateTime, out: &mut i64) -> i32
     ensures answer { (result, out.new)
         ≡ with_value (date_time_of value) (value_out_of_range, out.old)
-        (λ value. after_value (local_second value)) }
+        (λ value. written_value (local_second value)) }
 {
     write_of!(value => *out = value.timestamp())
 }
@@ -242,7 +242,7 @@ pub extern "C" fn speedate_datetime_timestamp(value: SpeedateDateTime, out: &mut
 pub extern "C" fn speedate_datetime_timestamp_ms(value: SpeedateDateTime, out: &mut i64) -> i32
     ensures answer { (result, out.new)
         ≡ with_value (date_time_of value) (value_out_of_range, out.old)
-        (λ value. after_value (local_millisecond value)) }
+        (λ value. written_value (local_millisecond value)) }
 {
     write_of!(value => *out = value.timestamp_ms())
 }
@@ -253,7 +253,7 @@ pub extern "C" fn speedate_datetime_timestamp_ms(value: SpeedateDateTime, out: &
 pub extern "C" fn speedate_datetime_timestamp_tz(value: SpeedateDateTime, out: &mut i64) -> i32
     ensures answer { (result, out.new)
         ≡ with_value (date_time_of value) (value_out_of_range, out.old)
-        (λ value. after_value (utc_second value)) }
+        (λ value. written_value (utc_second value)) }
 {
     write_of!(value => *out = value.timestamp_tz())
 }
@@ -264,7 +264,7 @@ pub extern "C" fn speedate_datetime_timestamp_tz(value: SpeedateDateTime, out: &
 pub extern "C" fn speedate_datetime_timestamp_tz_ms(value: SpeedateDateTime, out: &mut i64) -> i32
     ensures answer { (result, out.new)
         ≡ with_value (date_time_of value) (value_out_of_range, out.old)
-        (λ value. after_value (utc_millisecond value)) }
+        (λ value. written_value (utc_millisecond value)) }
 {
     write_of!(value => *out = value.timestamp_tz_ms())
 }
@@ -283,7 +283,7 @@ pub extern "C" fn speedate_datetime_in_timezone(
 ) -> i32
     ensures answer { (result, out.new)
         ≡ with_value (date_time_of value) (value_out_of_range, out.old)
-        (λ value. after_answer shown_date_time out.old (date_time_in_timezone offset value)) }
+        (λ value. written_answer shown_date_time out.old (date_time_in_timezone offset value)) }
 {
     let value = value_or_return!(value);
     write_date_time(value.in_timezone(offset), out)

@@ -4,7 +4,7 @@ ghost use Rattle.std.specs.Prelude.{◌≡◌, ◌≢◌, ◌≤◌, ◌↔◌, 
 ghost use Rattle.speedate.specs.Duration.{duration_numbers, duration_answer, duration_text, ◌gives◌};
 ghost use Rattle.speedate.specs.DurationNumbers.{IsDuration, normal_form, signed_microsecond, signed_milliseconds, signed_seconds, duration_order};
 ghost use Rattle.speedate.specs.Requirement.{result_map};
-ghost use Rattle.speedate_c.specs.After.{after_answer, after_text, after_value, with_option, with_value};
+ghost use Rattle.speedate_c.specs.Written.{written_answer, written_text, written_value, with_option, with_value};
 ghost use Rattle.speedate_c.specs.Code.{answer_code, buffer_too_small, config_out_of_range, order_number, value_out_of_range};
 ghost use Rattle.speedate_c.specs.Config.{choices_of};
 ghost use Rattle.speedate_c.specs.Duration.{duration_of, numbers_of, shown_duration};
@@ -13,7 +13,7 @@ use crate::code::{SUCCESS, VALUE_OUT_OF_RANGE, order_number};
 use crate::config::SpeedateConfig;
 use crate::text::write_text;
 use arrayvec::ArrayString;
-use speedate::{Duration, ParseError};
+use speedate::{DAYS_MAX, Duration, ParseError};
 
 /// How many bytes the longest text of a duration has.
 const TEXT_MAX: usize = 31;
@@ -42,7 +42,7 @@ impl SpeedateDuration {
         if self.negative > 1 {
             return Err(ParseError::DurationValueTooLarge);
         }
-        if self.day > 999_999_999 {
+        if self.day > DAYS_MAX {
             return Err(ParseError::DurationDaysTooLarge);
         }
         if self.second >= 86_400 || self.microsecond > 999_999 {
@@ -76,7 +76,7 @@ pub(crate) fn write_duration(
     out: &mut SpeedateDuration,
 ) -> i32
     ensures after { (result, out.new)
-        ≡ after_answer shown_duration out.old (result_map duration_numbers answer) }
+        ≡ written_answer shown_duration out.old (result_map duration_numbers answer) }
 {
     let duration = answer_or_return!(answer);
     *out = SpeedateDuration::from_value(&duration);
@@ -95,7 +95,7 @@ pub extern "C" fn speedate_duration_parse(
 ) -> i32
     ensures answer { (result, out.new)
         ≡ with_option (choices_of config) (config_out_of_range, out.old)
-        (λ config. after_answer shown_duration out.old
+        (λ config. written_answer shown_duration out.old
         (duration_answer config.order config.behavior text.now)) }
 {
     let config = config_or_return!(config.to_config());
@@ -114,7 +114,7 @@ pub extern "C" fn speedate_duration_normalize(
     out: &mut SpeedateDuration,
 ) -> i32
     ensures answer { (result, out.new) ≡ (if nat_le numbers.negative 1
-        then after_answer shown_duration out.old (normal_form (numbers_of numbers))
+        then written_answer shown_duration out.old (normal_form (numbers_of numbers))
         else (value_out_of_range, out.old)) }
 {
     if numbers.negative > 1 {
@@ -145,7 +145,7 @@ pub extern "C" fn speedate_duration_to_text(
 ) -> i32
     ensures answer { (result, buffer.new, text_length.new)
         ≡ with_value (duration_of duration) (value_out_of_range, buffer.old, text_length.old)
-        (λ duration. after_text (duration_text duration) buffer.old text_length.old) }
+        (λ duration. written_text (duration_text duration) buffer.old text_length.old) }
     ensures room { 32 ≤ length buffer.old → result ≢ buffer_too_small }
 {
     let duration = value_or_return!(duration);
@@ -165,7 +165,7 @@ pub extern "C" fn speedate_duration_compare(
     ensures answer { (result, out.new)
         ≡ with_value (duration_of first) (value_out_of_range, out.old)
         (λ first. with_value (duration_of second) (value_out_of_range, out.old)
-        (λ second. after_value (order_number (duration_order first second)))) }
+        (λ second. written_value (order_number (duration_order first second)))) }
 {
     write_of!(first, second => *out = order_number(first.cmp(&second)))
 }
@@ -179,7 +179,7 @@ pub extern "C" fn speedate_duration_signed_total_seconds(
 ) -> i32
     ensures answer { (result, out.new)
         ≡ with_value (duration_of duration) (value_out_of_range, out.old)
-        (λ duration. after_value (signed_seconds duration)) }
+        (λ duration. written_value (signed_seconds duration)) }
 {
     write_of!(duration => *out = duration.signed_total_seconds())
 }
@@ -193,7 +193,7 @@ pub extern "C" fn speedate_duration_signed_total_ms(
 ) -> i32
     ensures answer { (result, out.new)
         ≡ with_value (duration_of duration) (value_out_of_range, out.old)
-        (λ duration. after_value (signed_milliseconds duration)) }
+        (λ duration. written_value (signed_milliseconds duration)) }
 {
     write_of!(duration => *out = duration.signed_total_ms())
 }
@@ -207,7 +207,7 @@ pub extern "C" fn speedate_duration_signed_microseconds(
 ) -> i32
     ensures answer { (result, out.new)
         ≡ with_value (duration_of duration) (value_out_of_range, out.old)
-        (λ duration. after_value (signed_microsecond duration)) }
+        (λ duration. written_value (signed_microsecond duration)) }
 {
     write_of!(duration => *out = duration.signed_microseconds())
 }

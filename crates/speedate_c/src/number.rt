@@ -2,7 +2,7 @@
 
 ghost use Rattle.std.specs.Prelude.{◌≡◌};
 ghost use Rattle.speedate.specs.Numbers.{whole_number};
-ghost use Rattle.speedate_c.specs.After.{after_value, with_option};
+ghost use Rattle.speedate_c.specs.Written.{written_value, with_option};
 ghost use Rattle.speedate_c.specs.Code.{value_out_of_range};
 
 use crate::code::{SUCCESS, VALUE_OUT_OF_RANGE};
@@ -13,7 +13,7 @@ use speedate::int_parse_bytes;
 #[unsafe(no_mangle)]
 pub extern "C" fn speedate_int_parse(text: &[u8], out: &mut i64) -> i32
     ensures answer { (result, out.new)
-        ≡ with_option (whole_number text.now) (value_out_of_range, out.old) after_value }
+        ≡ with_option (whole_number text.now) (value_out_of_range, out.old) written_value }
 {
     let Some(number) = int_parse_bytes(text) else {
         return VALUE_OUT_OF_RANGE;

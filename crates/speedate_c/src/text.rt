@@ -1,7 +1,7 @@
 //! Texts in buffers of the caller's.
 
 ghost use Rattle.std.specs.Prelude.{◌≡◌, ◌≢◌, ◌+◌, ◌<◌, ◌≤◌, ◌∷◌, ◌++◌, drop, length};
-ghost use Rattle.speedate_c.specs.After.{after_text, with_option};
+ghost use Rattle.speedate_c.specs.Written.{written_text, with_option};
 ghost use Rattle.speedate_c.specs.Code.{buffer_too_small, code_row, success, value_out_of_range};
 
 use crate::code::{BUFFER_TOO_SMALL, SUCCESS, VALUE_OUT_OF_RANGE, code_row};
@@ -11,7 +11,7 @@ use crate::code::{BUFFER_TOO_SMALL, SUCCESS, VALUE_OUT_OF_RANGE, code_row};
 #[inline(always)]
 pub(crate) fn write_text(text: &str, buffer: &mut [u8], text_length: &mut usize) -> i32
     ensures after { (result, buffer.new, text_length.new)
-        ≡ after_text text.now buffer.old text_length.old }
+        ≡ written_text text.now buffer.old text_length.old }
     ensures room { length text.now < length buffer.old → result ≡ success }
 {
     let size = text.len();
@@ -42,7 +42,7 @@ fn fill(text: &str, buffer: &mut [u8])
 pub extern "C" fn speedate_code_name(code: i32, buffer: &mut [u8], text_length: &mut usize) -> i32
     ensures answer { (result, buffer.new, text_length.new)
         ≡ with_option (code_row code) (value_out_of_range, buffer.old, text_length.old)
-        (λ row. after_text row.0 buffer.old text_length.old) }
+        (λ row. written_text row.0 buffer.old text_length.old) }
     ensures room { 64 ≤ length buffer.old → result ≢ buffer_too_small }
 {
     let Some((name, _)) = code_row(code) else {
@@ -62,7 +62,7 @@ pub extern "C" fn speedate_code_documentation(
 ) -> i32
     ensures answer { (result, buffer.new, text_length.new)
         ≡ with_option (code_row code) (value_out_of_range, buffer.old, text_length.old)
-        (λ row. after_text row.1 buffer.old text_length.old) }
+        (λ row. written_text row.1 buffer.old text_length.old) }
     ensures room { 64 ≤ length buffer.old → result ≢ buffer_too_small }
 {
     let Some((_, documentation)) = code_row(code) else {

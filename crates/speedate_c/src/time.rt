@@ -3,11 +3,10 @@
 ghost use Rattle.std.specs.Prelude.{◌≡◌, ◌≢◌, ◌≤◌, length};
 ghost use Rattle.std.specs.Option.{ForSome};
 ghost use Rattle.speedate.specs.Offset.{IsOffset};
-ghost use Rattle.speedate.specs.DateTime.{time_instant_order, time_in_timezone};
 ghost use Rattle.speedate.specs.Requirement.{result_map};
-ghost use Rattle.speedate.specs.Time.{time_of_day, millisecond_of_day, second_of_day, timestamp_answer, time_answer, time_front, time_text, ◌gives◌};
+ghost use Rattle.speedate.specs.Time.{time_of_day, millisecond_of_day, second_of_day, timestamp_answer, time_answer, time_front, time_text, ◌gives◌, time_instant_order, time_in_timezone};
 ghost use Rattle.speedate.specs.Standard.{strict_time_answer};
-ghost use Rattle.speedate_c.specs.After.{after_answer, after_front, after_text, after_value, with_option, with_value};
+ghost use Rattle.speedate_c.specs.Written.{written_answer, written_front, written_text, written_value, with_option, with_value};
 ghost use Rattle.speedate_c.specs.Code.{answer_code, buffer_too_small, config_out_of_range, order_number, success, value_out_of_range};
 ghost use Rattle.speedate_c.specs.Config.{choices_of};
 ghost use Rattle.speedate_c.specs.Time.{shown_time, time_of};
@@ -71,7 +70,7 @@ impl SpeedateTime {
 /// Writes the time of an answer, and gives the code.
 fn write_time(answer: Result<Time, ParseError>, out: &mut SpeedateTime) -> i32
     ensures after { (result, out.new)
-        ≡ after_answer shown_time out.old (result_map time_of_day answer) }
+        ≡ written_answer shown_time out.old (result_map time_of_day answer) }
 {
     let time = answer_or_return!(answer);
     *out = SpeedateTime::from_value(&time);
@@ -90,7 +89,7 @@ pub extern "C" fn speedate_time_parse(
 ) -> i32
     ensures answer { (result, out.new)
         ≡ with_option (choices_of config) (config_out_of_range, out.old)
-        (λ config. after_answer shown_time out.old (time_answer config.behavior text.now)) }
+        (λ config. written_answer shown_time out.old (time_answer config.behavior text.now)) }
 {
     // The default, which nearly every caller has, is not translated field by field.
     if config.is_default() {
@@ -105,7 +104,7 @@ pub extern "C" fn speedate_time_parse(
 fn parse_configured(text: &[u8], config: SpeedateConfig, out: &mut SpeedateTime) -> i32
     ensures answer { (result, out.new)
         ≡ with_option (choices_of config) (config_out_of_range, out.old)
-        (λ config. after_answer shown_time out.old (time_answer config.behavior text.now)) }
+        (λ config. written_answer shown_time out.old (time_answer config.behavior text.now)) }
 {
     let config = config_or_return!(config.to_config());
     let time = Time::parse_bytes_with_config(text, &config.time_config);
@@ -124,7 +123,7 @@ pub extern "C" fn speedate_time_parse_strict(
 ) -> i32
     ensures answer { (result, out.new)
         ≡ with_option (choices_of config) (config_out_of_range, out.old)
-        (λ config. after_answer shown_time out.old (strict_time_answer config.behavior text.now)) }
+        (λ config. written_answer shown_time out.old (strict_time_answer config.behavior text.now)) }
 {
     let config = config_or_return!(config.to_config());
     let behavior = config.time_config.microseconds_precision_overflow_behavior;
@@ -143,7 +142,7 @@ pub extern "C" fn speedate_time_parse_front(
 ) -> i32
     ensures answer { (result, out.new, size.new)
         ≡ with_option (choices_of config) (config_out_of_range, out.old, size.old)
-        (λ config. after_front shown_time out.old size.old (time_front config.behavior text.now)) }
+        (λ config. written_front shown_time out.old size.old (time_front config.behavior text.now)) }
 {
     let config = config_or_return!(config.to_config());
     let (time, count) = answer_or_return!(Time::parse_front(text, &config.time_config));
@@ -172,7 +171,7 @@ pub extern "C" fn speedate_time_to_text(
 ) -> i32
     ensures answer { (result, buffer.new, text_length.new)
         ≡ with_value (time_of time) (value_out_of_range, buffer.old, text_length.old)
-        (λ time. after_text (time_text time) buffer.old text_length.old) }
+        (λ time. written_text (time_text time) buffer.old text_length.old) }
     ensures room { 22 ≤ length buffer.old → result ≢ buffer_too_small }
 {
     let time = value_or_return!(time);
@@ -200,7 +199,7 @@ pub(crate) fn with_parts(time: &Time, microsecond: u32, tz_offset: Option<i32>) 
 #[inline(always)]
 fn print_time(time: &Time, buffer: &mut [u8], text_length: &mut usize) -> i32
     ensures after { (result, buffer.new, text_length.new)
-        ≡ after_text (time_text (time_of_day time.now)) buffer.old text_length.old }
+        ≡ written_text (time_text (time_of_day time.now)) buffer.old text_length.old }
     ensures room { 22 ≤ length buffer.old → result ≡ success }
 {
     let mut text = ArrayString::<TEXT_MAX>::new();
@@ -218,7 +217,7 @@ pub extern "C" fn speedate_time_compare(
 ) -> i32
     ensures answer { (result, out.new) ≡ with_value (time_of first) (value_out_of_range, out.old)
         (λ first. with_value (time_of second) (value_out_of_range, out.old)
-        (λ second. after_value (order_number (time_instant_order first second)))) }
+        (λ second. written_value (order_number (time_instant_order first second)))) }
 {
     write_of!(first, second => *out = order_number(first.cmp_instant(&second)))
 }
@@ -236,7 +235,7 @@ pub extern "C" fn speedate_time_from_timestamp(
 ) -> i32
     ensures answer { (result, out.new)
         ≡ with_option (choices_of config) (config_out_of_range, out.old)
-        (λ config. after_answer shown_time out.old
+        (λ config. written_answer shown_time out.old
         (timestamp_answer second microsecond config.offset)) }
 {
     let config = config_or_return!(config.to_config());
@@ -248,7 +247,7 @@ pub extern "C" fn speedate_time_from_timestamp(
 #[unsafe(no_mangle)]
 pub extern "C" fn speedate_time_total_seconds(time: SpeedateTime, out: &mut u32) -> i32
     ensures answer { (result, out.new) ≡ with_value (time_of time) (value_out_of_range, out.old)
-        (λ time. after_value (second_of_day time)) }
+        (λ time. written_value (second_of_day time)) }
 {
     write_of!(time => *out = time.total_seconds())
 }
@@ -258,7 +257,7 @@ pub extern "C" fn speedate_time_total_seconds(time: SpeedateTime, out: &mut u32)
 #[unsafe(no_mangle)]
 pub extern "C" fn speedate_time_total_ms(time: SpeedateTime, out: &mut u32) -> i32
     ensures answer { (result, out.new) ≡ with_value (time_of time) (value_out_of_range, out.old)
-        (λ time. after_value (millisecond_of_day time)) }
+        (λ time. written_value (millisecond_of_day time)) }
 {
     write_of!(time => *out = time.total_ms())
 }
@@ -275,7 +274,7 @@ pub extern "C" fn speedate_time_in_timezone(
     out: &mut SpeedateTime,
 ) -> i32
     ensures answer { (result, out.new) ≡ with_value (time_of time) (value_out_of_range, out.old)
-        (λ time. after_answer shown_time out.old (time_in_timezone offset time)) }
+        (λ time. written_answer shown_time out.old (time_in_timezone offset time)) }
 {
     let time = value_or_return!(time);
     write_time(time.in_timezone(offset), out)

@@ -17,17 +17,23 @@ date_numbers-printed : (date : Ymd) (tail : List ℕ) → date_numbers (date_tex
 date_numbers-printed date tail = search rules
 
 -- the text by which a date is printed, at the front of another, is read as that date
-pub date_text-front : (date : Ymd) (tail : List ℕ) → IsDate date → date_front (date_text date ++ tail) ≡ Ok (date, 10)
+pub date_text-front : (date : Ymd) (tail : List ℕ) → IsDate date
+    → date_front (date_text date ++ tail) ≡ Ok (date, 10)
 date_text-front date tail valid =
     let text = date_text date ++ tail in
     let numbers = date_numbers-printed date tail in
-    let months = subst (λ (read : Ymd). is_in_range 1 12 read.month ≡ true) (sym numbers) (is_in_range-true 1 12 date.month valid.day.month) in
-    let days = subst (λ (read : Ymd). is_in_range 1 (month_length read.year read.month) read.day ≡ true) (sym numbers)
+    let months =
+    subst (λ (read : Ymd). is_in_range 1 12 read.month ≡ true) (sym numbers)
+    (is_in_range-true 1 12 date.month valid.day.month) in
+    let days = subst (λ (read : Ymd). is_in_range 1 (month_length read.year read.month) read.day
+    ≡ true) (sym numbers)
     (is_in_range-true 1 (month_length date.year date.month) date.day valid.day.day) in
     let year = four_digits-printed date.year (omega (arith, valid.year)) in
     let month = two_digits-printed date.month (omega (arith, valid.day.month)) in
-    let day = two_digits-printed date.day (omega (arith, valid.day.day, month_length-small date.year date.month)) in
-    rw (le-leb 10 (length text) (omega arith), year, month, day, months, days) (ap (λ (read : Ymd). Ok (read, 10)) numbers)
+    let day = two_digits-printed date.day
+    (omega (arith, valid.day.day, month_length-small date.year date.month)) in
+    rw (le-leb 10 (length text) (omega arith), year, month, day, months, days)
+    (ap (λ (read : Ymd). Ok (read, 10)) numbers)
 
 -- and alone it is that date
 pub date_text-reads : (date : Ymd) → IsDate date → date_answer (date_text date) ≡ Ok date

@@ -1,4 +1,5 @@
--- The seconds of a date-time without an offset, as a timestamp, and its microsecond lead back to it.
+-- The seconds of a date-time without an offset, as a timestamp, and its microsecond lead back to
+-- it.
 use Rattle.std.proofs.Common.{◌≡◌, ℕ, ◌<◌, ◌≤◌, ℤ, pos, ◌+ℤ◌, ◌-ℤ◌, ◌*ℤ◌, unsigned_abs, Ok, rules, arith}
 use Rattle.std.specs.Int.{int_div_euclid, int_rem_euclid}
 use Rattle.std.proofs.lemmas.Bool.Decides.{nat_tests}
@@ -6,36 +7,54 @@ use Rattle.std.proofs.lemmas.Int.{ints}
 use Rattle.speedate_base.specs.Timestamp.{seconds_per_day, later_answer}
 use Rattle.speedate_civil.specs.DateTime.{DateAndTime, IsDateAndTime, local_second, date_time_at, instant_date_time, date_time_timestamp_answer}
 use Rattle.speedate_civil.specs.Calendar.{epoch_day}
-use Rattle.speedate_base.proofs.RequirementLemmas.{meets-all}
+use Rattle.speedate_base.proofs.RequirementLemmas.{first_fault_or-all}
 use Rattle.speedate_base.proofs.TimestampLemmas.{instant_of_seconds}
-use Rattle.speedate_civil.specs.Date.{unit}
-use Rattle.speedate_civil.proofs.DateNumberedLemmas.{date_after-day_number}
+use Rattle.speedate_civil.specs.Base.{TimestampUnit}
+use Rattle.speedate_civil.proofs.DateOrderLemmas.{date_of_number-day_number}
 use Rattle.speedate_civil.proofs.DayNumberLemmas.{day_number-small}
 
 -- less than a second more than an instant of whole seconds
-later-microsecond : (second : ℤ) (microsecond : ℕ) → unsigned_abs second < 300000000000 → microsecond ≤ 999999
-    → later_answer microsecond (record { second = second; microsecond = 0 }) ≡ Ok (record { second = second; microsecond = microsecond })
+later-microsecond : (second : ℤ) (microsecond : ℕ) → unsigned_abs second < 300000000000
+    → microsecond ≤ 999999
+    → later_answer microsecond (record { second = second; microsecond = 0 })
+    ≡ Ok (record { second = second; microsecond = microsecond })
 later-microsecond second microsecond small part = search rules
 
 -- the day and the second of a day that a second is
-day-of : (at : ℤ) (day second : ℕ) → second < seconds_per_day → at ≡ (pos day -ℤ pos epoch_day) *ℤ pos seconds_per_day +ℤ pos second
+day-of : (at : ℤ) (day second : ℕ) → second < seconds_per_day
+    → at ≡ (pos day -ℤ pos epoch_day) *ℤ pos seconds_per_day +ℤ pos second
     → unsigned_abs (int_div_euclid at (pos seconds_per_day) +ℤ pos epoch_day) ≡ day
 day-of at day second small is = search rules
 
-second-of : (at : ℤ) (day second : ℕ) → second < seconds_per_day → at ≡ (pos day -ℤ pos epoch_day) *ℤ pos seconds_per_day +ℤ pos second
+second-of : (at : ℤ) (day second : ℕ) → second < seconds_per_day
+    → at ≡ (pos day -ℤ pos epoch_day) *ℤ pos seconds_per_day +ℤ pos second
     → unsigned_abs (int_rem_euclid at (pos seconds_per_day)) ≡ second
 second-of at day second small is = search rules
 
 -- the date-time at the instant of a day number, a second of that day and a microsecond
-date_time-at : (value : DateAndTime) → IsDateAndTime value → date_time_at value.time.offset (record { second = local_second value; microsecond = value.time.microsecond }) ≡ value
-date_time-at value valid = grind (arith, ints, date_after-day_number, day-of, second-of)
+date_time-at : (value : DateAndTime) → IsDateAndTime value
+    → date_time_at value.time.offset
+    (record { second = local_second value; microsecond = value.time.microsecond }) ≡ value
+date_time-at value valid = grind (arith, ints, date_of_number-day_number, day-of, second-of)
 
 -- the instant at which a date-time lies, as a clock shows it, leads back to it
 pub instant_date_time-local : (value : DateAndTime) → IsDateAndTime value
-    → instant_date_time value.time.offset (record { second = local_second value; microsecond = value.time.microsecond }) ≡ Ok value
-instant_date_time-local value valid = grind (arith, ints, nat_tests, meets-all, day_number-small, date_time-at)
+    → instant_date_time value.time.offset
+    (record { second = local_second value; microsecond = value.time.microsecond }) ≡ Ok value
+instant_date_time-local value valid =
+    grind (arith, ints, nat_tests, first_fault_or-all, day_number-small, date_time-at)
 
--- its second and its microsecond, as a timestamp, lead back to it, where the offset is attached that it has
+-- its second and its microsecond, as a timestamp, lead back to it, where the offset is attached
+-- that it has
 pub date_time_timestamp-leads_back : (value : DateAndTime) → IsDateAndTime value
-    → date_time_timestamp_answer unit.Second value.time.offset value.time.microsecond (local_second value) ≡ Ok value
-date_time_timestamp-leads_back value valid = grind (arith, nat_tests, instant_of_seconds, day_number-small, later-microsecond, instant_date_time-local)
+    → date_time_timestamp_answer TimestampUnit.Second value.time.offset value.time.microsecond
+    (local_second value) ≡ Ok value
+date_time_timestamp-leads_back value valid =
+    grind (
+      arith,
+      nat_tests,
+      instant_of_seconds,
+      day_number-small,
+      later-microsecond,
+      instant_date_time-local,
+    )

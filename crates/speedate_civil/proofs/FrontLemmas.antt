@@ -1,5 +1,6 @@
 -- What is read at the front of a text is the same without the bytes after it.
 use Rattle.std.proofs.Common.{◌≡◌, ℕ, zero, suc, ◌+◌, ◌-◌, ◌≤◌, Bool, true, false, ◌&&◌, ◌==◌, List, [], ◌∷◌, length, take, drop, slice_index, if◌then◌else◌, Option, ℤ, IfOk, Result, Ok, refl, rules, arith, ap, ap₂, sym, ◌∙◌, le-leb, length-drop, length-take-le, get_or-take, take-take}
+use Rattle.speedate_civil.specs.Base.{Behavior, ParseError}
 use Rattle.std.proofs.lemmas.Bool.{leb-true}
 use Rattle.std.proofs.lemmas.Bool.Decides.{nat_tests}
 use Rattle.std.proofs.lemmas.Grind.{common_steps}
@@ -8,12 +9,12 @@ use Rattle.std.specs.List.{prefix_len}
 use Rattle.std.proofs.lemmas.List.{drop-take}
 use Rattle.speedate_base.specs.Ascii.{colon, hyphen}
 use Rattle.speedate_base.specs.Digits.{run_length, run_digits, two_digit_value, is_decimal_mark}
-use Rattle.speedate_base.specs.Requirement.{AllHold, alone, meets, result_and_then}
+use Rattle.speedate_base.specs.Requirement.{AllHold, whole_or_fault, first_fault_or, result_and_then}
 use Rattle.speedate_civil.specs.Calendar.{Ymd}
-use Rattle.speedate_civil.specs.Time.{Clock, at_hour, clock_answer, clock_front, hour_table, hour_range, minute_clock, minute_digits, minute_table, has_second, has_decimal_mark, end_fault, offset_digits_size, offset_front, signed_front, TimeOfDay, time_front, time_answer, clock_with_offset, ParseError, MicrosecondsPrecisionOverflowBehavior}
+use Rattle.speedate_civil.specs.Time.{Clock, at_hour, clock_answer, clock_front, hour_table, hour_range, minute_clock, minute_digits, minute_table, has_second, has_decimal_mark, end_fault, offset_digits_size, offset_front, signed_front, TimeOfDay, time_front, time_answer, clock_with_offset}
 use Rattle.speedate_civil.specs.DateTime.{DateAndTime, date_time_answer, date_time_front, separator_table}
-use Rattle.speedate_civil.specs.Date.{date_front, date_answer, date_numbers, date_table, fault}
-use Rattle.speedate_base.proofs.RequirementLemmas.{meets-all, meets-ok}
+use Rattle.speedate_civil.specs.Date.{date_front, date_answer, date_numbers, date_table}
+use Rattle.speedate_base.proofs.RequirementLemmas.{first_fault_or-all, first_fault_or-ok}
 use Rattle.speedate_civil.proofs.OffsetLemmas.{offset-cases}
 use Rattle.speedate_civil.proofs.ReadLemmas.{read-map, read-rows, read-then, read-value}
 
@@ -27,14 +28,17 @@ pub bytes-taken : (count place number : ℕ) (text : List ℕ) → place + numbe
     → bytes_from place number (take count text) ≡ bytes_from place number text
 bytes-taken count place zero text within = refl
 bytes-taken count place (suc number) text within =
-    ap₂ (λ (byte : ℕ) (rest : List ℕ). byte ∷ rest) (get_or-take count text place 0 (omega arith)) (bytes-taken count (place + 1) number text (omega arith))
+    ap₂ (λ (byte : ℕ) (rest : List ℕ). byte ∷ rest) (get_or-take count text place 0 (omega arith))
+    (bytes-taken count (place + 1) number text (omega arith))
 
 -- a byte of the front of a text is that of the text, or 0 after its end
-cut : (text : List ℕ) (count place : ℕ) (test : ℕ → Bool) → test 0 ≡ false → test (slice_index text place) ≡ false → test (slice_index (take count text) place) ≡ false
+cut : (text : List ℕ) (count place : ℕ) (test : ℕ → Bool) → test 0 ≡ false
+    → test (slice_index text place) ≡ false → test (slice_index (take count text) place) ≡ false
 cut text count place test none other = grind (arith, common_steps)
 
 -- a run of digits that ends within a front is that of the text
-run-taken : (count : ℕ) (text : List ℕ) → prefix_len is_ascii_digit text ≤ count → prefix_len is_ascii_digit (take count text) ≡ prefix_len is_ascii_digit text
+run-taken : (count : ℕ) (text : List ℕ) → prefix_len is_ascii_digit text ≤ count
+    → prefix_len is_ascii_digit (take count text) ≡ prefix_len is_ascii_digit text
 run-taken zero text within = omega (arith, within)
 run-taken (suc count) [] within = refl
 run-taken (suc count) (byte ∷ text) within = grind (arith, run-taken count text)
@@ -44,22 +48,27 @@ abbrev pub minute_size : Bool → Bool → ℕ → ℕ
 minute_size second point run = if second && point then 6 + run else (if second then 5 else 2)
 
 -- the clock from its minute on
-minute-taken : (behavior : MicrosecondsPrecisionOverflowBehavior) (rest : List ℕ) (count : ℕ) (second point : Bool) → has_second rest ≡ second → has_decimal_mark rest ≡ point
-    → minute_size second point (run_length rest 6) ≤ count → clock_answer behavior (take count rest) ≡ clock_answer behavior rest
+minute-taken : (behavior : Behavior) (rest : List ℕ) (count : ℕ) (second point : Bool)
+    → has_second rest ≡ second → has_decimal_mark rest ≡ point
+    → minute_size second point (run_length rest 6) ≤ count
+    → clock_answer behavior (take count rest) ≡ clock_answer behavior rest
 minute-taken behavior rest count false point none is two =
     let bytes = bytes-taken count 0 2 rest two in
     rw (none, cut rest count 2 (λ byte. byte == colon) refl none) cc
 minute-taken behavior rest count true false there none five =
     let bytes = bytes-taken count 0 5 rest five in
-    let too = ap (λ (byte : ℕ). byte == colon) (get_or-take count rest 2 0 (omega (arith, five))) ∙ there in
+    let too = ap (λ (byte : ℕ). byte == colon) (get_or-take count rest 2 0 (omega (arith, five)))
+    ∙ there in
     rw (there, too, none, cut rest count 5 is_decimal_mark refl none) cc
 minute-taken behavior rest count true true there point long =
     let left : 6 + (count - 6) ≡ count = omega (arith, long) in
     let few : run_length rest 6 ≤ count - 6 = omega (arith, long) in
     let dropped = ap (λ (n : ℕ). drop 6 (take n rest)) (sym left) ∙ drop-take 6 (count - 6) rest in
-    let run : run_length (take count rest) 6 ≡ run_length rest 6 = ap (prefix_len is_ascii_digit) dropped ∙ run-taken (count - 6) (drop 6 rest) few in
+    let run : run_length (take count rest) 6 ≡ run_length rest 6 =
+    ap (prefix_len is_ascii_digit) dropped ∙ run-taken (count - 6) (drop 6 rest) few in
     let digits : run_digits (take count rest) 6 ≡ run_digits rest 6 =
-    ap (λ (n : ℕ). take n (drop 6 (take count rest))) run ∙ ap (take (run_length rest 6)) dropped ∙ take-take (run_length rest 6) (count - 6) (drop 6 rest) few in
+    ap (λ (n : ℕ). take n (drop 6 (take count rest))) run ∙ ap (take (run_length rest 6)) dropped
+    ∙ take-take (run_length rest 6) (count - 6) (drop 6 rest) few in
     let bytes = bytes-taken count 0 6 rest (omega (arith, long)) in
     cc
 
@@ -67,13 +76,17 @@ minute_size-two : (second point : Bool) (run : ℕ) → 2 ≤ minute_size second
 minute_size-two second point run = search rules
 
 -- the clock from its hour on
-clock-taken : (behavior : MicrosecondsPrecisionOverflowBehavior) (text : List ℕ) (count : ℕ) → 3 + (minute_clock (drop 3 text)).size ≤ count → count ≤ length text
+clock-taken : (behavior : Behavior) (text : List ℕ) (count : ℕ)
+    → 3 + (minute_clock (drop 3 text)).size ≤ count → count ≤ length text
     → clock_front behavior (take count text) ≡ clock_front behavior text
-clock-taken behavior text count within inside = grind (arith, le-leb, drop-take, length-take-le, minute-taken, minute_size-two)
+clock-taken behavior text count within inside =
+    grind (arith, le-leb, drop-take, length-take-le, minute-taken, minute_size-two)
 
 -- the digits of an offset
-digits-taken : (west : Bool) (sign : ℕ) (numbers : List ℕ) (there : Bool) → (slice_index numbers 2 == colon) ≡ there
-    → signed_front west sign (take (offset_digits_size numbers) numbers) ≡ signed_front west sign numbers
+digits-taken : (west : Bool) (sign : ℕ) (numbers : List ℕ) (there : Bool)
+    → (slice_index numbers 2 == colon) ≡ there
+    → signed_front west sign (take (offset_digits_size numbers) numbers)
+    ≡ signed_front west sign numbers
 digits-taken west sign numbers there is = grind (arith, nat_tests, bytes-taken, get_or-take)
 
 -- the offset, by what it begins with
@@ -84,7 +97,8 @@ signed-taken : (west : Bool) (sign : ℕ) (rest : List ℕ)
     → (offset_front (take (sign + offset_digits_size (drop sign rest)) rest)
     ≡ signed_front west sign (drop sign (take (sign + offset_digits_size (drop sign rest)) rest)))
     → OffsetTaken rest (signed_front west sign (drop sign rest))
-signed-taken west sign rest is = grind (arith, nat_tests, drop-take, meets-all, digits-taken)
+signed-taken west sign rest is =
+    grind (arith, nat_tests, drop-take, first_fault_or-all, digits-taken)
 
 offset-taken : (rest : List ℕ) → OffsetTaken rest (offset_front rest)
 offset-taken rest =
@@ -93,97 +107,142 @@ offset-taken rest =
     (λ none utc. grind (arith, get_or-take))
     (λ none other there. signed-taken true 3 rest
     (let count : ℕ = 3 + offset_digits_size (drop 3 rest) in
-    rw (get_or-take count rest 0 0 (omega arith), get_or-take count rest 1 0 (omega arith), get_or-take count rest 2 0 (omega arith), none, other, there) refl))
+    rw (
+      get_or-take count rest 0 0 (omega arith),
+      get_or-take count rest 1 0 (omega arith),
+      get_or-take count rest 2 0 (omega arith),
+      none,
+      other,
+      there,
+    ) refl))
     (λ none other nothing. refl)
 
 -- a clock that was read: the rows of its tables hold, and it is the one of the text
-pub record ClockRead (behavior : MicrosecondsPrecisionOverflowBehavior) (text : List ℕ) (clock : Clock) : Type 0 where
+pub record ClockRead (behavior : Behavior) (text : List ℕ) (clock : Clock) : Type 0 where
   pub hour : AllHold (hour_table text)
   pub digits : AllHold (minute_digits (drop 3 text))
   pub range : AllHold (hour_range text)
   pub minute : AllHold (minute_table behavior (drop 3 text))
   pub is : at_hour (two_digit_value text 0) (minute_clock (drop 3 text)) ≡ clock
 
-pub clock-read : (behavior : MicrosecondsPrecisionOverflowBehavior) (text : List ℕ) (clock : Clock) → clock_front behavior text ≡ Ok clock
+pub clock-read : (behavior : Behavior) (text : List ℕ) (clock : Clock)
+    → clock_front behavior text ≡ Ok clock
     → ClockRead behavior text clock
 clock-read behavior text clock read =
     let rest : List ℕ = drop 3 text in
     let Is = ClockRead behavior text in
     read-value Is (clock_front behavior text) clock read
-    (read-rows Is (hour_table text) _ (λ hour. read-rows Is (minute_digits rest) _ (λ digits. read-rows Is (hour_range text) _ (λ range.
-    read-map Is (at_hour (two_digit_value text 0)) _ (read-rows (λ minute. Is (at_hour (two_digit_value text 0) minute)) (minute_table behavior rest) _
-    (λ minute. record { hour = hour; digits = digits; range = range; minute = minute; is = refl }))))))
+    (read-rows Is (hour_table text) _
+    (λ hour. read-rows Is (minute_digits rest) _
+    (λ digits. read-rows Is (hour_range text) _ (λ range.
+    read-map Is (at_hour (two_digit_value text 0)) _
+    (read-rows (λ minute. Is (at_hour (two_digit_value text 0) minute))
+    (minute_table behavior rest) _
+    (λ minute. record {
+      hour = hour;
+      digits = digits;
+      range = range;
+      minute = minute;
+      is = refl;
+    }))))))
 
 -- how many bytes it takes
-pub clock-size : (behavior : MicrosecondsPrecisionOverflowBehavior) (text : List ℕ) (clock : Clock) → clock_front behavior text ≡ Ok clock
+pub clock-size : (behavior : Behavior) (text : List ℕ) (clock : Clock)
+    → clock_front behavior text ≡ Ok clock
     → 3 + (minute_clock (drop 3 text)).size ≡ clock.size
-clock-size behavior text clock read = ap (λ (found : Clock). found.size) (clock-read behavior text clock read).is
+clock-size behavior text clock read =
+    ap (λ (found : Clock). found.size) (clock-read behavior text clock read).is
 
 -- a clock and the offset after it are a time
-pub time_front-is : (behavior : MicrosecondsPrecisionOverflowBehavior) (text : List ℕ) (clock : Clock) (offset : Option ℤ × ℕ)
+pub time_front-is : (behavior : Behavior) (text : List ℕ) (clock : Clock) (offset : Option ℤ × ℕ)
     → clock_front behavior text ≡ Ok clock → offset_front (drop clock.size text) ≡ Ok offset
     → time_front behavior text ≡ Ok (clock_with_offset clock offset.0, clock.size + offset.1)
 time_front-is behavior text clock offset read after = cc
 
 -- a time at the front of a text is that of its bytes alone
-time_front-taken : (behavior : MicrosecondsPrecisionOverflowBehavior) (text : List ℕ)
-    → IfOk (time_front behavior text) (λ front. front.1 ≤ length text → time_front behavior (take front.1 text) ≡ Ok front)
+time_front-taken : (behavior : Behavior) (text : List ℕ)
+    → IfOk (time_front behavior text)
+    (λ front. front.1 ≤ length text → time_front behavior (take front.1 text) ≡ Ok front)
 time_front-taken behavior text =
-    read-then _ _ (clock_front behavior text) (λ clock read. read-then _ _ (offset_front (drop clock.size text)) (λ offset after inside.
+    read-then _ _ (clock_front behavior text)
+    (λ clock read. read-then _ _ (offset_front (drop clock.size text)) (λ offset after inside.
     let count : ℕ = clock.size + offset.1 in
-    let within : 3 + (minute_clock (drop 3 text)).size ≤ count = omega (arith, clock-size behavior text clock read) in
-    time_front-is behavior (take count text) clock offset (clock-taken behavior text count within inside ∙ read)
-    (ap offset_front (drop-take clock.size offset.1 text) ∙ read-value _ _ offset after (offset-taken (drop clock.size text)))))
+    let within : 3 + (minute_clock (drop 3 text)).size ≤ count =
+    omega (arith, clock-size behavior text clock read) in
+    time_front-is behavior (take count text) clock offset
+    (clock-taken behavior text count within inside ∙ read)
+    (ap offset_front (drop-take clock.size offset.1 text)
+    ∙ read-value _ _ offset after (offset-taken (drop clock.size text)))))
 
 -- what is read of the bytes that it takes takes them all
-taken-alone : {A : Type 0} (fault : A → ParseError) (text : List ℕ) (answer : Result (A × ℕ) ParseError) (front : A × ℕ)
+taken-alone : {A : Type 0} (fault : A → ParseError) (text : List ℕ)
+    (answer : Result (A × ℕ) ParseError) (front : A × ℕ)
     → front.1 ≤ length text → answer ≡ Ok front
-    → result_and_then (alone fault (take front.1 text)) answer ≡ Ok front.0
+    → result_and_then (whole_or_fault fault (take front.1 text)) answer ≡ Ok front.0
 taken-alone fault text answer front inside read = search rules
 
-pub time_front-alone : (behavior : MicrosecondsPrecisionOverflowBehavior) (text : List ℕ) (front : TimeOfDay × ℕ)
-    → time_front behavior text ≡ Ok front → front.1 ≤ length text → time_answer behavior (take front.1 text) ≡ Ok front.0
+pub time_front-alone : (behavior : Behavior) (text : List ℕ) (front : TimeOfDay × ℕ)
+    → time_front behavior text ≡ Ok front → front.1 ≤ length text
+    → time_answer behavior (take front.1 text) ≡ Ok front.0
 time_front-alone behavior text front read inside =
-    taken-alone (λ (time : TimeOfDay). end_fault time.offset) text (time_front behavior (take front.1 text)) front inside
+    taken-alone (λ (time : TimeOfDay). end_fault time.offset) text
+    (time_front behavior (take front.1 text)) front inside
     (read-value _ (time_front behavior text) front read (time_front-taken behavior text) inside)
 
 -- a date at the front of a text is that of its bytes alone, and of any more
-date-taken : (text : List ℕ) (count : ℕ) → 10 ≤ count → count ≤ length text → date_front (take count text) ≡ date_front text
+date-taken : (text : List ℕ) (count : ℕ) → 10 ≤ count → count ≤ length text
+    → date_front (take count text) ≡ date_front text
 date-taken text count ten inside = grind (arith, common_steps)
 
 -- so a date that was read ends within its text, and is that of its bytes alone
 pub date_front-within : (text : List ℕ) → IfOk (date_front text) (λ front. front.1 ≤ length text)
 date_front-within text =
-    read-rows (λ (front : Ymd × ℕ). front.1 ≤ length text) (date_table text) (Ok (date_numbers text, 10)) (λ rows. leb-true 10 (length text) rows.0)
+    read-rows (λ (front : Ymd × ℕ). front.1 ≤ length text) (date_table text)
+    (Ok (date_numbers text, 10)) (λ rows. leb-true 10 (length text) rows.0)
 
-pub date_front-alone : (text : List ℕ) → IfOk (date_front text) (λ front. date_answer (take front.1 text) ≡ Ok front.0)
+pub date_front-alone : (text : List ℕ)
+    → IfOk (date_front text) (λ front. date_answer (take front.1 text) ≡ Ok front.0)
 date_front-alone text =
-    read-rows (λ (front : Ymd × ℕ). date_answer (take front.1 text) ≡ Ok front.0) (date_table text) (Ok (date_numbers text, 10))
+    read-rows (λ (front : Ymd × ℕ). date_answer (take front.1 text) ≡ Ok front.0) (date_table text)
+    (Ok (date_numbers text, 10))
     (λ rows.
     let front : Ymd × ℕ = (date_numbers text, 10) in
     let inside : 10 ≤ length text = leb-true 10 (length text) rows.0 in
-    taken-alone (λ (date : Ymd). fault.ExtraCharacters) text (date_front (take 10 text)) front inside
-    (date-taken text 10 (omega arith) inside ∙ meets-all (date_table text) (Ok front) rows))
+    taken-alone (λ (date : Ymd). ParseError.ExtraCharacters) text (date_front (take 10 text))
+    front inside
+    (date-taken text 10 (omega arith) inside
+    ∙ first_fault_or-all (date_table text) (Ok front) rows))
 
 -- a date, a separator and a time are a date-time
-pub date_time_front-is : (behavior : MicrosecondsPrecisionOverflowBehavior) (text : List ℕ) (date : Ymd × ℕ) (time : TimeOfDay × ℕ)
-    → date_front text ≡ Ok date → AllHold (separator_table text) → time_front behavior (drop 11 text) ≡ Ok time
+pub date_time_front-is : (behavior : Behavior) (text : List ℕ) (date : Ymd × ℕ)
+    (time : TimeOfDay × ℕ)
+    → date_front text ≡ Ok date → AllHold (separator_table text)
+    → time_front behavior (drop 11 text) ≡ Ok time
     → date_time_front behavior text ≡ Ok (record { date = date.0; time = time.0 }, 11 + time.1)
 date_time_front-is behavior text date time dated parted timed = cc
 
 -- so is a date-time
-date_time_front-taken : (behavior : MicrosecondsPrecisionOverflowBehavior) (text : List ℕ)
-    → IfOk (date_time_front behavior text) (λ front. front.1 ≤ length text → date_time_front behavior (take front.1 text) ≡ Ok front)
+date_time_front-taken : (behavior : Behavior) (text : List ℕ)
+    → IfOk (date_time_front behavior text)
+    (λ front. front.1 ≤ length text → date_time_front behavior (take front.1 text) ≡ Ok front)
 date_time_front-taken behavior text =
-    read-then _ _ (date_front text) (λ date dated. read-then _ _ (meets (separator_table text) (time_front behavior (drop 11 text))) (λ time read inside.
-    let after = meets-ok (separator_table text) _ time read in
+    read-then _ _ (date_front text)
+    (λ date dated. read-then _ _ (first_fault_or (separator_table text)
+    (time_front behavior (drop 11 text))) (λ time read inside.
+    let after = first_fault_or-ok (separator_table text) _ time read in
     let count : ℕ = 11 + time.1 in
-    date_time_front-is behavior (take count text) date time (date-taken text count (omega arith) inside ∙ dated) (rw (get_or-take count text 10 0 (omega arith)) after.0)
+    date_time_front-is behavior (take count text) date time
+    (date-taken text count (omega arith) inside ∙ dated)
+    (rw (get_or-take count text 10 0 (omega arith)) after.0)
     (ap (time_front behavior) (drop-take 11 time.1 text)
-    ∙ read-value _ _ time after.1 (time_front-taken behavior (drop 11 text)) (omega (arith, inside, length-drop 11 text)))))
+    ∙ read-value _ _ time after.1 (time_front-taken behavior (drop 11 text))
+    (omega (arith, inside, length-drop 11 text)))))
 
-pub date_time_front-alone : (behavior : MicrosecondsPrecisionOverflowBehavior) (text : List ℕ) (front : DateAndTime × ℕ)
-    → date_time_front behavior text ≡ Ok front → front.1 ≤ length text → date_time_answer behavior (take front.1 text) ≡ Ok front.0
+pub date_time_front-alone : (behavior : Behavior) (text : List ℕ) (front : DateAndTime × ℕ)
+    → date_time_front behavior text ≡ Ok front → front.1 ≤ length text
+    → date_time_answer behavior (take front.1 text) ≡ Ok front.0
 date_time_front-alone behavior text front read inside =
-    taken-alone (λ (value : DateAndTime). end_fault value.time.offset) text (date_time_front behavior (take front.1 text)) front inside
-    (read-value _ (date_time_front behavior text) front read (date_time_front-taken behavior text) inside)
+    taken-alone (λ (value : DateAndTime). end_fault value.time.offset) text
+    (date_time_front behavior (take front.1 text)) front inside
+    (read-value _ (date_time_front behavior text) front read (date_time_front-taken behavior text)
+    inside)

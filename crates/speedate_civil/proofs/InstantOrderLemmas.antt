@@ -1,5 +1,5 @@
--- Laws of the order by instants: it is total, among values with offsets and among those without, but across both it is not
--- transitive; and without offsets it is the order of the texts.
+-- Laws of the order by instants: it is total, among values with offsets and among those without,
+-- but across both it is not transitive; and without offsets it is the order of the texts.
 use Rattle.std.proofs.Common.{◌≡◌, ℕ, ◌<◌, Bool, true, false, ◌&&◌, ◌∷◌, ◌==◌, ℤ, neg_ℤ, pos, Option, Some, None, refl, is_some, nat_cmp, Ordering, Less, Equal, rules, arith, ◌∙◌, ap, sym}
 use Rattle.std.specs.Cmp.{IsTotalOrder, on_total}
 use Rattle.std.specs.Cmp.Lexicographic.{slice_cmp}
@@ -9,8 +9,9 @@ use Rattle.std.proofs.lemmas.Int.{ints}
 use Rattle.std.proofs.Math.Bool.{and_comm}
 use Rattle.speedate_base.specs.Ascii.{capital_t}
 use Rattle.speedate_base.specs.Timestamp.{seconds_per_day, Instant}
-use Rattle.speedate_civil.specs.Time.{fraction_text, TimeOfDay, IsTime, second_of_day, time_text}
-use Rattle.speedate_civil.specs.DateTime.{DateAndTime, IsDateAndTime, date_time_text, instant_order, by_instant, time_instant, time_instant_order, date_time_instant, date_time_instant_order, BothOrNeither, IsNotAfter}
+use Rattle.speedate_civil.specs.Time.{fraction_text, TimeOfDay, IsTime, second_of_day, time_text, time_instant, time_instant_order}
+use Rattle.speedate_civil.specs.DateTime.{DateAndTime, IsDateAndTime, date_time_text, date_time_instant, date_time_instant_order}
+use Rattle.speedate_civil.specs.Instant.{instant_order, by_instant, BothOrNeither, IsNotAfter}
 use Rattle.speedate_civil.specs.Calendar.{date_order}
 use Rattle.speedate_civil.proofs.DateOrderLemmas.{date_order-day_number, date_text-front-order, digits-order}
 
@@ -20,23 +21,31 @@ instant_order-total = search rules
 
 -- a clock's hours, minutes and seconds are ordered as its second of the day
 clock-order : (first second : TimeOfDay) → IsTime first → IsTime second → (next : Ordering)
-    → ordering_then (nat_cmp first.hour second.hour) (ordering_then (nat_cmp first.minute second.minute) (ordering_then (nat_cmp first.second second.second) next))
+    → ordering_then (nat_cmp first.hour second.hour)
+    (ordering_then (nat_cmp first.minute second.minute)
+    (ordering_then (nat_cmp first.second second.second) next))
     ≡ ordering_then (nat_cmp (second_of_day first) (second_of_day second)) next
 clock-order first second one two next = search rules
 
 -- what clocks show of times is ordered as the second of the day and the microsecond
 time_instant-order : (first second : TimeOfDay)
     → on (time_instant false) instant_order first second
-    ≡ ordering_then (nat_cmp (second_of_day first) (second_of_day second)) (nat_cmp first.microsecond second.microsecond)
+    ≡ ordering_then (nat_cmp (second_of_day first) (second_of_day second))
+    (nat_cmp first.microsecond second.microsecond)
 time_instant-order first second = grind arith
 
 -- what clocks show of date-times is ordered as the dates, and then as the times
 date_time_instant-order : (first second : DateAndTime) → IsDateAndTime first → IsDateAndTime second
-    → on (date_time_instant false) instant_order first second ≡ ordering_then (date_order first.date second.date) (on (time_instant false) instant_order first.time second.time)
+    → on (date_time_instant false) instant_order first second
+    ≡ ordering_then (date_order first.date second.date)
+    (on (time_instant false) instant_order first.time second.time)
 date_time_instant-order first second one two =
-    let small : second_of_day first.time < seconds_per_day = omega (arith, one.time.hour, one.time.minute, one.time.second) in
-    let little : second_of_day second.time < seconds_per_day = omega (arith, two.time.hour, two.time.minute, two.time.second) in
-    rw (date_order-day_number first.date second.date one.date.day two.date.day) (grind (arith, ints, nat_tests))
+    let small : second_of_day first.time < seconds_per_day =
+    omega (arith, one.time.hour, one.time.minute, one.time.second) in
+    let little : second_of_day second.time < seconds_per_day =
+    omega (arith, two.time.hour, two.time.minute, two.time.second) in
+    rw (date_order-day_number first.date second.date one.date.day two.date.day)
+    (grind (arith, ints, nat_tests))
 
 -- two printed fractions are ordered as the microseconds
 fractions-order : (first second : ℕ) (one two : Bool) → (first == 0) ≡ one → (second == 0) ≡ two
@@ -44,26 +53,35 @@ fractions-order : (first second : ℕ) (one two : Bool) → (first == 0) ≡ one
 fractions-order first second one two first_is second_is = grind (arith, nat_tests)
 
 -- without offsets times are ordered as their texts
-pub time_text-order : (first second : TimeOfDay) → IsTime first → IsTime second → first.offset ≡ None → second.offset ≡ None
+pub time_text-order : (first second : TimeOfDay) → IsTime first → IsTime second
+    → first.offset ≡ None → second.offset ≡ None
     → time_instant_order first second ≡ slice_cmp nat_cmp (time_text first) (time_text second)
-time_text-order first second one two none nothing = grind (arith, ints, digits-order, clock-order, time_instant-order, fractions-order)
+time_text-order first second one two none nothing =
+    grind (arith, ints, digits-order, clock-order, time_instant-order, fractions-order)
 
 -- and so are date-times
-pub date_time_text-order : (first second : DateAndTime) → IsDateAndTime first → IsDateAndTime second → first.time.offset ≡ None → second.time.offset ≡ None
-    → date_time_instant_order first second ≡ slice_cmp nat_cmp (date_time_text first) (date_time_text second)
+pub date_time_text-order : (first second : DateAndTime) → IsDateAndTime first
+    → IsDateAndTime second → first.time.offset ≡ None → second.time.offset ≡ None
+    → date_time_instant_order first second
+    ≡ slice_cmp nat_cmp (date_time_text first) (date_time_text second)
 date_time_text-order first second one two none nothing =
     let texts : Ordering = slice_cmp nat_cmp (time_text first.time) (time_text second.time) in
-    let times : time_instant_order first.time second.time ≡ texts = time_text-order first.time second.time one.time two.time none nothing in
-    let shown : time_instant_order first.time second.time ≡ on (time_instant false) instant_order first.time second.time = rw (none) refl in
-    let all : date_time_instant_order first second ≡ on (date_time_instant false) instant_order first second = rw (none) refl in
+    let times : time_instant_order first.time second.time ≡ texts =
+    time_text-order first.time second.time one.time two.time none nothing in
+    let shown : time_instant_order first.time second.time
+    ≡ on (time_instant false) instant_order first.time second.time = rw (none) refl in
+    let all : date_time_instant_order first second
+    ≡ on (date_time_instant false) instant_order first second = rw (none) refl in
     all
     ∙ date_time_instant-order first second one two
     ∙ ap (ordering_then (date_order first.date second.date)) (sym shown ∙ times)
-    ∙ sym (date_text-front-order first.date second.date (capital_t ∷ time_text first.time) (capital_t ∷ time_text second.time))
+    ∙ sym (date_text-front-order first.date second.date (capital_t ∷ time_text first.time)
+    (capital_t ∷ time_text second.time))
 
 -- "not after" is transitive in a total order
 chain : {K : Type 0} {order : K → K → Ordering} → IsTotalOrder order → (first second third : K)
-    → IsNotAfter (order first second) → IsNotAfter (order second third) → IsNotAfter (order first third)
+    → IsNotAfter (order first second) → IsNotAfter (order second third)
+    → IsNotAfter (order first third)
 chain total first second third one two = search rules
 
 -- an order by instants is total among values with offsets, and among those without
@@ -72,18 +90,28 @@ module _ {K : Type 0} (offset : K → Option ℤ) (instant : Bool → K → Inst
   total is_utc = on_total (instant is_utc) instant_order-total
 
   -- values the other way round are ordered the other way round
-  pub by_instant-reversed : (first second : K) → by_instant offset instant second first ≡ ordering_reverse (by_instant offset instant first second)
+  pub by_instant-reversed : (first second : K)
+      → by_instant offset instant second first
+      ≡ ordering_reverse (by_instant offset instant first second)
   by_instant-reversed first second =
-      ap (λ (is_utc : Bool). on (instant is_utc) instant_order second first) (and_comm (is_some (offset second)) (is_some (offset first)))
+      ap (λ (is_utc : Bool). on (instant is_utc) instant_order second first)
+      (and_comm (is_some (offset second)) (is_some (offset first)))
       ∙ (total (is_some (offset first) && is_some (offset second))).antisymm second first
 
-  -- and of three values that are alike the first is not after the last, where it is not after the next, and that not after the last
-  pub by_instant-transitive : (first second third : K) → BothOrNeither (offset first) (offset second) → BothOrNeither (offset second) (offset third)
-      → IsNotAfter (by_instant offset instant first second) → IsNotAfter (by_instant offset instant second third) → IsNotAfter (by_instant offset instant first third)
-  by_instant-transitive first second third = chained (is_some (offset first)) (is_some (offset second)) (is_some (offset third))
+  -- and of three values that are alike the first is not after the last, where it is not after the
+  -- next, and that not after the last
+  pub by_instant-transitive : (first second third : K)
+      → BothOrNeither (offset first) (offset second) → BothOrNeither (offset second) (offset third)
+      → IsNotAfter (by_instant offset instant first second)
+      → IsNotAfter (by_instant offset instant second third)
+      → IsNotAfter (by_instant offset instant first third)
+  by_instant-transitive first second third =
+      chained (is_some (offset first)) (is_some (offset second)) (is_some (offset third))
     where
-      chained : (a b c : Bool) → a ≡ b → b ≡ c → IsNotAfter (on (instant (a && b)) instant_order first second)
-          → IsNotAfter (on (instant (b && c)) instant_order second third) → IsNotAfter (on (instant (a && c)) instant_order first third)
+      chained : (a b c : Bool) → a ≡ b → b ≡ c
+          → IsNotAfter (on (instant (a && b)) instant_order first second)
+          → IsNotAfter (on (instant (b && c)) instant_order second third)
+          → IsNotAfter (on (instant (a && c)) instant_order first third)
       chained true true true one two = chain (total true) first second third
       chained false false c one two = chain (total false) first second third
       chained true true false one two = absurd (cc)
@@ -92,14 +120,16 @@ module _ {K : Type 0} (offset : K → Option ℤ) (instant : Bool → K → Inst
 
 -- the time of an hour and a minute
 abbrev clock : ℕ → ℕ → Option ℤ → TimeOfDay
-clock hour minute offset = record { hour = hour; minute = minute; second = 0; microsecond = 0; offset = offset }
+clock hour minute offset =
+    record { hour = hour; minute = minute; second = 0; microsecond = 0; offset = offset }
 
--- across values with an offset and without it is not transitive: 00:00:00-01:00 is before 00:30:00, and that is before 01:00:00Z,
--- which is equal to the first
+-- across values with an offset and without it is not transitive: 00:00:00-01:00 is before 00:30:00,
+-- and that is before 01:00:00Z, which is equal to the first
 pub record IsBeforeNextOnly (first second third : TimeOfDay) : Type 0 where
   first_second : time_instant_order first second ≡ Less
   second_third : time_instant_order second third ≡ Less
   first_third : time_instant_order first third ≡ Equal
 
-pub time_instant_order-across : IsBeforeNextOnly (clock 0 0 (Some (neg_ℤ (pos 3600)))) (clock 0 30 None) (clock 1 0 (Some (pos 0)))
+pub time_instant_order-across : IsBeforeNextOnly (clock 0 0 (Some (neg_ℤ (pos 3600))))
+    (clock 0 30 None) (clock 1 0 (Some (pos 0)))
 time_instant_order-across = record { first_second = refl; second_third = refl; first_third = refl }

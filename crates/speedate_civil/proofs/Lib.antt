@@ -1,8 +1,6 @@
 mod AfterTimeLemmas
-mod DaysLemmas
 mod ClockLemmas
 mod DateLemmas
-pub mod DateNumberedLemmas
 pub mod DateOrderLemmas
 pub mod DateTimeInstantLemmas
 mod DateTimeLemmas
@@ -12,12 +10,9 @@ mod FrontLemmas
 pub mod InstantOrderLemmas
 mod NumberTextLemmas
 mod OffsetLemmas
-mod OffsetMoveLemmas
 mod ReadLemmas
 mod Rfc3339Lemmas
 mod TimeLemmas
-pub mod DateValueLemmas
-mod TimeValueLemmas
-pub mod DateTimeValueLemmas
+pub mod ValueLemmas
 pub mod MonthLemmas
 mod YearLemmas

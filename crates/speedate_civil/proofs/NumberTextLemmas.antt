@@ -1,49 +1,64 @@
 -- No text that begins as a date is a number.
 use Rattle.std.proofs.Common.{◌≡◌, ◌≢◌, ℕ, ◌<◌, Bool, true, false, ◌==◌, List, length, slice_index, nat_le, if◌then◌else◌, Option, None, ℤ, Result, Ok, Err, refl, rules, arith, ap, eqb-true, leb-true}
+use Rattle.speedate_civil.specs.Base.{ParseError}
 use Rattle.std.proofs.lemmas.Bool.Decides.{nat_tests}
 use Rattle.std.specs.Char.{is_ascii_digit}
 use Rattle.speedate_base.specs.Ascii.{hyphen, full_stop}
 use Rattle.speedate_base.specs.Digits.{four_digits_at}
 use Rattle.speedate_base.specs.Numbers.{Number, NoNumber, number_answer, whole_number, whole_or, decimal_answer}
 use Rattle.speedate_civil.specs.Calendar.{Ymd}
-use Rattle.speedate_civil.specs.Date.{date_front, date_answer, ParseError, fault}
-use Rattle.speedate_civil.specs.Reader.{may_be_number}
+use Rattle.speedate_civil.specs.Date.{date_front, date_answer}
+use Rattle.speedate_civil.specs.ParserParts.{may_be_number}
 use Rattle.speedate_base.proofs.NumberLemmas.{number_answer-other}
 
 -- a text that meets the first three rows of a table meets the first and the third
-rows-met : {A : Type 0} (a b c : Bool) (first second third : ParseError) (next answer : Result A ParseError)
-    → (if a then (if b then (if c then next else Err third) else Err second) else Err first) ≡ answer
+rows-met : {A : Type 0} (a b c : Bool) (first second third : ParseError)
+    (next answer : Result A ParseError)
+    → (if a then (if b then (if c then next else Err third) else Err second) else Err first)
+    ≡ answer
     → answer ≢ Err first → answer ≢ Err second → answer ≢ Err third → (a ≡ true) × (c ≡ true)
 rows-met a b c first second third next answer same one two three = search rules
 
 -- a text whose fifth byte is a hyphen is none
-hyphen-no_number : (text : List ℕ) → nat_le 10 (length text) ≡ true → (slice_index text 4 == hyphen) ≡ true → number_answer text ≡ NoNumber
+hyphen-no_number : (text : List ℕ) → nat_le 10 (length text) ≡ true
+    → (slice_index text 4 == hyphen) ≡ true → number_answer text ≡ NoNumber
 hyphen-no_number text long is =
     let within : 4 < length text = omega (arith, leb-true 10 (length text) long) in
     let byte = eqb-true (slice_index text 4) hyphen is in
-    number_answer-other text 4 (omega arith) within (ap is_ascii_digit byte) (ap (λ (n : ℕ). n == full_stop) byte)
+    number_answer-other text 4 (omega arith) within (ap is_ascii_digit byte)
+    (ap (λ (n : ℕ). n == full_stop) byte)
 
 -- so is one that begins with a date
-pub number_answer-date : (text : List ℕ) (date : Ymd × ℕ) → date_front text ≡ Ok date → number_answer text ≡ NoNumber
+pub number_answer-date : (text : List ℕ) (date : Ymd × ℕ) → date_front text ≡ Ok date
+    → number_answer text ≡ NoNumber
 number_answer-date text date read =
-    let rows = rows-met (nat_le 10 (length text)) (four_digits_at text 0) (slice_index text 4 == hyphen)
-    fault.TooShort fault.InvalidCharYear fault.InvalidCharDateSep _ (Ok date) read (λ other. cc) (λ other. cc) (λ other. cc) in
+    let rows = rows-met (nat_le 10 (length text)) (four_digits_at text 0)
+    (slice_index text 4 == hyphen)
+    ParseError.TooShort ParseError.InvalidCharYear ParseError.InvalidCharDateSep _ (Ok date) read
+    (λ other. cc) (λ other. cc) (λ other. cc) in
     hyphen-no_number text rows.0 rows.1
 
-other-fault : {A : Type 0} (refused fault : ParseError) (answer : Result A ParseError) → may_be_number refused ≡ false → may_be_number fault ≡ true
+other-fault : {A : Type 0} (refused fault : ParseError) (answer : Result A ParseError)
+    → may_be_number refused ≡ false → may_be_number fault ≡ true
     → answer ≡ Err refused → answer ≢ Err fault
 other-fault refused fault answer behind number same = search rules
 
--- and one that is refused by a fault after the first hyphen, in an answer that keeps the faults of a date at its front
-pub number_answer-refused : {A : Type 0} (text : List ℕ) (answer : Result A ParseError) (fault : ParseError)
-    → ((other : ParseError) → date_front text ≡ Err other → answer ≡ Err other) → answer ≡ Err fault → may_be_number fault ≡ false
+-- and one that is refused by a fault after the first hyphen, in an answer that keeps the faults of
+-- a date at its front
+pub number_answer-refused : {A : Type 0} (text : List ℕ) (answer : Result A ParseError)
+    (fault : ParseError)
+    → ((other : ParseError) → date_front text ≡ Err other → answer ≡ Err other)
+    → answer ≡ Err fault → may_be_number fault ≡ false
     → number_answer text ≡ NoNumber
 number_answer-refused text answer refused keeps read behind =
-    let rows = rows-met (nat_le 10 (length text)) (four_digits_at text 0) (slice_index text 4 == hyphen)
-    fault.TooShort fault.InvalidCharYear fault.InvalidCharDateSep _ (date_front text) refl
-    (λ same. other-fault refused fault.TooShort answer behind refl read (keeps _ same))
-    (λ same. other-fault refused fault.InvalidCharYear answer behind refl read (keeps _ same))
-    (λ same. other-fault refused fault.InvalidCharDateSep answer behind refl read (keeps _ same)) in
+    let rows = rows-met (nat_le 10 (length text)) (four_digits_at text 0)
+    (slice_index text 4 == hyphen)
+    ParseError.TooShort ParseError.InvalidCharYear ParseError.InvalidCharDateSep _
+    (date_front text) refl
+    (λ same. other-fault refused ParseError.TooShort answer behind refl read (keeps _ same))
+    (λ same. other-fault refused ParseError.InvalidCharYear answer behind refl read (keeps _ same))
+    (λ same. other-fault refused ParseError.InvalidCharDateSep answer behind refl read
+    (keeps _ same)) in
     hyphen-no_number text rows.0 rows.1
 
 -- a text that is no number is no whole number
@@ -53,5 +68,16 @@ no-whole whole decimal none = search rules
 pub whole_number-none : (text : List ℕ) → number_answer text ≡ NoNumber → whole_number text ≡ None
 whole_number-none text none = no-whole (whole_number text) (decimal_answer text) none
 
-pub whole_number-refused : (text : List ℕ) (fault : ParseError) → date_answer text ≡ Err fault → may_be_number fault ≡ false → whole_number text ≡ None
-whole_number-refused text refused read behind = grind (arith, nat_tests, number_answer-refused, whole_number-none, rows-met, hyphen-no_number, other-fault, no-whole)
+pub whole_number-refused : (text : List ℕ) (fault : ParseError) → date_answer text ≡ Err fault
+    → may_be_number fault ≡ false → whole_number text ≡ None
+whole_number-refused text refused read behind =
+    grind (
+      arith,
+      nat_tests,
+      number_answer-refused,
+      whole_number-none,
+      rows-met,
+      hyphen-no_number,
+      other-fault,
+      no-whole,
+    )

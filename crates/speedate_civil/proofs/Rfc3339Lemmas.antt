@@ -1,5 +1,6 @@
 -- The texts of RFC 3339 by its rules are those that the strict readers take.
 use Rattle.std.proofs.Common.{◌≡◌, ◌⊎◌, ℕ, ◌+◌, ◌*◌, ◌≤◌, zero, suc, Bool, true, false, ◌==◌, List, [], ◌∷◌, ◌++◌, length, take, drop, nat_le, nat_lt, slice_index, Option, Some, ℤ, pos, IfOk, Result, Ok, refl, ◌↔◌, rules, arith, ap, subst, sym, ◌∙◌, inl, inr, leb-true, ltb-true, eqb-true, get_or-drop, length-append, length-drop, length-take-le, take_all, take-append-drop, IsOk}
+use Rattle.speedate_civil.specs.Base.{Behavior, ParseError}
 use Rattle.std.specs.Char.{is_ascii_digit}
 use Rattle.std.specs.List.{prefix_len}
 use Rattle.std.proofs.Math.Seq.{drop-append_seam}
@@ -11,15 +12,15 @@ use Rattle.speedate_base.specs.Ascii.{colon, comma, full_stop, hyphen, plus_sign
 use Rattle.speedate_base.specs.Digits.{run_length, two_digits_at, two_digit_text, two_digit_value, four_digit_value, is_decimal_mark}
 use Rattle.speedate_base.specs.Numbers.{with_sign}
 use Rattle.speedate_base.specs.Config.{refuses_digits}
-use Rattle.speedate_base.specs.Requirement.{Requirement, ◌implies◌, AllHold, alone, meets, result_map, result_and_then}
+use Rattle.speedate_base.specs.Requirement.{Requirement, ◌implies◌, AllHold, whole_or_fault, first_fault_or, result_map, result_and_then}
 use Rattle.speedate_civil.specs.Calendar.{Ymd, IsDate}
-use Rattle.speedate_civil.specs.Time.{Clock, clock_front, has_decimal_mark, has_second, minute_text, end_fault, is_plus_or_minus, offset_digits, offset_front, offset_ranges, signed_front, TimeOfDay, clock_with_offset, time_front, time_answer, time_of_day, ParseError, MicrosecondsPrecisionOverflowBehavior, Time}
+use Rattle.speedate_civil.specs.Time.{Clock, clock_front, has_decimal_mark, has_second, minute_text, end_fault, is_plus_or_minus, offset_digits, offset_front, offset_ranges, signed_front, TimeOfDay, clock_with_offset, time_front, time_answer, time_of_day, Time}
 use Rattle.speedate_civil.specs.DateTime.{DateAndTime, date_time_answer, date_time_front, separator_table, date_and_time, DateTime}
 use Rattle.speedate_civil.specs.Date.{date_front, date_table, date_text}
 use Rattle.speedate_civil.specs.Standard.{IsFullDate, IsDateTime, IsTwoDigits, IsSecfrac, IsPartialTime, IsNumoffset, IsTimeOffset, IsFullTime, offset_place, standard_date_time, standard_offset, standard_time, strict_date_time_answer, strict_time_answer}
 use Rattle.speedate_base.proofs.DigitRunLemmas.{run_length-append}
 use Rattle.speedate_base.proofs.NumberLemmas.{run-digits}
-use Rattle.speedate_base.proofs.RequirementLemmas.{alone-iff, alone-whole, meets-all, meets-ok, meets-value}
+use Rattle.speedate_base.proofs.RequirementLemmas.{whole_or_fault-iff, whole_or_fault-whole, first_fault_or-all, first_fault_or-ok, first_fault_or-value}
 use Rattle.speedate_civil.proofs.ClockLemmas.{run_length-none, clock-secfrac, clock-whole}
 use Rattle.speedate_civil.proofs.DateLemmas.{date_text-front}
 use Rattle.speedate_civil.proofs.FrontLemmas.{ClockRead, bytes_from, clock-read, clock-size, date_time_front-is, minute_size, time_front-is}
@@ -28,35 +29,44 @@ use Rattle.speedate_civil.proofs.ReadLemmas.{read-rows, read-then, read-value}
 use Rattle.speedate_civil.proofs.TimeLemmas.{front-printed}
 
 -- bytes of a text, from a place on, one by one
-bytes-are : (count place : ℕ) (text : List ℕ) → place + count ≤ length text → take count (drop place text) ≡ bytes_from place count text
+bytes-are : (count place : ℕ) (text : List ℕ) → place + count ≤ length text
+    → take count (drop place text) ≡ bytes_from place count text
 bytes-are zero place text within = refl
 bytes-are (suc count) place text within =
     ap (take (suc count)) (drop_more text place 0 (omega arith))
-    ∙ ap (λ (rest : List ℕ). slice_index text place ∷ rest) (bytes-are count (place + 1) text (omega arith))
+    ∙ ap (λ (rest : List ℕ). slice_index text place ∷ rest)
+    (bytes-are count (place + 1) text (omega arith))
 
 -- a text by its first bytes and the rest
-split : (P : List ℕ → Type 0) (count : ℕ) (text : List ℕ) → count ≤ length text → P (bytes_from 0 count text ++ drop count text) → P text
+split : (P : List ℕ → Type 0) (count : ℕ) (text : List ℕ) → count ≤ length text
+    → P (bytes_from 0 count text ++ drop count text) → P text
 split P count text within =
-    subst P (ap (λ (front : List ℕ). front ++ drop count text) (sym (bytes-are count 0 text (omega (arith, within)))) ∙ take-append-drop count text)
+    subst P (ap (λ (front : List ℕ). front ++ drop count text)
+    (sym (bytes-are count 0 text (omega (arith, within)))) ∙ take-append-drop count text)
 
 -- they are the text of the number that they spell
-spelled : (text : List ℕ) (place : ℕ) → two_digits_at text place ≡ true → two_digit_text (two_digit_value text place) ≡ bytes_from place 2 text
+spelled : (text : List ℕ) (place : ℕ) → two_digits_at text place ≡ true
+    → two_digit_text (two_digit_value text place) ≡ bytes_from place 2 text
 spelled text place digits = search rules
 
 -- so they are two digits of the rules where the number is in its range
-two-digits : (highest : ℕ) (text : List ℕ) (place : ℕ) → two_digits_at text place ≡ true → nat_le (two_digit_value text place) highest ≡ true
+two-digits : (highest : ℕ) (text : List ℕ) (place : ℕ) → two_digits_at text place ≡ true
+    → nat_le (two_digit_value text place) highest ≡ true
     → IsTwoDigits highest (bytes_from place 2 text)
 two-digits highest text place digits small = search (rules, leb-true, spelled)
 
 -- a fraction of all the digits that follow
-secfrac-of : (behavior : MicrosecondsPrecisionOverflowBehavior) (digits : List ℕ) → nat_lt 0 (prefix_len is_ascii_digit digits) ≡ true
+secfrac-of : (behavior : Behavior) (digits : List ℕ)
+    → nat_lt 0 (prefix_len is_ascii_digit digits) ≡ true
     → (refuses_digits behavior implies nat_le (prefix_len is_ascii_digit digits) 6) ≡ true
     → IsSecfrac behavior (full_stop ∷ take (prefix_len is_ascii_digit digits) digits)
-secfrac-of behavior digits some few = grind (arith, ltb-true, length-take-le, prefix_len-le-length, run-digits)
+secfrac-of behavior digits some few =
+    grind (arith, ltb-true, length-take-le, prefix_len-le-length, run-digits)
 
 -- a clock that was read is one of the rules if its second is there
-clock-of : (behavior : MicrosecondsPrecisionOverflowBehavior) (a b c d e f g h : ℕ) (more fraction : List ℕ) (clock : Clock)
-    → ClockRead behavior (a ∷ b ∷ c ∷ d ∷ e ∷ f ∷ g ∷ h ∷ more) clock → (f == colon) ≡ true → (fraction ≡ []) ⊎ IsSecfrac behavior fraction
+clock-of : (behavior : Behavior) (a b c d e f g h : ℕ) (more fraction : List ℕ) (clock : Clock)
+    → ClockRead behavior (a ∷ b ∷ c ∷ d ∷ e ∷ f ∷ g ∷ h ∷ more) clock → (f == colon) ≡ true
+    → (fraction ≡ []) ⊎ IsSecfrac behavior fraction
     → IsPartialTime behavior (a ∷ b ∷ c ∷ d ∷ e ∷ f ∷ g ∷ h ∷ fraction)
 clock-of behavior a b c d e f g h more fraction clock rows second part =
     let text : List ℕ = a ∷ b ∷ c ∷ d ∷ e ∷ f ∷ g ∷ h ∷ more in
@@ -73,16 +83,20 @@ clock-of behavior a b c d e f g h more fraction clock rows second part =
     }
 
 -- and its mark is no comma; the offset follows it
-clock-parts : (behavior : MicrosecondsPrecisionOverflowBehavior) (a b c d e f g h : ℕ) (more : List ℕ) (clock : Clock) (point : Bool)
-    → (slice_index more 0 == full_stop) ≡ point → clock_front behavior (a ∷ b ∷ c ∷ d ∷ e ∷ f ∷ g ∷ h ∷ more) ≡ Ok clock
+clock-parts : (behavior : Behavior) (a b c d e f g h : ℕ) (more : List ℕ) (clock : Clock)
+    (point : Bool)
+    → (slice_index more 0 == full_stop) ≡ point
+    → clock_front behavior (a ∷ b ∷ c ∷ d ∷ e ∷ f ∷ g ∷ h ∷ more) ≡ Ok clock
     → (f == colon) ≡ true → (slice_index more 0 == comma) ≡ false
     → IsPartialTime behavior (take clock.size (a ∷ b ∷ c ∷ d ∷ e ∷ f ∷ g ∷ h ∷ more))
     × (clock.size ≡ offset_place (a ∷ b ∷ c ∷ d ∷ e ∷ f ∷ g ∷ h ∷ more))
 clock-parts behavior a b c d e f g h more clock false none read second plain =
     let text : List ℕ = a ∷ b ∷ c ∷ d ∷ e ∷ f ∷ g ∷ h ∷ more in
     let rows = clock-read behavior text clock read in
-    let size : 8 ≡ clock.size = rw (second, none, plain) at (ap (λ (found : Clock). found.size) rows.is) in (
-      subst (λ (n : ℕ). IsPartialTime behavior (take n text)) size (clock-of behavior a b c d e f g h more [] clock rows second (inl refl)),
+    let size : 8 ≡ clock.size =
+    rw (second, none, plain) at (ap (λ (found : Clock). found.size) rows.is) in (
+      subst (λ (n : ℕ). IsPartialTime behavior (take n text)) size
+          (clock-of behavior a b c d e f g h more [] clock rows second (inl refl)),
       rw none (sym size),
     )
 clock-parts behavior a b c d e f g h [] clock true there read second plain = absurd (cc)
@@ -90,20 +104,31 @@ clock-parts behavior a b c d e f g h (mark ∷ digits) clock true there read sec
     let text : List ℕ = a ∷ b ∷ c ∷ d ∷ e ∷ f ∷ g ∷ h ∷ mark ∷ digits in
     let run = prefix_len is_ascii_digit digits in
     let rows = clock-read behavior text clock read in
-    let size : 3 + (6 + run) ≡ clock.size = rw (second, there) at (ap (λ (found : Clock). found.size) rows.is) in
-    let long : suc (suc (suc (suc (suc (suc (suc (suc (suc run)))))))) ≡ clock.size = omega (arith, size) in
-    let part = subst (λ (byte : ℕ). IsSecfrac behavior (byte ∷ take run digits)) (sym (eqb-true mark full_stop there)) (secfrac-of behavior digits (search rules) (search rules)) in (
-      subst (λ (n : ℕ). IsPartialTime behavior (take n text)) long (clock-of behavior a b c d e f g h (mark ∷ digits) (mark ∷ take run digits) clock rows second (inr part)),
+    let size : 3 + (6 + run) ≡ clock.size =
+    rw (second, there) at (ap (λ (found : Clock). found.size) rows.is) in
+    let long : suc (suc (suc (suc (suc (suc (suc (suc (suc run)))))))) ≡ clock.size =
+    omega (arith, size) in
+    let part = subst (λ (byte : ℕ). IsSecfrac behavior (byte ∷ take run digits))
+    (sym (eqb-true mark full_stop there))
+    (secfrac-of behavior digits (search rules) (search rules)) in (
+      subst (λ (n : ℕ). IsPartialTime behavior (take n text)) long
+          (clock-of behavior a b c d e f g h (mark ∷ digits) (mark ∷ take run digits) clock rows second
+          (inr part)),
       rw there (omega (arith, size)),
     )
 
 -- an offset with a sign is one of the rules if it has its `:` and takes all bytes
-numoffset : (byte : ℕ) (numbers : List ℕ) → is_plus_or_minus byte ≡ true → (slice_index numbers 2 == colon) ≡ true
-    → IfOk (signed_front (byte == hyphen) 1 numbers) (λ front. front.1 ≡ length (byte ∷ numbers) → IsTimeOffset (byte ∷ numbers))
+numoffset : (byte : ℕ) (numbers : List ℕ) → is_plus_or_minus byte ≡ true
+    → (slice_index numbers 2 == colon) ≡ true
+    → IfOk (signed_front (byte == hyphen) 1 numbers)
+    (λ front. front.1 ≡ length (byte ∷ numbers) → IsTimeOffset (byte ∷ numbers))
 numoffset byte numbers some there =
-    read-rows _ (offset_digits numbers) _ (λ digits. read-rows _ (offset_ranges numbers) _ (λ ranges whole.
+    read-rows _ (offset_digits numbers) _
+    (λ digits. read-rows _ (offset_ranges numbers) _ (λ ranges whole.
     let five : length numbers ≡ 5 = search rules in
-    inr (inr (subst (λ (text : List ℕ). IsNumoffset (byte ∷ text)) (sym (bytes-are 5 0 numbers (omega (arith, five))) ∙ take_all 5 numbers (omega (arith, five)))
+    inr (inr (subst (λ (text : List ℕ). IsNumoffset (byte ∷ text))
+    (sym (bytes-are 5 0 numbers (omega (arith, five)))
+    ∙ take_all 5 numbers (omega (arith, five)))
     (record {
       sign = byte;
       hour = bytes_from 0 2 numbers;
@@ -115,10 +140,12 @@ numoffset byte numbers some there =
     })))))
 
 -- an offset of the rules, by what it begins with
-offset-all : (rest : List ℕ) → AllHold (standard_offset rest) → IfOk (offset_front rest) (λ front. front.1 ≡ length rest → IsTimeOffset rest)
+offset-all : (rest : List ℕ) → AllHold (standard_offset rest)
+    → IfOk (offset_front rest) (λ front. front.1 ≡ length rest → IsTimeOffset rest)
 offset-all [] rows = absurd (cc)
 offset-all (byte ∷ numbers) rows =
-    offset-cases (λ answer. IfOk answer (λ front. front.1 ≡ length (byte ∷ numbers) → IsTimeOffset (byte ∷ numbers))) (byte ∷ numbers)
+    offset-cases (λ answer. IfOk answer (λ front. front.1 ≡ length (byte ∷ numbers)
+    → IsTimeOffset (byte ∷ numbers))) (byte ∷ numbers)
     (λ some. numoffset byte numbers some (search rules))
     (λ none utc one.
     let ended : numbers ≡ [] = nil_from_length numbers (omega (arith, one)) in
@@ -127,29 +154,40 @@ offset-all (byte ∷ numbers) rows =
     (λ none other there. let not_there = not-true _ rows.1.0 in absurd (cc))
     (λ none other nothing one. absurd (omega (arith, one)))
 
-partial-time-of : (behavior : MicrosecondsPrecisionOverflowBehavior) (text : List ℕ) (clock : Clock) → clock_front behavior text ≡ Ok clock
-    → clock.size ≤ length text → (slice_index text 5 == colon) ≡ true → (slice_index text 8 == comma) ≡ false
+partial-time-of : (behavior : Behavior) (text : List ℕ) (clock : Clock)
+    → clock_front behavior text ≡ Ok clock
+    → clock.size ≤ length text → (slice_index text 5 == colon) ≡ true
+    → (slice_index text 8 == comma) ≡ false
     → IsPartialTime behavior (take clock.size text) × (clock.size ≡ offset_place text)
 partial-time-of behavior text clock read inside second plain =
-    let there : has_second (drop 3 text) ≡ true = ap (λ (byte : ℕ). byte == colon) (get_or-drop 3 text 2 0) ∙ second in
+    let there : has_second (drop 3 text) ≡ true =
+    ap (λ (byte : ℕ). byte == colon) (get_or-drop 3 text 2 0) ∙ second in
     let size = rw there at (clock-size behavior text clock read) in
-    let five : 5 ≤ minute_size true (has_decimal_mark (drop 3 text)) (run_length (drop 3 text) 6) = search rules in
-    split (λ (bytes : List ℕ). clock_front behavior bytes ≡ Ok clock → (slice_index bytes 5 == colon) ≡ true → (slice_index bytes 8 == comma) ≡ false
-    → IsPartialTime behavior (take clock.size bytes) × (clock.size ≡ offset_place bytes)) 8 text (omega arith)
-    (λ same there none. clock-parts behavior _ _ _ _ _ _ _ _ (drop 8 text) clock _ refl same there none) read second plain
+    let five : 5 ≤ minute_size true (has_decimal_mark (drop 3 text)) (run_length (drop 3 text) 6) =
+    search rules in
+    split (λ (bytes : List ℕ). clock_front behavior bytes ≡ Ok clock
+    → (slice_index bytes 5 == colon) ≡ true → (slice_index bytes 8 == comma) ≡ false
+    → IsPartialTime behavior (take clock.size bytes) × (clock.size ≡ offset_place bytes)) 8 text
+    (omega arith)
+    (λ same there none. clock-parts behavior _ _ _ _ _ _ _ _ (drop 8 text)
+    clock _ refl same there none) read second plain
 
 -- what the strict reader takes as a time is one by the rules
-full-time-of : (behavior : MicrosecondsPrecisionOverflowBehavior) (text : List ℕ) → AllHold (standard_time text)
+full-time-of : (behavior : Behavior) (text : List ℕ) → AllHold (standard_time text)
     → IfOk (time_front behavior text) (λ front. front.1 ≡ length text → IsFullTime behavior text)
 full-time-of behavior text rows =
-    read-then _ _ (clock_front behavior text) (λ clock read. read-then _ _ (offset_front (drop clock.size text)) (λ offset after whole.
-    let parts = partial-time-of behavior text clock read (omega (arith, whole)) rows.0 (not-true (slice_index text 8 == comma) rows.1.0) in
-    let standard = subst (λ (place : ℕ). AllHold (standard_offset (drop place text))) (sym parts.1) rows.1.1 in
+    read-then _ _ (clock_front behavior text)
+    (λ clock read. read-then _ _ (offset_front (drop clock.size text)) (λ offset after whole.
+    let parts = partial-time-of behavior text clock read (omega (arith, whole)) rows.0
+    (not-true (slice_index text 8 == comma) rows.1.0) in
+    let standard =
+    subst (λ (place : ℕ). AllHold (standard_offset (drop place text))) (sym parts.1) rows.1.1 in
     record {
       time = take clock.size text;
       offset = drop clock.size text;
       is_time = parts.0;
-      is_offset = read-value _ _ offset after (offset-all (drop clock.size text) standard) (omega (arith, whole, length-drop clock.size text));
+      is_offset = read-value _ _ offset after (offset-all (drop clock.size text) standard)
+          (omega (arith, whole, length-drop clock.size text));
       together = sym (take-append-drop clock.size text);
     }))
 
@@ -162,7 +200,8 @@ record OffsetRead (text : List ℕ) : Type 0 where
   no_mark : is_decimal_mark (slice_index text 0) ≡ false
   standard : AllHold (standard_offset text)
 
-numoffset-read : (sign hour minute : ℕ) → (sign ≡ plus_sign) ⊎ (sign ≡ hyphen) → hour ≤ 23 → minute ≤ 59
+numoffset-read : (sign hour minute : ℕ) → (sign ≡ plus_sign) ⊎ (sign ≡ hyphen) → hour ≤ 23
+    → minute ≤ 59
     → OffsetRead (sign ∷ two_digit_text hour ++ colon ∷ two_digit_text minute)
 numoffset-read sign hour minute is small_hour small_minute = record {
   front = (Some (with_sign (sign == hyphen) (3600 * hour + 60 * minute)), 6);
@@ -187,61 +226,86 @@ offset-read : (text : List ℕ) → IsTimeOffset text → OffsetRead text
 offset-read text is = grind (arith, nat_tests, numoffset-read, utc-read)
 
 -- a text that the strict reader takes
-abbrev Taken : MicrosecondsPrecisionOverflowBehavior → List ℕ → Type 0
-Taken behavior text = (time : TimeOfDay) × ((time_answer behavior text ≡ Ok time) × AllHold (standard_time text))
+abbrev Taken : Behavior → List ℕ → Type 0
+Taken behavior text =
+    (time : TimeOfDay) × ((time_answer behavior text ≡ Ok time) × AllHold (standard_time text))
 
 -- a clock and an offset after it, which are the whole text
-taken-of : (behavior : MicrosecondsPrecisionOverflowBehavior) (text offset : List ℕ) (clock : Clock) → OffsetRead offset → clock_front behavior text ≡ Ok clock
-    → drop clock.size text ≡ offset → length text ≡ clock.size + length offset → (slice_index text 5 == colon) ≡ true → (slice_index text 8 == comma) ≡ false
+taken-of : (behavior : Behavior) (text offset : List ℕ) (clock : Clock) → OffsetRead offset
+    → clock_front behavior text ≡ Ok clock
+    → drop clock.size text ≡ offset → length text ≡ clock.size + length offset
+    → (slice_index text 5 == colon) ≡ true → (slice_index text 8 == comma) ≡ false
     → clock.size ≡ offset_place text → Taken behavior text
 taken-of behavior text offset clock after read rest long second plain place =
-    let front : TimeOfDay × ℕ = (clock_with_offset clock after.front.0, clock.size + after.front.1) in
+    let front : TimeOfDay × ℕ =
+    (clock_with_offset clock after.front.0, clock.size + after.front.1) in
     let fault = λ (value : TimeOfDay). end_fault value.offset in
-    let is : time_front behavior text ≡ Ok front = time_front-is behavior text clock after.front read (ap offset_front rest ∙ after.read) in
+    let is : time_front behavior text ≡ Ok front =
+    time_front-is behavior text clock after.front read (ap offset_front rest ∙ after.read) in
     let rows : AllHold (standard_offset (drop (offset_place text) text)) = search rules in (
       front.0,
       (
-        ap (result_and_then (alone fault text)) is ∙ alone-whole fault text front.0 front.1 (omega (arith, long, after.whole)),
+        ap (result_and_then (whole_or_fault fault text)) is
+            ∙ whole_or_fault-whole fault text front.0 front.1 (omega (arith, long, after.whole)),
         (second, (search rules, rows)),
       ),
     )
 
-taken-parts : (behavior : MicrosecondsPrecisionOverflowBehavior) (hour minute second : ℕ) (fraction offset : List ℕ) → hour ≤ 23 → minute ≤ 59 → second ≤ 59
+taken-parts : (behavior : Behavior) (hour minute second : ℕ) (fraction offset : List ℕ) → hour ≤ 23
+    → minute ≤ 59 → second ≤ 59
     → (fraction ≡ []) ⊎ IsSecfrac behavior fraction → OffsetRead offset
-    → Taken behavior (two_digit_text hour ++ colon ∷ minute_text minute second ++ fraction ++ offset)
-taken-parts behavior hour minute second fraction offset small_hour small_minute small_second (inl none) after =
+    → Taken behavior (two_digit_text hour ++ colon ∷ minute_text minute second ++ fraction
+    ++ offset)
+taken-parts behavior hour minute second fraction offset small_hour small_minute small_second
+    (inl none) after =
     let text = two_digit_text hour ++ colon ∷ minute_text minute second ++ offset in
-    subst (λ (part : List ℕ). Taken behavior (two_digit_text hour ++ colon ∷ minute_text minute second ++ part ++ offset)) (sym none)
+    subst (λ (part : List ℕ). Taken behavior
+    (two_digit_text hour ++ colon ∷ minute_text minute second ++ part ++ offset)) (sym none)
     (taken-of behavior text offset _ after
     (front-printed behavior hour minute second offset _ small_hour small_minute
-    (clock-whole behavior minute second offset small_minute small_second after.no_mark)) refl (omega arith) refl (search rules) (search rules))
-taken-parts behavior hour minute second fraction offset small_hour small_minute small_second (inr part) after =
+    (clock-whole behavior minute second offset small_minute small_second after.no_mark)) refl
+    (omega arith) refl (search rules) (search rules))
+taken-parts behavior hour minute second fraction offset small_hour small_minute small_second
+    (inr part) after =
     let digits = part.digits in
-    let text = two_digit_text hour ++ colon ∷ minute_text minute second ++ full_stop ∷ digits ++ offset in
-    let size : 3 + (6 + length digits) ≡ suc (suc (suc (suc (suc (suc (suc (suc (suc (length digits))))))))) = omega arith in
-    let rest : drop (3 + (6 + length digits)) text ≡ offset = ap (λ (n : ℕ). drop n text) size ∙ drop-append_seam digits offset in
+    let text = two_digit_text hour ++ colon ∷ minute_text minute second ++ full_stop ∷ digits
+    ++ offset in
+    let size : 3 + (6 + length digits)
+    ≡ suc (suc (suc (suc (suc (suc (suc (suc (suc (length digits))))))))) = omega arith in
+    let rest : drop (3 + (6 + length digits)) text ≡ offset =
+    ap (λ (n : ℕ). drop n text) size ∙ drop-append_seam digits offset in
     let run = run_length-append digits offset part.are_digits in
     let none = run_length-none offset after.no_digit in
-    subst (λ (cut : List ℕ). Taken behavior (two_digit_text hour ++ colon ∷ minute_text minute second ++ cut ++ offset)) (sym part.together)
+    subst (λ (cut : List ℕ). Taken behavior
+    (two_digit_text hour ++ colon ∷ minute_text minute second ++ cut ++ offset))
+    (sym part.together)
     (taken-of behavior text offset _ after
-    (front-printed behavior hour minute second (full_stop ∷ digits ++ offset) _ small_hour small_minute
-    (clock-secfrac behavior minute second digits offset small_minute small_second part.are_digits part.some part.few after.no_digit)) rest
+    (front-printed behavior hour minute second (full_stop ∷ digits ++ offset)
+    _ small_hour small_minute
+    (clock-secfrac behavior minute second digits offset small_minute small_second part.are_digits
+    part.some part.few after.no_digit)) rest
     (omega (arith, length-append digits offset)) refl refl (omega (arith, run, none)))
 
 -- and a time of the rules is taken
-full-time-taken : (behavior : MicrosecondsPrecisionOverflowBehavior) (text : List ℕ) → IsFullTime behavior text → Taken behavior text
+full-time-taken : (behavior : Behavior) (text : List ℕ) → IsFullTime behavior text
+    → Taken behavior text
 full-time-taken behavior text is =
     let time = is.is_time in
     let parts : time.hour ++ colon ∷ time.minute ++ colon ∷ time.second ++ time.fraction
-    ≡ two_digit_text time.is_hour.number ++ colon ∷ two_digit_text time.is_minute.number ++ colon ∷ two_digit_text time.is_second.number ++ time.fraction =
-    λ i. time.is_hour.together i ++ colon ∷ time.is_minute.together i ++ colon ∷ time.is_second.together i ++ time.fraction in
-    let together = is.together ∙ ap (λ (front : List ℕ). front ++ is.offset) (time.together ∙ parts) in
+    ≡ two_digit_text time.is_hour.number ++ colon ∷ two_digit_text time.is_minute.number ++ colon
+    ∷ two_digit_text time.is_second.number ++ time.fraction =
+    λ i. time.is_hour.together i ++ colon ∷ time.is_minute.together i ++ colon
+    ∷ time.is_second.together i ++ time.fraction in
+    let together =
+    is.together ∙ ap (λ (front : List ℕ). front ++ is.offset) (time.together ∙ parts) in
     subst (Taken behavior) (sym together)
-    (taken-parts behavior time.is_hour.number time.is_minute.number time.is_second.number time.fraction is.offset time.is_hour.within time.is_minute.within time.is_second.within
+    (taken-parts behavior time.is_hour.number time.is_minute.number time.is_second.number
+    time.fraction is.offset time.is_hour.within time.is_minute.within time.is_second.within
     time.is_fraction (offset-read is.offset is.is_offset))
 
 full-date-of : (text : List ℕ) → IfOk (date_front text) (λ front. IsFullDate (take 10 text))
-full-date-of text = read-rows (λ (front : Ymd × ℕ). IsFullDate (take 10 text)) (date_table text) _ (λ met.
+full-date-of text =
+    read-rows (λ (front : Ymd × ℕ). IsFullDate (take 10 text)) (date_table text) _ (λ met.
     subst IsFullDate (sym (bytes-are 10 0 text (leb-true 10 (length text) met.0))) (record {
       year = four_digit_value text 0;
       month = two_digit_value text 5;
@@ -253,45 +317,66 @@ full-date-of text = read-rows (λ (front : Ymd × ℕ). IsFullDate (take 10 text
     }))
 
 -- what the strict reader takes as a date-time is one by the rules
-date-time-of : (behavior : MicrosecondsPrecisionOverflowBehavior) (text : List ℕ) → AllHold (standard_date_time text)
-    → IfOk (date_time_front behavior text) (λ front. front.1 ≡ length text → IsDateTime behavior text)
+date-time-of : (behavior : Behavior) (text : List ℕ) → AllHold (standard_date_time text)
+    → IfOk (date_time_front behavior text)
+    (λ front. front.1 ≡ length text → IsDateTime behavior text)
 date-time-of behavior text rows =
     let rest : List ℕ = drop 11 text in
-    read-then _ _ (date_front text) (λ date dated. read-then _ _ (meets (separator_table text) (time_front behavior rest)) (λ time timed whole.
-    let read = (meets-ok (separator_table text) (time_front behavior rest) time timed).1 in
+    read-then _ _ (date_front text)
+    (λ date dated. read-then _ _ (first_fault_or (separator_table text) (time_front behavior rest))
+    (λ time timed whole.
+    let read = (first_fault_or-ok (separator_table text) (time_front behavior rest) time timed).1 in
     record {
       date = take 10 text;
       separator = slice_index text 10;
       time = rest;
       is_date = read-value _ (date_front text) date dated (full-date-of text);
       is_separator = search rules;
-      is_time = read-value _ _ time read (full-time-of behavior rest rows.1) (omega (arith, whole, length-drop 11 text));
-      together = sym (take-append-drop 10 text) ∙ ap (λ (left : List ℕ). take 10 text ++ left) (drop_more text 10 0 (omega (arith, whole)));
+      is_time = read-value _ _ time read (full-time-of behavior rest rows.1)
+          (omega (arith, whole, length-drop 11 text));
+      together = sym (take-append-drop 10 text)
+          ∙ ap (λ (left : List ℕ). take 10 text ++ left)
+          (drop_more text 10 0 (omega (arith, whole)));
     }))
 
-date-time-parts : (behavior : MicrosecondsPrecisionOverflowBehavior) (date : Ymd) (separator : ℕ) (time : List ℕ) → IsDate date
-    → (separator ≡ capital_t) ⊎ (separator ≡ small_t) → (value : TimeOfDay) → time_answer behavior time ≡ Ok value
-    → date_time_answer behavior (date_text date ++ separator ∷ time) ≡ Ok (record { date = date; time = value })
+date-time-parts : (behavior : Behavior) (date : Ymd) (separator : ℕ) (time : List ℕ) → IsDate date
+    → (separator ≡ capital_t) ⊎ (separator ≡ small_t) → (value : TimeOfDay)
+    → time_answer behavior time ≡ Ok value
+    → date_time_answer behavior (date_text date ++ separator ∷ time)
+    ≡ Ok (record { date = date; time = value })
 date-time-parts behavior date separator time valid parted value read =
     let text = date_text date ++ separator ∷ time in
     let whole : DateAndTime = record { date = date; time = value } in
     let fault_of = λ (read_value : DateAndTime). end_fault read_value.time.offset in
-    let front = (alone-iff (λ (read_time : TimeOfDay). end_fault read_time.offset) time (time_front behavior time) value).0 read in
-    let is = date_time_front-is behavior text (date, 10) (value, length time) (date_text-front date (separator ∷ time) valid) (search rules, tt) front in
-    ap (result_and_then (alone fault_of text)) is ∙ alone-whole fault_of text whole (11 + length time) (omega arith)
+    let front = (whole_or_fault-iff (λ (read_time : TimeOfDay). end_fault read_time.offset) time
+    (time_front behavior time) value).0 read in
+    let is = date_time_front-is behavior text (date, 10) (value, length time)
+    (date_text-front date (separator ∷ time) valid) (search rules, tt) front in
+    ap (result_and_then (whole_or_fault fault_of text)) is
+    ∙ whole_or_fault-whole fault_of text whole (11 + length time) (omega arith)
 
 -- a text that the strict reader takes as a date-time
-abbrev DateTimeTaken : MicrosecondsPrecisionOverflowBehavior → List ℕ → Type 0
-DateTimeTaken behavior text = (value : DateAndTime) × ((date_time_answer behavior text ≡ Ok value) × AllHold (standard_date_time text))
+abbrev DateTimeTaken : Behavior → List ℕ → Type 0
+DateTimeTaken behavior text =
+    (value : DateAndTime) × ((date_time_answer behavior text ≡ Ok value)
+    × AllHold (standard_date_time text))
 
 -- and a date-time of the rules is taken
-date-time-taken : (behavior : MicrosecondsPrecisionOverflowBehavior) (text : List ℕ) → IsDateTime behavior text → DateTimeTaken behavior text
+date-time-taken : (behavior : Behavior) (text : List ℕ) → IsDateTime behavior text
+    → DateTimeTaken behavior text
 date-time-taken behavior text is =
     let taken = full-time-taken behavior is.time is.is_time in
-    let date : Ymd = record { year = is.is_date.year; month = is.is_date.month; day = is.is_date.day } in
+    let date : Ymd =
+    record { year = is.is_date.year; month = is.is_date.month; day = is.is_date.day } in
     let value : DateAndTime = record { date = date; time = taken.0 } in
-    let valid : IsDate date = record { year = is.is_date.is_year; day = record { month = is.is_date.is_month; day = is.is_date.is_day } } in
-    let together : text ≡ date_text date ++ is.separator ∷ is.time = is.together ∙ ap (λ (front : List ℕ). front ++ is.separator ∷ is.time) is.is_date.together in
+    let valid : IsDate date =
+    record {
+      year = is.is_date.is_year;
+      day = record { month = is.is_date.is_month; day = is.is_date.is_day };
+    } in
+    let together : text ≡ date_text date ++ is.separator ∷ is.time =
+    is.together ∙ ap (λ (front : List ℕ). front ++ is.separator ∷ is.time)
+    is.is_date.together in
     subst (DateTimeTaken behavior) (sym together) (
       value,
       (
@@ -301,27 +386,35 @@ date-time-taken behavior text is =
     )
 
 -- a result whose value meets further rows is a value if and only if a text is one of the rules
-strict : {A B : Type 0} (view : A → B) (result : Result A ParseError) (rows : List Requirement) (answer : Result B ParseError) (IsOne : Type 0)
-    → result_map view result ≡ result_and_then (λ (read : B). meets rows (Ok read)) answer
+strict : {A B : Type 0} (view : A → B) (result : Result A ParseError) (rows : List Requirement)
+    (answer : Result B ParseError) (IsOne : Type 0)
+    → result_map view result ≡ result_and_then (λ (read : B). first_fault_or rows (Ok read)) answer
     → ((value : B) → answer ≡ Ok value → AllHold rows → IsOne)
     → (IsOne → (value : B) × ((answer ≡ Ok value) × AllHold rows)) → IsOk result ↔ IsOne
-strict view result rows answer IsOne is to from = grind (arith, meets-all, meets-value)
+strict view result rows answer IsOne is to from =
+    grind (arith, first_fault_or-all, first_fault_or-value)
 
 -- so a text is taken if and only if it is one of the rules
-pub time-standard : (behavior : MicrosecondsPrecisionOverflowBehavior) (text : List ℕ) (result : Result Time ParseError)
-    → result_map time_of_day result ≡ strict_time_answer behavior text → IsOk result ↔ IsFullTime behavior text
+pub time-standard : (behavior : Behavior) (text : List ℕ) (result : Result Time ParseError)
+    → result_map time_of_day result ≡ strict_time_answer behavior text
+    → IsOk result ↔ IsFullTime behavior text
 time-standard behavior text result is =
-    strict time_of_day result (standard_time text) (time_answer behavior text) (IsFullTime behavior text) is
+    strict time_of_day result (standard_time text) (time_answer behavior text)
+    (IsFullTime behavior text) is
     (λ time read rows.
-    let whole = (alone-iff (λ (value : TimeOfDay). end_fault value.offset) text (time_front behavior text) time).0 read in
+    let whole = (whole_or_fault-iff (λ (value : TimeOfDay). end_fault value.offset) text
+    (time_front behavior text) time).0 read in
     read-value _ _ (time, length text) whole (full-time-of behavior text rows) refl)
     (full-time-taken behavior text)
 
-pub date-time-standard : (behavior : MicrosecondsPrecisionOverflowBehavior) (text : List ℕ) (result : Result DateTime ParseError)
-    → result_map date_and_time result ≡ strict_date_time_answer behavior text → IsOk result ↔ IsDateTime behavior text
+pub date-time-standard : (behavior : Behavior) (text : List ℕ) (result : Result DateTime ParseError)
+    → result_map date_and_time result ≡ strict_date_time_answer behavior text
+    → IsOk result ↔ IsDateTime behavior text
 date-time-standard behavior text result is =
-    strict date_and_time result (standard_date_time text) (date_time_answer behavior text) (IsDateTime behavior text) is
+    strict date_and_time result (standard_date_time text) (date_time_answer behavior text)
+    (IsDateTime behavior text) is
     (λ value read rows.
-    let whole = (alone-iff (λ (found : DateAndTime). end_fault found.time.offset) text (date_time_front behavior text) value).0 read in
+    let whole = (whole_or_fault-iff (λ (found : DateAndTime). end_fault found.time.offset) text
+    (date_time_front behavior text) value).0 read in
     read-value _ _ (value, length text) whole (date-time-of behavior text rows) refl)
     (date-time-taken behavior text)

@@ -1,29 +1,34 @@
--- The text by which a time is printed is read as the time, where its offset is absent or whole minutes, whatever follows
--- it that is no part of it.
+-- The text by which a time is printed is read as the time, where its offset is absent or whole
+-- minutes, whatever follows it that is no part of it.
 use Rattle.std.proofs.Common.{◌≡◌, ℕ, ◌+◌, ◌≤◌, Bool, true, false, List, [], ◌∷◌, ◌++◌, length, drop, ◌==◌, Option, ℤ, Result, Ok, refl, rules, arith, ◌∙◌, ap, sym, eqb-true, append-nil}
+use Rattle.speedate_civil.specs.Base.{Behavior, ParseError}
 use Rattle.std.specs.Char.{is_ascii_digit}
 use Rattle.speedate_base.specs.Ascii.{colon, full_stop}
 use Rattle.speedate_base.specs.Digits.{two_digit_text, six_digit_text, is_decimal_mark}
 use Rattle.speedate_base.specs.Offset.{IsWholeMinutes}
-use Rattle.speedate_base.specs.Requirement.{alone, result_and_then}
-use Rattle.speedate_civil.specs.Time.{Clock, at_hour, clock_answer, clock_front, minute_text, end_fault, offset_front, offset_text, TimeOfDay, IsTime, time_front, time_answer, clock_with_offset, clock_text, time_text, is_after_time, ParseError, MicrosecondsPrecisionOverflowBehavior}
-use Rattle.speedate_base.proofs.RequirementLemmas.{alone-whole}
+use Rattle.speedate_base.specs.Requirement.{whole_or_fault, result_and_then}
+use Rattle.speedate_civil.specs.Time.{Clock, at_hour, clock_answer, clock_front, minute_text, end_fault, offset_front, offset_text, TimeOfDay, IsTime, time_front, time_answer, clock_with_offset, clock_text, time_text, is_after_time}
+use Rattle.speedate_base.proofs.RequirementLemmas.{whole_or_fault-whole}
 use Rattle.speedate_civil.proofs.ClockLemmas.{clock-whole, clock-fraction}
 use Rattle.speedate_civil.proofs.OffsetLemmas.{offset_text-first, offset_text-front}
 
 -- what is read after a clock decides on the time
-pub time_front-after : (behavior : MicrosecondsPrecisionOverflowBehavior) (text : List ℕ) (clock : Clock) (offset : Result (Option ℤ × ℕ) ParseError)
+pub time_front-after : (behavior : Behavior) (text : List ℕ) (clock : Clock)
+    (offset : Result (Option ℤ × ℕ) ParseError)
     → Ok clock ≡ clock_front behavior text → offset ≡ offset_front (drop clock.size text)
-    → result_and_then (λ (after : Option ℤ × ℕ). Ok (clock_with_offset clock after.0, clock.size + after.1)) offset ≡ time_front behavior text
+    → result_and_then (λ (after : Option ℤ × ℕ). Ok
+    (clock_with_offset clock after.0, clock.size + after.1)) offset ≡ time_front behavior text
 time_front-after behavior text clock offset read after = rw (sym read, after) refl
 
 -- a printed hour, before a clock that is read
-pub front-printed : (behavior : MicrosecondsPrecisionOverflowBehavior) (hour minute second : ℕ) (tail : List ℕ) (clock : Clock)
+pub front-printed : (behavior : Behavior) (hour minute second : ℕ) (tail : List ℕ) (clock : Clock)
     → hour ≤ 23 → minute ≤ 59 → clock_answer behavior (minute_text minute second ++ tail) ≡ Ok clock
-    → clock_front behavior (two_digit_text hour ++ colon ∷ minute_text minute second ++ tail) ≡ Ok (at_hour hour clock)
+    → clock_front behavior (two_digit_text hour ++ colon ∷ minute_text minute second ++ tail)
+    ≡ Ok (at_hour hour clock)
 front-printed behavior hour minute second tail clock small_hour small_minute answer = search rules
 
-text-front : (behavior : MicrosecondsPrecisionOverflowBehavior) (time : TimeOfDay) (rest : List ℕ) (none : Bool) → IsTime time → IsWholeMinutes time.offset
+text-front : (behavior : Behavior) (time : TimeOfDay) (rest : List ℕ) (none : Bool) → IsTime time
+    → IsWholeMinutes time.offset
     → is_after_time time rest ≡ true → (time.microsecond == 0) ≡ none
     → time_front behavior (time_text time ++ rest) ≡ Ok (time, length (time_text time))
 text-front behavior time rest true valid whole after none =
@@ -31,32 +36,46 @@ text-front behavior time rest true valid whole after none =
     let zero_is : 0 ≡ time.microsecond = sym (eqb-true time.microsecond 0 none) in
     let ended = rw none at after in
     let plain = offset_text-first is_decimal_mark time.offset rest refl refl refl (search rules) in
-    let front = front-printed behavior time.hour time.minute time.second tail _ valid.hour valid.minute
+    let front = front-printed behavior time.hour time.minute time.second tail _ valid.hour
+    valid.minute
     (clock-whole behavior time.minute time.second tail valid.minute valid.second plain) in
-    let long : 8 + length (offset_text time.offset) ≡ length (clock_text time ++ offset_text time.offset) = omega arith in
-    rw (none, front, offset_text-front time.offset rest valid.offset whole search rules, zero_is) (ap (λ (size : ℕ). Ok (time, size)) long)
+    let long : 8 + length (offset_text time.offset)
+    ≡ length (clock_text time ++ offset_text time.offset) = omega arith in
+    rw (none, front, offset_text-front time.offset rest valid.offset whole search rules, zero_is)
+    (ap (λ (size : ℕ). Ok (time, size)) long)
 text-front behavior time rest false valid whole after some =
     let tail = offset_text time.offset ++ rest in
     let ended = rw some at after in
     let other = offset_text-first is_ascii_digit time.offset rest refl refl refl (search rules) in
-    let front = front-printed behavior time.hour time.minute time.second (full_stop ∷ six_digit_text time.microsecond ++ tail) _ valid.hour valid.minute
-    (clock-fraction behavior time.minute time.second time.microsecond tail valid.minute valid.second (omega (arith, valid.microsecond)) other) in
-    let long : 15 + length (offset_text time.offset) ≡ length (clock_text time ++ full_stop ∷ six_digit_text time.microsecond ++ offset_text time.offset) = omega arith in
-    rw (some, front, offset_text-front time.offset rest valid.offset whole search rules) (ap (λ (size : ℕ). Ok (time, size)) long)
+    let front = front-printed behavior time.hour time.minute time.second
+    (full_stop ∷ six_digit_text time.microsecond ++ tail) _ valid.hour valid.minute
+    (clock-fraction behavior time.minute time.second time.microsecond tail valid.minute
+    valid.second (omega (arith, valid.microsecond)) other) in
+    let long : 15 + length (offset_text time.offset)
+    ≡ length (clock_text time ++ full_stop ∷ six_digit_text time.microsecond
+    ++ offset_text time.offset) = omega arith in
+    rw (some, front, offset_text-front time.offset rest valid.offset whole search rules)
+    (ap (λ (size : ℕ). Ok (time, size)) long)
 
-pub time_text-front : (behavior : MicrosecondsPrecisionOverflowBehavior) (time : TimeOfDay) (rest : List ℕ) → IsTime time → IsWholeMinutes time.offset
-    → is_after_time time rest ≡ true → time_front behavior (time_text time ++ rest) ≡ Ok (time, length (time_text time))
-time_text-front behavior time rest valid whole after = text-front behavior time rest (time.microsecond == 0) valid whole after refl
+pub time_text-front : (behavior : Behavior) (time : TimeOfDay) (rest : List ℕ) → IsTime time
+    → IsWholeMinutes time.offset
+    → is_after_time time rest ≡ true
+    → time_front behavior (time_text time ++ rest) ≡ Ok (time, length (time_text time))
+time_text-front behavior time rest valid whole after =
+    text-front behavior time rest (time.microsecond == 0) valid whole after refl
 
 -- nothing that follows is no part of a time
 pub nothing-after : (time : TimeOfDay) → is_after_time time [] ≡ true
 nothing-after time = search rules
 
 -- and alone it is that time
-pub time_text-reads : (behavior : MicrosecondsPrecisionOverflowBehavior) (time : TimeOfDay) → IsTime time → IsWholeMinutes time.offset
+pub time_text-reads : (behavior : Behavior) (time : TimeOfDay) → IsTime time
+    → IsWholeMinutes time.offset
     → time_answer behavior (time_text time) ≡ Ok time
 time_text-reads behavior time valid whole =
     let text = time_text time in
     let fault = λ (read : TimeOfDay). end_fault read.offset in
-    let front = sym (ap (time_front behavior) (append-nil text)) ∙ time_text-front behavior time [] valid whole (nothing-after time) in
-    ap (result_and_then (alone fault text)) front ∙ alone-whole fault text time (length text) refl
+    let front = sym (ap (time_front behavior) (append-nil text))
+    ∙ time_text-front behavior time [] valid whole (nothing-after time) in
+    ap (result_and_then (whole_or_fault fault text)) front
+    ∙ whole_or_fault-whole fault text time (length text) refl

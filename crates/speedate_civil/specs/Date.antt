@@ -1,15 +1,14 @@
 -- Dates: from their numbers, from texts, and from timestamps.
 use Rattle.std.specs.Prelude.{ℕ, pos, List, [], ◌∷◌, nat_le, ℤ, Result, Ok, ◌++◌, length, ◌==◌, slice_index, Bool, true, ◌&&◌, ◌+ℤ◌, unsigned_abs, option_map, ◌≡◌}
 use Rattle.std.specs.Int.{is_in_range, int_div_euclid, int_rem_euclid}
-pub use Rattle.speedate_base.specs.declared.config.TimestampUnit.{TimestampUnit, TimestampUnit as unit}
-pub use Rattle.speedate_base.specs.declared.faults.ParseError.{ParseError, ParseError as fault}
+use Rattle.speedate_civil.specs.Base.{ParseError, TimestampUnit}
 use Rattle.speedate_base.specs.Ascii.{hyphen}
 use Rattle.speedate_base.specs.Digits.{four_digits_at, four_digit_value, four_digit_text, two_digits_at, two_digit_value, two_digit_text}
 use Rattle.speedate_base.specs.Numbers.{whole_number}
 use Rattle.speedate_base.specs.Timestamp.{seconds_per_day, Instant, instant_answer, range_answer}
-use Rattle.speedate_base.specs.Requirement.{Requirement, ◌else_fault◌, meets, alone, ◌>>=◌, ◌implies◌, or_number, result_map, with_size}
+use Rattle.speedate_base.specs.Requirement.{Requirement, ◌else_fault◌, first_fault_or, whole_or_fault, ◌implies◌, or_number, result_map, with_size, ◌>>=◌}
 pub use Rattle.speedate_civil.specs.declared.date.Date.{Date}
-use Rattle.speedate_civil.specs.Calendar.{Ymd, month_length, epoch_day, date_after}
+use Rattle.speedate_civil.specs.Calendar.{Ymd, month_length, epoch_day, date_of_number}
 
 -- the numbers of a date
 abbrev pub ymd : Date → Ymd
@@ -21,25 +20,29 @@ abbrev pub ◌gives◌ : Result Date ParseError → Result Ymd ParseError → Ty
 result gives answer = result_map ymd result ≡ answer
 
 infix 15 ◌gives_front◌
--- the answer of a call for the front of a text, a date seen as its numbers and how many bytes it takes, is the given one
+-- the answer of a call for the front of a text, a date seen as its numbers and how many bytes it
+-- takes, is the given one
 abbrev pub ◌gives_front◌ : Result (Date × ℕ) ParseError → Result (Ymd × ℕ) ParseError → Type 0
 result gives_front front = result_map (with_size ymd) result ≡ front
 
 -- what a month and a day have to meet
 abbrev pub day_table : Ymd → List Requirement
 day_table date =
-    (is_in_range 1 12 date.month else_fault fault.OutOfRangeMonth)
-    ∷ (is_in_range 1 (month_length date.year date.month) date.day else_fault fault.OutOfRangeDay)
+    (is_in_range 1 12 date.month else_fault ParseError.OutOfRangeMonth)
+    ∷ (is_in_range 1 (month_length date.year date.month) date.day
+    else_fault ParseError.OutOfRangeDay)
     ∷ []
 
--- the date of a year, a month and a day, or the fault of one that is out of range: the year is looked at first
+-- the date of a year, a month and a day, or the fault of one that is out of range: the year is
+-- looked at first
 abbrev pub new_date_answer : ℕ → ℕ → ℕ → Result Ymd ParseError
 new_date_answer year month day =
     let date : Ymd = record { year = year; month = month; day = day } in
-    meets ((nat_le year 9999 else_fault fault.DateTooLarge) ∷ day_table date) (Ok date)
+    first_fault_or ((nat_le year 9999 else_fault ParseError.DateTooLarge) ∷ day_table date)
+    (Ok date)
 
--- The text of a date, `YYYY-MM-DD` (RFC 3339 5.6, full-date; the ranges of month and day are those of its 5.7).
--- Departs from it nowhere.
+-- The text of a date, `YYYY-MM-DD` (RFC 3339 5.6, full-date; the ranges of month and day are those
+-- of its 5.7). Departs from it nowhere.
 
 -- the numbers at their places in the text of a date
 abbrev pub date_numbers : List ℕ → Ymd
@@ -52,33 +55,34 @@ date_numbers text = record {
 -- what the first ten bytes of a text have to meet to be a date
 abbrev pub date_table : List ℕ → List Requirement
 date_table text = let date = date_numbers text in
-    (nat_le 10 (length text) else_fault fault.TooShort)
-    ∷ (four_digits_at text 0 else_fault fault.InvalidCharYear)
-    ∷ (slice_index text 4 == hyphen else_fault fault.InvalidCharDateSep)
-    ∷ (two_digits_at text 5 else_fault fault.InvalidCharMonth)
-    ∷ (slice_index text 7 == hyphen else_fault fault.InvalidCharDateSep)
-    ∷ (two_digits_at text 8 else_fault fault.InvalidCharDay)
+    (nat_le 10 (length text) else_fault ParseError.TooShort)
+    ∷ (four_digits_at text 0 else_fault ParseError.InvalidCharYear)
+    ∷ (slice_index text 4 == hyphen else_fault ParseError.InvalidCharDateSep)
+    ∷ (two_digits_at text 5 else_fault ParseError.InvalidCharMonth)
+    ∷ (slice_index text 7 == hyphen else_fault ParseError.InvalidCharDateSep)
+    ∷ (two_digits_at text 8 else_fault ParseError.InvalidCharDay)
     ∷ day_table date
 
 -- the date at the front of a text, and how many bytes it takes, or the text's fault
 abbrev pub date_front : List ℕ → Result (Ymd × ℕ) ParseError
-date_front text = meets (date_table text) (Ok (date_numbers text, 10))
+date_front text = first_fault_or (date_table text) (Ok (date_numbers text, 10))
 
 -- the date that a text is, or the text's fault
 abbrev pub date_answer : List ℕ → Result Ymd ParseError
 date_answer text = do
   date ← date_front text
-  alone (λ read. fault.ExtraCharacters) text date
+  whole_or_fault (λ read. ParseError.ExtraCharacters) text date
 
 -- the one text by which a date is printed
 abbrev pub date_text : Ymd → List ℕ
 date_text date =
-    four_digit_text date.year ++ hyphen ∷ two_digit_text date.month ++ hyphen ∷ two_digit_text date.day
+    four_digit_text date.year ++ hyphen ∷ two_digit_text date.month ++ hyphen
+    ∷ two_digit_text date.day
 
 -- Dates from timestamps (Unix time), and from texts that are a timestamp instead.
 
--- the day number of a second since 1970-01-01T00:00:00: the whole days since then, rounded down, and those before it;
--- it is negative before the year 0
+-- the day number of a second since 1970-01-01T00:00:00: the whole days since then, rounded down,
+-- and those before it; it is negative before the year 0
 abbrev pub day_number_at : ℤ → ℤ
 day_number_at second = int_div_euclid second (pos seconds_per_day) +ℤ pos epoch_day
 
@@ -94,7 +98,8 @@ second_at second = unsigned_abs (int_rem_euclid second (pos seconds_per_day))
 abbrev pub instant_date : Bool → Instant → Result Ymd ParseError
 instant_date exact instant =
     let is_midnight = (second_at instant.second == 0) && (instant.microsecond == 0) in
-    meets (((exact implies is_midnight) else_fault fault.DateNotExact) ∷ []) (Ok (date_after (day_at instant.second)))
+    first_fault_or (((exact implies is_midnight) else_fault ParseError.DateNotExact) ∷ [])
+    (Ok (date_of_number (day_at instant.second)))
 
 -- the date of a timestamp, or the fault: the unit's comes first, then those of the years
 abbrev pub date_timestamp_answer : TimestampUnit → Bool → ℤ → Result Ymd ParseError
@@ -105,4 +110,5 @@ date_timestamp_answer unit exact timestamp = do
 
 -- the date that a text is, as its text or as an exact timestamp, or the text's fault
 abbrev pub date_or_timestamp : TimestampUnit → List ℕ → Result Ymd ParseError
-date_or_timestamp unit text = or_number (option_map (date_timestamp_answer unit true) (whole_number text)) (date_answer text)
+date_or_timestamp unit text =
+    or_number (option_map (date_timestamp_answer unit true) (whole_number text)) (date_answer text)

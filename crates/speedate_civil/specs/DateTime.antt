@@ -1,19 +1,19 @@
 -- Date-times: from texts, from timestamps, at other offsets, and the order by instant.
-use Rattle.std.specs.Prelude.{◌/◌, ℤ, pos, ◌+ℤ◌, ◌-ℤ◌, ◌*ℤ◌, ℕ, ◌+◌, Bool, ◌||◌, ◌==◌, List, [], ◌∷◌, ◌++◌, drop, slice_index, Result, Ok, ◌≡◌, Option, Some, None, int_lt, int_le, Err, ◌&&◌, unsigned_abs, is_some, IsTrue, if◌then◌else◌}
+use Rattle.std.specs.Prelude.{◌/◌, ℤ, pos, ◌+ℤ◌, ◌-ℤ◌, ◌*ℤ◌, ℕ, ◌+◌, Bool, ◌||◌, ◌==◌, List, [], ◌∷◌, ◌++◌, drop, slice_index, Result, Ok, ◌≡◌, Option, Some, None, int_le, Err, if◌then◌else◌}
+use Rattle.speedate_civil.specs.Base.{DateTimeConfig, Behavior, ParseError, TimestampUnit}
 use Rattle.std.specs.Option.{unwrap_or}
-use Rattle.std.specs.Ordering.{is_le, int_cmp, nat_cmp, on, then_cmp}
 use Rattle.std.specs.declared.cmp.Ordering.{Ordering}
-pub use Rattle.speedate_base.specs.declared.config.date_time.DateTimeConfig.{DateTimeConfig}
 use Rattle.speedate_base.specs.Ascii.{space, capital_t, low_line, small_t}
 use Rattle.speedate_base.specs.Numbers.{DecimalParts, Number, Whole, Fractional, NoNumber, number_answer}
 use Rattle.speedate_base.specs.Offset.{offset_table}
-use Rattle.speedate_base.specs.Timestamp.{seconds_per_day, decimal_row, decimal_instant, digits_table, Instant, timestamp_microsecond, instant_answer, range_answer, last_second, later_answer}
-use Rattle.speedate_base.specs.Requirement.{Requirement, ◌else_fault◌, meets, alone, ◌>>=◌, result_map, or_number, with_size}
+use Rattle.speedate_base.specs.Timestamp.{decimal_row, decimal_instant, digits_table, Instant, timestamp_microsecond, instant_answer, range_answer, last_second, later_answer}
+use Rattle.speedate_base.specs.Requirement.{Requirement, ◌else_fault◌, first_fault_or, whole_or_fault, result_map, or_number, with_size, ◌>>=◌}
 pub use Rattle.speedate_civil.specs.declared.datetime.DateTime.{DateTime}
 use Rattle.speedate_civil.specs.declared.datetime.now.Moment.{Moment}
-use Rattle.speedate_civil.specs.Calendar.{Ymd, IsDate, midnight_second, date_after}
-use Rattle.speedate_civil.specs.Date.{ymd, date_front, date_text, day_at, second_at, TimestampUnit, fault}
-use Rattle.speedate_civil.specs.Time.{microsecond_range, TimeOfDay, IsTime, second_of_day, time_of_day, end_fault, time_front, time_text, time_at, utc_second_of_day, ParseError, MicrosecondsPrecisionOverflowBehavior}
+use Rattle.speedate_civil.specs.Instant.{by_instant, move_table}
+use Rattle.speedate_civil.specs.Calendar.{Ymd, IsDate, midnight_second, date_of_number}
+use Rattle.speedate_civil.specs.Date.{ymd, date_front, date_text, day_at, second_at}
+use Rattle.speedate_civil.specs.Time.{microsecond_range, TimeOfDay, IsTime, second_of_day, time_of_day, end_fault, time_front, time_text, time_at}
 
 -- a date-time by its date and its time of day
 pub record DateAndTime : Type 0 where
@@ -29,8 +29,8 @@ pub record IsDateAndTime (value : DateAndTime) : Type 0 where
 abbrev pub local_second : DateAndTime → ℤ
 local_second value = midnight_second value.date +ℤ pos (second_of_day value.time)
 
--- the second of a date-time in UTC: the offset is subtracted (RFC 3339 4.2); an absent one counts as 0, which is the library's
--- own rule
+-- the second of a date-time in UTC: the offset is subtracted (RFC 3339 4.2); an absent one counts
+-- as 0, which is the library's own rule
 abbrev pub utc_second : DateAndTime → ℤ
 utc_second value = local_second value -ℤ unwrap_or value.time.offset (pos 0)
 
@@ -64,33 +64,39 @@ abbrev pub ◌gives◌ : Result DateTime ParseError → Result DateAndTime Parse
 result gives answer = result_map date_and_time result ≡ answer
 
 infix 15 ◌gives_front◌
--- the answer of a call for the front of a text, a date-time seen as its numbers and how many bytes it takes, is the given one
-abbrev pub ◌gives_front◌ : Result (DateTime × ℕ) ParseError → Result (DateAndTime × ℕ) ParseError → Type 0
+-- the answer of a call for the front of a text, a date-time seen as its numbers and how many bytes
+-- it takes, is the given one
+abbrev pub ◌gives_front◌ : Result (DateTime × ℕ) ParseError → Result (DateAndTime × ℕ) ParseError
+    → Type 0
 result gives_front front = result_map (with_size date_and_time) result ≡ front
 
 -- The text of a date-time: a date, a separator, and a time of day (RFC 3339 5.6, date-time).
--- Departs from it: as times do; the separator may be a space or `_` too (the notes of 5.6 allow a space).
+-- Departs from it: as times do; the separator may be a space or `_` too (the notes of 5.6 allow a
+-- space).
 
 -- a byte that may stand between a date and a time
 abbrev pub is_separator : ℕ → Bool
-is_separator byte = (byte == capital_t) || (byte == small_t) || (byte == space) || (byte == low_line)
+is_separator byte =
+    (byte == capital_t) || (byte == small_t) || (byte == space) || (byte == low_line)
 
 -- what a text that begins with a date has to meet to go on to a time
 abbrev pub separator_table : List ℕ → List Requirement
-separator_table text = (is_separator (slice_index text 10) else_fault fault.InvalidCharDateTimeSep) ∷ []
+separator_table text =
+    (is_separator (slice_index text 10) else_fault ParseError.InvalidCharDateTimeSep) ∷ []
 
--- the date-time at the front of a text, a date, a separator and a time, and how many bytes it takes, or the text's fault
-abbrev pub date_time_front : MicrosecondsPrecisionOverflowBehavior → List ℕ → Result (DateAndTime × ℕ) ParseError
+-- the date-time at the front of a text, a date, a separator and a time, and how many bytes it
+-- takes, or the text's fault
+abbrev pub date_time_front : Behavior → List ℕ → Result (DateAndTime × ℕ) ParseError
 date_time_front behavior text = do
   date ← date_front text
-  time ← meets (separator_table text) (time_front behavior (drop 11 text))
+  time ← first_fault_or (separator_table text) (time_front behavior (drop 11 text))
   Ok (record { date = date.0; time = time.0 }, 11 + time.1)
 
 -- the date-time that a text is, or the text's fault
-abbrev pub date_time_answer : MicrosecondsPrecisionOverflowBehavior → List ℕ → Result DateAndTime ParseError
+abbrev pub date_time_answer : Behavior → List ℕ → Result DateAndTime ParseError
 date_time_answer behavior text = do
   value ← date_time_front behavior text
-  alone (λ read. end_fault read.time.offset) text value
+  whole_or_fault (λ read. end_fault read.time.offset) text value
 
 -- the one text by which a date-time is printed
 abbrev pub date_time_text : DateAndTime → List ℕ
@@ -101,12 +107,12 @@ date_time_text value = date_text value.date ++ capital_t ∷ time_text value.tim
 -- the date-time at an instant, with the offset attached: nothing is shifted
 abbrev pub date_time_at : Option ℤ → Instant → DateAndTime
 date_time_at offset instant = record {
-  date = date_after (day_at instant.second);
+  date = date_of_number (day_at instant.second);
   time = time_at (second_at instant.second) instant.microsecond offset;
 }
 
--- a date-time's clock shows the second and the microsecond of an instant as they are, with the offset attached: nothing is
--- shifted
+-- a date-time's clock shows the second and the microsecond of an instant as they are, with the
+-- offset attached: nothing is shifted
 pub record IsShownAt (offset : Option ℤ) (instant : Instant) (value : DateAndTime) : Type 0 where
   pub second : local_second value ≡ instant.second
   pub microsecond : value.time.microsecond ≡ instant.microsecond
@@ -116,9 +122,10 @@ pub record IsShownAt (offset : Option ℤ) (instant : Instant) (value : DateAndT
 abbrev pub instant_date_time : Option ℤ → Instant → Result DateAndTime ParseError
 instant_date_time offset instant = result_map (date_time_at offset) (range_answer instant)
 
--- the date-time of a timestamp and additional microseconds, or the fault: the unit's comes first, then those of the sums, then
--- those of the years
-abbrev pub date_time_timestamp_answer : TimestampUnit → Option ℤ → ℕ → ℤ → Result DateAndTime ParseError
+-- the date-time of a timestamp and additional microseconds, or the fault: the unit's comes first,
+-- then those of the sums, then those of the years
+abbrev pub date_time_timestamp_answer : TimestampUnit → Option ℤ → ℕ → ℤ
+    → Result DateAndTime ParseError
 date_time_timestamp_answer unit offset microseconds timestamp = do
   instant ← instant_answer unit timestamp
   later ← later_answer microseconds instant
@@ -126,39 +133,54 @@ date_time_timestamp_answer unit offset microseconds timestamp = do
 
 -- the microseconds since 1970-01-01T00:00:00 that a timestamp and the additional ones mean
 abbrev pub meant_microsecond : TimestampUnit → ℕ → ℤ → ℤ
-meant_microsecond unit microseconds timestamp = timestamp_microsecond unit timestamp +ℤ pos microseconds
+meant_microsecond unit microseconds timestamp =
+    timestamp_microsecond unit timestamp +ℤ pos microseconds
 
 -- the date-time of a decimal timestamp, or the fault
-abbrev pub date_time_decimal_answer : TimestampUnit → Option ℤ → DecimalParts → Result DateAndTime ParseError
-date_time_decimal_answer unit offset decimal = instant_date_time offset (decimal_instant (decimal_row unit decimal) decimal)
+abbrev pub date_time_decimal_answer : TimestampUnit → Option ℤ → DecimalParts
+    → Result DateAndTime ParseError
+date_time_decimal_answer unit offset decimal =
+    instant_date_time offset (decimal_instant (decimal_row unit decimal) decimal)
 
 -- the date-time of a decimal timestamp in a text, whose digits may be counted first, or the fault
-abbrev pub date_time_decimal_text : TimestampUnit → MicrosecondsPrecisionOverflowBehavior → Option ℤ → DecimalParts → Result DateAndTime ParseError
+abbrev pub date_time_decimal_text : TimestampUnit → Behavior → Option ℤ → DecimalParts
+    → Result DateAndTime ParseError
 date_time_decimal_text unit behavior offset decimal =
-    meets (digits_table behavior (decimal_row unit decimal) decimal) (date_time_decimal_answer unit offset decimal)
+    first_fault_or (digits_table behavior (decimal_row unit decimal) decimal)
+    (date_time_decimal_answer unit offset decimal)
 
 -- the answer to a number in a text, if there is one
-abbrev pub date_time_number_answer : TimestampUnit → MicrosecondsPrecisionOverflowBehavior → Option ℤ → Number → Option (Result DateAndTime ParseError)
-date_time_number_answer unit behavior offset (Whole timestamp) = Some (date_time_timestamp_answer unit offset 0 timestamp)
-date_time_number_answer unit behavior offset (Fractional decimal) = Some (date_time_decimal_text unit behavior offset decimal)
+abbrev pub date_time_number_answer : TimestampUnit → Behavior → Option ℤ → Number
+    → Option (Result DateAndTime ParseError)
+date_time_number_answer unit behavior offset (Whole timestamp) =
+    Some (date_time_timestamp_answer unit offset 0 timestamp)
+date_time_number_answer unit behavior offset (Fractional decimal) =
+    Some (date_time_decimal_text unit behavior offset decimal)
 date_time_number_answer unit behavior offset NoNumber = None
 
 -- the date-time that a text is, as its text or as a timestamp, or the text's fault
-abbrev pub date_time_or_timestamp : TimestampUnit → MicrosecondsPrecisionOverflowBehavior → Option ℤ → List ℕ → Result DateAndTime ParseError
+abbrev pub date_time_or_timestamp : TimestampUnit → Behavior → Option ℤ → List ℕ
+    → Result DateAndTime ParseError
 date_time_or_timestamp unit behavior offset text =
-    or_number (date_time_number_answer unit behavior offset (number_answer text)) (date_time_answer behavior text)
+    or_number (date_time_number_answer unit behavior offset (number_answer text))
+    (date_time_answer behavior text)
 
--- the date-time that a text is, as its text or as a timestamp, by a configuration, or the text's fault
+-- the date-time that a text is, as its text or as a timestamp, by a configuration, or the text's
+-- fault
 abbrev pub date_time_by_config : DateTimeConfig → List ℕ → Result DateAndTime ParseError
 date_time_by_config config text =
     let time = config.time_config in
-    date_time_or_timestamp config.timestamp_unit time.microseconds_precision_overflow_behavior time.unix_timestamp_offset text
+    date_time_or_timestamp config.timestamp_unit time.microseconds_precision_overflow_behavior
+    time.unix_timestamp_offset text
 
 -- the moment of a second and a microsecond, as an instant, or the fault
 abbrev pub new_moment_answer : ℕ → ℕ → Result Instant ParseError
-new_moment_answer second microsecond = meets (microsecond_range microsecond ∷ []) (Ok (record { second = pos second; microsecond = microsecond }))
+new_moment_answer second microsecond =
+    first_fault_or (microsecond_range microsecond ∷ [])
+    (Ok (record { second = pos second; microsecond = microsecond }))
 
--- What a clock tells: a moment since 1970-01-01T00:00:00 in UTC (Unix time), or none if it stands before that.
+-- What a clock tells: a moment since 1970-01-01T00:00:00 in UTC (Unix time), or none if it stands
+-- before that.
 
 -- a moment as an instant
 abbrev pub moment_instant : Moment → Instant
@@ -167,68 +189,40 @@ moment_instant moment = record { second = pos moment.second; microsecond = momen
 -- the date-time of a moment, as a clock at the offset shows it, if it is in the years 0000 to 9999
 abbrev pub moment_answer : ℤ → Moment → Result DateAndTime ParseError
 moment_answer offset moment =
-    meets ((int_le (pos moment.second) last_second else_fault fault.DateTooLarge) ∷ offset_table (Some offset))
-    (instant_date_time (Some offset) (record { second = pos moment.second +ℤ offset; microsecond = moment.microsecond }))
+    first_fault_or
+    ((int_le (pos moment.second) last_second else_fault ParseError.DateTooLarge)
+    ∷ offset_table (Some offset))
+    (instant_date_time (Some offset)
+    (record { second = pos moment.second +ℤ offset; microsecond = moment.microsecond }))
 
 -- the date-time of what a clock tells
 abbrev pub now_answer : ℤ → Option Moment → Result DateAndTime ParseError
-now_answer offset None = Err fault.SystemTimeError
+now_answer offset None = Err ParseError.SystemTimeError
 now_answer offset (Some moment) = moment_answer offset moment
 
 -- the date of what a clock tells
 abbrev pub today_answer : ℤ → Option Moment → Result Ymd ParseError
 today_answer offset told = result_map (λ value. value.date) (now_answer offset told)
 
--- Times and date-times at other offsets: the same clock with another offset, or the same instant as another clock shows it.
-
--- a time with another offset, or with none: what the clock shows stays
-abbrev pub time_with_offset : Option ℤ → TimeOfDay → Result TimeOfDay ParseError
-time_with_offset offset time = meets (offset_table offset) (Ok (record time { offset = offset }))
+-- Date-times at other offsets: the same clock with another offset, or the same instant as another
+-- clock shows it.
 
 -- a date-time with another offset, or with none: what the clock shows stays
 abbrev pub date_time_with_offset : Option ℤ → DateAndTime → Result DateAndTime ParseError
-date_time_with_offset offset value = meets (offset_table offset) (Ok (record value { time = record value.time { offset = offset } }))
+date_time_with_offset offset value =
+    first_fault_or (offset_table offset)
+    (Ok (record value { time = record value.time { offset = offset } }))
 
--- what a move to another offset has to meet: that one is in its range, and there is an old one, at which a clock shows the
--- instant now
-abbrev pub move_table : ℤ → Option ℤ → List Requirement
-move_table offset old = offset_table (Some offset) ++ (is_some old else_fault fault.TzRequired) ∷ []
-
--- the time at the same instant, as a clock at another offset shows it: it has no date that could change
-abbrev pub time_in_timezone : ℤ → TimeOfDay → Result TimeOfDay ParseError
-time_in_timezone offset time =
-    let second = utc_second_of_day time +ℤ offset in
-    let is_second_of_day = int_le (pos 0) second && int_lt second (pos seconds_per_day) in
-    meets (move_table offset time.offset ++ (is_second_of_day else_fault fault.TimeTooLarge) ∷ [])
-    (Ok (time_at (unsigned_abs second) time.microsecond (Some offset)))
-
--- the date-time at the same instant, as a clock at another offset shows it, if that is in the years 0000 to 9999
+-- the date-time at the same instant, as a clock at another offset shows it, if that is in the years
+-- 0000 to 9999
 abbrev pub date_time_in_timezone : ℤ → DateAndTime → Result DateAndTime ParseError
 date_time_in_timezone offset value =
-    meets (move_table offset value.time.offset)
-    (instant_date_time (Some offset) (record { second = utc_second value +ℤ offset; microsecond = value.time.microsecond }))
+    first_fault_or (move_table offset value.time.offset)
+    (instant_date_time (Some offset)
+    (record { second = utc_second value +ℤ offset; microsecond = value.time.microsecond }))
 
--- The order of times, and of date-times, by instant: in UTC if both have an offset, and otherwise as clocks show them. A time
--- is taken to be one of 1970-01-01.
-
--- the order of instants: by second, then by microsecond
-abbrev pub instant_order : Instant → Instant → Ordering
-instant_order = then_cmp (on (λ instant. instant.second) int_cmp) (on (λ instant. instant.microsecond) nat_cmp)
-
--- the order of values by their instants, which are those in UTC if both have an offset
-abbrev pub by_instant : {K : Type 0} → (K → Option ℤ) → (Bool → K → Instant) → K → K → Ordering
-by_instant offset instant first second = on (instant (is_some (offset first) && is_some (offset second))) instant_order first second
-
--- the instant of a time, in UTC or as a clock shows it
-abbrev pub time_instant : Bool → TimeOfDay → Instant
-time_instant is_utc time = record {
-  second = if is_utc then utc_second_of_day time else pos (second_of_day time);
-  microsecond = time.microsecond;
-}
-
--- the order of times by instant
-abbrev pub time_instant_order : TimeOfDay → TimeOfDay → Ordering
-time_instant_order = by_instant (λ time. time.offset) time_instant
+-- The order of date-times by instant: in UTC if both have an offset, and otherwise as clocks show
+-- them.
 
 -- the instant of a date-time, in UTC or as a clock shows it
 abbrev pub date_time_instant : Bool → DateAndTime → Instant
@@ -240,11 +234,3 @@ date_time_instant is_utc value = record {
 -- the order of date-times by instant
 abbrev pub date_time_instant_order : DateAndTime → DateAndTime → Ordering
 date_time_instant_order = by_instant (λ value. value.time.offset) date_time_instant
-
--- both of two values have an offset, or neither has
-abbrev pub BothOrNeither : Option ℤ → Option ℤ → Type 0
-BothOrNeither first second = is_some first ≡ is_some second
-
--- an order of two values says that the first is not after the second
-abbrev pub IsNotAfter : Ordering → Type 0
-IsNotAfter order = IsTrue (is_le order)

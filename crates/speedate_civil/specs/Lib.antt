@@ -1,6 +1,8 @@
+pub mod Base
 pub mod Calendar
+pub mod Instant
 pub mod Date
 pub mod DateTime
 pub mod Time
-pub mod Reader
+pub mod ParserParts
 pub mod Standard

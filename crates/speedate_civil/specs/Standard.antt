@@ -1,24 +1,27 @@
--- The texts of RFC 3339 alone: what a relaxed text has to meet besides, and the same as a grammar of its own.
+-- The texts of RFC 3339 alone: what a relaxed text has to meet besides, and the same as a grammar
+-- of its own.
 use Rattle.std.specs.Prelude.{◌≡◌, ◌⊎◌, ℕ, ◌≤◌, true, List, [], ◌∷◌, ◌++◌, length, ◌+◌, not, ◌||◌, drop, nat_lt, ◌==◌, slice_index, if◌then◌else◌, Result, Ok}
+use Rattle.speedate_civil.specs.Base.{Behavior, ParseError}
 use Rattle.std.specs.Char.{is_ascii_digit}
 use Rattle.std.specs.Int.{IsInRange}
 use Rattle.std.specs.List.{list_all}
 use Rattle.speedate_base.specs.Ascii.{plus_sign, hyphen, colon, full_stop, capital_t, capital_z, small_t, small_z, comma}
 use Rattle.speedate_base.specs.Config.{refuses_digits}
 use Rattle.speedate_base.specs.Digits.{two_digit_text, four_digit_text, run_length}
-use Rattle.speedate_base.specs.Requirement.{Requirement, ◌else_fault◌, meets, ◌>>=◌}
+use Rattle.speedate_base.specs.Requirement.{Requirement, ◌else_fault◌, first_fault_or, ◌>>=◌}
 use Rattle.speedate_civil.specs.Calendar.{month_length}
 use Rattle.speedate_civil.specs.DateTime.{DateAndTime, date_time_answer}
-use Rattle.speedate_civil.specs.Time.{has_minus_sign, is_utc, TimeOfDay, time_answer, ParseError, MicrosecondsPrecisionOverflowBehavior, fault}
+use Rattle.speedate_civil.specs.Time.{has_minus_sign, is_utc, TimeOfDay, time_answer}
 
--- a text is 2DIGIT, as time-hour, time-minute and time-second are (RFC 3339 5.6): the digits of a number up to the highest
+-- a text is 2DIGIT, as time-hour, time-minute and time-second are (RFC 3339 5.6): the digits of a
+-- number up to the highest
 pub record IsTwoDigits (highest : ℕ) (text : List ℕ) : Type 0 where
   pub number : ℕ
   pub within : number ≤ highest
   pub together : text ≡ two_digit_text number
 
 -- a text is time-secfrac (RFC 3339 5.6)
-pub record IsSecfrac (behavior : MicrosecondsPrecisionOverflowBehavior) (text : List ℕ) : Type 0 where
+pub record IsSecfrac (behavior : Behavior) (text : List ℕ) : Type 0 where
   pub digits : List ℕ
   pub are_digits : list_all is_ascii_digit digits ≡ true
   pub some : 1 ≤ length digits
@@ -26,7 +29,7 @@ pub record IsSecfrac (behavior : MicrosecondsPrecisionOverflowBehavior) (text : 
   pub together : text ≡ full_stop ∷ digits
 
 -- a text is partial-time (RFC 3339 5.6)
-pub record IsPartialTime (behavior : MicrosecondsPrecisionOverflowBehavior) (text : List ℕ) : Type 0 where
+pub record IsPartialTime (behavior : Behavior) (text : List ℕ) : Type 0 where
   pub hour : List ℕ
   pub minute : List ℕ
   pub second : List ℕ
@@ -52,7 +55,7 @@ abbrev pub IsTimeOffset : List ℕ → Type 0
 IsTimeOffset text = (text ≡ capital_z ∷ []) ⊎ ((text ≡ small_z ∷ []) ⊎ IsNumoffset text)
 
 -- a text is full-time (RFC 3339 5.6)
-pub record IsFullTime (behavior : MicrosecondsPrecisionOverflowBehavior) (text : List ℕ) : Type 0 where
+pub record IsFullTime (behavior : Behavior) (text : List ℕ) : Type 0 where
   pub time : List ℕ
   pub offset : List ℕ
   pub is_time : IsPartialTime behavior time
@@ -67,10 +70,11 @@ pub record IsFullDate (text : List ℕ) : Type 0 where
   pub is_year : year ≤ 9999
   pub is_month : IsInRange 1 12 month
   pub is_day : IsInRange 1 (month_length year month) day
-  pub together : text ≡ four_digit_text year ++ hyphen ∷ two_digit_text month ++ hyphen ∷ two_digit_text day
+  pub together : text ≡ four_digit_text year ++ hyphen ∷ two_digit_text month ++ hyphen
+      ∷ two_digit_text day
 
 -- a text is date-time (RFC 3339 5.6)
-pub record IsDateTime (behavior : MicrosecondsPrecisionOverflowBehavior) (text : List ℕ) : Type 0 where
+pub record IsDateTime (behavior : Behavior) (text : List ℕ) : Type 0 where
   pub date : List ℕ
   pub separator : ℕ
   pub time : List ℕ
@@ -79,42 +83,46 @@ pub record IsDateTime (behavior : MicrosecondsPrecisionOverflowBehavior) (text :
   pub is_time : IsFullTime behavior time
   pub together : text ≡ date ++ separator ∷ time
 
--- The texts of RFC 3339 5.6 alone: what a text that is read as a time or as a date-time has to meet besides.
--- Departs from it: there is no second 60; if digits past the sixth are refused, a fraction has at most six.
+-- The texts of RFC 3339 5.6 alone: what a text that is read as a time or as a date-time has to meet
+-- besides. Departs from it: there is no second 60; if digits past the sixth are refused, a fraction
+-- has at most six.
 
--- the place of the offset in the text of a time with a second: after the second, or after the digits of its fraction
+-- the place of the offset in the text of a time with a second: after the second, or after the
+-- digits of its fraction
 abbrev pub offset_place : List ℕ → ℕ
 offset_place text = if slice_index text 8 == full_stop then 9 + run_length text 9 else 8
 
 -- what the offset of a text that is read as a time has to meet besides, to be one of RFC 3339
 abbrev pub standard_offset : List ℕ → List Requirement
 standard_offset rest =
-    (nat_lt 0 (length rest) else_fault fault.TzRequired)
-    ∷ (not (has_minus_sign rest) else_fault fault.InvalidCharTzSign)
-    ∷ ((is_utc (slice_index rest 0) || (slice_index rest 3 == colon)) else_fault fault.InvalidCharTzMinute)
+    (nat_lt 0 (length rest) else_fault ParseError.TzRequired)
+    ∷ (not (has_minus_sign rest) else_fault ParseError.InvalidCharTzSign)
+    ∷ ((is_utc (slice_index rest 0) || (slice_index rest 3 == colon))
+    else_fault ParseError.InvalidCharTzMinute)
     ∷ []
 
 -- what a text that is read as a time has to meet besides, to be one of RFC 3339
 abbrev pub standard_time : List ℕ → List Requirement
 standard_time text =
-    (slice_index text 5 == colon else_fault fault.InvalidCharTimeSep)
-    ∷ (not (slice_index text 8 == comma) else_fault fault.InvalidCharTzSign)
+    (slice_index text 5 == colon else_fault ParseError.InvalidCharTimeSep)
+    ∷ (not (slice_index text 8 == comma) else_fault ParseError.InvalidCharTzSign)
     ∷ standard_offset (drop (offset_place text) text)
 
 -- what a text that is read as a date-time has to meet besides, to be one of RFC 3339
 abbrev pub standard_date_time : List ℕ → List Requirement
 standard_date_time text =
-    (((slice_index text 10 == capital_t) || (slice_index text 10 == small_t)) else_fault fault.InvalidCharDateTimeSep)
+    (((slice_index text 10 == capital_t) || (slice_index text 10 == small_t))
+    else_fault ParseError.InvalidCharDateTimeSep)
     ∷ standard_time (drop 11 text)
 
 -- the time that a text of RFC 3339 is, or the text's fault
-abbrev pub strict_time_answer : MicrosecondsPrecisionOverflowBehavior → List ℕ → Result TimeOfDay ParseError
+abbrev pub strict_time_answer : Behavior → List ℕ → Result TimeOfDay ParseError
 strict_time_answer behavior text = do
   time ← time_answer behavior text
-  meets (standard_time text) (Ok time)
+  first_fault_or (standard_time text) (Ok time)
 
 -- the date-time that a text of RFC 3339 is, or the text's fault
-abbrev pub strict_date_time_answer : MicrosecondsPrecisionOverflowBehavior → List ℕ → Result DateAndTime ParseError
+abbrev pub strict_date_time_answer : Behavior → List ℕ → Result DateAndTime ParseError
 strict_date_time_answer behavior text = do
   value ← date_time_answer behavior text
-  meets (standard_date_time text) (Ok value)
+  first_fault_or (standard_date_time text) (Ok value)

@@ -1,19 +1,20 @@
 -- Times of day: from their numbers, and from texts, a clock and an offset.
-use Rattle.std.specs.Prelude.{ℕ, ◌+◌, ◌*◌, ◌/◌, ◌%◌, ◌≤◌, Option, ℤ, pos, ◌-ℤ◌, Result, Ok, [], ◌∷◌, nat_lt, List, nat_le, Bool, ◌&&◌, ◌||◌, ◌++◌, length, drop, ◌==◌, slice_index, if◌then◌else◌, true, Some, None, unsigned_abs, is_some, not, ◌≡◌}
+use Rattle.std.specs.Prelude.{ℕ, ◌+◌, ◌*◌, ◌/◌, ◌%◌, ◌≤◌, Option, ℤ, pos, ◌-ℤ◌, Result, Ok, [], ◌∷◌, nat_lt, List, nat_le, Bool, ◌&&◌, ◌||◌, ◌++◌, length, drop, ◌==◌, slice_index, if◌then◌else◌, true, Some, None, unsigned_abs, is_some, not, ◌≡◌, ◌+ℤ◌, int_le, int_lt}
 use Rattle.std.specs.Char.{is_ascii_digit}
 use Rattle.std.specs.Int.{is_negative}
 use Rattle.std.specs.Option.{ForSome, unwrap_or}
-pub use Rattle.speedate_base.specs.declared.config.MicrosecondsPrecisionOverflowBehavior.{MicrosecondsPrecisionOverflowBehavior, MicrosecondsPrecisionOverflowBehavior as behavior}
-pub use Rattle.speedate_base.specs.declared.faults.ParseError.{ParseError, ParseError as fault}
+use Rattle.std.specs.declared.cmp.Ordering.{Ordering}
+use Rattle.speedate_civil.specs.Base.{Behavior, ParseError}
 use Rattle.speedate_base.specs.Ascii.{colon, full_stop, plus_sign, hyphen, capital_z, small_z}
 use Rattle.speedate_base.specs.Config.{refuses_digits}
 use Rattle.speedate_base.specs.Digits.{run_length, run_digits, fraction_value, two_digits_at, two_digit_value, two_digit_text, six_digit_text, is_decimal_mark}
 use Rattle.speedate_base.specs.Numbers.{with_sign}
 use Rattle.speedate_base.specs.Offset.{IsOffset, offset_table}
-use Rattle.speedate_base.specs.Timestamp.{seconds_per_day}
-use Rattle.speedate_base.specs.Requirement.{◌else_fault◌, meets, Requirement, ◌implies◌, result_map, alone, ◌>>=◌, with_size}
+use Rattle.speedate_base.specs.Timestamp.{Instant, seconds_per_day}
+use Rattle.speedate_base.specs.Requirement.{◌else_fault◌, first_fault_or, Requirement, ◌implies◌, result_map, whole_or_fault, with_size, ◌>>=◌}
 pub use Rattle.speedate_civil.specs.declared.time.Time.{Time}
 use Rattle.speedate_civil.specs.declared.time.pure.PureTime.{PureTime}
+use Rattle.speedate_civil.specs.Instant.{by_instant, move_table}
 
 -- a time of day by its numbers, and its offset from UTC in seconds, if it has one
 pub record TimeOfDay : Type 0 where
@@ -35,8 +36,9 @@ pub record IsTime (time : TimeOfDay) : Type 0 where
 abbrev pub second_of_day : TimeOfDay → ℕ
 second_of_day time = 3600 * time.hour + 60 * time.minute + time.second
 
--- the seconds of a time since midnight in UTC: the offset is subtracted (RFC 3339 4.2), and an absent one counts as 0, which
--- is the library's own rule; a time at an offset can lie on the day before, or on the day after
+-- the seconds of a time since midnight in UTC: the offset is subtracted (RFC 3339 4.2), and an
+-- absent one counts as 0, which is the library's own rule; a time at an offset can lie on the day
+-- before, or on the day after
 abbrev pub utc_second_of_day : TimeOfDay → ℤ
 utc_second_of_day time = pos (second_of_day time) -ℤ unwrap_or time.offset (pos 0)
 
@@ -58,11 +60,13 @@ time_at seconds microsecond offset = record {
   offset = offset;
 }
 
--- the time of seconds and microseconds after midnight, with the offset attached, if it is still the same day
+-- the time of seconds and microseconds after midnight, with the offset attached, if it is still the
+-- same day
 abbrev pub timestamp_answer : ℕ → ℕ → Option ℤ → Result TimeOfDay ParseError
 timestamp_answer seconds microseconds offset =
     let whole = seconds + microseconds / 1000000 in
-    meets ((nat_lt whole seconds_per_day else_fault fault.TimeTooLarge) ∷ []) (Ok (time_at whole (microseconds % 1000000) offset))
+    first_fault_or ((nat_lt whole seconds_per_day else_fault ParseError.TimeTooLarge) ∷ [])
+    (Ok (time_at whole (microseconds % 1000000) offset))
 
 -- the numbers of a time
 abbrev pub time_of_day : Time → TimeOfDay
@@ -80,29 +84,38 @@ abbrev pub ◌gives◌ : Result Time ParseError → Result TimeOfDay ParseError 
 result gives answer = result_map time_of_day result ≡ answer
 
 infix 15 ◌gives_front◌
--- the answer of a call for the front of a text, a time seen as its numbers and how many bytes it takes, is the given one
+-- the answer of a call for the front of a text, a time seen as its numbers and how many bytes it
+-- takes, is the given one
 abbrev pub ◌gives_front◌ : Result (Time × ℕ) ParseError → Result (TimeOfDay × ℕ) ParseError → Type 0
 result gives_front front = result_map (with_size time_of_day) result ≡ front
 
 -- what microseconds of a second have to meet
 abbrev pub microsecond_range : ℕ → Requirement
-microsecond_range microsecond = nat_le microsecond 999999 else_fault fault.TimeTooLarge
+microsecond_range microsecond = nat_le microsecond 999999 else_fault ParseError.TimeTooLarge
 
--- the time of an hour, a minute, a second, a microsecond and an offset, or the fault of the first that is out of range
+-- the time of an hour, a minute, a second, a microsecond and an offset, or the fault of the first
+-- that is out of range
 abbrev pub new_time_answer : ℕ → ℕ → ℕ → ℕ → Option ℤ → Result TimeOfDay ParseError
 new_time_answer hour minute second microsecond offset =
-    meets (
-    (nat_le hour 23 else_fault fault.OutOfRangeHour)
-    ∷ (nat_le minute 59 else_fault fault.OutOfRangeMinute)
-    ∷ (nat_le second 59 else_fault fault.OutOfRangeSecond)
+    first_fault_or (
+    (nat_le hour 23 else_fault ParseError.OutOfRangeHour)
+    ∷ (nat_le minute 59 else_fault ParseError.OutOfRangeMinute)
+    ∷ (nat_le second 59 else_fault ParseError.OutOfRangeSecond)
     ∷ microsecond_range microsecond
     ∷ offset_table offset)
-    (Ok (record { hour = hour; minute = minute; second = second; microsecond = microsecond; offset = offset }))
+    (Ok (record {
+      hour = hour;
+      minute = minute;
+      second = second;
+      microsecond = microsecond;
+      offset = offset;
+    }))
 
--- A clock at the front of a text: an hour, a minute, and a second with a fraction (RFC 3339 5.6, partial-time; the
--- ranges are those of its 5.7). `text` begins with the hour, and `rest` with the minute.
--- Departs from it: there is no second 60; a fraction has at most six digits, or further ones are dropped; the second may be
--- left out, with its fraction; the decimal mark may be a comma, as in ISO 8601.
+-- A clock at the front of a text: an hour, a minute, and a second with a fraction (RFC 3339 5.6,
+-- partial-time; the ranges are those of its 5.7). `text` begins with the hour, and `rest` with the
+-- minute. Departs from it: there is no second 60; a fraction has at most six digits, or further
+-- ones are dropped; the second may be left out, with its fraction; the decimal mark may be a comma,
+-- as in ISO 8601.
 
 -- the numbers of a clock, and how many bytes of the text it takes
 pub record Clock : Type 0 where
@@ -141,45 +154,53 @@ at_hour hour clock = record clock { hour = hour; size = 3 + clock.size }
 -- what a text has to meet to begin with an hour
 abbrev pub hour_table : List ℕ → List Requirement
 hour_table text =
-    (nat_le 5 (length text) else_fault fault.TooShort)
-    ∷ (two_digits_at text 0 else_fault fault.InvalidCharHour)
-    ∷ (slice_index text 2 == colon else_fault fault.InvalidCharTimeSep)
+    (nat_le 5 (length text) else_fault ParseError.TooShort)
+    ∷ (two_digits_at text 0 else_fault ParseError.InvalidCharHour)
+    ∷ (slice_index text 2 == colon else_fault ParseError.InvalidCharTimeSep)
     ∷ []
 
 -- what the minute of a clock has to meet: its characters are digits
 abbrev pub minute_digits : List ℕ → List Requirement
-minute_digits rest = (two_digits_at rest 0 else_fault fault.InvalidCharMinute) ∷ []
+minute_digits rest = (two_digits_at rest 0 else_fault ParseError.InvalidCharMinute) ∷ []
 
 -- what the hour of a clock has to meet: its range
 abbrev pub hour_range : List ℕ → List Requirement
-hour_range text = (nat_le (two_digit_value text 0) 23 else_fault fault.OutOfRangeHour) ∷ []
+hour_range text = (nat_le (two_digit_value text 0) 23 else_fault ParseError.OutOfRangeHour) ∷ []
 
 -- what the second of a clock, and its fraction, have to meet, if they are there
-abbrev pub second_table : MicrosecondsPrecisionOverflowBehavior → List ℕ → List Requirement
+abbrev pub second_table : Behavior → List ℕ → List Requirement
 second_table behavior rest =
-    ((has_second rest implies two_digits_at rest 3) else_fault fault.InvalidCharSecond)
-    ∷ ((has_second rest implies nat_le (two_digit_value rest 3) 59) else_fault fault.OutOfRangeSecond)
-    ∷ ((has_fraction rest implies nat_lt 0 (run_length rest 6)) else_fault fault.SecondFractionMissing)
-    ∷ (((has_fraction rest && refuses_digits behavior) implies nat_le (run_length rest 6) 6) else_fault fault.SecondFractionTooLong)
+    ((has_second rest implies two_digits_at rest 3) else_fault ParseError.InvalidCharSecond)
+    ∷ ((has_second rest implies nat_le (two_digit_value rest 3) 59)
+    else_fault ParseError.OutOfRangeSecond)
+    ∷ ((has_fraction rest implies nat_lt 0 (run_length rest 6))
+    else_fault ParseError.SecondFractionMissing)
+    ∷ (((has_fraction rest && refuses_digits behavior) implies nat_le (run_length rest 6) 6)
+    else_fault ParseError.SecondFractionTooLong)
     ∷ []
 
--- what a clock has to meet after the digits of its minute: the minute's range, then the second and the fraction
-abbrev pub minute_table : MicrosecondsPrecisionOverflowBehavior → List ℕ → List Requirement
-minute_table behavior rest = (nat_le (two_digit_value rest 0) 59 else_fault fault.OutOfRangeMinute) ∷ second_table behavior rest
+-- what a clock has to meet after the digits of its minute: the minute's range, then the second and
+-- the fraction
+abbrev pub minute_table : Behavior → List ℕ → List Requirement
+minute_table behavior rest =
+    (nat_le (two_digit_value rest 0) 59 else_fault ParseError.OutOfRangeMinute)
+    ∷ second_table behavior rest
 
 -- the clock whose minute begins a text, given that it is two digits, or the text's fault
-abbrev pub clock_answer : MicrosecondsPrecisionOverflowBehavior → List ℕ → Result Clock ParseError
-clock_answer behavior rest = meets (minute_table behavior rest) (Ok (minute_clock rest))
+abbrev pub clock_answer : Behavior → List ℕ → Result Clock ParseError
+clock_answer behavior rest = first_fault_or (minute_table behavior rest) (Ok (minute_clock rest))
 
 -- the clock, from its minute on, at the front of a text, or the text's fault
-abbrev pub minute_front : MicrosecondsPrecisionOverflowBehavior → List ℕ → Result Clock ParseError
-minute_front behavior rest = meets (minute_digits rest) (clock_answer behavior rest)
+abbrev pub minute_front : Behavior → List ℕ → Result Clock ParseError
+minute_front behavior rest = first_fault_or (minute_digits rest) (clock_answer behavior rest)
 
 -- the clock, from its hour on, at the front of a text, or the text's fault
-abbrev pub clock_front : MicrosecondsPrecisionOverflowBehavior → List ℕ → Result Clock ParseError
+abbrev pub clock_front : Behavior → List ℕ → Result Clock ParseError
 clock_front behavior text =
     let rest = drop 3 text in
-    meets (hour_table text) (meets (minute_digits rest) (meets (hour_range text)
+    first_fault_or (hour_table text)
+    (first_fault_or (minute_digits rest)
+    (first_fault_or (hour_range text)
     (result_map (at_hour (two_digit_value text 0)) (clock_answer behavior rest))))
 
 -- a minute and a second in print
@@ -200,10 +221,10 @@ clock_parts time = record {
   size = time.size;
 }
 
--- The offset after a time (RFC 3339 5.6, time-offset; the ranges are those of its 5.7). `rest` is what follows the time,
--- and `numbers` what follows the sign.
--- Departs from it: the offset may be left out, and so may its `:`; the sign may be U+2212, as in ISO 8601; `-00:00` is the
--- offset 0, which for RFC 3339 4.3 is an unknown one.
+-- The offset after a time (RFC 3339 5.6, time-offset; the ranges are those of its 5.7). `rest` is
+-- what follows the time, and `numbers` what follows the sign. Departs from it: the offset may be
+-- left out, and so may its `:`; the sign may be U+2212, as in ISO 8601; `-00:00` is the offset 0,
+-- which for RFC 3339 4.3 is an unknown one.
 
 -- a byte is `+` or `-`
 abbrev pub is_plus_or_minus : ℕ → Bool
@@ -215,7 +236,8 @@ is_utc byte = (byte == capital_z) || (byte == small_z)
 
 -- the three bytes of U+2212, the minus sign
 abbrev pub has_minus_sign : List ℕ → Bool
-has_minus_sign rest = (slice_index rest 0 == 0xe2) && (slice_index rest 1 == 0x88) && (slice_index rest 2 == 0x92)
+has_minus_sign rest =
+    (slice_index rest 0 == 0xe2) && (slice_index rest 1 == 0x88) && (slice_index rest 2 == 0x92)
 
 -- the place of the minute of an offset, after the hour and an optional `:`
 abbrev pub offset_minute_place : List ℕ → ℕ
@@ -236,38 +258,43 @@ offset_size numbers = 3600 * two_digit_value numbers 0 + 60 * offset_minute numb
 -- what the digits of an offset after its sign have to be
 abbrev pub offset_digits : List ℕ → List Requirement
 offset_digits numbers =
-    (two_digits_at numbers 0 else_fault fault.InvalidCharTzHour)
-    ∷ (two_digits_at numbers (offset_minute_place numbers) else_fault fault.InvalidCharTzMinute)
+    (two_digits_at numbers 0 else_fault ParseError.InvalidCharTzHour)
+    ∷ (two_digits_at numbers (offset_minute_place numbers)
+    else_fault ParseError.InvalidCharTzMinute)
     ∷ []
 
 -- what the numbers of an offset have to meet: their ranges
 abbrev pub offset_ranges : List ℕ → List Requirement
 offset_ranges numbers =
-    (nat_le (offset_minute numbers) 59 else_fault fault.OutOfRangeTzMinute)
-    ∷ (nat_lt (offset_size numbers) seconds_per_day else_fault fault.OutOfRangeTz)
+    (nat_le (offset_minute numbers) 59 else_fault ParseError.OutOfRangeTzMinute)
+    ∷ (nat_lt (offset_size numbers) seconds_per_day else_fault ParseError.OutOfRangeTz)
     ∷ []
 
 -- the offset after a sign, which is given by its bytes, and how many bytes both take, or the fault
 abbrev pub signed_front : Bool → ℕ → List ℕ → Result (Option ℤ × ℕ) ParseError
 signed_front west sign numbers =
-    meets (offset_digits numbers) (meets (offset_ranges numbers)
+    first_fault_or (offset_digits numbers) (first_fault_or (offset_ranges numbers)
     (Ok (Some (with_sign west (offset_size numbers)), sign + offset_digits_size numbers)))
 
--- the offset that follows a time, if any, and how many bytes it takes, or the fault of what follows it
+-- the offset that follows a time, if any, and how many bytes it takes, or the fault of what follows
+-- it
 abbrev pub offset_front : List ℕ → Result (Option ℤ × ℕ) ParseError
 offset_front rest =
-    if is_plus_or_minus (slice_index rest 0) then signed_front (slice_index rest 0 == hyphen) 1 (drop 1 rest)
+    if is_plus_or_minus (slice_index rest 0)
+    then signed_front (slice_index rest 0 == hyphen) 1 (drop 1 rest)
     else (if is_utc (slice_index rest 0) then Ok (Some (pos 0), 1)
     else (if has_minus_sign rest then signed_front true 3 (drop 3 rest)
     else Ok (None, 0)))
 
 -- an offset begins a text: a sign, `Z` or `z`
 abbrev pub begins_offset : List ℕ → Bool
-begins_offset rest = is_plus_or_minus (slice_index rest 0) || is_utc (slice_index rest 0) || has_minus_sign rest
+begins_offset rest =
+    is_plus_or_minus (slice_index rest 0) || is_utc (slice_index rest 0) || has_minus_sign rest
 
 -- the fault of a text that goes on after a time with an offset, or after one without
 abbrev pub end_fault : Option ℤ → ParseError
-end_fault offset = if is_some offset then fault.ExtraCharacters else fault.InvalidCharTzSign
+end_fault offset =
+    if is_some offset then ParseError.ExtraCharacters else ParseError.InvalidCharTzSign
 
 -- hours and minutes in print
 abbrev pub offset_size_text : ℕ → List ℕ
@@ -293,18 +320,19 @@ clock_with_offset clock offset = record {
   offset = offset;
 }
 
--- the time at the front of a text, a clock and the offset that follows it, and how many bytes it takes, or the text's fault
-abbrev pub time_front : MicrosecondsPrecisionOverflowBehavior → List ℕ → Result (TimeOfDay × ℕ) ParseError
+-- the time at the front of a text, a clock and the offset that follows it, and how many bytes it
+-- takes, or the text's fault
+abbrev pub time_front : Behavior → List ℕ → Result (TimeOfDay × ℕ) ParseError
 time_front behavior text = do
   clock ← clock_front behavior text
   offset ← offset_front (drop clock.size text)
   Ok (clock_with_offset clock offset.0, clock.size + offset.1)
 
 -- the time that a text is, or the text's fault
-abbrev pub time_answer : MicrosecondsPrecisionOverflowBehavior → List ℕ → Result TimeOfDay ParseError
+abbrev pub time_answer : Behavior → List ℕ → Result TimeOfDay ParseError
 time_answer behavior text = do
   time ← time_front behavior text
-  alone (λ read. end_fault read.offset) text time
+  whole_or_fault (λ read. end_fault read.offset) text time
 
 -- an hour, a minute and a second in print
 abbrev pub clock_text : TimeOfDay → List ℕ
@@ -314,12 +342,48 @@ clock_text time = two_digit_text time.hour ++ colon ∷ minute_text time.minute 
 abbrev pub time_text : TimeOfDay → List ℕ
 time_text time = clock_text time ++ fraction_text time.microsecond ++ offset_text time.offset
 
--- a text goes on with a fraction after a microsecond in print: with a decimal mark after none, with a digit after six
+-- a text goes on with a fraction after a microsecond in print: with a decimal mark after none, with
+-- a digit after six
 abbrev pub continues_fraction : ℕ → List ℕ → Bool
 continues_fraction microsecond rest =
-    if microsecond == 0 then is_decimal_mark (slice_index rest 0) else is_ascii_digit (slice_index rest 0)
+    if microsecond == 0 then is_decimal_mark (slice_index rest 0)
+    else is_ascii_digit (slice_index rest 0)
 
--- a text that follows a time in print is no part of it: an offset ends it, otherwise neither a fraction nor an offset begins
+-- a text that follows a time in print is no part of it: an offset ends it, otherwise neither a
+-- fraction nor an offset begins
 abbrev pub is_after_time : TimeOfDay → List ℕ → Bool
 is_after_time time rest =
-    is_some time.offset || (not (continues_fraction time.microsecond rest) && not (begins_offset rest))
+    is_some time.offset || (not (continues_fraction time.microsecond rest)
+    && not (begins_offset rest))
+
+-- Times at other offsets: the same clock with another offset, or the same instant as another clock
+-- shows it.
+
+-- a time with another offset, or with none: what the clock shows stays
+abbrev pub time_with_offset : Option ℤ → TimeOfDay → Result TimeOfDay ParseError
+time_with_offset offset time =
+    first_fault_or (offset_table offset) (Ok (record time { offset = offset }))
+
+-- the time at the same instant, as a clock at another offset shows it: it has no date that could
+-- change
+abbrev pub time_in_timezone : ℤ → TimeOfDay → Result TimeOfDay ParseError
+time_in_timezone offset time =
+    let second = utc_second_of_day time +ℤ offset in
+    let is_second_of_day = int_le (pos 0) second && int_lt second (pos seconds_per_day) in
+    first_fault_or (move_table offset time.offset
+    ++ (is_second_of_day else_fault ParseError.TimeTooLarge) ∷ [])
+    (Ok (time_at (unsigned_abs second) time.microsecond (Some offset)))
+
+-- The order of times by instant: in UTC if both have an offset, and otherwise as clocks show them. A
+-- time is taken to be one of 1970-01-01.
+
+-- the instant of a time, in UTC or as a clock shows it
+abbrev pub time_instant : Bool → TimeOfDay → Instant
+time_instant is_utc time = record {
+  second = if is_utc then utc_second_of_day time else pos (second_of_day time);
+  microsecond = time.microsecond;
+}
+
+-- the order of times by instant
+abbrev pub time_instant_order : TimeOfDay → TimeOfDay → Ordering
+time_instant_order = by_instant (λ time. time.offset) time_instant

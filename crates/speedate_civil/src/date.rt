@@ -1,22 +1,18 @@
 //! Dates of the Gregorian calendar, from 0000-01-01 to 9999-12-31.
 
-ghost use Rattle.std.specs.Prelude.{◌≡◌, ◌<◌, ◌≤◌, ◌↔◌, Ok, Some, length};
+ghost use Rattle.std.specs.Prelude.{◌≡◌, ◌≤◌};
 ghost use Rattle.std.specs.Int.{is_in_range, IsInRange};
 ghost use Rattle.speedate_civil.specs.Calendar.{month_length, is_leap_year};
 
 mod day_number;
 mod order;
 mod parse;
+mod text;
 mod timestamp;
 
-use crate::text::two_digit_text;
-use arrayvec::ArrayString;
 pub(crate) use parse::may_be_number;
 use speedate_base::faults::ParseError;
-use std::fmt;
-
-/// How many bytes the text of a date has.
-const TEXT_LENGTH: usize = 10;
+use text::TEXT_LENGTH;
 
 /// A day of the Gregorian calendar, which is carried back to the year 0: 0000-01-01 to 9999-12-31.
 ///
@@ -76,11 +72,7 @@ fn is_day(year: u16, month: u8, day: u8) -> bool
 }
 
 impl Date {
-    ghost use Rattle.std.specs.Prelude.{ℕ, ◌+◌, ◌++◌, List};
-    ghost use Rattle.arrayvec.specs.ArrayString.{array_string_len};
-    ghost use Rattle.speedate_base.specs.declared.config.DateConfig.{DateConfig};
-    ghost use Rattle.speedate_base.specs.Requirement.{result_map};
-    ghost use Rattle.speedate_civil.specs.Date.{ymd, date_front, date_answer, date_text, date_or_timestamp, ◌gives◌, new_date_answer, Date};
+    ghost use Rattle.speedate_civil.specs.Date.{◌gives◌, new_date_answer};
 
     /// The date of a year, a month and a day: 2020-02-29 for 2020, 2 and 29.
     ///
@@ -104,53 +96,5 @@ impl Date {
             return Err(ParseError::OutOfRangeDay);
         }
         Ok(Date { year, month, day })
-    }
-
-    /// The canonical text, `YYYY-MM-DD`: `2020-02-29` for 29 February 2020. It is not allocated;
-    /// `.as_str()` is the text. It reads back as the date under every configuration, and at the front
-    /// of a text too, whatever follows it. No other date has the same text.
-    pub fn to_text(&self) -> ArrayString<TEXT_LENGTH>
-        ensures text { result.bytes ≡ date_text (ymd self.now) }
-        ensures reads_back { date_answer result.bytes ≡ Ok (ymd self.now) }
-        ensures reads_back_with_config { (config : DateConfig)
-            → date_or_timestamp config.timestamp_unit result.bytes ≡ Ok (ymd self.now) }
-        ensures reads_front { (rest : List ℕ)
-            → date_front (result.bytes ++ rest) ≡ Ok (ymd self.now, length result.bytes) }
-        ensures canonical { (config : DateConfig)
-            → result_map date_text (date_or_timestamp config.timestamp_unit result.bytes)
-            ≡ Ok result.bytes }
-        ensures distinct { (other : Date)
-            → (result.bytes ≡ date_text (ymd other)) ↔ (ymd self.now ≡ ymd other) }
-    {
-        let mut text = ArrayString::new();
-        self.push_onto(&mut text);
-        text
-    }
-
-    /// Appends the text of [`Date::to_text`]: `ok ` becomes `ok 2020-02-29`. There must be room for its
-    /// ten bytes, which is a condition on the caller.
-    #[inline(always)]
-    pub fn push_onto<const LENGTH: usize>(&self, text: &mut ArrayString<LENGTH>)
-        requires room { array_string_len text.old + TEXT_LENGTH ≤ LENGTH }
-        ensures text { text.new.bytes ≡ text.old.bytes ++ date_text (ymd self.now) }
-    {
-        text.push_str(two_digit_text((self.year / 100) as u8));
-        text.push_str(two_digit_text((self.year % 100) as u8));
-        text.push('-');
-        text.push_str(two_digit_text(self.month));
-        text.push('-');
-        text.push_str(two_digit_text(self.day));
-    }
-}
-
-impl fmt::Display for Date {
-    ghost use Rattle.speedate_civil.specs.Date.{ymd, date_text};
-
-    ghost output = { λ date. Some (date_text (ymd date)) };
-
-    ghost styled_output = { λ date _. Some (date_text (ymd date)) };
-
-    fn fmt<W: fmt::Write>(&self, f: &mut fmt::Formatter<W>) -> fmt::Result {
-        f.write_str(self.to_text().as_str())
     }
 }

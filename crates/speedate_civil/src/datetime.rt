@@ -10,7 +10,6 @@ mod timezone;
 use crate::date::Date;
 use crate::time::Time;
 pub use now::Moment;
-pub use timestamp::instant_date_time;
 
 /// A date and a time of day, with an offset from UTC or without one.
 ///

@@ -14,7 +14,9 @@ use Rattle.speedate_lines.proofs.LineLemmas.{EndsNoLine, IsFree, pieces-onto_fir
 line_answer-kept : (line : List ℕ) → line_answer (kept_part line) ≡ line_answer line
 line_answer-kept line = elim (cases_lt 4096 (length line)) [
   | inr short ↦ ap line_answer (take_all 4097 line (omega arith))
-  | inl long ↦ line_answer-long (kept_part line) (omega (arith, length-take 4097 line)) ∙ sym (line_answer-long line long)
+  | inl long ↦
+      line_answer-long (kept_part line) (omega (arith, length-take 4097 line))
+      ∙ sym (line_answer-long line long)
 ]
 
 -- and it is kept so far too, whatever follows
@@ -30,42 +32,59 @@ answers-append xs ys = flat_map-append (λ (line : List ℕ). line_answer line +
 abbrev done : Pieces → List ℕ × List ℕ
 done all = (answers all.complete, kept_part all.unfinished)
 
-onto_first-kept : (line : List ℕ) (lines : List (List ℕ)) (last : List ℕ) → done (onto_first (kept_part line) lines last) ≡ done (onto_first line lines last)
+onto_first-kept : (line : List ℕ) (lines : List (List ℕ)) (last : List ℕ)
+    → done (onto_first (kept_part line) lines last) ≡ done (onto_first line lines last)
 onto_first-kept line [] last = ap (λ (kept : List ℕ). (answers [], kept)) (take-kept 4097 line last)
 onto_first-kept line (first ∷ lines) last =
     ap (λ (answer : List ℕ). ((answer ++ line_feed ∷ []) ++ answers lines, kept_part last))
-    (sym (line_answer-kept (kept_part line ++ first)) ∙ ap line_answer (take-kept 4097 line first) ∙ line_answer-kept (line ++ first))
+    (sym (line_answer-kept (kept_part line ++ first)) ∙ ap line_answer (take-kept 4097 line first)
+    ∙ line_answer-kept (line ++ first))
 
 -- the unfinished line may be cut to what is kept of it before the text goes on
-pieces-kept : (line more : List ℕ) → IsFree line → done (pieces (kept_part line ++ more)) ≡ done (pieces (line ++ more))
+pieces-kept : (line more : List ℕ) → IsFree line
+    → done (pieces (kept_part line ++ more)) ≡ done (pieces (line ++ more))
 pieces-kept line more free =
     ap done (pieces-onto_first (kept_part line) more (All-take EndsNoLine 4097 line free))
     ∙ onto_first-kept line (complete_lines more) (unfinished_line more)
     ∙ sym (ap done (pieces-onto_first line more free))
 
 -- what is answered when more of a text has come after what was kept of it, and what is then kept
-done-more : (text more kept block : List ℕ) → kept ≡ kept_part (unfinished_line text) → block ≡ kept ++ more
-    → done (pieces (text ++ more)) ≡ (answers (complete_lines text) ++ answers (complete_lines block), kept_part (unfinished_line block))
+done-more : (text more kept block : List ℕ) → kept ≡ kept_part (unfinished_line text)
+    → block ≡ kept ++ more
+    → done (pieces (text ++ more))
+    ≡ (
+      answers (complete_lines text) ++ answers (complete_lines block),
+      kept_part (unfinished_line block),
+    )
 done-more text more kept block cut joined =
     let rest = unfinished_line text in
     let same = joined ∙ ap (λ (front : List ℕ). front ++ more) cut in
     ap done (pieces-append text more)
-    ∙ ap (λ (all : List ℕ). (all, kept_part (unfinished_line (rest ++ more)))) (answers-append (complete_lines text) (complete_lines (rest ++ more)))
+    ∙ ap (λ (all : List ℕ). (all, kept_part (unfinished_line (rest ++ more))))
+    (answers-append (complete_lines text) (complete_lines (rest ++ more)))
     ∙ ap (λ (after : List ℕ × List ℕ). (answers (complete_lines text) ++ after.0, after.1))
-    (sym (pieces-kept rest more (unfinished-free text)) ∙ ap (λ (bytes : List ℕ). done (pieces bytes)) (sym same))
+    (sym (pieces-kept rest more (unfinished-free text))
+    ∙ ap (λ (bytes : List ℕ). done (pieces bytes)) (sym same))
 
-pub answers-more : (text more kept block : List ℕ) → kept ≡ kept_part (unfinished_line text) → block ≡ kept ++ more
-    → answers (complete_lines (text ++ more)) ≡ answers (complete_lines text) ++ answers (complete_lines block)
-answers-more text more kept block cut joined = ap (λ (all : List ℕ × List ℕ). all.0) (done-more text more kept block cut joined)
+pub answers-more : (text more kept block : List ℕ) → kept ≡ kept_part (unfinished_line text)
+    → block ≡ kept ++ more
+    → answers (complete_lines (text ++ more))
+    ≡ answers (complete_lines text) ++ answers (complete_lines block)
+answers-more text more kept block cut joined =
+    ap (λ (all : List ℕ × List ℕ). all.0) (done-more text more kept block cut joined)
 
-pub kept-more : (text more kept block : List ℕ) → kept ≡ kept_part (unfinished_line text) → block ≡ kept ++ more
+pub kept-more : (text more kept block : List ℕ) → kept ≡ kept_part (unfinished_line text)
+    → block ≡ kept ++ more
     → kept_part (unfinished_line (text ++ more)) ≡ kept_part (unfinished_line block)
-kept-more text more kept block cut joined = ap (λ (all : List ℕ × List ℕ). all.1) (done-more text more kept block cut joined)
+kept-more text more kept block cut joined =
+    ap (λ (all : List ℕ × List ℕ). all.1) (done-more text more kept block cut joined)
 
 answers-last : (last : List ℕ) → answers (last_line (kept_part last)) ≡ answers (last_line last)
 answers-last [] = refl
-answers-last (byte ∷ bytes) = ap (λ (answer : List ℕ). (answer ++ line_feed ∷ []) ++ []) (line_answer-kept (byte ∷ bytes))
+answers-last (byte ∷ bytes) =
+    ap (λ (answer : List ℕ). (answer ++ line_feed ∷ []) ++ []) (line_answer-kept (byte ∷ bytes))
 
 -- at the end of a text its unfinished line is answered too, from what was kept of it
-pub answers-all : (text last : List ℕ) → last ≡ kept_part (unfinished_line text) → answers (complete_lines text) ++ answers (last_line last) ≡ answers (lines text)
+pub answers-all : (text last : List ℕ) → last ≡ kept_part (unfinished_line text)
+    → answers (complete_lines text) ++ answers (last_line last) ≡ answers (lines text)
 answers-all text last cut = search (rules, answers-append, answers-last)

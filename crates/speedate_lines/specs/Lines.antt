@@ -1,16 +1,14 @@
 -- The lines of a text: each is ended by a line feed or by the end of the text.
 use Rattle.std.specs.Prelude.{◌≡◌, ◌≢◌, ℕ, ◌<◌, ◌≤◌, ◌==◌, Bool, length, slice_index, List, [], ◌∷◌, ◌++◌, if◌then◌else◌, take, drop, codes, nat_lt, bytes_eq, Option, Some, None, Result, Ok, Err}
 use Rattle.std.specs.List.{flat_map}
-use Rattle.speedate.specs.declared.IsoOrder.TheVariants as order
-pub use Rattle.speedate.specs.declared.ParseError.{ParseError}
-use Rattle.speedate.specs.declared.TimestampUnit.TheVariants as unit
+use Rattle.speedate.specs.Base.{Behavior, IsoOrder, ParseError, TimestampUnit}
 use Rattle.speedate.specs.Ascii.{line_feed, space}
 use Rattle.speedate.specs.Date.{date_text, date_or_timestamp}
 use Rattle.speedate.specs.DateTime.{date_time_text, date_time_or_timestamp}
-use Rattle.speedate.specs.Duration.{duration_answer, duration_text, behavior}
+use Rattle.speedate.specs.Duration.{duration_answer, duration_text}
 use Rattle.speedate.specs.Fault.{fault_name}
 use Rattle.speedate.specs.Time.{time_answer, time_text}
-use Rattle.speedate_lines.specs.declared.answer.Kind.{Kind, Kind as kind}
+use Rattle.speedate_lines.specs.declared.answer.Kind.{Kind}
 
 -- how many bytes a line may have
 abbrev pub longest_line : ℕ
@@ -24,9 +22,11 @@ pub record Pieces : Type 0 where
 -- some bytes put before the first piece
 abbrev pub onto_first : List ℕ → List (List ℕ) → List ℕ → Pieces
 onto_first front [] unfinished = record { complete = []; unfinished = front ++ unfinished }
-onto_first front (line ∷ lines) unfinished = record { complete = (front ++ line) ∷ lines; unfinished = unfinished }
+onto_first front (line ∷ lines) unfinished =
+    record { complete = (front ++ line) ∷ lines; unfinished = unfinished }
 
--- each piece that a line feed ends is complete, and what stands after the last line feed is unfinished
+-- each piece that a line feed ends is complete, and what stands after the last line feed is
+-- unfinished
 abbrev pub pieces : List ℕ → Pieces
 pieces [] = record { complete = []; unfinished = [] }
 pieces (byte ∷ bytes) =
@@ -82,23 +82,25 @@ reply text (Err fault) = err_answer (fault_name fault)
 
 -- the word of a kind of line
 abbrev pub word : Kind → List ℕ
-word kind.Date = codes "date"
-word kind.Time = codes "time"
-word kind.DateTime = codes "datetime"
-word kind.Duration = codes "duration"
-word kind.StrictDuration = codes "duration-strict"
+word Kind.Date = codes "date"
+word Kind.Time = codes "time"
+word Kind.DateTime = codes "datetime"
+word Kind.Duration = codes "duration"
+word Kind.StrictDuration = codes "duration-strict"
 
 -- the reply to a text of a kind
 abbrev pub reply_to : Kind → List ℕ → List ℕ
-reply_to kind.Date text = reply date_text (date_or_timestamp unit.Infer text)
-reply_to kind.Time text = reply time_text (time_answer behavior.Error text)
-reply_to kind.DateTime text = reply date_time_text (date_time_or_timestamp unit.Infer behavior.Error None text)
-reply_to kind.Duration text = reply duration_text (duration_answer order.Lax behavior.Error text)
-reply_to kind.StrictDuration text = reply duration_text (duration_answer order.Strict behavior.Error text)
+reply_to Kind.Date text = reply date_text (date_or_timestamp TimestampUnit.Infer text)
+reply_to Kind.Time text = reply time_text (time_answer Behavior.Error text)
+reply_to Kind.DateTime text =
+    reply date_time_text (date_time_or_timestamp TimestampUnit.Infer Behavior.Error None text)
+reply_to Kind.Duration text = reply duration_text (duration_answer IsoOrder.Lax Behavior.Error text)
+reply_to Kind.StrictDuration text =
+    reply duration_text (duration_answer IsoOrder.Strict Behavior.Error text)
 
 -- all kinds
 abbrev pub kinds : List Kind
-kinds = kind.Date ∷ kind.Time ∷ kind.DateTime ∷ kind.Duration ∷ kind.StrictDuration ∷ []
+kinds = Kind.Date ∷ Kind.Time ∷ Kind.DateTime ∷ Kind.Duration ∷ Kind.StrictDuration ∷ []
 
 -- what a line of a kind begins with: the kind's word and a space
 abbrev pub front : Kind → List ℕ
@@ -108,7 +110,8 @@ front kind = word kind ++ space ∷ []
 unfoldable pub kind_and_text : List Kind → List ℕ → Option (Kind × List ℕ)
 kind_and_text [] line = None
 kind_and_text (kind ∷ others) line =
-    if bytes_eq (take (length (front kind)) line) (front kind) then Some (kind, drop (length (front kind)) line)
+    if bytes_eq (take (length (front kind)) line) (front kind)
+    then Some (kind, drop (length (front kind)) line)
     else kind_and_text others line
 
 -- the answer to a line by its kind

@@ -14,7 +14,8 @@ abbrev pub longest_read : ℕ
 longest_read = 69633
 
 -- a read put what it read after the first bytes of a block, and nothing at the end of the input
-pub record ReadsAfter (before after : Option (List ℕ)) (kept filled : ℕ) (old new : List ℕ) : Type 0 where
+pub record ReadsAfter (before after : Option (List ℕ)) (kept filled : ℕ)
+    (old new : List ℕ) : Type 0 where
   pub more : List ℕ
   pub consumed : Consumes before after more
   pub one_read : length more ≤ longest_read
@@ -37,14 +38,17 @@ pub record AppendsBeginning (old new : Option (List ℕ)) (bytes : List ℕ) : T
   pub left : List ℕ
   pub sent : AppendsBut left old new bytes
 
--- what a call leaves that has to write some bytes: all of them but the last ones, which are left, or a beginning of them if it fails
-pub record Writes {W A E : Type 0} (contents : W → Option (List ℕ)) (old new : Watch W) (result : Result A E) (left bytes : List ℕ) : Type 0 where
+-- what a call leaves that has to write some bytes: all of them but the last ones, which are left,
+-- or a beginning of them if it fails
+pub record Writes {W A E : Type 0} (contents : W → Option (List ℕ)) (old new : Watch W)
+    (result : Result A E) (left bytes : List ℕ) : Type 0 where
   pub failed : new.failed ≡ (old.failed || is_err result)
   pub sent : OnOk result (AppendsBut left (contents old.inner) (contents new.inner) bytes)
   pub beginning : OnErr result (AppendsBeginning (contents old.inner) (contents new.inner) bytes)
 
 -- what a call leaves that has to write some bytes and does not flush
-pub record OnlyWrites {W A E : Type 0} (contents : W → Option (List ℕ)) (old new : Watch W) (result : Result A E) (left bytes : List ℕ) : Type 0 where
+pub record OnlyWrites {W A E : Type 0} (contents : W → Option (List ℕ)) (old new : Watch W)
+    (result : Result A E) (left bytes : List ℕ) : Type 0 where
   pub writes : Writes contents old new result left bytes
   pub unflushed : new.flushes ≡ old.flushes
 
@@ -63,9 +67,11 @@ pub record AnswersCompleteLines (unread_old unread_new old new : Option (List �
 
 -- the answers to the complete lines of a text, or to all its lines if no input is left
 abbrev pub AreDue : Option (List ℕ) → List ℕ → List ℕ → Type 0
-AreDue unread text due = (due ≡ answers (complete_lines text)) ⊎ (IsAtEnd unread × (due ≡ answers (lines text)))
+AreDue unread text due =
+    (due ≡ answers (complete_lines text)) ⊎ (IsAtEnd unread × (due ≡ answers (lines text)))
 
--- what was written is a beginning of the answers that were due after the last read, and all that were due before it
+-- what was written is a beginning of the answers that were due after the last read, and all that
+-- were due before it
 pub record AnswersBeginning (unread_old unread_new old new : Option (List ℕ)) : Type 0 where
   pub earlier : List ℕ
   pub latest : List ℕ

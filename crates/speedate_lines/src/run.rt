@@ -42,13 +42,13 @@ pub enum RunError {
 /// - Any other line is answered by `err unknown_kind`.
 ///
 /// Every complete line that was read is answered before the next read. Fails with `RunError::Read` if a
-/// read fails, with `RunError::Write` if a write fails, or the one flush at the end. Neither the input
-/// nor the output may have failed before.
+/// read fails, with `RunError::Write` if a write fails, or the one flush at the end.
 pub fn run<R: Read, W: Write>(
     input: &mut Watched<R>,
     output: &mut Watched<W>,
 ) -> Result<(), RunError>
-    // An end that had not failed has failed if and only if the answer says so.
+    // If neither end had failed before the call, one has failed after it if and only if the answer
+    // says so.
     ensures failed { input.old.failed ≡ false → output.old.failed ≡ false →
         EndsBy result input.new.failed output.new.failed }
     // All input was read, and what was written is the answers to its lines. One flush came, after

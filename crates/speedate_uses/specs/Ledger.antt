@@ -1,8 +1,9 @@
 -- The lines of a ledger, each of which begins with a date.
 use Rattle.std.specs.Prelude.{ℕ, Bool, false, List, Result, Ok, Err}
+use Rattle.speedate.specs.Base.{ParseError}
 use Rattle.std.specs.Ordering.{is_le}
 use Rattle.speedate.specs.Calendar.{Ymd, date_order}
-use Rattle.speedate.specs.Date.{date_front, ParseError}
+use Rattle.speedate.specs.Date.{date_front}
 
 -- two dates that were read are in order; what was refused is not
 abbrev pub dates_in_order : Result (Ymd × ℕ) ParseError → Result (Ymd × ℕ) ParseError → Bool

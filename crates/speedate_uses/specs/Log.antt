@@ -2,20 +2,22 @@
 use Rattle.std.specs.declared.cmp.Ordering.{Ordering}
 use Rattle.std.specs.Prelude.{ℕ, ℤ, Bool, false, ◌&&◌, List, Result, Ok, Err}
 use Rattle.std.specs.Ordering.{int_cmp, is_le, nat_cmp, ordering_then}
-use Rattle.speedate.specs.declared.MicrosecondsPrecisionOverflowBehavior.{MicrosecondsPrecisionOverflowBehavior}
-use Rattle.speedate.specs.declared.ParseError.{ParseError}
+use Rattle.speedate.specs.Base.{Behavior, ParseError}
 use Rattle.speedate.specs.DateTime.{DateAndTime, date_time_front, date_time_instant_order, utc_second}
 
--- a date-time that was read lies between two others by instant, both among them; what was refused does not
+-- a date-time that was read lies between two others by instant, both among them; what was refused
+-- does not
 abbrev pub lies_between : DateAndTime → DateAndTime → Result (DateAndTime × ℕ) ParseError → Bool
-lies_between first last (Ok front) = is_le (date_time_instant_order first front.0) && is_le (date_time_instant_order front.0 last)
+lies_between first last (Ok front) =
+    is_le (date_time_instant_order first front.0) && is_le (date_time_instant_order front.0 last)
 lies_between first last (Err fault) = false
 
 -- a line begins with a date-time that lies between two others by instant
-abbrev pub is_between : MicrosecondsPrecisionOverflowBehavior → DateAndTime → DateAndTime → List ℕ → Bool
+abbrev pub is_between : Behavior → DateAndTime → DateAndTime → List ℕ → Bool
 is_between behavior first last line = lies_between first last (date_time_front behavior line)
 
--- what tells the instant of a date-time: its second in UTC, as which a clock without an offset counts, and its microsecond
+-- what tells the instant of a date-time: its second in UTC, as which a clock without an offset
+-- counts, and its microsecond
 abbrev pub instant_key : DateAndTime → ℤ × ℕ
 instant_key value = (utc_second value, value.time.microsecond)
 

@@ -6,7 +6,7 @@ ghost use Rattle.speedate.specs.Time.{time_of_day, ◌gives◌};
 
 use speedate::{ParseError, Time, TimeConfig};
 
-/// The time that is read from a text that was stored: the same one, under any configuration.
+/// The time that is parsed from a text that was stored: the same one, under any configuration.
 pub fn stored_and_read(time: &Time, config: &TimeConfig) -> Result<Time, ParseError>
     requires { IsWholeMinutes time.now.tz_offset }
     ensures same { result gives Ok (time_of_day time.now) }

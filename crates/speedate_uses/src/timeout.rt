@@ -1,8 +1,8 @@
 //! A configuration's timeout.
 
 ghost use Rattle.std.specs.Prelude.{◌≡◌, Some, None, if◌then◌else◌, unsigned_abs};
-ghost use Rattle.speedate.specs.declared.IsoOrder.TheVariants as order;
-ghost use Rattle.speedate.specs.Duration.{duration_answer, behavior};
+ghost use Rattle.speedate.specs.Base.{Behavior, IsoOrder};
+ghost use Rattle.speedate.specs.Duration.{duration_answer};
 ghost use Rattle.speedate.specs.DurationNumbers.{signed_milliseconds};
 ghost use Rattle.speedate.specs.Requirement.{result_map};
 
@@ -13,7 +13,7 @@ use speedate::{Duration, ParseError};
 pub fn timeout_ms(text: &str) -> Result<Option<u64>, ParseError>
     ensures timeout { result ≡ result_map (λ timeout. if timeout.positive
         then Some (unsigned_abs (signed_milliseconds timeout)) else None)
-        (duration_answer order.Lax behavior.Error text.now) }
+        (duration_answer IsoOrder.Lax Behavior.Error text.now) }
 {
     let timeout = Duration::parse_str(text)?;
     if !timeout.positive {

@@ -1,7 +1,6 @@
 //! A validator of JSON Schema's format `date-time`: the error of a field, by its name and in words.
 
 ghost use Rattle.std.specs.Prelude.{◌≡◌, Err, MatchResult, Ok};
-ghost use Rattle.speedate.specs.declared.ParseError.{ParseError};
 ghost use Rattle.speedate.specs.DateTime.{date_and_time, ◌gives◌};
 ghost use Rattle.speedate.specs.Fault.{fault_documentation, fault_name};
 ghost use Rattle.speedate.specs.Standard.{strict_date_time_answer};

@@ -5,7 +5,7 @@ use crate::rows::{
 };
 use speedate::{Date, DateTime, DateTimeConfig, IntFloat, Moment, ParseError, float_parse_str};
 
-/// Texts that are no timestamps, and the answer of each reader.
+/// Texts that are no timestamps, and the answer of each parser.
 const TEXTS: &str = "\
 '2022-01-01T12:13:14Z'                     2022-01-01T12:13:14Z
 '2022-01-01t12:13:14z'                     2022-01-01T12:13:14Z
@@ -127,7 +127,7 @@ const FRONTS: &str = "\
 '2026-11-22 opening balance'         invalid_char_hour
 '2026-11-22T12:13:14.1234567 x'      second_fraction_too_long";
 
-/// Texts, those of RFC 3339 and of JSON Schema's tests among them, and the answers of the relaxed reader and
+/// Texts, those of RFC 3339 and of JSON Schema's tests among them, and the answers of the relaxed parser and
 /// of the strict one, which takes those of RFC 3339 alone. A second 60 is one of the standard, and refused.
 const STRICT: &str = "\
 '1985-04-12T23:20:50.52Z'           1985-04-12T23:20:50.520000Z       1985-04-12T23:20:50.520000Z

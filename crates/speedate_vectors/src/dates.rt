@@ -3,7 +3,7 @@
 use crate::rows::{expect, expect_front, expect_or_none, parsed, quoted, same, value, words};
 use speedate::{Date, DateConfig, is_leap_year, month_length};
 
-/// Texts that are no numbers, and the answer of each reader.
+/// Texts that are no numbers, and the answer of each parser.
 const TEXTS: &str = "\
 '0000-02-29'   0000-02-29
 '0400-02-29'   0400-02-29

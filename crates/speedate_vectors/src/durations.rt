@@ -3,7 +3,7 @@
 use crate::rows::{expect, parsed, quoted, same, time_config, value, words};
 use speedate::Duration;
 
-/// Texts, and the answer of each reader.
+/// Texts, and the answer of each parser.
 const TEXTS: &str = "\
 ':01:03'                          PT1M3S
 '+01:02:03'                       PT1H2M3S

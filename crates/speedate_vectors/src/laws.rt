@@ -35,11 +35,11 @@ pub struct Each<'a> {
     pub configs: (DateConfig, TimeConfig, DateTimeConfig),
     /// The builders of configurations.
     pub builders: (DateConfigBuilder, TimeConfigBuilder, DateTimeConfigBuilder),
-    /// What is read and computed.
+    /// What is parsed and computed.
     pub values: (Date, Time, DateTime, Moment, Duration),
-    /// What is read as a number.
+    /// What is parsed as a number.
     pub numbers: (Decimal<'a>, IntFloat<'a>),
-    /// What the lower crates read and compute.
+    /// What the lower crates parse and compute.
     pub parts: (UnixTime, UnixUnit, DigitRun, Fraction, PureTime),
 }
 
@@ -85,8 +85,10 @@ pub fn same_time_config(first: &TimeConfig, second: &TimeConfig) -> bool
 pub fn same_date_time_config(first: &DateTimeConfig, second: &DateTimeConfig) -> bool
     ensures same { IsTrue result
         ↔ ((first.now.timestamp_unit ≡ second.now.timestamp_unit)
-        × (first.now.time_config.microseconds_precision_overflow_behavior ≡ second.now.time_config.microseconds_precision_overflow_behavior)
-        × (first.now.time_config.unix_timestamp_offset ≡ second.now.time_config.unix_timestamp_offset)
+        × (first.now.time_config.microseconds_precision_overflow_behavior
+        ≡ second.now.time_config.microseconds_precision_overflow_behavior)
+        × (first.now.time_config.unix_timestamp_offset
+        ≡ second.now.time_config.unix_timestamp_offset)
         × (first.now.time_config.iso_order ≡ second.now.time_config.iso_order)) }
 {
     first == second
@@ -155,9 +157,12 @@ pub fn default_configs() -> (
     (TimeConfig, TimeConfigBuilder),
     (DateTimeConfig, DateTimeConfigBuilder),
 )
-    ensures date { (result.0.0.timestamp_unit ≡ TimestampUnit.Infer) × (result.0.1.timestamp_unit ≡ TimestampUnit.Infer) }
-    ensures time { (time_choices result.1.0 ≡ default_choices) × (time_choices result.1.1 ≡ default_choices) }
-    ensures date_time { (choices result.2.0 ≡ default_choices) × (choices result.2.1 ≡ default_choices) }
+    ensures date { (result.0.0.timestamp_unit ≡ TimestampUnit.Infer)
+        × (result.0.1.timestamp_unit ≡ TimestampUnit.Infer) }
+    ensures time { (time_choices result.1.0 ≡ default_choices)
+        × (time_choices result.1.1 ≡ default_choices) }
+    ensures date_time { (choices result.2.0 ≡ default_choices)
+        × (choices result.2.1 ≡ default_choices) }
 {
     Default::default()
 }

@@ -100,7 +100,7 @@ fn one_other_byte_among_zeros(rt: HostRuntime) {
     }
 }
 
-/// A number that was read is to be the one that is written so.
+/// A number that was parsed is to be the one that is written so.
 fn expect_number<R: Abort>(rt: &R, read: IntFloat<'_>, want: &str, row: &str) {
     same(rt, read.is_err(), want == "none", row);
     match read {

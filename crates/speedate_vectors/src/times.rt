@@ -49,7 +49,7 @@ error     '12:13:14.1234567 x'       second_fraction_too_long
 error     '12:00:00-ERROR'           invalid_char_tz_hour
 truncate  '12:13:14.<9*5000> x'      12:13:14.999999 5009";
 
-/// A behavior, texts, those of JSON Schema's tests among them, and the answers of the relaxed reader and of
+/// A behavior, texts, those of JSON Schema's tests among them, and the answers of the relaxed parser and of
 /// the strict one, which takes those of RFC 3339 alone. A second 60 is a time of the standard, and refused.
 const STRICT: &str = "\
 error     '08:30:06.283185z'         08:30:06.283185Z          08:30:06.283185Z

@@ -5,14 +5,14 @@ ghost use Rattle.std.specs.Ordering.{int_cmp};
 ghost use Rattle.speedate_base.specs.Timestamp.{instant_at, unix_instant};
 ghost use Rattle.speedate_civil.specs.DateTime.{local_microsecond, utc_microsecond, date_and_time};
 ghost use Rattle.speedate_civil.specs.Calendar.{days_between};
-ghost use Rattle.speedate.specs.Duration.{duration_numbers, signed_amount, duration_of_amount, amount_answer, negated, with_positive_zero, duration_between, date_time_after, duration_between_dates, date_after_days, Duration};
+ghost use Rattle.speedate.specs.Duration.{duration_numbers, signed_amount, duration_of_amount, amount_answer, negated, with_positive_zero, duration_between, date_time_later, duration_between_dates, date_later, Duration};
 ghost use Rattle.speedate.specs.DurationNumbers.{signed_day};
 
 use super::{DAYS_MAX, Duration};
 use speedate_base::faults::ParseError;
 use speedate_base::util::{SECONDS_PER_DAY, UnixTime};
 use speedate_civil::date::Date;
-use speedate_civil::datetime::{DateTime, instant_date_time};
+use speedate_civil::datetime::DateTime;
 
 impl Duration {
     ghost use Rattle.speedate_base.specs.Requirement.{result_map};
@@ -29,14 +29,14 @@ impl Duration {
             ≡ utc_microsecond (date_and_time later.now)
             -ℤ utc_microsecond (date_and_time earlier.now) }
         ensures ends { IfOk
-            (date_time_after (signed_amount (duration_numbers result)) (date_and_time earlier.now))
+            (date_time_later (signed_amount (duration_numbers result)) (date_and_time earlier.now))
             (λ end. utc_microsecond end ≡ utc_microsecond (date_and_time later.now)) }
         ensures leads_back { later.now.time.tz_offset ≡ earlier.now.time.tz_offset
-            → date_time_after (signed_amount (duration_numbers result)) (date_and_time earlier.now)
+            → date_time_later (signed_amount (duration_numbers result)) (date_and_time earlier.now)
             ≡ Ok (date_and_time later.now) }
         ensures days { result.day ≤ 3652426 }
     {
-        Self::of_microseconds(utc_microsecond(later) - utc_microsecond(earlier))
+        Self::from_microseconds(utc_microsecond(later) - utc_microsecond(earlier))
     }
 
     /// The date-time this long after `start`, or before it if the duration is negative, at the same
@@ -49,7 +49,7 @@ impl Duration {
     /// `DateTooLarge` if it is after the year 9999.
     #[inline(always)]
     pub fn after(&self, start: &DateTime) -> Result<DateTime, ParseError>
-        ensures answer { result gives date_time_after (signed_amount (duration_numbers self.now))
+        ensures answer { result gives date_time_later (signed_amount (duration_numbers self.now))
             (date_and_time start.now) }
         ensures ends { IfOk result (λ end. utc_microsecond (date_and_time end)
             ≡ utc_microsecond (date_and_time start.now)
@@ -59,15 +59,15 @@ impl Duration {
             duration_between (date_and_time start.now) (date_and_time end)
             ≡ with_positive_zero (duration_numbers self.now)) }
         ensures order { (other : Duration) → IfOk result (λ end. IfOk
-            (date_time_after (signed_amount (duration_numbers other)) (date_and_time start.now))
+            (date_time_later (signed_amount (duration_numbers other)) (date_and_time start.now))
             (λ next. int_cmp (utc_microsecond (date_and_time end)) (utc_microsecond next)
             ≡ int_cmp (signed_amount (duration_numbers self.now))
             (signed_amount (duration_numbers other)))) }
         ensures leads_back { IfOk result (λ end.
-            date_time_after (neg_ℤ (signed_amount (duration_numbers self.now))) (date_and_time end)
+            date_time_later (neg_ℤ (signed_amount (duration_numbers self.now))) (date_and_time end)
             ≡ Ok (date_and_time start.now)) }
     {
-        instant_date_time(self.end(start), start.time.tz_offset)
+        DateTime::from_unix_time(self.end(start), start.time.tz_offset)
     }
 
     /// The date-time this long before `start`, or after it if the duration is negative, at the same
@@ -78,7 +78,7 @@ impl Duration {
     ///
     /// Those of [`Duration::after`].
     pub fn before(&self, start: &DateTime) -> Result<DateTime, ParseError>
-        ensures answer { result gives date_time_after
+        ensures answer { result gives date_time_later
             (neg_ℤ (signed_amount (duration_numbers self.now))) (date_and_time start.now) }
         ensures ends { IfOk result (λ end. utc_microsecond (date_and_time end)
             ≡ utc_microsecond (date_and_time start.now)
@@ -88,13 +88,13 @@ impl Duration {
             duration_between (date_and_time end) (date_and_time start.now)
             ≡ with_positive_zero (duration_numbers self.now)) }
         ensures order { (other : Duration) → IfOk result (λ end. IfOk
-            (date_time_after (neg_ℤ (signed_amount (duration_numbers other)))
+            (date_time_later (neg_ℤ (signed_amount (duration_numbers other)))
             (date_and_time start.now))
             (λ next. int_cmp (utc_microsecond (date_and_time end)) (utc_microsecond next)
             ≡ int_cmp (signed_amount (duration_numbers other))
             (signed_amount (duration_numbers self.now)))) }
         ensures leads_back { IfOk result (λ end.
-            date_time_after (signed_amount (duration_numbers self.now)) (date_and_time end)
+            date_time_later (signed_amount (duration_numbers self.now)) (date_and_time end)
             ≡ Ok (date_and_time start.now)) }
     {
         self.negated().after(start)
@@ -152,7 +152,7 @@ impl Duration {
     }
 
     /// The duration of a number of microseconds.
-    fn of_microseconds(amount: i64) -> Duration
+    fn from_microseconds(amount: i64) -> Duration
         ensures numbers { duration_numbers result ≡ duration_of_amount amount }
     {
         let size = amount.unsigned_abs();
@@ -171,7 +171,7 @@ impl Duration {
             ≡ instant_at (local_microsecond (date_and_time start.now)
             +ℤ signed_amount (duration_numbers self.now)) }
     {
-        UnixTime::carried(
+        UnixTime::from_second_and_microseconds(
             start.timestamp() + self.signed_total_seconds(),
             start.time.microsecond as i32 + self.signed_microseconds(),
         )
@@ -186,7 +186,7 @@ impl Duration {
     pub fn between_dates(earlier: &Date, later: &Date) -> Duration
         ensures answer { duration_numbers result
             ≡ duration_between_dates (ymd earlier.now) (ymd later.now) }
-        ensures leads_back { date_after_days (duration_numbers result) (ymd earlier.now)
+        ensures leads_back { date_later (duration_numbers result) (ymd earlier.now)
             ≡ Ok (ymd later.now) }
     {
         let days = later.days_since(earlier);
@@ -206,11 +206,11 @@ impl Duration {
     /// `DateNotExact` if the duration is not whole days, then `DateTooSmall` if the date is before the
     /// year 0000, or `DateTooLarge` if it is after the year 9999.
     pub fn after_date(&self, start: &Date) -> Result<Date, ParseError>
-        ensures answer { result gives date_after_days (duration_numbers self.now) (ymd start.now) }
+        ensures answer { result gives date_later (duration_numbers self.now) (ymd start.now) }
         ensures days { IfOk result (λ end. days_between (ymd start.now) (ymd end)
             ≡ signed_day (duration_numbers self.now)) }
         ensures leads_back { IfOk result (λ end.
-            date_after_days (negated (duration_numbers self.now)) (ymd end) ≡ Ok (ymd start.now)) }
+            date_later (negated (duration_numbers self.now)) (ymd end) ≡ Ok (ymd start.now)) }
     {
         if self.second != 0 || self.microsecond != 0 {
             return Err(ParseError::DateNotExact);
@@ -232,12 +232,12 @@ impl Duration {
     /// Those of [`Duration::after_date`].
     #[tactic(auto, using(crate::proofs::DurationLemmas::turned))]
     pub fn before_date(&self, start: &Date) -> Result<Date, ParseError>
-        ensures answer { result gives date_after_days (negated (duration_numbers self.now))
+        ensures answer { result gives date_later (negated (duration_numbers self.now))
             (ymd start.now) }
         ensures days { IfOk result (λ end. days_between (ymd end) (ymd start.now)
             ≡ signed_day (duration_numbers self.now)) }
         ensures leads_back { IfOk result (λ end.
-            date_after_days (duration_numbers self.now) (ymd end) ≡ Ok (ymd start.now)) }
+            date_later (duration_numbers self.now) (ymd end) ≡ Ok (ymd start.now)) }
     {
         self.negated().after_date(start)
     }

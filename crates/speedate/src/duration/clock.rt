@@ -3,7 +3,7 @@
 ghost use Rattle.std.specs.Prelude.{◌≡◌, ◌+◌, ◌-◌, ◌^◌, ◌<◌, ◌≤◌, length, min, position, ◌==◌, false, Ok, Err, IfOk, IsTrue};
 ghost use Rattle.speedate_base.specs.Ascii.{colon};
 ghost use Rattle.speedate_base.specs.Digits.{run_length, run_value};
-ghost use Rattle.speedate_base.specs.Requirement.{meets, result_map};
+ghost use Rattle.speedate_base.specs.Requirement.{first_fault_or};
 ghost use Rattle.speedate.specs.ClockForm.{colon_place, has_hours, hours_table, after_hours, clock_form};
 
 use super::unsigned::UnsignedDuration;
@@ -22,8 +22,6 @@ const HOURS_MAX: u64 = 2_400_000_000;
 const REST_LENGTH_MAX: usize = 12;
 
 impl UnsignedDuration {
-    ghost use Rattle.speedate.specs.Duration.{unsigned_numbers};
-
     /// Parses a duration as a clock shows it, whose hours are the digits at its front: a day, an hour
     /// and three seconds from `b"25:00:03"`.
     #[inline(always)]
@@ -35,7 +33,7 @@ impl UnsignedDuration {
     ) -> Result<Self, ParseError>
         requires length { hours.length ≡ run_length bytes.now 0 }
         requires value { hours.value ≡ min (run_value bytes.now 0) (2 ^ 64 - 1) }
-        ensures answer { result_map unsigned_numbers result ≡ clock_form behavior bytes.now }
+        ensures answer { result ≡ clock_form behavior bytes.now }
     {
         let end = hours_end(bytes, hours.length)?;
         Self::after_hours(&bytes[end + 1..], hours.value, behavior)
@@ -44,7 +42,7 @@ impl UnsignedDuration {
     /// Parses what follows the hours of a clock, from its minute on: all of `rest`.
     #[inline(always)]
     fn after_hours(rest: &[u8], hours: u64, behavior: Behavior) -> Result<Self, ParseError>
-        ensures answer { result_map unsigned_numbers result ≡ after_hours behavior hours rest.now }
+        ensures answer { result ≡ after_hours behavior hours rest.now }
     {
         if hours > HOURS_MAX {
             return Err(ParseError::DurationHourValueTooLarge);
@@ -72,7 +70,7 @@ impl UnsignedDuration {
 #[inline(always)]
 fn hours_end(bytes: &[u8], end: usize) -> Result<usize, ParseError>
     requires { end ≡ run_length bytes.now 0 }
-    ensures answer { result ≡ meets (hours_table bytes.now) (Ok (colon_place bytes.now)) }
+    ensures answer { result ≡ first_fault_or (hours_table bytes.now) (Ok (colon_place bytes.now)) }
     ensures within { IfOk result (λ place. place < length bytes.now) }
 {
     if bytes.len() < 5 {
@@ -100,7 +98,8 @@ fn has_hours(bytes: &[u8], end: usize) -> bool
 fn hours_fault(bytes: &[u8]) -> ParseError
     requires long { 5 ≤ length bytes.now }
     requires other { has_hours bytes.now ≡ false }
-    ensures fault { Err result ≡ meets (hours_table bytes.now) (Ok (colon_place bytes.now)) }
+    ensures fault { Err result
+        ≡ first_fault_or (hours_table bytes.now) (Ok (colon_place bytes.now)) }
 {
     match colon_place(bytes) {
         Some(place) if place > HOURS_LENGTH_MAX => ParseError::DurationHourValueTooLarge,

@@ -1,7 +1,6 @@
 //! The form of a duration that begins with days.
 
 ghost use Rattle.std.specs.Prelude.{◌≡◌, ◌-◌, ◌^◌, ◌≤◌, length, min, Some, None, IfSome, IfOk, if◌then◌else◌};
-ghost use Rattle.speedate_base.specs.Requirement.{result_map};
 ghost use Rattle.speedate_base.specs.Digits.{run_length, run_value};
 ghost use Rattle.speedate.specs.DayForm.{size_of_one, day_endings, gaps, has_whole_ending, is_day_letter, days_front, after_days, day_form};
 
@@ -11,8 +10,6 @@ use speedate_base::faults::ParseError;
 use speedate_base::numbers::{DigitRun, byte_at, digit_run};
 
 impl UnsignedDuration {
-    ghost use Rattle.speedate.specs.Duration.{unsigned_numbers};
-
     /// Parses a duration whose days, the digits at its front, come first: a day and ten hours from
     /// `b"1 day, 10:00"`.
     #[inline(always)]
@@ -24,7 +21,7 @@ impl UnsignedDuration {
     ) -> Result<Self, ParseError>
         requires length { days.length ≡ run_length bytes.now 0 }
         requires value { days.value ≡ min (run_value bytes.now 0) (2 ^ 64 - 1) }
-        ensures answer { result_map unsigned_numbers result ≡ day_form behavior bytes.now }
+        ensures answer { result ≡ day_form behavior bytes.now }
     {
         let (days, size) = days_at_front(bytes, days)?;
         Self::after_days(&bytes[size..], days, behavior)
@@ -34,7 +31,7 @@ impl UnsignedDuration {
     #[inline(always)]
     #[tactic(auto, unfolding(crate::specs::DayForm::after_days))]
     fn after_days(rest: &[u8], days: u32, behavior: Behavior) -> Result<Self, ParseError>
-        ensures answer { result_map unsigned_numbers result ≡ after_days behavior days rest.now }
+        ensures answer { result ≡ after_days behavior days rest.now }
     {
         if rest.is_empty() {
             return Ok(UnsignedDuration {

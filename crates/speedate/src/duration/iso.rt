@@ -6,7 +6,6 @@ ghost use Rattle.std.specs.List.{list_all};
 ghost use Rattle.speedate_base.specs.Digits.{fraction_value, is_decimal_mark};
 ghost use Rattle.std.specs.Option.{option_map, is_some};
 ghost use Rattle.speedate_base.specs.Requirement.{result_map, with_size};
-ghost use Rattle.speedate.specs.DurationNumbers.{fault};
 ghost use Rattle.speedate.specs.IsoForm.{Component, TimeDesignator, units, unit_in, fraction_size, unit_seconds, next_units_after, fraction_seconds, fraction_microseconds, component_at, item_at, are_counted, with_number, with_item, sums_amount};
 
 use super::unsigned::UnsignedDuration;
@@ -33,11 +32,11 @@ struct DurationUnit {
 }
 
 impl DurationUnit {
-    ghost use Rattle.speedate.specs.Reader.{unit_parts, IsUnitOf};
+    ghost use Rattle.speedate.specs.IsoParts.{unit_parts, IsUnitOf};
 
     /// The unit of a designator, before the `T` or after it.
     #[inline(always)]
-    fn of_designator(designator: u8, is_time: bool) -> Option<Self>
+    fn from_designator(designator: u8, is_time: bool) -> Option<Self>
         ensures unit { option_map unit_parts result ≡ unit_in (units is_time) designator }
         ensures side { IfSome result (λ unit. IsUnitOf is_time unit) }
         ensures designator { IfSome result (λ unit. unit.designator ≡ designator) }
@@ -112,26 +111,26 @@ impl DurationUnit {
 pub(super) struct Sums {
     /// The order in which components have to come.
     order: IsoOrder,
-    /// How many units of this side may no longer come: those from here on may.
-    passed: u32,
+    /// The first place of this side whose unit may still come.
+    next_place: u32,
     /// Whether there was a `T`.
     is_time: bool,
     /// Whether a component had a fraction.
-    fraction: bool,
+    has_fraction: bool,
     /// Whether there was a component.
-    some: bool,
+    has_component: bool,
     /// The days.
     day: u32,
     /// The seconds.
     second: u32,
     /// The microseconds, up to a whole second.
     microsecond: u32,
-    ghost microsecond_small: { microsecond ≤ (if fraction then 1000000 else 0) },
+    ghost microsecond_small: { microsecond ≤ (if has_fraction then 1000000 else 0) },
 }
 
 impl Sums {
-    ghost use Rattle.speedate.specs.Duration.{unsigned_numbers, iso_from, iso_form};
-    ghost use Rattle.speedate.specs.Reader.{unit_parts, IsUnitOf, sums_parts, item_front};
+    ghost use Rattle.speedate.specs.Duration.{iso_from, iso_form};
+    ghost use Rattle.speedate.specs.IsoParts.{unit_parts, IsUnitOf, sums_parts, item_front};
 
     /// Parses all items of a duration, and adds them up.
     ///
@@ -139,22 +138,22 @@ impl Sums {
     /// again. These come first: such a number times its unit fits 32 bits, which leaves the test of the
     /// sum. What is left is parsed item by item.
     #[inline(always)]
-    pub(super) fn read(body: &[u8], order: IsoOrder) -> Result<UnsignedDuration, ParseError>
-        ensures answer { result_map unsigned_numbers result ≡ iso_form order body.now }
+    pub(super) fn parse(body: &[u8], order: IsoOrder) -> Result<UnsignedDuration, ParseError>
+        ensures answer { result ≡ iso_form order body.now }
     {
         let none = Sums {
             order,
-            passed: 0,
+            next_place: 0,
             is_time: false,
-            fraction: false,
-            some: false,
+            has_fraction: false,
+            has_component: false,
             day: 0,
             second: 0,
             microsecond: 0,
         };
         let (days, rest) = none.with_short_components(body);
         let (sums, rest) = days.with_short_time(rest);
-        sums.with_items(rest)
+        sums.parse_items(rest)
     }
 
     /// The sums with the short components after a `T`, if a first one begins a text, and what follows them.
@@ -169,8 +168,9 @@ impl Sums {
         }
     }
 
-    /// The sums with the short components that begin a text, as many as there are, and what follows them:
-    /// their size would be counted in each step of the loop.
+    /// The sums with the short components that begin a text, as many as there are, and what follows
+    /// them. The rest of the text is returned, and not a size, which each step of the loop would have to
+    /// add up.
     #[inline(always)]
     fn with_short_components(self, text: &[u8]) -> (Self, &[u8])
         ensures answer { iso_from (sums_parts result.0) result.1.now
@@ -198,8 +198,8 @@ impl Sums {
         if size == 0 {
             return None;
         }
-        let unit = DurationUnit::of_designator(byte_at(text, size), self.is_time)?;
-        if self.fraction || !self.takes(&unit) {
+        let unit = DurationUnit::from_designator(byte_at(text, size), self.is_time)?;
+        if self.has_fraction || !self.takes(&unit) {
             return None;
         }
         Some((self.with_whole(number, &unit)?, size + 1))
@@ -212,7 +212,7 @@ impl Sums {
     {
         let mut sums = self;
         sums.is_time = true;
-        sums.passed = 0;
+        sums.next_place = 0;
         sums
     }
 
@@ -223,16 +223,16 @@ impl Sums {
         requires { IsUnitOf self.now.is_time unit.now }
         ensures taken { result
             ≡ is_some (unit_in (sums_parts self.now).next_units unit.now.designator) }
-        ensures place { IsTrue result → self.now.passed ≤ unit.now.place }
+        ensures place { IsTrue result → self.now.next_place ≤ unit.now.place }
     {
-        self.passed <= unit.place
+        self.next_place <= unit.place
     }
 
-    /// How many units of this side may no longer come after one of them.
+    /// The first place of this side whose unit may still come after one of them.
     #[inline(always)]
-    fn passed_by(&self, unit: &DurationUnit) -> u32
+    fn place_after(&self, unit: &DurationUnit) -> u32
         requires unit { IsUnitOf self.now.is_time unit.now }
-        requires place { self.now.passed ≤ unit.now.place }
+        requires place { self.now.next_place ≤ unit.now.place }
         ensures units { drop result (units self.now.is_time)
             ≡ next_units_after self.now.order self.now.is_time unit.now.designator
             (sums_parts self.now).next_units }
@@ -246,9 +246,9 @@ impl Sums {
     /// The sums with a number of a unit, or `None` if they do not fit 32 bits.
     #[inline(always)]
     fn with_whole(self, number: u32, unit: &DurationUnit) -> Option<Self>
-        requires none { self.fraction ≡ false }
+        requires none { self.has_fraction ≡ false }
         requires unit { IsUnitOf self.is_time unit.now }
-        requires place { self.passed ≤ unit.now.place }
+        requires place { self.next_place ≤ unit.now.place }
         requires short { number < 1000000 }
         ensures sums { IfSome result (λ sums. sums_parts sums
             ≡ with_number (unit_parts unit.now) number [] (sums_parts self)) }
@@ -256,8 +256,8 @@ impl Sums {
             ≡ are_counted (with_number (unit_parts unit.now) number [] (sums_parts self)) }
     {
         let mut sums = self;
-        sums.passed = self.passed_by(unit);
-        sums.some = true;
+        sums.next_place = self.place_after(unit);
+        sums.has_component = true;
         sums.day = self.day.checked_add(number * unit.day)?;
         sums.second = self.second.checked_add(number * unit.second)?;
         Some(sums)
@@ -266,10 +266,11 @@ impl Sums {
     /// The amount that all items add up to, if a component is among them.
     #[inline(always)]
     fn amount(self) -> Result<UnsignedDuration, ParseError>
-        ensures answer { result_map unsigned_numbers result
-            ≡ (if self.some then Ok (sums_amount (sums_parts self)) else Err fault.TooShort) }
+        ensures answer { result
+            ≡ (if self.has_component then Ok (sums_amount (sums_parts self))
+            else Err ParseError.TooShort) }
     {
-        if !self.some {
+        if !self.has_component {
             return Err(ParseError::TooShort);
         }
         Ok(UnsignedDuration {
@@ -281,8 +282,8 @@ impl Sums {
 
     /// Parses the items of a text one by one, with all that may be wrong in them, and adds them.
     #[inline(always)]
-    fn with_items(self, text: &[u8]) -> Result<UnsignedDuration, ParseError>
-        ensures answer { result_map unsigned_numbers result ≡ iso_from (sums_parts self) text.now }
+    fn parse_items(self, text: &[u8]) -> Result<UnsignedDuration, ParseError>
+        ensures answer { result ≡ iso_from (sums_parts self) text.now }
     {
         let mut sums = self;
         let mut rest = text;
@@ -328,7 +329,7 @@ impl Sums {
         if number.value > u64::from(u32::MAX) {
             return Err(ParseError::DurationValueTooLarge);
         }
-        if self.fraction {
+        if self.has_fraction {
             return Err(ParseError::DurationInvalidFraction);
         }
         let rest = &text[number.length..];
@@ -339,7 +340,7 @@ impl Sums {
             ParseError::DurationInvalidDateUnit
         };
         let designator = byte_at(rest, size);
-        let unit = DurationUnit::of_designator(designator, self.is_time).ok_or(unit_fault)?;
+        let unit = DurationUnit::from_designator(designator, self.is_time).ok_or(unit_fault)?;
         if !self.takes(&unit) {
             return Err(ParseError::DurationUnitOrder);
         }
@@ -357,9 +358,9 @@ impl Sums {
         fraction: &[u8],
         microseconds: u32,
     ) -> Result<Self, ParseError>
-        requires none { self.fraction ≡ false }
+        requires none { self.has_fraction ≡ false }
         requires unit { IsUnitOf self.is_time unit.now }
-        requires place { self.passed ≤ unit.now.place }
+        requires place { self.next_place ≤ unit.now.place }
         requires digits { IsTrue (list_all is_ascii_digit (drop 1 fraction.now)) }
         requires microseconds { microseconds ≡ fraction_value 6 (drop 1 fraction.now) }
         requires small { microseconds ≤ 999999 }
@@ -367,7 +368,7 @@ impl Sums {
             ≡ (if are_counted
             (with_number (unit_parts unit.now) number fraction.now (sums_parts self))
             then Ok (with_number (unit_parts unit.now) number fraction.now (sums_parts self))
-            else Err fault.DurationValueTooLarge) }
+            else Err ParseError.DurationValueTooLarge) }
     {
         let (whole, microsecond) = match fraction {
             [] => (0, 0),
@@ -385,10 +386,10 @@ impl Sums {
         }
         Ok(Sums {
             order: self.order,
-            passed: self.passed_by(unit),
+            next_place: self.place_after(unit),
             is_time: self.is_time,
-            fraction: !fraction.is_empty(),
-            some: true,
+            has_fraction: !fraction.is_empty(),
+            has_component: true,
             day: day as u32,
             second: second as u32,
             microsecond,

@@ -139,7 +139,7 @@ fn push_seconds<const LENGTH: usize>(second: u32, microsecond: u32, text: &mut A
 }
 
 impl Duration {
-    ghost use Rattle.speedate_base.specs.declared.config.TimeConfig.{TimeConfig};
+    ghost use Rattle.speedate_civil.specs.Base.{TimeConfig};
     ghost use Rattle.speedate_base.specs.Requirement.{result_map};
     ghost use Rattle.speedate.specs.Duration.{duration_numbers, duration_answer, Duration};
 

@@ -3,10 +3,9 @@
 ghost use Rattle.std.specs.Prelude.{◌≡◌, ◌-◌, ◌^◌, ◌≤◌, length, min};
 ghost use Rattle.std.specs.List.{list_any};
 ghost use Rattle.speedate_base.specs.Digits.{run_length, run_value};
-ghost use Rattle.speedate_base.specs.Requirement.{result_map};
 ghost use Rattle.speedate.specs.ClockForm.{clock_form};
 ghost use Rattle.speedate.specs.DayForm.{is_day_letter};
-ghost use Rattle.speedate.specs.Duration.{unsigned_numbers, has_days, form_answer, unsigned_answer};
+ghost use Rattle.speedate.specs.Duration.{has_days, form_answer, unsigned_answer};
 
 use super::days::is_day_letter;
 use super::iso::Sums;
@@ -31,11 +30,10 @@ impl UnsignedDuration {
         order: IsoOrder,
         behavior: Behavior,
     ) -> Result<Self, ParseError>
-        ensures answer { result_map unsigned_numbers result
-            ≡ unsigned_answer order behavior bytes.now }
+        ensures answer { result ≡ unsigned_answer order behavior bytes.now }
     {
         if byte_at(bytes, 0) == b'P' {
-            return Sums::read(&bytes[1..], order);
+            return Sums::parse(&bytes[1..], order);
         }
         Self::days_or_clock(bytes, behavior)
     }
@@ -44,7 +42,7 @@ impl UnsignedDuration {
     #[inline(always)]
     #[tactic(auto, unfolding(crate::specs::Duration::form_answer))]
     fn days_or_clock(bytes: &[u8], behavior: Behavior) -> Result<Self, ParseError>
-        ensures answer { result_map unsigned_numbers result ≡ form_answer behavior bytes.now }
+        ensures answer { result ≡ form_answer behavior bytes.now }
     {
         if bytes.is_empty() {
             return Err(ParseError::TooShort);
@@ -69,7 +67,7 @@ impl UnsignedDuration {
     fn refused_clock(bytes: &[u8], hours: DigitRun, behavior: Behavior) -> Result<Self, ParseError>
         requires length { hours.length ≡ run_length bytes.now 0 }
         requires value { hours.value ≡ min (run_value bytes.now 0) (2 ^ 64 - 1) }
-        ensures answer { result_map unsigned_numbers result ≡ clock_form behavior bytes.now }
+        ensures answer { result ≡ clock_form behavior bytes.now }
     {
         Self::from_clock(bytes, hours, behavior)
     }

@@ -1,7 +1,6 @@
 //! The errors of the texts by which configurations are chosen.
 
 ghost use Rattle.std.specs.Prelude.{◌≡◌, Some, None};
-ghost use Rattle.speedate_base.specs.declared.faults.config_error.ConfigError.{ConfigError};
 ghost use Rattle.speedate_base.specs.Fault.{config_error_name};
 
 use std::fmt;

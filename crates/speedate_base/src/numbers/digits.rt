@@ -113,7 +113,8 @@ pub(crate) fn spelled_number(digits: &[u8]) -> Result<u64, usize>
     ensures answer { result ≡ (if run_length digits.now 0 == length digits.now
         then Ok (min (digits_value digits.now) (2 ^ 64 - 1)) else Err (run_length digits.now 0)) }
 {
-    // The digits that fill no vector come first, so that every vector moves the others equally far.
+    // The digits that are left over from eights come first: after them each eight multiplies what was
+    // read by the same power of ten.
     let mut place = digits.len() % LANES;
     let mut value = one_by_one(&digits[..place])?;
     while place < digits.len() {

@@ -4,8 +4,8 @@ ghost use Rattle.std.specs.Prelude.{◌≡◌, ◌+◌, ◌-◌, ◌*◌, ◌^�
 ghost use Rattle.std.specs.Char.{is_ascii_digit};
 ghost use Rattle.std.specs.List.{list_all};
 
+use super::checked_with_sign;
 use super::digits::digits_number;
-use super::signed;
 
 /// A decimal of any length: its sign, and the digits before and after its point, borrowed from a text.
 /// The decimal of `"-1.50"` is negative, and has the digits `1` and `50`.
@@ -66,7 +66,7 @@ impl<'a> Decimal<'a> {
         }
         let whole = scaled_size(digits_number(self.whole), places);
         let fraction = scaled_size(digits_number(counted), places - count as u32);
-        signed(self.negative, whole.saturating_add(fraction))
+        checked_with_sign(self.negative, whole.saturating_add(fraction))
     }
 }
 
@@ -104,7 +104,10 @@ impl IntFloat<'_> {
         ensures answer { result ≡ scaled_number places (number_value self.entry) }
     {
         match self {
-            IntFloat::Int(number) => signed(number < 0, scaled_size(number.unsigned_abs(), places)),
+            IntFloat::Int(number) => checked_with_sign(
+                number < 0,
+                scaled_size(number.unsigned_abs(), places),
+            ),
             IntFloat::Float(decimal) => decimal.scaled(places),
             IntFloat::Err => None,
         }

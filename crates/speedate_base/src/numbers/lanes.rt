@@ -51,8 +51,8 @@ fn short_bytes(bytes: &[u8]) -> u8x8
         let [a, b, c] = [byte_at(bytes, 0), byte_at(bytes, 1), byte_at(bytes, 2)];
         return u8x8::from_array([a, b, c, 0, 0, 0, 0, 0]);
     }
-    // The last four bytes may be among the first four, and what they share is moved out: two loads, and
-    // not one for each byte.
+    // Two loads of four bytes, and not one for each byte. The second may begin with bytes that the first
+    // has too: these are shifted out.
     let shared = 8 * (LANES - bytes.len());
     let word = four_bytes(bytes) + (four_bytes(&bytes[bytes.len() - 4..]) >> shared) * (1 << 32);
     u64x1::splat(word).to_le_bytes()
@@ -72,7 +72,7 @@ fn four_bytes(bytes: &[u8]) -> u64
 /// How many of eight bytes, from the first on, fit a pattern, in which `0` stands for a digit and any
 /// other byte for itself: 4 for `b"2020/02/"` and the pattern `b"0000-00-"`.
 #[inline(always)]
-pub fn fitting(lanes: u8x8, pattern: u8x8) -> usize
+pub fn fit_length(lanes: u8x8, pattern: u8x8) -> usize
     ensures count { result ≡ fit_length pattern lanes }
 {
     let digits = pattern.simd_eq(u8x8::splat(b'0'));
@@ -85,7 +85,7 @@ pub fn fitting(lanes: u8x8, pattern: u8x8) -> usize
 /// the pattern: 20, 2, 20, 0, 0, 2, 20 and 0 for all of `b"2020-02-"`. A byte that is no digit counts
 /// as 0, and so does each byte after the first `count`.
 #[inline(always)]
-pub fn pairs(lanes: u8x8, pattern: u8x8, count: usize) -> [u8; 8]
+pub fn two_digit_numbers(lanes: u8x8, pattern: u8x8, count: usize) -> [u8; 8]
     requires some { 1 ≤ count }
     requires fits { count ≤ fit_length pattern lanes }
     ensures numbers { result ≡ neighbours (fit_digits count pattern lanes) }
@@ -102,7 +102,7 @@ pub fn pairs(lanes: u8x8, pattern: u8x8, count: usize) -> [u8; 8]
 pub(crate) fn digits_in_front(lanes: u8x8) -> usize
     ensures count { result ≡ prefix_len is_ascii_digit lanes }
 {
-    fitting(lanes, u8x8::splat(b'0'))
+    fit_length(lanes, u8x8::splat(b'0'))
 }
 
 /// The number that eight digits spell: 12,000,034 for `b"12000034"`.
@@ -112,6 +112,6 @@ pub(crate) fn eight_digits(lanes: u8x8) -> u64
     ensures value { result ≡ digits_value lanes }
     ensures small { result < 100000000 }
 {
-    let [a, _, b, _, c, _, d, _] = pairs(lanes, u8x8::splat(b'0'), LANES);
+    let [a, _, b, _, c, _, d, _] = two_digit_numbers(lanes, u8x8::splat(b'0'), LANES);
     1_000_000 * u64::from(a) + 10_000 * u64::from(b) + 100 * u64::from(c) + u64::from(d)
 }

@@ -9,7 +9,7 @@ ghost use Rattle.speedate_base.specs.Numbers.{decimal_digits, decimal_value, dec
 ghost use Rattle.speedate_base.specs.Nearest.{nearest};
 ghost use Rattle.speedate_base.specs.Requirement.{result_map};
 
-use super::rounding::{filled, nearest_microseconds};
+use super::rounding::{nearest_microseconds, number_to_places};
 use super::unix_time::{MICROSECOND, MILLISECOND, SECOND};
 use super::{INFERRED_SECONDS_MAX, UnixTime, UnixUnit};
 use crate::config::TimestampUnit;
@@ -93,7 +93,7 @@ fn fraction_microseconds(digits: &[u8], unit: UnixUnit, negative: bool) -> u64
 {
     // So few digits are whole microseconds, and need no rounding.
     if digits.len() <= unit.digits {
-        return filled(digits, unit.digits);
+        return number_to_places(digits, unit.digits);
     }
     nearest_microseconds(digits, unit.microseconds, negative)
 }

@@ -12,9 +12,9 @@ use crate::numbers::lanes::{LANES, eight_digits};
 use std::simd::prelude::*;
 
 /// The microseconds of the largest unit, a year of 365 days.
-pub const LARGEST_UNIT: u64 = 31_536_000_000_000;
+pub const LARGEST_UNIT_MICROSECONDS: u64 = 31_536_000_000_000;
 
-const _: () = prove!(LARGEST_UNIT == 365 * 86_400 * 1_000_000);
+const _: () = prove!(LARGEST_UNIT_MICROSECONDS == 365 * 86_400 * 1_000_000);
 
 /// The nearest microseconds of a fraction of a unit: 500,000 for the digit `5` of a second. The unit is
 /// given by its microseconds. A tie goes to the later microsecond: to the smaller number if the
@@ -22,7 +22,7 @@ const _: () = prove!(LARGEST_UNIT == 365 * 86_400 * 1_000_000);
 #[tactic(auto, using(crate::proofs::NearestLemmas::nearest_rules))]
 pub fn nearest_microseconds(digits: &[u8], unit: u64, negative: bool) -> u64
     requires digits { IsTrue (list_all is_ascii_digit digits.now) }
-    requires unit { unit ≤ LARGEST_UNIT }
+    requires unit { unit ≤ LARGEST_UNIT_MICROSECONDS }
     ensures nearest { with_sign negative result
         ≡ nearest (with_sign negative (digits_value digits.now * unit)) (10 ^ length digits.now) }
     ensures only { (m : ℤ)
@@ -41,7 +41,7 @@ pub fn nearest_microseconds(digits: &[u8], unit: u64, negative: bool) -> u64
 /// one of what is counted next, so the whole is rounded once.
 pub fn twice_microseconds(digits: &[u8], unit: u64, up: bool) -> u64
     requires digits { IsTrue (list_all is_ascii_digit digits.now) }
-    requires unit { unit ≤ LARGEST_UNIT }
+    requires unit { unit ≤ LARGEST_UNIT_MICROSECONDS }
     ensures twice { result
         ≡ quotient up (2 * (digits_value digits.now * unit)) (10 ^ length digits.now) }
     ensures within { result ≤ 2 * unit }
@@ -61,7 +61,7 @@ pub fn twice_microseconds(digits: &[u8], unit: u64, up: bool) -> u64
 fn last_digits_taken(digits: &[u8], unit: u64, up: bool) -> u64
     requires short { length digits.now < LANES }
     requires digits { IsTrue (list_all is_ascii_digit digits.now) }
-    requires unit { unit ≤ LARGEST_UNIT }
+    requires unit { unit ≤ LARGEST_UNIT_MICROSECONDS }
     ensures twice { result
         ≡ quotient up (2 * (digits_value digits.now * unit)) (10 ^ length digits.now) }
     ensures within { result ≤ 2 * unit }
@@ -73,7 +73,7 @@ fn last_digits_taken(digits: &[u8], unit: u64, up: bool) -> u64
 /// What fewer than eight digits spell, with zeros after them up to a number of places: 120,000 for
 /// `b"12"` and six places.
 #[tactic(auto, using(crate::proofs::RoundingLemmas::filled_rules))]
-pub(super) fn filled(digits: &[u8], places: usize) -> u64
+pub(super) fn number_to_places(digits: &[u8], places: usize) -> u64
     requires short { length digits.now < LANES }
     requires places { (length digits.now ≤ places) × (places ≤ 8) }
     requires digits { IsTrue (list_all is_ascii_digit digits.now) }
@@ -109,7 +109,7 @@ fn digits_taken(value: u64, rest: u64, unit: u64, scale: u64, up: bool) -> u64
     requires value { value < scale }
     requires scale { scale ≤ 100000000 }
     requires rest { rest ≤ 2 * unit }
-    requires unit { unit ≤ LARGEST_UNIT }
+    requires unit { unit ≤ LARGEST_UNIT_MICROSECONDS }
     ensures twice { result ≡ quotient up (2 * (value * unit) + rest) scale }
     ensures within { result ≤ 2 * unit }
 {

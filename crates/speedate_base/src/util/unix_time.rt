@@ -60,7 +60,7 @@ impl UnixTime {
 
     /// The instant of a second and microseconds that may be more than a second or negative: second 0 and
     /// 999,999 microseconds for 1 and -1.
-    pub fn carried(second: i64, microsecond: i32) -> Self
+    pub fn from_second_and_microseconds(second: i64, microsecond: i32) -> Self
         requires { unsigned_abs second < 100000000000000 }
         ensures instant { unix_instant result ≡ instant_at (pos 1000000 *ℤ second +ℤ microsecond) }
     {
@@ -73,7 +73,7 @@ impl UnixTime {
     /// The instant a number of microseconds later: second 2 and 500,000 microseconds for a second and a half
     /// after second 1. Fails with `TimeTooLarge` if the microseconds exceed `u32::MAX` together, or if
     /// the seconds and those carried exceed `i64::MAX`.
-    pub fn later(self, microseconds: u32) -> Result<Self, ParseError>
+    pub fn checked_add_microseconds(self, microseconds: u32) -> Result<Self, ParseError>
         ensures later { result_map unix_instant result
             ≡ later_answer microseconds (unix_instant self) }
     {

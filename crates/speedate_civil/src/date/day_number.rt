@@ -6,7 +6,7 @@ ghost use Rattle.std.specs.Int.{IsInRange};
 ghost use Rattle.std.specs.Option.{option_map};
 ghost use Rattle.std.specs.Ordering.{int_cmp};
 ghost use Rattle.speedate_civil.specs.Date.{ymd};
-ghost use Rattle.speedate_civil.specs.Calendar.{days_of_months, days_before_year, year_length, ordinal_day, day_number, date_after, date_numbered, next_date, date_order, date_added, days_between};
+ghost use Rattle.speedate_civil.specs.Calendar.{days_of_months, days_before_year, year_length, ordinal_day, day_number, date_of_number, date_numbered, next_date, date_order, date_added, days_between};
 
 use super::{Date, is_leap_year, month_length};
 
@@ -137,13 +137,13 @@ impl Date {
         if number > LAST_DAY_NUMBER {
             return None;
         }
-        Some(Self::numbered(number))
+        Some(Self::from_number(number))
     }
 
     /// The date of a day number up to 3,652,424.
-    pub(crate) fn numbered(number: u32) -> Self
+    pub(crate) fn from_number(number: u32) -> Self
         requires { number ≤ 3652424 }
-        ensures date { ymd result ≡ date_after number }
+        ensures date { ymd result ≡ date_of_number number }
         ensures number { day_number (ymd result) ≡ number }
     {
         let (century, day) = century(number % CYCLE_DAYS);

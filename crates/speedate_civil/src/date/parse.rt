@@ -1,15 +1,18 @@
 //! Parsers of dates: of texts of RFC 3339, at the front of a text, and of timestamps.
 
 ghost use Rattle.std.specs.Prelude.{◌≡◌, ◌≤◌, ◌↔◌, Err, IfOk, Ok, OnOk, length, take};
+ghost use Rattle.speedate_civil.specs.Base.{TimestampUnit};
 ghost use Rattle.speedate_base.specs.Numbers.{NoNumber, number_answer};
 ghost use Rattle.speedate_civil.specs.Calendar.{Ymd};
-ghost use Rattle.speedate_civil.specs.Date.{ymd, date_front, date_answer, date_or_timestamp, ◌gives◌, ◌gives_front◌, unit};
-ghost use Rattle.speedate_civil.specs.Reader.{may_be_number};
+ghost use Rattle.speedate_civil.specs.Date.{ymd, date_front, date_answer, date_or_timestamp, ◌gives◌, ◌gives_front◌};
+ghost use Rattle.speedate_civil.specs.ParserParts.{may_be_number};
 
 use super::{Date, TEXT_LENGTH, is_day};
 use speedate_base::config::DateConfig;
 use speedate_base::faults::ParseError;
-use speedate_base::numbers::{LANES, eight_bytes, fitting, int_parse_bytes, pairs, two_digits};
+use speedate_base::numbers::{
+    LANES, eight_bytes, fit_length, int_parse_bytes, two_digit_numbers, two_digits,
+};
 use std::simd::prelude::*;
 use std::str::FromStr;
 
@@ -25,7 +28,7 @@ impl Date {
     /// Of a timestamp those of [this table](docs/GRAMMAR.md#timestamps), of any other text those of
     /// [a date](docs/GRAMMAR.md#date), in the order of the rows.
     pub fn parse_str(text: &str) -> Result<Self, ParseError>
-        ensures answer { result gives date_or_timestamp unit.Infer text.now }
+        ensures answer { result gives date_or_timestamp TimestampUnit.Infer text.now }
     {
         Self::parse_bytes(text.as_bytes())
     }
@@ -38,7 +41,7 @@ impl Date {
     /// Of a timestamp those of [this table](docs/GRAMMAR.md#timestamps), of any other text those of
     /// [a date](docs/GRAMMAR.md#date), in the order of the rows.
     pub fn parse_bytes(bytes: &[u8]) -> Result<Self, ParseError>
-        ensures answer { result gives date_or_timestamp unit.Infer bytes.now }
+        ensures answer { result gives date_or_timestamp TimestampUnit.Infer bytes.now }
     {
         Self::parse_bytes_with_config(bytes, &DateConfig::default())
     }
@@ -139,7 +142,7 @@ impl Date {
         }
         let front = eight_bytes(bytes, 0);
         let form = u8x8::from_array(*b"0000-00-");
-        let place = fitting(front, form);
+        let place = fit_length(front, form);
         if place < LANES {
             return Err(match place {
                 0..=3 => ParseError::InvalidCharYear,
@@ -147,7 +150,7 @@ impl Date {
                 _ => ParseError::InvalidCharMonth,
             });
         }
-        let [century, _, year, _, _, month, _, _] = pairs(front, form, LANES);
+        let [century, _, year, _, _, month, _, _] = two_digit_numbers(front, form, LANES);
         let year = 100 * u16::from(century) + u16::from(year);
         let Some(day) = two_digits(bytes, 8) else {
             return Err(ParseError::InvalidCharDay);
@@ -183,7 +186,8 @@ impl Date {
 impl FromStr for Date {
     type Err = ParseError;
 
-    ghost from_str_gives = { λ text result. result gives date_or_timestamp unit.Infer text };
+    ghost from_str_gives = { λ text result.
+        result gives date_or_timestamp TimestampUnit.Infer text };
 
     /// The answer of [`Date::parse_str`]: `"2020-02-29".parse()` gives 29 February 2020.
     ///

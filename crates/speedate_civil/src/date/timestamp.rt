@@ -1,9 +1,10 @@
 //! Dates from timestamps, and back.
 
 ghost use Rattle.std.specs.Prelude.{◌≡◌, Bool, IfOk, IsTrue, Ok, int_le, pos};
+ghost use Rattle.speedate_civil.specs.Base.{TimestampUnit};
 ghost use Rattle.speedate_base.specs.Timestamp.{first_second, last_second, timestamp_second};
-ghost use Rattle.speedate_civil.specs.Calendar.{date_after, day_number, midnight_second, midnight_millisecond};
-ghost use Rattle.speedate_civil.specs.Date.{ymd, day_at, day_number_at, second_at, date_timestamp_answer, ◌gives◌, unit};
+ghost use Rattle.speedate_civil.specs.Calendar.{date_of_number, day_number, midnight_second, midnight_millisecond};
+ghost use Rattle.speedate_civil.specs.Date.{ymd, day_at, day_number_at, second_at, date_timestamp_answer, ◌gives◌};
 
 use super::Date;
 use speedate_base::config::DateConfig;
@@ -41,7 +42,7 @@ impl Date {
     {
         let time = timestamp_to_seconds_micros(timestamp, config.timestamp_unit)?;
         let within = time.in_years()?;
-        let (date, second) = Self::at_second(within.second);
+        let (date, second) = Self::from_second(within.second);
         if require_exact && (second != 0 || within.microsecond != 0) {
             return Err(ParseError::DateNotExact);
         }
@@ -55,7 +56,7 @@ impl Date {
     pub fn timestamp(&self) -> i64
         ensures second { result ≡ midnight_second (ymd self.now) }
         ensures leads_back { (exact : Bool)
-            → date_timestamp_answer unit.Second exact result ≡ Ok (ymd self.now) }
+            → date_timestamp_answer TimestampUnit.Second exact result ≡ Ok (ymd self.now) }
     {
         (i64::from(self.day_number()) - EPOCH_DAY) * i64::from(SECONDS_PER_DAY)
     }
@@ -70,17 +71,17 @@ impl Date {
 
     /// The date of the day in which a second of the years 0000 to 9999 lies, and the second of that
     /// day.
-    pub(crate) fn at_second(second: i64) -> (Self, u32)
+    pub(crate) fn from_second(second: i64) -> (Self, u32)
         requires after { IsTrue (int_le first_second second) }
         requires before { IsTrue (int_le second last_second) }
-        ensures date { ymd result.0 ≡ date_after (day_at second) }
+        ensures date { ymd result.0 ≡ date_of_number (day_at second) }
         ensures day { pos (day_number (ymd result.0)) ≡ day_number_at second }
         ensures second { result.1 ≡ second_at second }
     {
         let seconds = (second - FIRST_SECOND) as u64;
         let per_day = u64::from(SECONDS_PER_DAY);
         (
-            Self::numbered((seconds / per_day) as u32),
+            Self::from_number((seconds / per_day) as u32),
             (seconds % per_day) as u32,
         )
     }

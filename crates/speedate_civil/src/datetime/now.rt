@@ -3,8 +3,8 @@
 ghost use Rattle.std.specs.Prelude.{◌≡◌, ◌≤◌, Option};
 ghost use Rattle.speedate_base.specs.Requirement.{result_map};
 
-use super::timezone::shifted;
-use super::{DateTime, instant_date_time};
+use super::DateTime;
+use super::timezone::move_second;
 use crate::date::Date;
 use speedate_base::config::require_offset;
 use speedate_base::faults::ParseError;
@@ -65,10 +65,10 @@ impl DateTime {
         }
         require_offset(Some(tz_offset))?;
         let time = UnixTime {
-            second: shifted(moment.second as i64, tz_offset),
+            second: move_second(moment.second as i64, tz_offset),
             microsecond: moment.microsecond,
         };
-        instant_date_time(time, Some(tz_offset))
+        DateTime::from_unix_time(time, Some(tz_offset))
     }
 
     /// The date-time that a clock tells, at an offset in seconds: 1970-01-01T00:00:00Z for a clock that

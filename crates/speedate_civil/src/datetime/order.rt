@@ -9,7 +9,8 @@ impl DateTime {
     ghost use Rattle.std.specs.Cmp.Lexicographic.{slice_cmp};
     ghost use Rattle.std.specs.Ordering.{nat_cmp, ordering_reverse};
     ghost use Rattle.speedate_base.specs.Timestamp.{unix_instant};
-    ghost use Rattle.speedate_civil.specs.DateTime.{date_and_time, date_time_text, date_time_instant, date_time_instant_order, BothOrNeither, IsNotAfter, DateTime};
+    ghost use Rattle.speedate_civil.specs.DateTime.{date_and_time, date_time_text, date_time_instant, date_time_instant_order, DateTime};
+    ghost use Rattle.speedate_civil.specs.Instant.{BothOrNeither, IsNotAfter};
 
     /// Compares two date-times by instant: in UTC if both have an offset, and otherwise as clocks show
     /// them. So 2022-01-02T01:00:00+03:00 is less than 2022-01-01T23:00:00Z, and 2022-01-01T23:00:00 is

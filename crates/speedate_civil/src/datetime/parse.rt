@@ -6,11 +6,11 @@ ghost use Rattle.speedate_base.specs.Ascii.{capital_t, small_t};
 ghost use Rattle.speedate_base.specs.Config.{choices, time_choices};
 ghost use Rattle.speedate_base.specs.Numbers.{NoNumber, decimal_value, number_answer};
 ghost use Rattle.speedate_base.specs.Offset.{IsWholeMinutes};
-ghost use Rattle.speedate_base.specs.Requirement.{meets, result_map, with_size};
-ghost use Rattle.speedate_civil.specs.Date.{unit};
+ghost use Rattle.speedate_base.specs.Requirement.{first_fault_or, result_map, with_size};
+ghost use Rattle.speedate_civil.specs.Base.{Behavior, TimestampUnit};
 ghost use Rattle.speedate_civil.specs.DateTime.{DateAndTime, date_and_time, date_time_answer, date_time_by_config, date_time_decimal_text, date_time_front, date_time_or_timestamp, is_separator, separator_table, ◌gives◌, ◌gives_front◌};
 ghost use Rattle.speedate_civil.specs.Standard.{IsDateTime, standard_date_time, strict_date_time_answer};
-ghost use Rattle.speedate_civil.specs.Time.{time_front, time_of_day, behavior};
+ghost use Rattle.speedate_civil.specs.Time.{time_front, time_of_day};
 
 use super::DateTime;
 use crate::date::{Date, may_be_number};
@@ -39,7 +39,7 @@ impl DateTime {
     /// `InvalidCharDateTimeSep` if no separator follows, then those of [a time](docs/GRAMMAR.md#time).
     #[inline(always)]
     pub fn parse_str(text: &str) -> Result<Self, ParseError>
-        ensures answer { result gives date_time_or_timestamp unit.Infer behavior.Error None
+        ensures answer { result gives date_time_or_timestamp TimestampUnit.Infer Behavior.Error None
             text.now }
         ensures minutes { IfOk result (λ value. IsWholeMinutes value.time.tz_offset) }
     {
@@ -56,7 +56,7 @@ impl DateTime {
     /// `InvalidCharDateTimeSep` if no separator follows, then those of [a time](docs/GRAMMAR.md#time).
     #[inline(always)]
     pub fn parse_bytes(bytes: &[u8]) -> Result<Self, ParseError>
-        ensures answer { result gives date_time_or_timestamp unit.Infer behavior.Error None
+        ensures answer { result gives date_time_or_timestamp TimestampUnit.Infer Behavior.Error None
             bytes.now }
         ensures minutes { IfOk result (λ value. IsWholeMinutes value.time.tz_offset) }
     {
@@ -130,7 +130,7 @@ impl DateTime {
     /// - those of [`Time::parse_str`] for what follows the separator.
     #[inline(always)]
     pub fn parse_str_rfc3339(text: &str) -> Result<Self, ParseError>
-        ensures answer { result gives date_time_answer behavior.Error text.now }
+        ensures answer { result gives date_time_answer Behavior.Error text.now }
         ensures minutes { IfOk result (λ value. IsWholeMinutes value.time.tz_offset) }
     {
         Self::parse_bytes_rfc3339(text.as_bytes())
@@ -146,7 +146,7 @@ impl DateTime {
     /// if no separator follows, then those of [a time](docs/GRAMMAR.md#time).
     #[inline(always)]
     pub fn parse_bytes_rfc3339(bytes: &[u8]) -> Result<Self, ParseError>
-        ensures answer { result gives date_time_answer behavior.Error bytes.now }
+        ensures answer { result gives date_time_answer Behavior.Error bytes.now }
         ensures minutes { IfOk result (λ value. IsWholeMinutes value.time.tz_offset) }
         ensures no_number { OnOk result (number_answer bytes.now ≡ NoNumber) }
     {
@@ -308,7 +308,7 @@ impl FromStr for DateTime {
     type Err = ParseError;
 
     ghost from_str_gives = { λ text result.
-        result gives date_time_or_timestamp unit.Infer behavior.Error None text };
+        result gives date_time_or_timestamp TimestampUnit.Infer Behavior.Error None text };
 
     /// The answer of [`DateTime::parse_str`]: `"1654560000".parse()` gives midnight on 7 June 2022.
     ///
@@ -330,7 +330,7 @@ fn time_after_date(
     behavior: MicrosecondsPrecisionOverflowBehavior,
 ) -> Result<(Time, usize), ParseError>
     ensures answer { result_map (with_size time_of_day) result
-        ≡ meets (separator_table bytes.now) (time_front behavior (drop 11 bytes.now)) }
+        ≡ first_fault_or (separator_table bytes.now) (time_front behavior (drop 11 bytes.now)) }
     ensures within { IfOk result (λ front. TIME_PLACE + front.1 ≤ length bytes.now) }
     ensures minutes { IfOk result (λ front. IsWholeMinutes front.0.tz_offset) }
 {
@@ -353,7 +353,7 @@ fn has_separator(bytes: &[u8]) -> bool
 /// Refuses a text that is parsed as a date-time, but is none of RFC 3339.
 #[tactic(auto, using(std::proofs::lemmas::List::take_rest))]
 fn require_standard_date_time(text: &[u8]) -> Result<(), ParseError>
-    ensures answer { result ≡ meets (standard_date_time text.now) (Ok tt) }
+    ensures answer { result ≡ first_fault_or (standard_date_time text.now) (Ok tt) }
 {
     if !has_letter_t(text) {
         return Err(ParseError::InvalidCharDateTimeSep);

@@ -1,13 +1,13 @@
 //! Date-times from timestamps, and back.
 
-ghost use Rattle.std.specs.Prelude.{◌≡◌, ◌<◌, Ok, IfOk, None, unsigned_abs};
+ghost use Rattle.std.specs.Prelude.{◌≡◌, ◌≤ℤ◌, ◌+ℤ◌, ◌-ℤ◌, Ok, IfOk, None, pos};
 ghost use Rattle.std.specs.Option.{ForSome};
 ghost use Rattle.speedate_base.specs.Config.{choices};
-ghost use Rattle.speedate_civil.specs.Date.{unit};
+ghost use Rattle.speedate_civil.specs.Base.{TimestampUnit};
 ghost use Rattle.speedate_base.specs.Nearest.{IsNearest};
 ghost use Rattle.speedate_base.specs.Numbers.{decimal_scale, decimal_value};
 ghost use Rattle.speedate_base.specs.Offset.{IsOffset, IsWholeMinutes};
-ghost use Rattle.speedate_base.specs.Timestamp.{IsInYears, unix_instant, decimal_row, decimal_numerator, decimal_instant, unix_row};
+ghost use Rattle.speedate_base.specs.Timestamp.{IsInYears, first_second, last_second, unix_instant, decimal_row, decimal_numerator, decimal_instant, unix_row};
 ghost use Rattle.speedate_civil.specs.DateTime.{local_second, utc_second, local_millisecond, utc_millisecond, local_microsecond, date_and_time, IsShownAt, date_time_at, instant_date_time, date_time_timestamp_answer, meant_microsecond, date_time_decimal_answer, ◌gives◌};
 
 use super::DateTime;
@@ -28,10 +28,10 @@ impl DateTime {
     ///
     /// Those of [`DateTime::from_timestamp_with_config`], in its order.
     pub fn from_timestamp(timestamp: i64, timestamp_microsecond: u32) -> Result<Self, ParseError>
-        ensures answer { result gives date_time_timestamp_answer unit.Infer None
+        ensures answer { result gives date_time_timestamp_answer TimestampUnit.Infer None
             timestamp_microsecond timestamp }
         ensures instant { IfOk result (λ value. local_microsecond (date_and_time value)
-            ≡ meant_microsecond unit.Infer timestamp_microsecond timestamp) }
+            ≡ meant_microsecond TimestampUnit.Infer timestamp_microsecond timestamp) }
     {
         let config = DateTimeConfig::default();
         Self::from_timestamp_with_config(timestamp, timestamp_microsecond, &config)
@@ -66,8 +66,8 @@ impl DateTime {
             → IfOk result (λ value. IsWholeMinutes value.time.tz_offset) }
     {
         let time = timestamp_to_seconds_micros(timestamp, config.timestamp_unit)?;
-        let later = time.later(timestamp_microsecond)?;
-        instant_date_time(later, config.time_config.unix_timestamp_offset)
+        let later = time.checked_add_microseconds(timestamp_microsecond)?;
+        Self::from_unix_time(later, config.time_config.unix_timestamp_offset)
     }
 
     /// The date-time of a decimal Unix timestamp, in the unit of the configuration, to the nearest
@@ -111,18 +111,32 @@ impl DateTime {
             → IfOk result (λ value. IsWholeMinutes value.time.tz_offset) }
     {
         let time = decimal_to_seconds_micros(decimal, unit)?;
-        Ok(Self::at_instant(time, offset))
+        Ok(Self::from_instant(time, offset))
+    }
+
+    /// The date-time whose clock shows an instant, with the offset attached: 1970-01-01T00:00:01+01:00
+    /// for second 1 and the offset 3,600. Fails with `DateTooSmall` before the year 0000, with
+    /// `DateTooLarge` after the year 9999. The offset is less than 24 hours, which is a condition on the
+    /// caller.
+    pub fn from_unix_time(time: UnixTime, offset: Option<i32>) -> Result<Self, ParseError>
+        requires { ForSome offset IsOffset }
+        ensures answer { result gives instant_date_time offset (unix_instant time) }
+        ensures shown { IfOk result (λ value.
+            IsShownAt offset (unix_instant time) (date_and_time value)) }
+    {
+        let within = time.in_years()?;
+        Ok(Self::from_instant(within, offset))
     }
 
     /// The date-time at an instant of the years 0000 to 9999, with the offset attached.
-    fn at_instant(time: UnixTime, offset: Option<i32>) -> Self
+    fn from_instant(time: UnixTime, offset: Option<i32>) -> Self
         requires within { IsInYears (unix_instant time) }
         requires offset { ForSome offset IsOffset }
         ensures value { date_and_time result ≡ date_time_at offset (unix_instant time) }
         ensures shown { IsShownAt offset (unix_instant time) (date_and_time result) }
     {
-        let (date, second) = Date::at_second(time.second);
-        let time = Time::at_second(second, time.microsecond, offset);
+        let (date, second) = Date::from_second(time.second);
+        let time = Time::from_second(second, time.microsecond, offset);
         DateTime { date, time }
     }
 
@@ -132,9 +146,10 @@ impl DateTime {
     /// microsecond, leads back to a date-time without an offset.
     pub fn timestamp(&self) -> i64
         ensures second { result ≡ local_second (date_and_time self.now) }
-        ensures small { unsigned_abs result < 300000000000 }
+        ensures least { first_second ≤ℤ result }
+        ensures largest { result ≤ℤ last_second }
         ensures leads_back { self.now.time.tz_offset ≡ None
-            → date_time_timestamp_answer unit.Second None self.now.time.microsecond result
+            → date_time_timestamp_answer TimestampUnit.Second None self.now.time.microsecond result
             ≡ Ok (date_and_time self.now) }
     {
         self.date.timestamp() + i64::from(self.time.total_seconds())
@@ -152,7 +167,8 @@ impl DateTime {
     /// 1970-01-02T00:00:00+01:00. A date-time without an offset is taken to be in UTC.
     pub fn timestamp_tz(&self) -> i64
         ensures second { result ≡ utc_second (date_and_time self.now) }
-        ensures small { unsigned_abs result < 400000000000 }
+        ensures least { (first_second -ℤ pos 86399) ≤ℤ result }
+        ensures largest { result ≤ℤ (last_second +ℤ pos 86399) }
     {
         self.timestamp() - i64::from(self.time.tz_offset.unwrap_or(0))
     }
@@ -164,18 +180,4 @@ impl DateTime {
     {
         1000 * self.timestamp_tz() + i64::from(self.time.microsecond / 1000)
     }
-}
-
-/// The date-time whose clock shows an instant, with the offset attached: 1970-01-01T00:00:01+01:00
-/// for second 1 and the offset 3,600. Fails with `DateTooSmall` before the year 0000, with
-/// `DateTooLarge` after the year 9999. The offset is less than 24 hours, which is a condition on the
-/// caller.
-pub fn instant_date_time(time: UnixTime, offset: Option<i32>) -> Result<DateTime, ParseError>
-    requires { ForSome offset IsOffset }
-    ensures answer { result gives instant_date_time offset (unix_instant time) }
-    ensures shown { IfOk result (λ value.
-        IsShownAt offset (unix_instant time) (date_and_time value)) }
-{
-    let within = time.in_years()?;
-    Ok(DateTime::at_instant(within, offset))
 }

@@ -1,9 +1,10 @@
 //! Date-times at other offsets.
 
-ghost use Rattle.std.specs.Prelude.{◌≡◌, ◌<◌, ◌+ℤ◌, IfOk, Some, unsigned_abs};
+ghost use Rattle.std.specs.Prelude.{◌≡◌, ◌+ℤ◌, ◌≤ℤ◌, IfOk, Some};
+ghost use Rattle.speedate_base.specs.Timestamp.{first_second, last_second};
 ghost use Rattle.speedate_civil.specs.DateTime.{utc_second, date_and_time, date_time_with_offset, date_time_in_timezone, ◌gives◌};
 
-use super::{DateTime, instant_date_time};
+use super::DateTime;
 use crate::time::clock_shift;
 use speedate_base::faults::ParseError;
 use speedate_base::util::UnixTime;
@@ -43,16 +44,17 @@ impl DateTime {
     {
         let shift = clock_shift(self.time.tz_offset, tz_offset)?;
         let time = UnixTime {
-            second: shifted(self.timestamp(), shift),
+            second: move_second(self.timestamp(), shift),
             microsecond: self.time.microsecond,
         };
-        instant_date_time(time, Some(tz_offset))
+        DateTime::from_unix_time(time, Some(tz_offset))
     }
 }
 
 /// A second of the years 0000 to 9999, moved by seconds: 90,000 for 86,400 and 3,600.
-pub(super) fn shifted(second: i64, shift: i32) -> i64
-    requires { unsigned_abs second < 300000000000 }
+pub(super) fn move_second(second: i64, shift: i32) -> i64
+    requires least { first_second ≤ℤ second }
+    requires largest { second ≤ℤ last_second }
     ensures { result ≡ second +ℤ shift }
 {
     second + i64::from(shift)

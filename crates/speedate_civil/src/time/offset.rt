@@ -9,13 +9,13 @@ ghost use Rattle.speedate_base.specs.Digits.{two_digit_value, fit_length};
 ghost use Rattle.speedate_base.specs.Numbers.{with_sign};
 ghost use Rattle.speedate_base.specs.Offset.{IsOffset, IsWholeMinutes};
 ghost use Rattle.speedate_base.specs.Timestamp.{seconds_per_day};
-ghost use Rattle.speedate_base.specs.Requirement.{meets};
+ghost use Rattle.speedate_base.specs.Requirement.{first_fault_or};
 ghost use Rattle.speedate_civil.specs.Time.{end_fault, has_minus_sign, is_plus_or_minus, is_utc, offset_digits, offset_front, signed_front, offset_minute, offset_digits_size, offset_size_text, offset_text};
 
 use crate::text::two_digit_text;
 use arrayvec::ArrayString;
 use speedate_base::faults::ParseError;
-use speedate_base::numbers::{byte_at, eight_bytes, fitting, pairs};
+use speedate_base::numbers::{byte_at, eight_bytes, fit_length, two_digit_numbers};
 use speedate_base::util::SECONDS_PER_DAY;
 use std::simd::prelude::*;
 
@@ -117,17 +117,17 @@ fn signed_offset(
 /// `HH:MM` or `HHMM`.
 #[inline(always)]
 fn hour_and_minute(front: u8x8) -> Result<((u8, u8), usize), ParseError>
-    ensures numbers { result ≡ meets (offset_digits front)
+    ensures numbers { result ≡ first_fault_or (offset_digits front)
         (Ok ((two_digit_value front 0, offset_minute front), offset_digits_size front)) }
     ensures small { IfOk result (λ front. (front.0.0 ≤ 99) × (front.0.1 ≤ 99)) }
 {
     let pattern = u8x8::from_array(*b"00:00:00");
-    let fits = fitting(front, pattern);
+    let fits = fit_length(front, pattern);
     if fits < 2 {
         return Err(ParseError::InvalidCharTzHour);
     }
     if fits >= 5 {
-        let [hour, _, _, minute, _, _, _, _] = pairs(front, pattern, 5);
+        let [hour, _, _, minute, _, _, _, _] = two_digit_numbers(front, pattern, 5);
         return Ok(((hour, minute), 5));
     }
     if fits > 2 {
@@ -140,15 +140,15 @@ fn hour_and_minute(front: u8x8) -> Result<((u8, u8), usize), ParseError>
 #[inline(always)]
 fn hour_then_minute(front: u8x8) -> Result<((u8, u8), usize), ParseError>
     requires { fit_length (codes "00:00:00") front ≡ 2 }
-    ensures numbers { result ≡ meets (offset_digits front)
+    ensures numbers { result ≡ first_fault_or (offset_digits front)
         (Ok ((two_digit_value front 0, offset_minute front), offset_digits_size front)) }
     ensures small { IfOk result (λ front. (front.0.0 ≤ 99) × (front.0.1 ≤ 99)) }
 {
     let pattern = u8x8::splat(b'0');
-    if fitting(front, pattern) < 4 {
+    if fit_length(front, pattern) < 4 {
         return Err(ParseError::InvalidCharTzMinute);
     }
-    let [hour, _, minute, _, _, _, _, _] = pairs(front, pattern, 4);
+    let [hour, _, minute, _, _, _, _, _] = two_digit_numbers(front, pattern, 4);
     Ok(((hour, minute), 4))
 }
 

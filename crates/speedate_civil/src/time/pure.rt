@@ -7,7 +7,7 @@ use super::Time;
 use speedate_base::config::MicrosecondsPrecisionOverflowBehavior as Behavior;
 use speedate_base::faults::ParseError;
 use speedate_base::numbers::{
-    Fraction, byte_at, eight_bytes, fitting, is_decimal_mark, pairs, takes_digits,
+    Fraction, byte_at, eight_bytes, fit_length, is_decimal_mark, takes_digits, two_digit_numbers,
 };
 use std::simd::prelude::*;
 
@@ -56,8 +56,8 @@ enum Second {
 impl PureTime {
     ghost use Rattle.std.specs.Option.{ForSome};
     ghost use Rattle.speedate_base.specs.Offset.{IsOffset, IsWholeMinutes};
-    ghost use Rattle.speedate_base.specs.Requirement.{meets, result_map};
-    ghost use Rattle.speedate_civil.specs.Reader.{clock_after, second_there};
+    ghost use Rattle.speedate_base.specs.Requirement.{first_fault_or, result_map};
+    ghost use Rattle.speedate_civil.specs.ParserParts.{clock_after, second_of};
     ghost use Rattle.speedate_civil.specs.Time.{clock_front, minute_clock, minute_front, second_table, clock_parts, has_decimal_mark, time_of_day, clock_with_offset};
 
     /// Parses the clock that begins at `place`, whatever follows it: 12:13:14 and a half, in ten bytes,
@@ -78,7 +78,7 @@ impl PureTime {
         }
         let front = eight_bytes(text, 0);
         let pattern = u8x8::from_array(*b"00:00:00");
-        let fits = fitting(front, pattern);
+        let fits = fit_length(front, pattern);
         if fits < 5 {
             return Err(match fits {
                 0 | 1 => ParseError::InvalidCharHour,
@@ -86,7 +86,7 @@ impl PureTime {
                 _ => ParseError::InvalidCharMinute,
             });
         }
-        let [hour, _, _, minute, _, _, _, _] = pairs(front, pattern, 5);
+        let [hour, _, _, minute, _, _, _, _] = two_digit_numbers(front, pattern, 5);
         if hour > 23 {
             return Err(ParseError::OutOfRangeHour);
         }
@@ -124,11 +124,11 @@ impl PureTime {
         let rest = &bytes[place..];
         let front = eight_bytes(rest, 0);
         let pattern = u8x8::from_array(*b"00:00:00");
-        let fits = fitting(front, pattern);
+        let fits = fit_length(front, pattern);
         if fits < 2 {
             return Err(ParseError::InvalidCharMinute);
         }
-        let [minute, _, _, _, _, _, _, _] = pairs(front, pattern, 2);
+        let [minute, _, _, _, _, _, _, _] = two_digit_numbers(front, pattern, 2);
         if minute > 59 {
             return Err(ParseError::OutOfRangeMinute);
         }
@@ -169,9 +169,9 @@ impl PureTime {
         behavior: Behavior,
     ) -> Result<AfterMinute, ParseError>
         requires minute { minute + 2 ≤ length bytes.now }
-        requires second { second ≡ second_there (drop minute bytes.now) }
+        requires second { second ≡ second_of (drop minute bytes.now) }
         ensures answer { result_map (clock_after (two_digit_value (drop minute bytes.now) 0)) result
-            ≡ meets (second_table behavior (drop minute bytes.now))
+            ≡ first_fault_or (second_table behavior (drop minute bytes.now))
             (Ok (minute_clock (drop minute bytes.now))) }
         ensures within { IfOk result (λ after. minute + after.size ≤ length bytes.now) }
     {
@@ -220,7 +220,7 @@ impl PureTime {
 }
 
 impl Second {
-    ghost use Rattle.speedate_civil.specs.Reader.{second_there};
+    ghost use Rattle.speedate_civil.specs.ParserParts.{second_of};
 
     /// The second that follows the minute at place 0 or 3 of the front of a text, whose first `fits`
     /// bytes are as in `00:00:00`: 14 for `b"12:13:14"` and place 3, and none for `b"13Z"` and place 0.
@@ -229,11 +229,11 @@ impl Second {
         requires fits { fits ≡ fit_length (codes "00:00:00") front }
         requires minute { IsTrue ((minute == 0) || (minute == 3)) }
         requires there { minute + 2 ≤ fits }
-        ensures second { result ≡ second_there (drop minute front) }
+        ensures second { result ≡ second_of (drop minute front) }
     {
         match fits - minute {
             5.. => {
-                let numbers = pairs(front, u8x8::from_array(*b"00:00:00"), minute + 5);
+                let numbers = two_digit_numbers(front, u8x8::from_array(*b"00:00:00"), minute + 5);
                 Second::Number(numbers[minute + 3])
             }
             2 => Second::Absent,

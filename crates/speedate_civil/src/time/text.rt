@@ -3,7 +3,7 @@
 ghost use Rattle.std.specs.Prelude.{◌≡◌, ◌≤◌, Some, ℕ, ◌+◌, ◌++◌, ◌↔◌, IsTrue, List, Ok, length};
 ghost use Rattle.arrayvec.specs.ArrayString.{array_string_len};
 ghost use Rattle.speedate_base.specs.Config.{time_choices};
-ghost use Rattle.speedate_base.specs.declared.config.TimeConfig.{TimeConfig};
+ghost use Rattle.speedate_civil.specs.Base.{TimeConfig};
 ghost use Rattle.speedate_base.specs.Offset.{IsWholeMinutes};
 ghost use Rattle.speedate_base.specs.Requirement.{result_map};
 ghost use Rattle.speedate_civil.specs.Time.{time_of_day, time_answer, time_front, clock_text, time_text, is_after_time, Time};

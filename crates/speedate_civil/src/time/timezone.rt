@@ -4,9 +4,9 @@ ghost use Rattle.std.specs.Prelude.{◌≡◌, ◌*◌, ◌<◌, ◌-ℤ◌, IfO
 ghost use Rattle.speedate_base.specs.Timestamp.{seconds_per_day};
 ghost use Rattle.std.specs.Option.{ForSome, unwrap_or};
 ghost use Rattle.speedate_base.specs.Offset.{IsOffset};
-ghost use Rattle.speedate_base.specs.Requirement.{meets};
-ghost use Rattle.speedate_civil.specs.DateTime.{time_with_offset, time_in_timezone, move_table};
-ghost use Rattle.speedate_civil.specs.Time.{time_of_day, utc_second_of_day, ◌gives◌};
+ghost use Rattle.speedate_base.specs.Requirement.{first_fault_or};
+ghost use Rattle.speedate_civil.specs.Instant.{move_table};
+ghost use Rattle.speedate_civil.specs.Time.{time_of_day, utc_second_of_day, ◌gives◌, time_with_offset, time_in_timezone};
 
 use super::Time;
 use speedate_base::config::require_offset;
@@ -55,7 +55,7 @@ impl Time {
         if second < 0 || second >= SECONDS_PER_DAY as i32 {
             return Err(ParseError::TimeTooLarge);
         }
-        Ok(Self::at_second(second as u32, self.microsecond, Some(tz_offset)))
+        Ok(Self::from_second(second as u32, self.microsecond, Some(tz_offset)))
     }
 }
 
@@ -64,7 +64,8 @@ impl Time {
 /// `TzRequired` if there is no first one.
 pub(crate) fn clock_shift(old: Option<i32>, offset: i32) -> Result<i32, ParseError>
     requires { ForSome old IsOffset }
-    ensures answer { result ≡ meets (move_table offset old) (Ok (offset -ℤ unwrap_or old (pos 0))) }
+    ensures answer { result
+        ≡ first_fault_or (move_table offset old) (Ok (offset -ℤ unwrap_or old (pos 0))) }
     ensures range { IfOk result (λ shift. IsOffset offset
         × (unsigned_abs shift < 2 * seconds_per_day)) }
 {

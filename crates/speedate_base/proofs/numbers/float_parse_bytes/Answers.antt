@@ -10,4 +10,10 @@ pub decimal-requires-clause-within : goal.decimal-requires-clause-within
 decimal-requires-clause-within c = grind (arith, run_stops)
 
 pub returns-in-Err-clause-joined : goal.returns-in-Err-clause-joined
-returns-in-Err-clause-joined c = grind (arith, run_stops, whole_number-none c.args.bytes.now, number_value-joins c.decimal.result c.args.bytes.now)
+returns-in-Err-clause-joined c =
+    grind (
+      arith,
+      run_stops,
+      whole_number-none c.args.bytes.now,
+      number_value-joins c.decimal.result c.args.bytes.now,
+    )

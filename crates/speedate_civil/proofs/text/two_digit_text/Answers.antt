@@ -21,12 +21,14 @@ pieces = refl
 
 piece-is : (n : ℕ) → n < 100 → piece n ≡ two_digit_text n
 piece-is n small =
-    sym (get_or-map-range_with_len piece 0 100 n n [] small (omega arith)) ∙ ap (λ (all : List (List ℕ)). get_or all n []) pieces
+    sym (get_or-map-range_with_len piece 0 100 n n [] small (omega arith))
+    ∙ ap (λ (all : List (List ℕ)). get_or all n []) pieces
     ∙ get_or-map-range_with_len two_digit_text 0 100 n n [] small (omega arith)
 
 plain : IsAscii table
 plain i = elim (cases_lt i 200) [
-  | inl inside ↦ ltb-true _ _ (AllPass-from_list_all (λ (byte : ℕ). nat_lt byte 128) table refl i 0 inside)
+  | inl inside ↦
+      ltb-true _ _ (AllPass-from_list_all (λ (byte : ℕ). nat_lt byte 128) table refl i 0 inside)
   | inr past ↦ omega (arith, get_or_past table i 0 past)
 ]
 
@@ -40,6 +42,7 @@ pub returns : goal.returns
 returns c =
     let width : 2 * c.from-place.result + 2 - 2 * c.from-place.result ≡ 2 = omega arith in
     record {
-      digits = c.range.ensures.value ∙ ap (λ (n : ℕ). take n (drop (2 * c.from-place.result) table)) width
+      digits = c.range.ensures.value
+          ∙ ap (λ (n : ℕ). take n (drop (2 * c.from-place.result) table)) width
           ∙ ap piece c.from-place.ensures ∙ piece-is c.args.number c.requires.small;
     }

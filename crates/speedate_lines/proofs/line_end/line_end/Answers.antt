@@ -7,7 +7,8 @@ returns-then-marks-ne0 c =
     let before = c.loop-place.invariant in
     let marks = c.line_feeds-marks.ensures.marks in
     record {
-      found = IsLineEnd-from_marks c.args.text.now c.args.from c.loop-place.place _ before.after (omega (arith, before.within)) before.one_line marks (omega arith);
+      found = IsLineEnd-from_marks c.args.text.now c.args.from c.loop-place.place _ before.after
+          (omega (arith, before.within)) before.one_line marks (omega arith);
     }
 
 pub loop-place-preserved : goal.loop-place-preserved

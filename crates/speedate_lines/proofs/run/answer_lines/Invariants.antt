@@ -3,7 +3,8 @@ use Rattle.speedate_lines.specs.Lines.{IsOneLine, complete_lines, unfinished_lin
 use Rattle.speedate_lines.specs.Run.{AppendsBut}
 use Rattle.speedate_lines.proofs.run.answer_lines.Given as goal
 
--- what waits and the answers to the lines from `start` on are left to be written, and no line feed stands from there up to `searched`
+-- what waits and the answers to the lines from `start` on are left to be written, and no line feed
+-- stands from there up to `searched`
 abbrev pub invariant-loop-end : goal.invariant-loop-end
 invariant-loop-end g l = record {
   ordered : l.start ≤ l.searched;

@@ -4,7 +4,8 @@ use Rattle.speedate_lines.specs.Lines.{longest_line, complete_lines, unfinished_
 use Rattle.speedate_lines.specs.Run.{kept_part}
 use Rattle.speedate_lines.proofs.run.run.Given as goal
 
--- the complete lines of what has been read are answered, and the front of the block is the kept part of its unfinished line
+-- the complete lines of what has been read are answered, and the front of the block is the kept
+-- part of its unfinished line
 abbrev pub invariant-loop-filled : goal.invariant-loop-filled
 invariant-loop-filled g l = record {
   empty : l.pending.bytes ≡ [];
@@ -14,7 +15,8 @@ invariant-loop-filled g l = record {
   short : l.kept ≤ longest_line + 1;
   answered : (read : List ℕ)
       × Consumes (g.R.Read.remaining l.initial.input.inner) (g.R.Read.remaining l.input.inner) read
-      × Appends (g.W.Write.contents l.initial.output.inner) (g.W.Write.contents l.output.inner) (answers (complete_lines read))
+      × Appends (g.W.Write.contents l.initial.output.inner) (g.W.Write.contents l.output.inner)
+      (answers (complete_lines read))
       × (take l.kept l.block ≡ kept_part (unfinished_line read));
 }
 

@@ -6,7 +6,8 @@ use Rattle.speedate_lines.proofs.run.write_all.Given as goal
 abbrev pub invariant-loop-rest : goal.invariant-loop-rest
 invariant-loop-rest g l = record {
   failed : l.output.failed ≡ l.initial.output.failed;
-  sent : AppendsBut l.rest (g.W.Write.contents l.initial.output.inner) (g.W.Write.contents l.output.inner) l.bytes;
+  sent : AppendsBut l.rest (g.W.Write.contents l.initial.output.inner)
+      (g.W.Write.contents l.output.inner) l.bytes;
   unflushed : l.output.flushes ≡ l.initial.output.flushes;
 }
 

@@ -7,4 +7,7 @@ use Rattle.speedate_uses.proofs.ledger.are_in_order.Goals as goal
 pub returns : goal.returns
 returns c =
     let called = answers_always _ _ _ (λ closure lines answer after called. search rules) in
-    record { order = c.is_sorted_by.ensures.cases (λ line next. is_in_order line.now next.now) called }
+    record {
+      order = c.is_sorted_by.ensures.cases (λ line next. is_in_order line.now next.now)
+          called;
+    }

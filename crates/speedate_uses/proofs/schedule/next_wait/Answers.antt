@@ -10,7 +10,10 @@ unwrap-requires c =
     let every = c.signed_total_microseconds-2.result in
     let wait = c.next_multiple-wait.result in
     let few : unsigned_abs gone < 43200000000000000000 = search rules in
-    let multiple : wait ≡ pos (next_count (unsigned_abs every) gone * unsigned_abs every) = search rules in
+    let multiple : wait ≡ pos (next_count (unsigned_abs every) gone * unsigned_abs every) =
+    search rules in
     let answer : c.from_signed_microseconds.result gives amount_answer wait = search rules in
-    let short : unsigned_abs wait < 86400000000000000000 = rw multiple (wait-small (unsigned_abs every) gone c.signed_total_microseconds-2.ensures.small few) in
+    let short : unsigned_abs wait < 86400000000000000000 =
+    rw multiple (wait-small (unsigned_abs every)
+    gone c.signed_total_microseconds-2.ensures.small few) in
     amount-fits c.from_signed_microseconds.result wait short answer

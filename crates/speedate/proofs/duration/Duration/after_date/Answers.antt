@@ -12,4 +12,5 @@ returns-clause-days c = search rules
 pub returns-clause-leads_back : goal.returns-clause-leads_back
 returns-clause-leads_back c =
     IfOk-weaker c.ok_or.result _ _
-    (λ end moved. date-back (duration_numbers c.args.self.now) c.args.start.now (ymd end) (grind (arith, nat_tests)) moved) (returns-clause-days c)
+    (λ end moved. date-back (duration_numbers c.args.self.now) c.args.start.now (ymd end)
+    (grind (arith, nat_tests)) moved) (returns-clause-days c)

@@ -8,16 +8,19 @@ use Rattle.speedate.proofs.duration.Duration.before.Goals as goal
 pub returns-clause-between : goal.returns-clause-between
 returns-clause-between c =
     IfOk-weaker c.after.result _ _
-    (λ end same. between-exact (date_and_time end) (date_and_time c.args.start.now) (duration_numbers c.args.self.now) (is_duration c.args.self.now)
+    (λ end same. between-exact (date_and_time end) (date_and_time c.args.start.now)
+    (duration_numbers c.args.self.now) (is_duration c.args.self.now)
     (opposite _ _ _ _ c.negated.ensures.length same)) c.after.ensures.ends
 
 pub returns-clause-order : goal.returns-clause-order
 returns-clause-order c other =
     let next = signed_amount (duration_numbers other) in
     IfOk-weaker c.after.result _ _
-    (λ end same. ends-order (date_and_time c.args.start.now) (date_and_time end) _ (neg_ℤ next) next (signed_amount (duration_numbers c.args.self.now))
+    (λ end same. ends-order (date_and_time c.args.start.now) (date_and_time end) _ (neg_ℤ next)
+    next (signed_amount (duration_numbers c.args.self.now))
     (opposite-apart _ _ next c.negated.ensures.length) same) c.after.ensures.ends
 
 pub returns-clause-leads_back : goal.returns-clause-leads_back
 returns-clause-leads_back c =
-    ends-back c.after.result c.args.start.now _ (signed_amount (duration_numbers c.args.self.now)) c.after.ensures.offset c.negated.ensures.length c.after.ensures.ends
+    ends-back c.after.result c.args.start.now _ (signed_amount (duration_numbers c.args.self.now))
+    c.after.ensures.offset c.negated.ensures.length c.after.ensures.ends

@@ -1,9 +1,9 @@
 use Rattle.std.proofs.Common.{rules, ap, sym, subst, ◌∙◌, ◌≤◌}
 use Rattle.speedate_civil.specs.DateTime.{date_and_time}
-use Rattle.speedate_civil.proofs.DateTimeValueLemmas.{is_date_and_time}
+use Rattle.speedate_civil.proofs.ValueLemmas.{is_date_and_time}
 use Rattle.speedate.specs.Duration.{duration_numbers, signed_amount}
 use Rattle.speedate.specs.DurationNumbers.{DurationNumbers}
-use Rattle.speedate.proofs.DurationLemmas.{signed_amount-kept, between-days, between-later, between-ends, date_time_after-exact}
+use Rattle.speedate.proofs.DurationLemmas.{signed_amount-kept, between-days, between-later, between-ends, date_time_later-exact}
 use Rattle.speedate.proofs.duration.Duration.between.Goals as goal
 
 pub returns-clause-answer : goal.returns-clause-answer
@@ -14,14 +14,18 @@ returns-clause-length c = ap signed_amount (returns-clause-answer c) ∙ signed_
 
 pub returns-clause-ends : goal.returns-clause-ends
 returns-clause-ends c =
-    between-ends (date_and_time c.args.earlier.now) (date_and_time c.args.later.now) (signed_amount (duration_numbers c.of_microseconds.result)) (returns-clause-length c)
+    between-ends (date_and_time c.args.earlier.now) (date_and_time c.args.later.now)
+    (signed_amount (duration_numbers c.from_microseconds.result)) (returns-clause-length c)
 
 pub returns-clause-leads_back : goal.returns-clause-leads_back
 returns-clause-leads_back c attached =
-    date_time_after-exact (signed_amount (duration_numbers c.of_microseconds.result)) (date_and_time c.args.earlier.now) (date_and_time c.args.later.now) (is_date_and_time c.args.later.now) attached
+    date_time_later-exact (signed_amount (duration_numbers c.from_microseconds.result))
+    (date_and_time c.args.earlier.now) (date_and_time c.args.later.now)
+    (is_date_and_time c.args.later.now) attached
     (between-later _ _ _ (returns-clause-length c))
 
 pub returns-clause-days : goal.returns-clause-days
 returns-clause-days c =
     subst (λ (numbers : DurationNumbers). numbers.day ≤ 3652426) (sym (returns-clause-answer c))
-    (between-days (date_and_time c.args.earlier.now) (date_and_time c.args.later.now) (is_date_and_time c.args.earlier.now) (is_date_and_time c.args.later.now))
+    (between-days (date_and_time c.args.earlier.now) (date_and_time c.args.later.now)
+    (is_date_and_time c.args.earlier.now) (is_date_and_time c.args.later.now))

@@ -7,4 +7,12 @@ use Rattle.speedate.proofs.duration.Duration.end.Goals as goal
 
 pub returns : goal.returns
 returns c =
-    record { instant = c.carried.ensures.instant ∙ ap instant_at (omega (arith, ints, signed_amount-joined (duration_numbers c.args.self.now))) }
+    record {
+      instant = c.from_second_and_microseconds.ensures.instant
+          ∙ ap instant_at (omega (
+            arith,
+            ints,
+            signed_amount-joined
+                (duration_numbers c.args.self.now),
+          ));
+    }

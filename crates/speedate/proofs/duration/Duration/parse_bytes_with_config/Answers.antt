@@ -14,4 +14,5 @@ pub returns-clause-amount : goal.returns-clause-amount
 returns-clause-amount c = duration_answer-amount _ _ _ c.parse.result c.parse.ensures.answer
 
 pub returns-clause-exchanged : goal.returns-clause-exchanged
-returns-clause-exchanged c other lax are = duration_answer-exchanged _ _ _ other _ c.parse.ensures.answer lax are
+returns-clause-exchanged c other lax are =
+    duration_answer-exchanged _ _ _ other _ c.parse.ensures.answer lax are

@@ -9,4 +9,5 @@ returns-clause-microsecond c = grind (arith, common_steps)
 
 pub returns-clause-leads_back : goal.returns-clause-leads_back
 returns-clause-leads_back c =
-    ap amount_answer (returns-clause-microsecond c) ∙ amount_answer-back (duration_numbers c.args.self.now) (is_duration c.args.self.now)
+    ap amount_answer (returns-clause-microsecond c)
+    ∙ amount_answer-back (duration_numbers c.args.self.now) (is_duration c.args.self.now)

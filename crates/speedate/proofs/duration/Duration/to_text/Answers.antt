@@ -10,15 +10,19 @@ returns-clause-reads_back c config =
     let duration = c.args.self.now in
     let behavior = config.microseconds_precision_overflow_behavior in
     let bytes = text-alone _ _ _ c.new-text.ensures c.push_onto.ensures.text in
-    ap (duration_answer config.iso_order behavior) bytes ∙ duration_text-reads config.iso_order behavior (duration_numbers duration) (is_duration duration)
+    ap (duration_answer config.iso_order behavior) bytes
+    ∙ duration_text-reads config.iso_order behavior (duration_numbers duration)
+    (is_duration duration)
 
 pub returns-clause-canonical : goal.returns-clause-canonical
-returns-clause-canonical c config = search (rules, text-alone, text-canonical, returns-clause-reads_back)
+returns-clause-canonical c config =
+    search (rules, text-alone, text-canonical, returns-clause-reads_back)
 
 pub returns-clause-distinct : goal.returns-clause-distinct
 returns-clause-distinct c other =
     let duration = c.args.self.now in
     let bytes = text-alone _ _ _ c.new-text.ensures c.push_onto.ensures.text in (
-      λ same. duration_text-distinct (duration_numbers duration) (duration_numbers other) (is_duration duration) (is_duration other) (sym bytes ∙ same),
+      λ same. duration_text-distinct (duration_numbers duration) (duration_numbers other)
+          (is_duration duration) (is_duration other) (sym bytes ∙ same),
       λ one. bytes ∙ ap duration_text one,
     )

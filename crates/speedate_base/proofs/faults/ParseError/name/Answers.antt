@@ -6,4 +6,5 @@ pub returns-clause-short : goal.returns-clause-short
 returns-clause-short c = rw c.row.ensures.name (name-short c.args.self.now)
 
 pub returns-clause-distinct : goal.returns-clause-distinct
-returns-clause-distinct c = λ other same. name-distinct c.args.self.now other (sym c.row.ensures.name ∙ same)
+returns-clause-distinct c =
+    λ other same. name-distinct c.args.self.now other (sym c.row.ensures.name ∙ same)

@@ -19,7 +19,8 @@ returns-then-count-lt-LANES c =
     let digits = c.args.digits.now in
     let place = c.loop-place.place in
     let within : place + 8 ≤ length digits = omega arith in
-    let ends = block-ends digits place _ within c.digits_in_front-count.ensures.count c.if-count-lt-LANES.true in
+    let ends = block-ends digits place _ within c.digits_in_front-count.ensures.count
+    c.if-count-lt-LANES.true in
     let run = run-on digits place c.loop-place.invariant.within c.loop-place.invariant.digits in
     record { answer = sym (is-place digits _ _ (omega (arith, run, ends)) (omega arith)) }
 

@@ -5,11 +5,17 @@ use Rattle.speedate_base.proofs.numbers.lanes.eight_digits.Goals as goal
 
 -- every other pair of eight digits, joined
 abbrev joined : List ℕ → ℕ
-joined numbers = 1000000 * get_or numbers 0 0 + 10000 * get_or numbers 2 0 + 100 * get_or numbers 4 0 + get_or numbers 6 0
+joined numbers =
+    1000000 * get_or numbers 0 0 + 10000 * get_or numbers 2 0 + 100 * get_or numbers 4 0
+    + get_or numbers 6 0
 
 joined-spells : (lanes : List ℕ) → length lanes ≡ 8
-    → joined (neighbours (fit_digits 8 (48 ∷ 48 ∷ 48 ∷ 48 ∷ 48 ∷ 48 ∷ 48 ∷ 48 ∷ []) lanes)) ≡ digits_value lanes
-joined-spells = by_eight (λ (lanes : List ℕ). joined (neighbours (fit_digits 8 (48 ∷ 48 ∷ 48 ∷ 48 ∷ 48 ∷ 48 ∷ 48 ∷ 48 ∷ []) lanes)) ≡ digits_value lanes)
+    → joined (neighbours (fit_digits 8 (48 ∷ 48 ∷ 48 ∷ 48 ∷ 48 ∷ 48 ∷ 48 ∷ 48 ∷ []) lanes))
+    ≡ digits_value lanes
+joined-spells =
+    by_eight (λ (lanes : List ℕ). joined
+    (neighbours (fit_digits 8 (48 ∷ 48 ∷ 48 ∷ 48 ∷ 48 ∷ 48 ∷ 48 ∷ 48 ∷ []) lanes))
+    ≡ digits_value lanes)
     (λ a b c d e f g h. omega arith)
 
 pub returns-clause-value : goal.returns-clause-value

@@ -7,7 +7,8 @@ abbrev pub invariant-loop-place : goal.invariant-loop-place
 invariant-loop-place l = record {
   place : l.place ≤ length l.digits;
   whole : l.place % 8 ≡ 0;
-  twice : l.twice ≡ quotient l.up (2 * (digits_value (drop l.place l.digits) * l.unit)) (10 ^ length (drop l.place l.digits));
+  twice : l.twice ≡ quotient l.up (2 * (digits_value (drop l.place l.digits) * l.unit))
+      (10 ^ length (drop l.place l.digits));
   within : l.twice ≤ 2 * l.unit;
 }
 

@@ -6,7 +6,8 @@ use Rattle.speedate_civil.proofs.date.day_number.day_of_year.Goals as goal
 pub overflow_add-long_day : goal.overflow_add-long_day
 overflow_add-long_day c = grind (arith, year_length-is, leap_day-small)
 
-long_day-is : (c : goal.After-row_known-1) → c.if-day-february.long_day ≡ long_day c.args.year c.args.day
+long_day-is : (c : goal.After-row_known-1)
+    → c.if-day-february.long_day ≡ long_day c.args.year c.args.day
 long_day-is c = search rules
 
 small : (c : goal.After-row_known-1) → c.if-day-february.long_day ≤ 366
@@ -23,9 +24,16 @@ overflow_cast-result c = search (rules, small)
 
 pub invariant_of-result : goal.invariant_of-result
 invariant_of-result c =
-    let ordinal = ordinal-at c.args.year c.args.day c.if-day-february.long_day c.requires.day (long_day-is c) in
-    record { year_in_range = c.requires.year; month_in_range = ordinal.month_in_range; day_in_range = ordinal.day_in_range }
+    let ordinal =
+    ordinal-at c.args.year c.args.day c.if-day-february.long_day c.requires.day
+    (long_day-is c) in
+    record {
+      year_in_range = c.requires.year;
+      month_in_range = ordinal.month_in_range;
+      day_in_range = ordinal.day_in_range;
+    }
 
 pub returns-clause-day : goal.returns-clause-day
 returns-clause-day c =
-    (ordinal-at c.args.year c.args.day c.if-day-february.long_day c.requires.day (search rules)).ordinal
+    (ordinal-at c.args.year c.args.day c.if-day-february.long_day c.requires.day
+    (search rules)).ordinal

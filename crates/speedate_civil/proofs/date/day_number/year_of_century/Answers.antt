@@ -14,4 +14,5 @@ pub returns-else-year-eq0-clause-within : goal.returns-else-year-eq0-clause-with
 returns-else-year-eq0-clause-within c =
     let last : ℕ = c.saturating_sub-last.result / 365 in
     let year : ℕ = 4 * c.four_years-four_years.result.0 + last in
-    later_day-left c.args.century year _ c.requires.century (omega arith) (omega arith) (grind (arith, common_steps)) (λ full. grind (arith, common_steps))
+    later_day-left c.args.century year _ c.requires.century (omega arith) (omega arith)
+    (grind (arith, common_steps)) (λ full. grind (arith, common_steps))

@@ -11,5 +11,8 @@ returns-clause-nearest c =
     let config = c.args.config.now in
     let decimal = decimal_value c.args.decimal in
     let offset = config.time_config.unix_timestamp_offset in
-    let answer = c.at_decimal.ensures.answer ∙ ap (λ (row : UnitRow). instant_date_time offset (decimal_instant row decimal)) c.decimal_unit-unit.ensures.row in
-    read-result date_and_time _ c.at_decimal.result _ answer (date_time_decimal-nearest config.timestamp_unit offset decimal)
+    let answer =
+    c.at_decimal.ensures.answer ∙ ap (λ (row : UnitRow). instant_date_time offset
+    (decimal_instant row decimal)) c.decimal_unit-unit.ensures.row in
+    read-result date_and_time _ c.at_decimal.result _ answer
+    (date_time_decimal-nearest config.timestamp_unit offset decimal)

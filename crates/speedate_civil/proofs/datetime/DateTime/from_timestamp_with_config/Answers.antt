@@ -10,5 +10,6 @@ returns-clause-answer c = search rules
 pub returns-clause-instant : goal.returns-clause-instant
 returns-clause-instant c =
     let config = c.args.config.now in
-    read-result date_and_time _ c.instant_date_time.result _ (returns-clause-answer c)
-    (date_time_timestamp-instant config.timestamp_unit config.time_config.unix_timestamp_offset c.args.timestamp_microsecond c.args.timestamp)
+    read-result date_and_time _ c.from_unix_time.result _ (returns-clause-answer c)
+    (date_time_timestamp-instant config.timestamp_unit config.time_config.unix_timestamp_offset
+    c.args.timestamp_microsecond c.args.timestamp)

@@ -1,30 +1,41 @@
 use Rattle.std.proofs.Common.{ap, Ok, Err}
 use Rattle.std.proofs.lemmas.Result.{err_from_is_err_and}
-use Rattle.speedate_base.specs.Requirement.{meets, result_and_then}
+use Rattle.speedate_base.specs.Requirement.{first_fault_or, result_and_then}
 use Rattle.speedate_civil.specs.DateTime.{DateAndTime, date_and_time}
 use Rattle.speedate_civil.specs.Standard.{standard_date_time}
-use Rattle.speedate_base.proofs.RequirementLemmas.{meets-read}
+use Rattle.speedate_base.proofs.RequirementLemmas.{first_fault_or-read}
 use Rattle.speedate_civil.proofs.Rfc3339Lemmas.{date-time-standard}
 use Rattle.speedate_civil.proofs.datetime.DateTime.parse_bytes_strict.Goals as goal
 
-pub returns-in_err-require_standard_date_time-clause-answer : goal.returns-in_err-require_standard_date_time-clause-answer
+pub returns-in_err-require_standard_date_time-clause-answer
+    : goal.returns-in_err-require_standard_date_time-clause-answer
 returns-in_err-require_standard_date_time-clause-answer c =
-    let p = err_from_is_err_and c.from_residual-in_err-require_standard_date_time.result c.from_residual-in_err-require_standard_date_time.ensures.1 in
-    rw (p.1, p.2) (meets-read (standard_date_time c.args.bytes.now) (date_and_time c.in_ok-value.value) _ _ c.in_ok-value.ensures.answer c.in_err-require_standard_date_time.ensures.answer)
+    let p = err_from_is_err_and c.from_residual-in_err-require_standard_date_time.result
+    c.from_residual-in_err-require_standard_date_time.ensures.1 in
+    rw (p.1, p.2) (first_fault_or-read (standard_date_time c.args.bytes.now)
+    (date_and_time c.in_ok-value.value)
+    _ _ c.in_ok-value.ensures.answer c.in_err-require_standard_date_time.ensures.answer)
 
 pub returns-clause-answer : goal.returns-clause-answer
 returns-clause-answer c =
-    meets-read (standard_date_time c.args.bytes.now) (date_and_time c.in_ok-value.value) _ _ c.in_ok-value.ensures.answer c.in_ok-require_standard_date_time.ensures.answer
+    first_fault_or-read (standard_date_time c.args.bytes.now) (date_and_time c.in_ok-value.value)
+    _ _ c.in_ok-value.ensures.answer c.in_ok-require_standard_date_time.ensures.answer
 
 pub returns-in_err-value-clause-standard : goal.returns-in_err-value-clause-standard
 returns-in_err-value-clause-standard c =
     let p = err_from_is_err_and c.from_residual.result c.from_residual.ensures.1 in
     rw (p.1) (date-time-standard c.args.behavior c.args.bytes.now (Err c.in_err-value.field-0.0)
-    (ap (result_and_then (λ (found : DateAndTime). meets (standard_date_time c.args.bytes.now) (Ok found))) c.in_err-value.ensures.answer))
+    (ap (result_and_then (λ (found : DateAndTime). first_fault_or
+    (standard_date_time c.args.bytes.now) (Ok found))) c.in_err-value.ensures.answer))
 
-pub returns-in_err-require_standard_date_time-clause-standard : goal.returns-in_err-require_standard_date_time-clause-standard
+pub returns-in_err-require_standard_date_time-clause-standard
+    : goal.returns-in_err-require_standard_date_time-clause-standard
 returns-in_err-require_standard_date_time-clause-standard c =
-    date-time-standard c.args.behavior c.args.bytes.now c.from_residual-in_err-require_standard_date_time.result (returns-in_err-require_standard_date_time-clause-answer c)
+    date-time-standard c.args.behavior c.args.bytes.now
+    c.from_residual-in_err-require_standard_date_time.result
+    (returns-in_err-require_standard_date_time-clause-answer c)
 
 pub returns-clause-standard : goal.returns-clause-standard
-returns-clause-standard c = date-time-standard c.args.behavior c.args.bytes.now (Ok c.in_ok-value.value) (returns-clause-answer c)
+returns-clause-standard c =
+    date-time-standard c.args.behavior c.args.bytes.now (Ok c.in_ok-value.value)
+    (returns-clause-answer c)

@@ -1,7 +1,7 @@
 use Rattle.std.proofs.Common.{◌∙◌, ap, sym, Err}
-use Rattle.speedate_base.specs.Requirement.{alone, result_and_then}
+use Rattle.speedate_base.specs.Requirement.{whole_or_fault, result_and_then}
 use Rattle.speedate_civil.specs.Time.{end_fault, TimeOfDay, time_of_day}
-use Rattle.speedate_base.proofs.RequirementLemmas.{alone-longer, alone-whole}
+use Rattle.speedate_base.proofs.RequirementLemmas.{whole_or_fault-longer, whole_or_fault-whole}
 use Rattle.speedate_civil.proofs.time.Time.parse_whole.Goals as goal
 
 pub returns-then-size-bytes-clause-answer : goal.returns-then-size-bytes-clause-answer
@@ -10,12 +10,14 @@ returns-then-size-bytes-clause-answer c =
     let time = time_of_day c.in_ok-time.time in
     let fault = λ (read : TimeOfDay). end_fault read.offset in
     ap Err c.end_fault.ensures.fault
-    ∙ sym (alone-longer fault bytes time c.in_ok-time.size (λ same. c.if-size-bytes.true (sym same)))
-    ∙ ap (result_and_then (alone fault bytes)) c.in_ok-time.ensures.answer
+    ∙ sym (whole_or_fault-longer fault bytes time c.in_ok-time.size
+    (λ same. c.if-size-bytes.true (sym same)))
+    ∙ ap (result_and_then (whole_or_fault fault bytes)) c.in_ok-time.ensures.answer
 
 pub returns-clause-answer : goal.returns-clause-answer
 returns-clause-answer c =
     let bytes = c.args.bytes.now in
     let fault = λ (read : TimeOfDay). end_fault read.offset in
-    sym (alone-whole fault bytes (time_of_day c.in_ok-time.time) c.in_ok-time.size (sym c.if-size-bytes.false))
-    ∙ ap (result_and_then (alone fault bytes)) c.in_ok-time.ensures.answer
+    sym (whole_or_fault-whole fault bytes (time_of_day c.in_ok-time.time) c.in_ok-time.size
+    (sym c.if-size-bytes.false))
+    ∙ ap (result_and_then (whole_or_fault fault bytes)) c.in_ok-time.ensures.answer

@@ -4,14 +4,18 @@ use Rattle.speedate_civil.specs.Time.{is_plus_or_minus, is_utc, signed_front}
 use Rattle.speedate_civil.proofs.time.offset.parse_offset.Goals as goal
 
 -- the byte at a place is the first of what begins there
-first : (bytes : List ℕ) (place byte : ℕ) → byte ≡ slice_index bytes place → slice_index (drop place bytes) 0 ≡ byte
-first bytes place byte is = get_or-drop place bytes 0 0 ∙ ap (slice_index bytes) (add-zero place) ∙ sym is
+first : (bytes : List ℕ) (place byte : ℕ) → byte ≡ slice_index bytes place
+    → slice_index (drop place bytes) 0 ≡ byte
+first bytes place byte is =
+    get_or-drop place bytes 0 0 ∙ ap (slice_index bytes) (add-zero place) ∙ sym is
 
 pub returns-then-is_plus_or_minus-clause-answer : goal.returns-then-is_plus_or_minus-clause-answer
 returns-then-is_plus_or_minus-clause-answer c =
     let byte = first c.args.bytes.now c.args.place _ c.byte_at-first.ensures.byte in
-    rw (ap is_plus_or_minus byte ∙ sym c.if-is_plus_or_minus.ensures.value) (c.signed_offset.ensures.answer
-    ∙ ap₂ (λ (b : ℕ) (numbers : List ℕ). signed_front (b == hyphen) 1 numbers) (sym byte) (sym (drop-drop 1 c.args.place c.args.bytes.now)))
+    rw (ap is_plus_or_minus byte ∙ sym c.if-is_plus_or_minus.ensures.value)
+    (c.signed_offset.ensures.answer
+    ∙ ap₂ (λ (b : ℕ) (numbers : List ℕ). signed_front (b == hyphen) 1 numbers) (sym byte)
+    (sym (drop-drop 1 c.args.place c.args.bytes.now)))
 
 pub returns-then-is_utc-clause-answer : goal.returns-then-is_utc-clause-answer
 returns-then-is_utc-clause-answer c = search (rules, first)
@@ -19,8 +23,13 @@ returns-then-is_utc-clause-answer c = search (rules, first)
 pub returns-then-has_minus_sign-clause-answer : goal.returns-then-has_minus_sign-clause-answer
 returns-then-has_minus_sign-clause-answer c =
     let byte = first c.args.bytes.now c.args.place _ c.byte_at-first.ensures.byte in
-    rw (ap is_plus_or_minus byte ∙ sym c.if-is_plus_or_minus.ensures.value, ap is_utc byte ∙ sym c.if-is_utc.ensures.value, sym c.if-has_minus_sign.ensures.value)
-    (c.signed_offset-then-has_minus_sign.ensures.answer ∙ ap (signed_front true 3) (sym (drop-drop 3 c.args.place c.args.bytes.now)))
+    rw (
+      ap is_plus_or_minus byte ∙ sym c.if-is_plus_or_minus.ensures.value,
+      ap is_utc byte ∙ sym c.if-is_utc.ensures.value,
+      sym c.if-has_minus_sign.ensures.value,
+    )
+    (c.signed_offset-then-has_minus_sign.ensures.answer
+    ∙ ap (signed_front true 3) (sym (drop-drop 3 c.args.place c.args.bytes.now)))
 
 pub returns-clause-answer : goal.returns-clause-answer
 returns-clause-answer c = search (rules, first)

@@ -2,7 +2,7 @@ use Rattle.std.proofs.Common.{◌∙◌, sym, ap, ap₂, ℕ, ◌+◌, ◌-◌, 
 use Rattle.speedate_base.specs.Digits.{digits_value}
 use Rattle.speedate_base.proofs.NearestLemmas.{nearest-halved, scale-some}
 use Rattle.speedate.specs.IsoForm.{unit_seconds}
-use Rattle.speedate.specs.Reader.{unit_parts}
+use Rattle.speedate.specs.IsoParts.{unit_parts}
 use Rattle.speedate.proofs.FractionLemmas.{whole-seconds}
 use Rattle.speedate.proofs.duration.iso.DurationUnit.long_fraction.Goals as goal
 
@@ -11,7 +11,8 @@ returns-clause-second c =
     let digits = c.args.digits.now in
     let scale = 10 ^ length digits in
     ap (λ (n : ℕ). n / 2000000) c.twice_microseconds-twice.ensures.twice
-    ∙ ap (λ (n : ℕ). 2 * (digits_value digits * (1000000 * n)) / scale / 2000000) c.seconds.ensures.second
+    ∙ ap (λ (n : ℕ). 2 * (digits_value digits * (1000000 * n)) / scale / 2000000)
+    c.seconds.ensures.second
     ∙ whole-seconds (digits_value digits) (unit_seconds (unit_parts c.args.self.now)) scale
 
 pub returns-clause-microsecond : goal.returns-clause-microsecond
@@ -21,5 +22,8 @@ returns-clause-microsecond c =
     let scale = 10 ^ length digits in
     let size = digits_value digits * (1000000 * second) in
     let near = ap unsigned_abs (nearest-halved false size scale (scale-some (length digits))) in
-    let twice = c.twice_microseconds-twice.ensures.twice ∙ ap (λ (n : ℕ). 2 * (digits_value digits * (1000000 * n)) / scale) c.seconds.ensures.second in
-    ap₂ (λ (n m : ℕ). (n + 1) / 2 - 1000000 * m) twice (returns-clause-second c) ∙ sym (ap (λ (n : ℕ). n - 1000000 * (digits_value digits * second / scale)) near)
+    let twice = c.twice_microseconds-twice.ensures.twice
+    ∙ ap (λ (n : ℕ). 2 * (digits_value digits * (1000000 * n)) / scale)
+    c.seconds.ensures.second in
+    ap₂ (λ (n m : ℕ). (n + 1) / 2 - 1000000 * m) twice (returns-clause-second c)
+    ∙ sym (ap (λ (n : ℕ). n - 1000000 * (digits_value digits * second / scale)) near)

@@ -1,6 +1,6 @@
 use Rattle.std.proofs.Common.{◌≡◌, length}
 use Rattle.speedate.specs.Duration.{iso_from}
-use Rattle.speedate.specs.Reader.{sums_parts}
+use Rattle.speedate.specs.IsoParts.{sums_parts}
 use Rattle.speedate.proofs.duration.iso.Sums.with_short_components.Given as goal
 
 abbrev pub invariant-loop-next : goal.invariant-loop-next

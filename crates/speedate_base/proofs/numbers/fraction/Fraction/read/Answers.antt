@@ -16,53 +16,64 @@ eight-first : (text : List ℕ) → eight_at text 0 ≡ first 8 text
 eight-first text = search rules
 
 -- a run goes as far in them as in the text
-first-run : (count : ℕ) (text : List ℕ) → prefix_len is_ascii_digit (first count text) ≡ min count (prefix_len is_ascii_digit text)
+first-run : (count : ℕ) (text : List ℕ)
+    → prefix_len is_ascii_digit (first count text) ≡ min count (prefix_len is_ascii_digit text)
 first-run zero text = omega arith
 first-run (suc count) [] = omega arith
 first-run (suc count) (byte ∷ text) = grind (arith, first-run count text)
 
 -- and its digits are the same
-first-digits : (count places : ℕ) (text : List ℕ) → count ≤ places → count ≤ prefix_len is_ascii_digit text → take count (first places text) ≡ take count text
+first-digits : (count places : ℕ) (text : List ℕ) → count ≤ places
+    → count ≤ prefix_len is_ascii_digit text → take count (first places text) ≡ take count text
 first-digits zero places text few enough = refl
 first-digits (suc count) zero text few enough = absurd (omega arith)
 first-digits (suc count) (suc places) [] few enough = absurd (omega arith)
-first-digits (suc count) (suc places) (byte ∷ text) few enough = grind (arith, first-digits count places text)
+first-digits (suc count) (suc places) (byte ∷ text) few enough =
+    grind (arith, first-digits count places text)
 
 -- what is known of the eight bytes from a place on
 record Known (text front : List ℕ) (place count : ℕ) : Type 0 where
   counted : count ≡ min 8 (run_length text place)
   digits : take count front ≡ take count (drop place text)
 
-known : (text front : List ℕ) (place count : ℕ) → front ≡ eight_at text place → count ≡ prefix_len is_ascii_digit front → Known text front place count
+known : (text front : List ℕ) (place count : ℕ) → front ≡ eight_at text place
+    → count ≡ prefix_len is_ascii_digit front → Known text front place count
 known text front place count from counted =
     let rest : List ℕ = drop place text in
     let are = from ∙ eight_at-drop place text ∙ eight-first rest in
     let run = counted ∙ ap (prefix_len is_ascii_digit) are ∙ first-run 8 rest in
     record {
       counted = run;
-      digits = ap (take count) are ∙ first-digits count 8 rest (omega (arith, run)) (omega (arith, run));
+      digits = ap (take count) are ∙ first-digits count 8 rest (omega (arith, run))
+          (omega (arith, run));
     }
 
 pub returns-in_default-clause-length : goal.returns-in_default-clause-length
 returns-in_default-clause-length c =
-    let is = known c.args.bytes.now _ c.args.place _ c.eight_bytes-front.ensures.bytes c.digits_in_front.ensures.count in
+    let is = known c.args.bytes.now _ c.args.place _ c.eight_bytes-front.ensures.bytes
+    c.digits_in_front.ensures.count in
     omega (arith, is.counted)
 
 pub returns-in_default-clause-microsecond : goal.returns-in_default-clause-microsecond
 returns-in_default-clause-microsecond c =
     let bytes = c.args.bytes.now in
     let place = c.args.place in
-    let is = known bytes _ place _ c.eight_bytes-front.ensures.bytes c.digits_in_front.ensures.count in
+    let is = known bytes _ place _ c.eight_bytes-front.ensures.bytes
+    c.digits_in_front.ensures.count in
     let count : c.digits_in_front.result ≡ run_length bytes place = omega (arith, is.counted) in
-    c.six_places-in_default.ensures.microsecond ∙ ap (fraction_value 6) (is.digits ∙ ap (λ (n : ℕ). take n (drop place bytes)) count)
+    c.six_places-in_default.ensures.microsecond
+    ∙ ap (fraction_value 6) (is.digits ∙ ap (λ (n : ℕ). take n (drop place bytes)) count)
 
 pub returns-in-8-clause-microsecond : goal.returns-in-8-clause-microsecond
 returns-in-8-clause-microsecond c =
     let bytes = c.args.bytes.now in
     let place = c.args.place in
     let rest : List ℕ = drop place bytes in
-    let is = known bytes _ place 8 c.eight_bytes-front.ensures.bytes (sym c.in-8.is ∙ c.digits_in_front.ensures.count) in
+    let is = known bytes _ place 8 c.eight_bytes-front.ensures.bytes
+    (sym c.in-8.is ∙ c.digits_in_front.ensures.count) in
     let whole : 6 ≤ run_length bytes place = omega (arith, is.counted) in
     c.six_places.ensures.microsecond ∙ ap (fraction_value 6) is.digits
-    ∙ sym (fraction_value-take 6 (take 8 rest)) ∙ ap (fraction_value 6) (take-take 6 8 rest (omega arith) ∙ sym (take-take 6 (run_length bytes place) rest whole))
+    ∙ sym (fraction_value-take 6 (take 8 rest))
+    ∙ ap (fraction_value 6) (take-take 6 8 rest (omega arith)
+    ∙ sym (take-take 6 (run_length bytes place) rest whole))
     ∙ fraction_value-take 6 (run_digits bytes place)

@@ -2,7 +2,7 @@ use Rattle.std.proofs.Common.{◌≡◌, rules, sym, ◌∙◌}
 use Rattle.speedate_civil.specs.Date.{ymd}
 use Rattle.speedate_civil.specs.Calendar.{date_order}
 use Rattle.speedate_civil.proofs.DateOrderLemmas.{date_text-order, date_order-day_number}
-use Rattle.speedate_civil.proofs.DateValueLemmas.{is_day}
+use Rattle.speedate_civil.proofs.ValueLemmas.{is_day}
 use Rattle.speedate_civil.proofs.date.order.DateOrd.cmp.Goals as goal
 
 pub returns-clause-text_order : goal.returns-clause-text_order

@@ -2,10 +2,12 @@ use Rattle.std.proofs.Common.{arith}
 use Rattle.std.proofs.lemmas.Grind.{common_steps}
 use Rattle.speedate_civil.proofs.time.pure.PureTime.after_minute.Goals as goal
 
-pub returns-then-not-has_decimal_mark-clause-answer : goal.returns-then-not-has_decimal_mark-clause-answer
+pub returns-then-not-has_decimal_mark-clause-answer
+    : goal.returns-then-not-has_decimal_mark-clause-answer
 returns-then-not-has_decimal_mark-clause-answer c = grind (arith, common_steps)
 
-pub returns-then-not-has_decimal_mark-clause-within : goal.returns-then-not-has_decimal_mark-clause-within
+pub returns-then-not-has_decimal_mark-clause-within
+    : goal.returns-then-not-has_decimal_mark-clause-within
 returns-then-not-has_decimal_mark-clause-within c = grind (arith, common_steps)
 
 pub returns-then-fraction-eq0-clause-answer : goal.returns-then-fraction-eq0-clause-answer

@@ -8,9 +8,10 @@ use lib.Lanes.{Each1, zip2, mask_l, sel_l}
 use lib.Count.{count_trailing_zeros}
 use Rattle.speedate_base.specs.Digits.{fit_length}
 use Rattle.speedate_base.proofs.PatternLemmas.{less}
-use Rattle.speedate_base.proofs.numbers.lanes.fitting.Goals as goal
+use Rattle.speedate_base.proofs.numbers.lanes.fit_length.Goals as goal
 
--- how far above the pattern's byte a lane may lie: a digit lies up to nine above `0`, any other byte is the pattern's own
+-- how far above the pattern's byte a lane may lie: a digit lies up to nine above `0`, any other
+-- byte is the pattern's own
 abbrev largest : ℕ → ℕ
 largest form = cond (eqb form 48) 9 0
 
@@ -20,10 +21,12 @@ run : (forms lanes : List ℕ) → Each1 (Fits w8) forms → Each1 (Fits w8) lan
 run [] [] small bytes = refl
 run [] (byte ∷ bytes) small lanes = refl
 run (form ∷ forms) [] small lanes = refl
-run (form ∷ forms) (byte ∷ bytes) small lanes = grind (arith, nat_tests, small.0.fits, lanes.0.fits, run forms bytes small.1 lanes.1)
+run (form ∷ forms) (byte ∷ bytes) small lanes =
+    grind (arith, nat_tests, small.0.fits, lanes.0.fits, run forms bytes small.1 lanes.1)
 
 selected : (forms : List ℕ) (n : ℕ) → length forms ≡ n
-    → sel_l (map (λ (form : ℕ). eqb form 48) forms) (replicate n 9) (replicate n 0) ≡ map largest forms
+    → sel_l (map (λ (form : ℕ). eqb form 48) forms) (replicate n 9) (replicate n 0)
+    ≡ map largest forms
 selected [] n long = refl
 selected (form ∷ forms) n long = search (rules, selected forms)
 
@@ -32,9 +35,11 @@ unfolding count_trailing_zeros
 no_bit = refl
 
 -- the place of the lowest bit of a mask, or 8 where it has none
-lowest : (tests : List Bool) → length tests ≡ 8 → min (count_trailing_zeros 64 (mask_l tests % 18446744073709551616)) 8 ≡ prefix_len not tests
+lowest : (tests : List Bool) → length tests ≡ 8
+    → min (count_trailing_zeros 64 (mask_l tests % 18446744073709551616)) 8 ≡ prefix_len not tests
 lowest tests long =
-    let first = rw (map-id tests) at (first_set_mask_l (λ (test : Bool). test) tests 8 long (omega arith)) in
+    let first = rw (map-id tests) at
+    (first_set_mask_l (λ (test : Bool). test) tests 8 long (omega arith)) in
     grind (arith, nat_tests, first, no_bit, mask_l-mod tests 64, prefix_len-le-length not tests)
 
 pub returns : goal.returns
@@ -44,8 +49,22 @@ returns c =
     let long = c.fits-pattern.0 in
     let differences : List ℕ = zip2 less lanes forms in
     let compares : length (zip2 ltb (map largest forms) differences) ≡ 8 =
-    grind (arith, length-zip2 ltb (map largest forms) differences, length-map forms largest, length-zip2 less lanes forms, long, c.fits-lanes.0) in
+    grind (
+      arith,
+      length-zip2 ltb (map largest forms) differences,
+      length-map forms largest,
+      length-zip2 less lanes forms,
+      long,
+      c.fits-lanes.0,
+    ) in
     record {
-      count = rw (c.min.ensures, tops_compared w8 eqb forms (replicate 8 48), zip2_splat eqb forms 8 48 long, selected forms 8 long, tops_compared w8 ltb (map largest forms) differences)
-          (lowest (zip2 ltb (map largest forms) differences) compares ∙ run forms lanes c.fits-pattern.1 c.fits-lanes.1);
+      count = rw (
+        c.min.ensures,
+        tops_compared w8 eqb forms (replicate 8 48),
+        zip2_splat eqb forms 8 48 long,
+        selected forms 8 long,
+        tops_compared w8 ltb (map largest forms) differences,
+      )
+          (lowest (zip2 ltb (map largest forms) differences) compares
+          ∙ run forms lanes c.fits-pattern.1 c.fits-lanes.1);
     }

@@ -1,0 +1,42 @@
+-- What a call leaves: its code, and then what stands where it writes. A call that refuses leaves
+-- what stood there.
+use Rattle.std.specs.Prelude.{ℕ, ◌+◌, ℤ, List, ◌∷◌, ◌++◌, length, drop, nat_lt, Option, Some, None, Result, Ok, Err, if◌then◌else◌}
+use Rattle.speedate.specs.Base.{ParseError}
+use Rattle.speedate_c.specs.Code.{success, fault_code, buffer_too_small, no_such_date}
+
+-- what follows from a value that is in its ranges; what is left where it is not
+abbrev pub with_value : {A B : Type 0} → Result A ParseError → B → (A → B) → B
+with_value (Ok value) refused next = next value
+with_value (Err fault) refused next = refused
+
+-- what follows from the meaning of a number; what is left where it has none
+abbrev pub with_option : {A B : Type 0} → Option A → B → (A → B) → B
+with_option (Some value) refused next = next value
+with_option None refused next = refused
+
+-- written of a value that there always is
+abbrev pub written_value : {B : Type 0} → B → ℤ × B
+written_value value = (success, value)
+
+-- written of an answer: its value as C sees it
+abbrev pub written_answer : {A B : Type 0} → (A → B) → B → Result A ParseError → ℤ × B
+written_answer shown before (Ok value) = (success, shown value)
+written_answer shown before (Err fault) = (fault_code fault, before)
+
+-- written of an answer at the front of a text: its value as C sees it, and how many bytes it takes
+abbrev pub written_front : {A B : Type 0} → (A → B) → B → ℕ → Result (A × ℕ) ParseError → ℤ × B × ℕ
+written_front shown before size (Ok front) = (success, shown front.0, front.1)
+written_front shown before size (Err fault) = (fault_code fault, before, size)
+
+-- written of a date, where there is one
+abbrev pub written_optional_date : {A B : Type 0} → (A → B) → B → Option A → ℤ × B
+written_optional_date shown before (Some date) = (success, shown date)
+written_optional_date shown before None = (no_such_date, before)
+
+-- written of a text: it stands in the buffer with a zero byte after it, where there is room for
+-- both, and its length beside it
+abbrev pub written_text : List ℕ → List ℕ → ℕ → ℤ × List ℕ × ℕ
+written_text text buffer size =
+    if nat_lt (length text) (length buffer)
+    then (success, text ++ 0 ∷ drop (length text + 1) buffer, length text)
+    else (buffer_too_small, buffer, size)

@@ -1,0 +1,32 @@
+-- What parsers decide by on their way to an answer.
+use Rattle.std.specs.Prelude.{ℕ, List, Bool, true, false, if◌then◌else◌}
+use Rattle.speedate_civil.specs.Base.{ParseError}
+use Rattle.speedate_base.specs.Digits.{two_digits_at, two_digit_value}
+use Rattle.speedate_civil.specs.declared.time.pure.AfterMinute.{AfterMinute}
+use Rattle.speedate_civil.specs.declared.time.pure.Second.{Second}
+use Rattle.speedate_civil.specs.Time.{Clock, has_second}
+
+-- the second of a clock that is given from its minute on
+abbrev pub second_of : List ℕ → Second
+second_of rest =
+    if has_second rest then
+    (if two_digits_at rest 3 then Second.Number (two_digit_value rest 3) else Second.Faulty)
+    else Second.Absent
+
+-- the clock of hour 0 of a minute and what was read after it
+abbrev pub clock_after : ℕ → AfterMinute → Clock
+clock_after minute after = record {
+  hour = 0;
+  minute = minute;
+  second = after.second;
+  microsecond = after.microsecond;
+  size = after.size;
+}
+
+-- a date's table may refuse a number by this fault: it is short, or has a sign, a digit or a
+-- decimal mark where none may stand
+abbrev pub may_be_number : ParseError → Bool
+may_be_number ParseError.TooShort = true
+may_be_number ParseError.InvalidCharYear = true
+may_be_number ParseError.InvalidCharDateSep = true
+may_be_number other = false
