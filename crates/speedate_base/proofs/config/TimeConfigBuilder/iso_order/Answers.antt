@@ -1,0 +1,5 @@
+use Rattle.std.proofs.Common.{rules}
+use Rattle.speedate_base.proofs.config.TimeConfigBuilder.iso_order.Goals as goal
+
+pub returns : goal.returns
+returns c = search rules
