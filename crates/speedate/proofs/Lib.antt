@@ -9,3 +9,7 @@ mod IsoAmountLemmas
 mod IsoFormLemmas
 mod IsoItemLemmas
 mod IsoTextLemmas
+pub mod LineLemmas
+mod MarkLemmas
+mod WholeLineLemmas
+mod ColumnLemmas

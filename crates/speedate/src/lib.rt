@@ -50,9 +50,16 @@
 //! [`DateTime::from_decimal_with_config`], and `<` of times and date-times is `cmp_instant`.
 #![tactic(auto)]
 
+mod column;
 mod duration;
+mod lines;
 
+pub use column::{
+    DateReader, DateTimeParser, DateTimeReader, DurationReader, LineConfig, LineError, LineReader,
+    Progress, read_column, read_column_with_errors,
+};
 pub use duration::{DAYS_MAX, Duration};
+pub use lines::line_end;
 pub use speedate_base::config::{
     DateConfig, DateConfigBuilder, DateTimeConfig, DateTimeConfigBuilder, IsoOrder,
     MicrosecondsPrecisionOverflowBehavior, TimeConfig, TimeConfigBuilder, TimestampUnit,

@@ -5,6 +5,10 @@ use Rattle.std.specs.Prelude.{ℕ}
 abbrev pub line_feed : ℕ
 line_feed = 10
 
+-- `\r`, which may come before that
+abbrev pub carriage_return : ℕ
+carriage_return = 13
+
 abbrev pub space : ℕ
 space = 32
 

@@ -1,6 +1,6 @@
 -- The faults: one table of their names and of what they say.
 use Prim.Native.String.{String}
-use Rattle.std.specs.Prelude.{ℕ, List, [], ◌∷◌, codes, get_or}
+use Rattle.std.specs.Prelude.{ℕ, ◌+◌, List, [], ◌∷◌, codes, get_or}
 use denote.Enum.Declared.{tag_of}
 use Rattle.speedate_base.specs.contracts.faults.ParseError.{the_type}
 use Rattle.speedate_base.specs.Requirement.{ParseError}
@@ -66,6 +66,10 @@ fault_rows =
 -- the place of a fault in the enum, from 0
 abbrev pub fault_place : ParseError → ℕ
 fault_place fault = tag_of the_type fault
+
+-- the number of a fault: its place counted from 1
+abbrev pub fault_number : ParseError → ℕ
+fault_number fault = fault_place fault + 1
 
 -- the row of a fault in the table of faults
 abbrev pub fault_row : ParseError → FaultRow

@@ -119,7 +119,7 @@ macro_rules! rows {
 impl ParseError {
     ghost use Rattle.std.specs.Prelude.{◌≤◌, IfSome, length, Some};
     ghost use Rattle.std.specs.Option.{option_map};
-    ghost use Rattle.speedate_base.specs.Fault.{fault_documentation, fault_name};
+    ghost use Rattle.speedate_base.specs.Fault.{fault_documentation, fault_name, fault_number};
 
     /// The snake-case name, of at most 29 bytes: `too_short` for `ParseError::TooShort`. No other error
     /// has it.
@@ -140,6 +140,16 @@ impl ParseError {
     {
         let (_, documentation) = self.row();
         Some(documentation)
+    }
+
+    /// The number, by which C and columns name the error: 1 for `ParseError::TooShort`, the first, and
+    /// 42 for `ParseError::MicrosecondFractionTooLong`, the last.
+    #[inline]
+    pub fn number(&self) -> u8
+        ensures number { result ≡ fault_number self.now }
+        ensures small { result ≤ 42 }
+    {
+        *self as u8 + 1
     }
 
     /// The name and the documentation text.

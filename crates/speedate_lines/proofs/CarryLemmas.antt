@@ -1,14 +1,29 @@
--- Of a line that is too long, its first 4,097 bytes tell that it is.
-use Rattle.std.proofs.Common.{rules, ◌≡◌, ◌∙◌, ap, sym, refl, ℕ, zero, suc, List, [], ◌∷◌, ◌++◌, length, take, arith, inl, inr}
+-- What is kept of an unfinished line: of one that is too long, its first 4,097 bytes tell that it
+-- is.
+use Rattle.std.proofs.Common.{rules, ◌≡◌, ◌∙◌, ap, sym, subst, refl, ℕ, zero, suc, ◌<◌, List, [], ◌∷◌, ◌++◌, length, take, get_or, arith, inl, inr}
 use Rattle.std.proofs.lemmas.Bool.{cases_lt}
 use Rattle.std.proofs.lemmas.List.{take_all, length-take}
-use Rattle.std.proofs.lemmas.List.Elements.{All-take}
+use Rattle.std.proofs.lemmas.List.Elements.{All-take, All-get_or}
 use Rattle.std.proofs.lemmas.Grind.{flat_map-append}
+use Rattle.std.proofs.Math.ListN.{get_or-append}
 use Rattle.speedate.specs.Ascii.{line_feed}
-use Rattle.speedate_lines.specs.Lines.{Pieces, pieces, onto_first, complete_lines, unfinished_line, last_line, lines, line_answer, answers}
+use Rattle.speedate.specs.Lines.{Pieces, pieces, onto_first, complete_lines, unfinished_line, last_line, lines, IsOneLine}
+use Rattle.speedate_lines.specs.Answer.{line_answer, answers}
 use Rattle.speedate_lines.specs.Run.{kept_part}
 use Rattle.speedate_lines.proofs.AnswerLemmas.{line_answer-long}
-use Rattle.speedate_lines.proofs.LineLemmas.{EndsNoLine, IsFree, pieces-onto_first, unfinished-free, pieces-append}
+use Rattle.speedate.proofs.LineLemmas.{EndsNoLine, IsFree, pieces-onto_first, unfinished-free, pieces-append}
+
+-- what is kept of an unfinished line holds no line feed at the front of a block
+pub IsOneLine-from_kept : (text front more block : List ℕ) (n : ℕ)
+    → front ≡ kept_part (unfinished_line text) → n ≡ length front → block ≡ front ++ more
+    → IsOneLine block 0 n
+IsOneLine-from_kept text front more block n cut long joined k after below same =
+    let inside : k < length front = omega (arith, long) in
+    let free = subst IsFree (sym cut)
+    (All-take EndsNoLine 4097 (unfinished_line text) (unfinished-free text)) in
+    All-get_or EndsNoLine front k 0 inside free
+    (sym (get_or-append front more 0 k inside)
+    ∙ ap (λ (bytes : List ℕ). get_or bytes k 0) (sym joined) ∙ same)
 
 -- a line answers as its kept part does
 line_answer-kept : (line : List ℕ) → line_answer (kept_part line) ≡ line_answer line

@@ -1,5 +1,3 @@
 mod AnswerLemmas
-mod LineLemmas
 mod CarryLemmas
 mod SentLemmas
-mod MarkLemmas

@@ -1,3 +1,3 @@
-pub mod Lines
+pub mod Answer
 pub mod Watch
 pub mod Run

@@ -2,7 +2,8 @@
 use Rattle.std.specs.Prelude.{◌≡◌, ℕ, ◌+◌, ◌≤◌, List, [], ◌++◌, length, take, Option, ◌⊎◌, Bool, true, false, ◌||◌, codes, Result, Ok, Err, is_err, OnOk, OnErr}
 use Rattle.std.specs.Io.KnownBytes.{Consumes, IsAtEnd, Appends}
 use Rattle.speedate_lines.specs.declared.run.RunError.{RunError}
-use Rattle.speedate_lines.specs.Lines.{longest_line, complete_lines, lines, answers}
+use Rattle.speedate.specs.Lines.{complete_lines, lines}
+use Rattle.speedate_lines.specs.Answer.{longest_line, answers}
 use Rattle.speedate_lines.specs.Watch.{Watch}
 
 -- what is kept of an unfinished line: of one that is too long, enough to tell that it is

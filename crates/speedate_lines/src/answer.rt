@@ -4,7 +4,7 @@ ghost use Rattle.std.specs.Option.{option_map};
 ghost use Rattle.std.specs.Prelude.{◌≡◌, ◌+◌, ◌≤◌, true, false, length, take, drop, bytes_eq, MatchOption, [], ◌∷◌, ◌++◌};
 ghost use Rattle.arrayvec.specs.ArrayString.{array_string_len};
 ghost use Rattle.speedate.specs.Ascii.{line_feed};
-ghost use Rattle.speedate_lines.specs.Lines.{err_answer, kind_and_text, kinds, line_answer, ok_answer, reply_to};
+ghost use Rattle.speedate_lines.specs.Answer.{err_answer, kind_and_text, kinds, line_answer, ok_answer, reply_to};
 
 use arrayvec::ArrayString;
 use speedate::{Date, DateTime, Duration, IsoOrder, Time, TimeConfig};
@@ -53,7 +53,7 @@ pub fn answer_line(line: &[u8], pending: &mut Pending)
 
 /// The kind whose word and a space begin a line, and the text after those.
 #[inline(always)]
-#[tactic(auto, unfolding(crate::specs::Lines::kind_and_text))]
+#[tactic(auto, unfolding(crate::specs::Answer::kind_and_text))]
 fn kind_of(line: &[u8]) -> Option<(Kind, &[u8])>
     ensures kind { option_map (λ found. (found.0, found.1.now)) result
         ≡ kind_and_text kinds line.now }

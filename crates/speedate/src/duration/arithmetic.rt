@@ -36,7 +36,7 @@ impl Duration {
             ≡ Ok (date_and_time later.now) }
         ensures days { result.day ≤ 3652426 }
     {
-        Self::from_microseconds(utc_microsecond(later) - utc_microsecond(earlier))
+        Self::from_microseconds(later.timestamp_tz_us() - earlier.timestamp_tz_us())
     }
 
     /// The date-time this long after `start`, or before it if the duration is negative, at the same
@@ -241,12 +241,4 @@ impl Duration {
     {
         self.negated().after_date(start)
     }
-}
-
-/// The microsecond since 1970-01-01T00:00:00 in UTC at which a date-time lies.
-fn utc_microsecond(value: &DateTime) -> i64
-    ensures microsecond { result ≡ utc_microsecond (date_and_time value.now) }
-    ensures small { unsigned_abs result < 500000000000000000 }
-{
-    1_000_000 * value.timestamp_tz() + i64::from(value.time.microsecond)
 }

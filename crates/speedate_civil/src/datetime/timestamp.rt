@@ -1,6 +1,6 @@
 //! Date-times from timestamps, and back.
 
-ghost use Rattle.std.specs.Prelude.{◌≡◌, ◌≤ℤ◌, ◌+ℤ◌, ◌-ℤ◌, Ok, IfOk, None, pos};
+ghost use Rattle.std.specs.Prelude.{◌≡◌, ◌≤ℤ◌, ◌+ℤ◌, ◌-ℤ◌, ◌*ℤ◌, Ok, IfOk, None, pos};
 ghost use Rattle.std.specs.Option.{ForSome};
 ghost use Rattle.speedate_base.specs.Config.{choices};
 ghost use Rattle.speedate_civil.specs.Base.{TimestampUnit};
@@ -8,7 +8,7 @@ ghost use Rattle.speedate_base.specs.Nearest.{IsNearest};
 ghost use Rattle.speedate_base.specs.Numbers.{decimal_scale, decimal_value};
 ghost use Rattle.speedate_base.specs.Offset.{IsOffset, IsWholeMinutes};
 ghost use Rattle.speedate_base.specs.Timestamp.{IsInYears, first_second, last_second, unix_instant, decimal_row, decimal_numerator, decimal_instant, unix_row};
-ghost use Rattle.speedate_civil.specs.DateTime.{local_second, utc_second, local_millisecond, utc_millisecond, local_microsecond, date_and_time, IsShownAt, date_time_at, instant_date_time, date_time_timestamp_answer, meant_microsecond, date_time_decimal_answer, ◌gives◌};
+ghost use Rattle.speedate_civil.specs.DateTime.{local_second, utc_second, local_millisecond, utc_millisecond, local_microsecond, utc_microsecond, date_and_time, IsShownAt, date_time_at, instant_date_time, date_time_timestamp_answer, meant_microsecond, date_time_decimal_answer, ◌gives◌};
 
 use super::DateTime;
 use crate::date::Date;
@@ -179,5 +179,15 @@ impl DateTime {
         ensures millisecond { result ≡ utc_millisecond (date_and_time self.now) }
     {
         1000 * self.timestamp_tz() + i64::from(self.time.microsecond / 1000)
+    }
+
+    /// The Unix timestamp, in microseconds: 82,800,000,001 for 1970-01-02T00:00:00.000001+01:00. A
+    /// date-time without an offset is taken to be in UTC.
+    pub fn timestamp_tz_us(&self) -> i64
+        ensures microsecond { result ≡ utc_microsecond (date_and_time self.now) }
+        ensures least { (pos 1000000 *ℤ (first_second -ℤ pos 86399)) ≤ℤ result }
+        ensures largest { result ≤ℤ (pos 1000000 *ℤ (last_second +ℤ pos 86399) +ℤ pos 999999) }
+    {
+        1_000_000 * self.timestamp_tz() + i64::from(self.time.microsecond)
     }
 }

@@ -1,5 +1,6 @@
 use Rattle.std.proofs.Common.{◌≡◌, ◌-◌, ◌≤◌, ◌++◌, length, drop}
-use Rattle.speedate_lines.specs.Lines.{IsOneLine, complete_lines, unfinished_line, answers}
+use Rattle.speedate.specs.Lines.{IsOneLine, complete_lines, unfinished_line}
+use Rattle.speedate_lines.specs.Answer.{answers}
 use Rattle.speedate_lines.specs.Run.{AppendsBut}
 use Rattle.speedate_lines.proofs.run.answer_lines.Given as goal
 

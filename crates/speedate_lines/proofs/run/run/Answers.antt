@@ -2,9 +2,10 @@ use Rattle.std.proofs.Common.{rules, ◌≡◌, ◌∙◌, ap, sym, subst, refl,
 use Rattle.std.proofs.lemmas.List.{length-take-le}
 use Rattle.std.specs.Io.KnownBytes.{Appends, Consumes}
 use Rattle.std.proofs.KnownBytes.{Appends-trans, Consumes-trans, Consumes-whole}
-use Rattle.speedate_lines.specs.Lines.{complete_lines, unfinished_line, last_line, lines, answers}
+use Rattle.speedate.specs.Lines.{complete_lines, unfinished_line, last_line, lines}
+use Rattle.speedate_lines.specs.Answer.{answers}
 use Rattle.speedate_lines.specs.Run.{kept_part}
-use Rattle.speedate_lines.proofs.LineLemmas.{IsOneLine-from_kept}
+use Rattle.speedate_lines.proofs.CarryLemmas.{IsOneLine-from_kept}
 use Rattle.speedate_lines.proofs.CarryLemmas.{answers-more, kept-more, answers-all}
 use Rattle.std.proofs.Math.Bool.{or-false}
 use Rattle.speedate_lines.proofs.SentLemmas.{Appends-all, AppendsFrom-beginning}

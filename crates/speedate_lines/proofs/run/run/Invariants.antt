@@ -1,6 +1,7 @@
 use Rattle.std.proofs.Common.{◌≡◌, ◌+◌, ◌-◌, ◌≤◌, ◌^◌, [], ℕ, List, take}
 use Rattle.std.specs.Io.KnownBytes.{Appends, Consumes}
-use Rattle.speedate_lines.specs.Lines.{longest_line, complete_lines, unfinished_line, answers}
+use Rattle.speedate.specs.Lines.{complete_lines, unfinished_line}
+use Rattle.speedate_lines.specs.Answer.{longest_line, answers}
 use Rattle.speedate_lines.specs.Run.{kept_part}
 use Rattle.speedate_lines.proofs.run.run.Given as goal
 

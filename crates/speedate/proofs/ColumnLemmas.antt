@@ -1,0 +1,291 @@
+-- A column, line by line.
+use Rattle.std.proofs.Common.{Bool, ◌≡◌, ◌∙◌, ap, sym, refl, ℕ, zero, suc, ◌+◌, ◌-◌, ◌≤◌, List, [], ◌∷◌, ◌++◌, length, take, drop, set, add-one, append_assoc, arith, Option, Some, None, Result, Ok, Err}
+use Rattle.std.proofs.Math.Seq.{take-nil}
+use Rattle.std.proofs.lemmas.List.{take-append-drop, drop-drop, drop-take, length-take, length-take-le}
+use Rattle.speedate.specs.declared.column.Line.{Line}
+use Rattle.speedate.specs.Lines.{whole_lines}
+use Rattle.speedate.specs.Column.{Column, IsFirstLine, LineConfig, LineError, entry, onto_column, column, line_answer, text_column, overwritten}
+
+-- nothing put over a list
+overwritten-nil : {N : Type 0} → (old : List N) → overwritten old [] ≡ old
+overwritten-nil [] = refl
+overwritten-nil (one ∷ ones) = refl
+
+-- one more of its places overwritten
+overwritten-step : {N : Type 0} → (old : List N) (k : ℕ) (one : N) (others : List N)
+    → take k old ++ overwritten (drop k old) (one ∷ others)
+    ≡ take (suc k) (set old k one) ++ overwritten (drop (suc k) (set old k one)) others
+overwritten-step [] zero one others = refl
+overwritten-step [] (suc k) one others = refl
+overwritten-step (first ∷ rest) zero one others = refl
+overwritten-step {N = N} (first ∷ rest) (suc k) one others =
+    ap (λ (list : List N). first ∷ list) (overwritten-step rest k one others)
+
+-- what is written, and what is left of the old list
+pub overwritten-rest : {N : Type 0} → (old new : List N) → length new ≤ length old
+    → overwritten old new ≡ new ++ drop (length new) old
+overwritten-rest [] [] fits = refl
+overwritten-rest [] (other ∷ others) fits = absurd (omega (arith, fits))
+overwritten-rest (one ∷ ones) [] fits = refl
+overwritten-rest {N = N} (one ∷ ones) (other ∷ others) fits =
+    ap (λ (list : List N). other ∷ list) (overwritten-rest ones others (omega (arith, fits)))
+
+-- the same where the list goes on after what is overwritten
+pub overwritten-front : {N : Type 0} → (old new all : List N) (room lines : ℕ) → room ≤ length old
+    → lines ≤ room → lines ≡ length new
+    → all ≡ overwritten (take room old) new → all ++ drop room old ≡ new ++ drop lines old
+overwritten-front {N = N} old new all room lines within few counted is =
+    let cut : List N = take room old in
+    let long : length cut ≡ room = length-take-le room old within in
+    let fits : length new ≤ length cut = omega (arith, long, few, counted) in
+    let left : lines + (room - lines) ≡ room = omega (arith, few) in
+    ap (λ (list : List N). list ++ drop room old)
+    (is ∙ overwritten-rest cut new fits ∙ ap (λ (n : ℕ). new ++ drop n cut) (sym counted)
+    ∙ ap (λ (n : ℕ). new ++ drop lines (take n old)) (sym left)
+    ∙ ap (λ (list : List N). new ++ list) (drop-take lines (room - lines) old))
+    ∙ append_assoc new (take (room - lines) (drop lines old)) (drop room old)
+    ∙ ap (λ (n : ℕ). new ++ (take (room - lines) (drop lines old) ++ drop n old)) (sym left)
+    ∙ ap (λ (list : List N). new ++ (take (room - lines) (drop lines old) ++ list))
+    (sym (drop-drop (room - lines) lines old))
+    ∙ ap (λ (list : List N). new ++ list) (take-append-drop (room - lines) (drop lines old))
+
+-- what a column holds after some lines: the whole column, by what is written and by the column of
+-- what is left
+pub record IsSoFar {N : Type 0} (whole left : Column N) (lines : ℕ) (out_old out_new : List N)
+    (errors_old errors_new : List ℕ) : Type 0 where
+  pub count : length whole.numbers ≡ lines + length left.numbers
+  pub fault : whole.fault ≡ left.fault
+  pub numbers : overwritten out_old whole.numbers
+      ≡ take lines out_new ++ overwritten (drop lines out_new) left.numbers
+  pub errors : overwritten errors_old whole.errors
+      ≡ take lines errors_new ++ overwritten (drop lines errors_new) left.errors
+
+-- at the start
+pub IsSoFar-start : {N : Type 0} → (whole : Column N) (out : List N) (errors : List ℕ)
+    → IsSoFar whole whole 0 out out errors errors
+IsSoFar-start whole out errors =
+    record { count = omega arith; fault = refl; numbers = refl; errors = refl }
+
+-- after one more line
+pub IsSoFar-more : {N : Type 0}
+    → (whole left rest : Column N) (lines next : ℕ) (out_old out out_new : List N)
+    (errors_old errors errors_new : List ℕ) (held : N × ℕ)
+    → IsSoFar whole left lines out_old out errors_old errors → left ≡ onto_column (Ok held) rest
+    → next ≡ lines + 1
+    → out_new ≡ set out lines held.0 → errors_new ≡ set errors lines held.1
+    → IsSoFar whole rest next out_old out_new errors_old errors_new
+IsSoFar-more {N = N} whole left rest lines next out_old out out_new errors_old errors errors_new
+    held before is counted out_is errors_is = record {
+      count = before.count ∙ ap (λ (all : Column N). lines + length all.numbers) is
+          ∙ omega (arith, counted);
+      fault = before.fault ∙ ap (λ (all : Column N). all.fault) is;
+      numbers =
+          before.numbers
+          ∙ ap (λ (all : Column N). take lines out ++ overwritten (drop lines out) all.numbers) is
+          ∙ overwritten-step out lines held.0 rest.numbers
+          ∙ rw (counted, out_is, add-one) refl;
+      errors =
+          before.errors
+          ∙ ap (λ (all : Column N). take lines errors ++ overwritten (drop lines errors) all.errors) is
+          ∙ overwritten-step errors lines held.1 rest.errors
+          ∙ rw (counted, errors_is, add-one) refl;
+    }
+
+-- at the end, where nothing is left
+pub record IsWhole {N : Type 0} (whole : Column N) (fault : Option LineError) (lines : ℕ)
+    (out_old out_new : List N) (errors_old errors_new : List ℕ) : Type 0 where
+  pub numbers : out_new ≡ overwritten out_old whole.numbers
+  pub errors : errors_new ≡ overwritten errors_old whole.errors
+  pub count : lines ≡ length whole.numbers
+  pub ends : fault ≡ whole.fault
+
+pub IsSoFar-whole : {N : Type 0}
+    → (whole left : Column N) (fault : Option LineError) (lines : ℕ) (out_old out_new : List N)
+    (errors_old errors_new : List ℕ)
+    → IsSoFar whole left lines out_old out_new errors_old errors_new
+    → left ≡ record { numbers = []; errors = []; fault = fault }
+    → IsWhole whole fault lines out_old out_new errors_old errors_new
+IsSoFar-whole {N = N} whole left fault lines out_old out_new errors_old errors_new before none =
+    record {
+      numbers = sym (
+          before.numbers
+          ∙ ap (λ (all : Column N). take lines out_new ++ overwritten (drop lines out_new) all.numbers)
+          none
+          ∙ ap (λ (list : List N). take lines out_new ++ list) (overwritten-nil (drop lines out_new))
+          ∙ take-append-drop lines out_new);
+      errors = sym (
+          before.errors
+          ∙ ap (λ (all : Column N). take lines errors_new
+          ++ overwritten (drop lines errors_new) all.errors) none
+          ∙ ap (λ (list : List ℕ). take lines errors_new ++ list)
+          (overwritten-nil (drop lines errors_new))
+          ∙ take-append-drop lines errors_new);
+      count = sym (before.count ∙ ap (λ (all : Column N). lines + length all.numbers) none
+          ∙ omega arith);
+      ends = sym (before.fault ∙ ap (λ (all : Column N). all.fault) none);
+    }
+
+-- The column of a text from its first line on.
+
+-- with room for more lines than one, the first line is put before the column of the rest
+pub text_column-first : {N : Type 0}
+    → (answer : List ℕ → Result N LineError) (config : LineConfig) (refused : Option N)
+    (room more : ℕ) (text : List ℕ) (line : Line N)
+    → IsFirstLine answer config text line → room ≡ more + 1
+    → text_column answer config refused room text
+    ≡ onto_column (entry refused line.answer)
+    (text_column answer config refused more (drop line.size text))
+unfolding text_column
+text_column-first {N = N} answer config refused room more text line found one =
+    let rest = text_column answer config refused more (drop line.size text) in
+    ap (λ (n : ℕ). text_column answer config refused n text) (one ∙ add-one more)
+    ∙ ap (λ (all : List (List ℕ)). column (line_answer answer config) refused
+    (take (suc more) all)) found.first.lines
+    ∙ ap (λ (read : List ℕ). onto_column (entry refused (answer read)) rest) found.first.is_read
+    ∙ ap (λ (given : Result N LineError). onto_column (entry refused given) rest)
+    (sym found.answered)
+
+-- the same from a place on, where the column holds something of that line
+pub text_column-more : {N : Type 0}
+    → (answer : List ℕ → Result N LineError) (config : LineConfig) (refused : Option N)
+    (room more bytes : ℕ) (text : List ℕ) (line : Line N) (held : N × ℕ)
+    → IsFirstLine answer config (drop bytes text) line → room ≡ more + 1
+    → entry refused line.answer ≡ Ok held
+    → text_column answer config refused room (drop bytes text)
+    ≡ onto_column (Ok held) (text_column answer config refused more (drop (bytes + line.size) text))
+text_column-more {N = N} answer config refused room more bytes text line held found one is =
+    text_column-first answer config refused room more (drop bytes text) line found one
+    ∙ ap (λ (kept : Result (N × ℕ) LineError). onto_column kept
+    (text_column answer config refused more (drop line.size (drop bytes text)))) is
+    ∙ ap (λ (rest : List ℕ). onto_column (Ok held) (text_column answer config refused more rest))
+    (drop-drop line.size bytes text)
+
+-- without room, without a whole line, or with an error that ends it, it is empty
+pub text_column-full : {N : Type 0}
+    → (answer : List ℕ → Result N LineError) (config : LineConfig) (refused : Option N) (room : ℕ)
+    (text : List ℕ)
+    → room ≡ 0 → text_column answer config refused room text
+    ≡ record { numbers = []; errors = []; fault = None }
+unfolding text_column
+text_column-full answer config refused room text none =
+    ap (λ (n : ℕ). text_column answer config refused n text) none
+
+pub text_column-none : {N : Type 0}
+    → (answer : List ℕ → Result N LineError) (config : LineConfig) (refused : Option N) (room : ℕ)
+    (text : List ℕ)
+    → whole_lines config.at_end text ≡ []
+    → text_column answer config refused room text
+    ≡ record { numbers = []; errors = []; fault = None }
+unfolding text_column
+text_column-none answer config refused room text none =
+    ap (λ (all : List (List ℕ)). column (line_answer answer config) refused (take room all)) none
+    ∙ ap (column (line_answer answer config) refused) (take-nil room)
+
+pub text_column-ended : {N : Type 0}
+    → (answer : List ℕ → Result N LineError) (config : LineConfig) (refused : Option N)
+    (room more : ℕ) (text : List ℕ) (line : Line N) (fault : LineError)
+    → IsFirstLine answer config text line → room ≡ more + 1 → entry refused line.answer ≡ Err fault
+    → text_column answer config refused room text
+    ≡ record { numbers = []; errors = []; fault = Some fault }
+text_column-ended {N = N} answer config refused room more text line fault found one ended =
+    text_column-first answer config refused room more text line found one
+    ∙ ap (λ (held : Result (N × ℕ) LineError). onto_column held
+    (text_column answer config refused more (drop line.size text))) ended
+
+-- it has no more lines than there is room for
+onto_column-short : {N : Type 0} → (held : Result (N × ℕ) LineError) (rest : Column N) (room : ℕ)
+    → length rest.numbers ≤ room → length (onto_column held rest).numbers ≤ suc room
+onto_column-short (Ok held) rest room short = omega (arith, short)
+onto_column-short (Err fault) rest room short = omega arith
+
+column-short : {N : Type 0} → (answer : List ℕ → Result N LineError) (refused : Option N)
+    (lines : List (List ℕ)) → length (column answer refused lines).numbers ≤ length lines
+column-short answer refused [] = omega arith
+column-short answer refused (line ∷ lines) =
+    onto_column-short (entry refused (answer line)) (column answer refused lines) (length lines)
+    (column-short answer refused lines)
+
+pub text_column-short : {N : Type 0}
+    → (answer : List ℕ → Result N LineError) (config : LineConfig) (refused : Option N) (room : ℕ)
+    (text : List ℕ)
+    → length (text_column answer config refused room text).numbers ≤ room
+unfolding text_column
+text_column-short answer config refused room text =
+    let all : List (List ℕ) = whole_lines config.at_end text in
+    omega (
+      arith,
+      column-short (line_answer answer config) refused (take room all),
+      length-take room all,
+    )
+
+-- it has an error for each number
+onto_column-errors : {N : Type 0} → (held : Result (N × ℕ) LineError) (rest : Column N)
+    → length rest.errors ≡ length rest.numbers
+    → length (onto_column held rest).errors ≡ length (onto_column held rest).numbers
+onto_column-errors (Ok held) rest same = ap suc same
+onto_column-errors (Err fault) rest same = refl
+
+column-errors : {N : Type 0} → (answer : List ℕ → Result N LineError) (refused : Option N)
+    (lines : List (List ℕ))
+    → length (column answer refused lines).errors ≡ length (column answer refused lines).numbers
+column-errors answer refused [] = refl
+column-errors answer refused (line ∷ lines) =
+    onto_column-errors (entry refused (answer line)) (column answer refused lines)
+    (column-errors answer refused lines)
+
+pub text_column-errors : {N : Type 0}
+    → (answer : List ℕ → Result N LineError) (config : LineConfig) (refused : Option N) (room : ℕ)
+    (text : List ℕ)
+    → length (text_column answer config refused room text).errors
+    ≡ length (text_column answer config refused room text).numbers
+unfolding text_column
+text_column-errors answer config refused room text =
+    column-errors (line_answer answer config) refused (take room (whole_lines config.at_end text))
+
+-- where a refused line gets a number, none ends it
+onto_column-goes_on : {N : Type 0} → (given : Result N LineError) (number : N) (rest : Column N)
+    → rest.fault ≡ None
+    → (onto_column (entry (Some number) given) rest).fault ≡ None
+onto_column-goes_on (Ok value) number rest none = none
+onto_column-goes_on (Err fault) number rest none = none
+
+column-goes_on : {N : Type 0}
+    → (answer : List ℕ → Result N LineError) (number : N) (lines : List (List ℕ))
+    → (column answer (Some number) lines).fault ≡ None
+column-goes_on answer number [] = refl
+column-goes_on answer number (line ∷ lines) =
+    onto_column-goes_on (answer line) number (column answer (Some number) lines)
+    (column-goes_on answer number lines)
+
+pub text_column-goes_on : {N : Type 0}
+    → (answer : List ℕ → Result N LineError) (config : LineConfig) (number : N) (room : ℕ)
+    (text : List ℕ)
+    → (text_column answer config (Some number) room text).fault ≡ None
+unfolding text_column
+text_column-goes_on answer config number room text =
+    column-goes_on (line_answer answer config) number (take room (whole_lines config.at_end text))
+
+-- what is written of it, and what is left of the old numbers
+pub text_column-written : {N : Type 0}
+    → (answer : List ℕ → Result N LineError) (config : LineConfig) (refused : Option N)
+    (old : List N) (text : List ℕ) (lines : ℕ)
+    → lines ≡ length (text_column answer config refused (length old) text).numbers
+    → overwritten old (text_column answer config refused (length old) text).numbers
+    ≡ (text_column answer config refused (length old) text).numbers ++ drop lines old
+text_column-written {N = N} answer config refused old text lines counted =
+    let new : List N = (text_column answer config refused (length old) text).numbers in
+    overwritten-rest old new (text_column-short answer config refused (length old) text)
+    ∙ ap (λ (n : ℕ). new ++ drop n old) (sym counted)
+
+-- the rest of a text after one more whole line
+pub rest-more : (at_end : Bool) (text first : List ℕ) (bytes size lines next : ℕ)
+    → whole_lines at_end (drop bytes text) ≡ drop lines (whole_lines at_end text)
+    → whole_lines at_end (drop bytes text)
+    ≡ first ∷ whole_lines at_end (drop size (drop bytes text)) → next ≡ lines + 1
+    → whole_lines at_end (drop (bytes + size) text) ≡ drop next (whole_lines at_end text)
+rest-more at_end text first bytes size lines next before is counted =
+    let all : List (List ℕ) = whole_lines at_end text in
+    ap (whole_lines at_end) (sym (drop-drop size bytes text))
+    ∙ ap (λ (list : List (List ℕ)). drop 1 list) (sym is ∙ before)
+    ∙ drop-drop 1 lines all
+    ∙ ap (λ (n : ℕ). drop n all) (sym counted)

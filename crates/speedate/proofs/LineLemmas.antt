@@ -1,0 +1,134 @@
+-- How the lines of a text are found from place to place, and from block to block.
+use Rattle.std.proofs.Common.{rules, ◌≡◌, ◌≢◌, ◌∙◌, ap, sym, subst, refl, ℕ, ◌+◌, ◌-◌, ◌<◌, ◌≤◌, Bool, List, [], ◌∷◌, ◌++◌, length, take, drop, append-nil, if◌then◌else◌, ◌==◌, arith, All}
+use Rattle.std.proofs.lemmas.Bool.{cases_lt, eqb-false, ne_eqb}
+use Rattle.std.proofs.lemmas.List.{take_rest, length-take, get_or-take, get_or-drop, take-append-drop, drop_more, drop-drop}
+use Rattle.std.proofs.lemmas.List.Elements.{All-head, All-tail, All-nil, All-cons, All-from_get_or}
+use Rattle.speedate_base.specs.Ascii.{line_feed}
+use Rattle.speedate.specs.Lines.{Pieces, pieces, onto_first, complete_lines, unfinished_line, IsOneLine, IsLineEnd}
+
+-- a byte that ends no line
+abbrev pub EndsNoLine : ℕ → Type 0
+EndsNoLine byte = byte ≢ line_feed
+
+-- no line feed is in the text
+abbrev pub IsFree : List ℕ → Type 0
+IsFree text = All EndsNoLine text
+
+-- a line put before the first piece
+onto_first-nil : (lines : List (List ℕ)) (last : List ℕ)
+    → onto_first [] lines last ≡ record { complete = lines; unfinished = last }
+onto_first-nil lines last = search (rules)
+
+onto_first-cons : (byte : ℕ) (front : List ℕ) (lines : List (List ℕ)) (last : List ℕ)
+    → onto_first (byte ∷ []) (onto_first front lines last).complete
+    (onto_first front lines last).unfinished ≡ onto_first (byte ∷ front) lines last
+onto_first-cons byte front lines last = search (rules)
+
+pub pieces-onto_first : (front more : List ℕ) → IsFree front
+    → pieces (front ++ more) ≡ onto_first front (complete_lines more) (unfinished_line more)
+pieces-onto_first [] more free = sym (onto_first-nil (complete_lines more) (unfinished_line more))
+pieces-onto_first (byte ∷ bytes) more free =
+    rw (
+      ne_eqb byte line_feed (All-head EndsNoLine byte bytes free),
+      pieces-onto_first bytes more (All-tail EndsNoLine byte bytes free),
+    )
+    (onto_first-cons byte bytes (complete_lines more) (unfinished_line more))
+
+-- a text without line feed is an unfinished line
+pieces-free : (text : List ℕ) → IsFree text
+    → pieces text ≡ record { complete = []; unfinished = text }
+pieces-free text free = rw (append-nil text) at (pieces-onto_first text [] free)
+
+-- the line that a line feed ends comes first
+pieces-line : (line rest : List ℕ) → IsFree line
+    → pieces (line ++ line_feed ∷ rest)
+    ≡ record { complete = line ∷ complete_lines rest; unfinished = unfinished_line rest }
+pieces-line line rest free =
+    rw (append-nil line) at (pieces-onto_first line (line_feed ∷ rest) free)
+
+-- what stands after the last line feed holds none
+first-free : (byte : ℕ) (test : Bool) (lines : List (List ℕ)) (last : List ℕ)
+    → (byte == line_feed) ≡ test → IsFree last
+    → IsFree (if test then record { complete = [] ∷ lines; unfinished = last }
+    else onto_first (byte ∷ []) lines last).unfinished
+first-free byte test lines last is free = search (rules, All-cons, eqb-false)
+
+pub unfinished-free : (text : List ℕ) → IsFree (unfinished_line text)
+unfinished-free [] = All-nil EndsNoLine
+unfinished-free (byte ∷ bytes) =
+    first-free byte (byte == line_feed) (complete_lines bytes) (unfinished_line bytes) refl
+    (unfinished-free bytes)
+
+-- the pieces of a text after the pieces of what stands before it
+abbrev after : List (List ℕ) → Pieces → Pieces
+after lines rest = record { complete = lines ++ rest.complete; unfinished = rest.unfinished }
+
+first-after : (byte : ℕ) (test : Bool) (lines : List (List ℕ)) (last more : List ℕ)
+    → (byte == line_feed) ≡ test
+    → (if test then record {
+      complete = [] ∷ (lines ++ complete_lines (last ++ more));
+      unfinished = unfinished_line (last ++ more);
+    }
+    else onto_first (byte ∷ []) (lines ++ complete_lines (last ++ more))
+    (unfinished_line (last ++ more)))
+    ≡ after (if test then record { complete = [] ∷ lines; unfinished = last }
+    else onto_first (byte ∷ []) lines last).complete
+    (pieces ((if test then record { complete = [] ∷ lines; unfinished = last }
+    else onto_first (byte ∷ []) lines last).unfinished ++ more))
+first-after byte test lines last more is = search (rules)
+
+-- a text that goes on: its complete lines stay, and its unfinished one goes on
+pub pieces-append : (text more : List ℕ)
+    → pieces (text ++ more) ≡ after (complete_lines text) (pieces (unfinished_line text ++ more))
+pieces-append [] more = refl
+pieces-append (byte ∷ bytes) more =
+    rw (pieces-append bytes more)
+    (first-after byte (byte == line_feed) (complete_lines bytes) (unfinished_line bytes) more refl)
+
+-- a part of a text without line feed, by its places
+pub part-free : (text : List ℕ) (from to : ℕ) → to ≤ length text → IsOneLine text from to
+    → IsFree (take (to - from) (drop from text))
+part-free text from to within one =
+    let part = take (to - from) (drop from text) in
+    let long : length part ≤ to - from = omega (arith, length-take (to - from) (drop from text)) in
+    All-from_get_or EndsNoLine part 0 (λ k below same.
+    let inside : k < to - from = omega arith in
+    one (from + k) (omega arith) (omega arith)
+    (sym (get_or-drop from text k 0) ∙ sym (get_or-take (to - from) (drop from text) k 0 inside)
+    ∙ same))
+
+-- one after the other
+pub joined_one_line : (text : List ℕ) (start searched end : ℕ) → IsOneLine text start searched
+    → IsOneLine text searched end → IsOneLine text start end
+joined_one_line text start searched end first second k after before = search (rules, cases_lt)
+
+-- the first line from a place on, where the next line feed is known
+pub pieces-from : (text : List ℕ) (start searched end : ℕ) → start ≤ searched
+    → IsOneLine text start searched → IsLineEnd text searched end
+    → pieces (drop start text)
+    ≡ record {
+      complete = take (end - start) (drop start text)
+          ∷ complete_lines (drop (end + 1) text);
+      unfinished = unfinished_line (drop (end + 1) text);
+    }
+pieces-from text start searched end ordered one found =
+    let line = take (end - start) (drop start text) in
+    let free = part-free text start end (omega (arith, found.within))
+    (joined_one_line text start searched end one found.first) in
+    let place : start + (end - start) ≡ end = omega (arith, found.after) in
+    let tail = drop-drop (end - start) start text
+    ∙ ap (λ (n : ℕ). drop n text) place
+    ∙ drop_more text end 0 found.within
+    ∙ ap (λ (byte : ℕ). byte ∷ drop (end + 1) text) found.ends in
+    ap pieces (sym (take-append-drop (end - start) (drop start text))
+    ∙ ap (λ (rest : List ℕ). line ++ rest) tail)
+    ∙ pieces-line line (drop (end + 1) text) free
+
+-- where there is none, the rest is unfinished
+pub pieces-rest : (text : List ℕ) (start searched : ℕ) → IsOneLine text start searched
+    → IsOneLine text searched (length text)
+    → pieces (drop start text) ≡ record { complete = []; unfinished = drop start text }
+pieces-rest text start searched one none =
+    let free = part-free text start (length text) (omega arith)
+    (joined_one_line text start searched (length text) one none) in
+    pieces-free (drop start text) (subst IsFree (take_rest text start) free)

@@ -1,0 +1,136 @@
+-- The first whole line of a text, and what is left after it.
+use Rattle.std.proofs.Common.{rules, ◌≡◌, ◌≢◌, ◌∙◌, ap, sym, refl, ℕ, ◌+◌, ◌-◌, ◌<◌, Bool, true, false, List, [], ◌∷◌, ◌++◌, length, take, drop, get_or, if◌then◌else◌, arith}
+use Rattle.std.proofs.lemmas.Bool.{cases_lt, ne_eqb, false≢true}
+use Rattle.std.proofs.lemmas.List.{length-take, get_or-take, get_or_past, take-take, take_all, drop_all}
+use Rattle.speedate_base.specs.Ascii.{carriage_return, line_feed}
+use Rattle.speedate.specs.Column.{IsFirstLineOf, LineConfig}
+use Rattle.speedate.specs.Lines.{Pieces, pieces, last_line, whole_lines, without_return, IsOneLine, IsLineEnd}
+use Rattle.speedate.proofs.LineLemmas.{pieces-from, pieces-rest, joined_one_line}
+
+-- the whole lines of some pieces
+abbrev whole : Bool → Pieces → List (List ℕ)
+whole at_end all = if at_end then all.complete ++ last_line all.unfinished else all.complete
+
+whole-first : (at_end : Bool) (line : List ℕ) (rest : Pieces)
+    → whole at_end (record { complete = line ∷ rest.complete; unfinished = rest.unfinished })
+    ≡ line ∷ whole at_end rest
+whole-first true line rest = refl
+whole-first false line rest = refl
+
+-- the first whole line is the one that the first line feed ends
+pub whole_lines-from : (at_end : Bool) (text : List ℕ) (end : ℕ) → IsLineEnd text 0 end
+    → whole_lines at_end text ≡ take end text ∷ whole_lines at_end (drop (end + 1) text)
+whole_lines-from at_end text end found =
+    ap (whole at_end) (pieces-from text 0 0 end (omega arith)
+    (λ k after below same. absurd (omega arith)) found)
+    ∙ whole-first at_end (take (end - 0) text) (pieces (drop (end + 1) text))
+    ∙ ap (λ (n : ℕ). take n text ∷ whole_lines at_end (drop (end + 1) text)) (omega arith)
+
+-- where there is none, a text that is not empty is the one whole line, if it ends there
+last-is : (text : List ℕ) → 0 < length text → last_line text ≡ text ∷ []
+last-is [] some = absurd (omega (arith, some))
+last-is (byte ∷ bytes) some = refl
+
+pub whole_lines-last : (at_end : Bool) (text : List ℕ) → at_end ≡ true → 0 < length text
+    → IsOneLine text 0 (length text)
+    → whole_lines at_end text ≡ text ∷ whole_lines at_end (drop (length text) text)
+whole_lines-last false text ends some one = absurd (false≢true ends)
+whole_lines-last true text ends some one =
+    ap (whole true) (pieces-rest text 0 0 (λ k after below same. absurd (omega arith)) one)
+    ∙ last-is text some
+    ∙ ap (λ (rest : List ℕ). text ∷ whole_lines true rest)
+    (sym (drop_all (length text) text (omega arith)))
+
+-- otherwise there is none
+pub whole_lines-none : (at_end : Bool) (text : List ℕ) → IsOneLine text 0 (length text)
+    → at_end ≡ false → whole_lines at_end text ≡ []
+whole_lines-none at_end text one goes_on =
+    ap (λ (ends : Bool). whole_lines ends text) goes_on
+    ∙ ap (λ (all : Pieces). all.complete)
+    (pieces-rest text 0 0 (λ k after below same. absurd (omega arith)) one)
+
+pub whole_lines-empty : (at_end : Bool) (text : List ℕ) → length text ≡ 0
+    → whole_lines at_end text ≡ []
+whole_lines-empty true [] none = refl
+whole_lines-empty false [] none = refl
+whole_lines-empty at_end (byte ∷ bytes) none = absurd (omega (arith, none))
+
+-- a line that ends with no carriage return is read as it is
+pub without_return-kept : (drops : Bool) (line : List ℕ)
+    → get_or line (length line - 1) 0 ≢ carriage_return → without_return drops line ≡ line
+without_return-kept drops line other = search (rules, ne_eqb)
+
+-- one that ends with it is read without it
+pub without_return-dropped : (drops : Bool) (line : List ℕ) (size : ℕ) → drops ≡ true
+    → length line ≡ size + 1 → get_or line size 0 ≡ carriage_return
+    → without_return drops line ≡ take size line
+without_return-dropped drops line size drop long last = search (rules)
+
+-- The first whole line of a text, whose bytes up to a place are no line feed and end with no
+-- carriage return.
+
+-- it ends with the text
+pub IsFirstLineOf-last : (config : LineConfig) (text : List ℕ) (size : ℕ) → config.at_end ≡ true
+    → size ≡ length text → 0 < size → IsOneLine text 0 size
+    → get_or text (size - 1) 0 ≢ carriage_return → IsFirstLineOf config text (take size text) size
+IsFirstLineOf-last config text size ends all some one other =
+    let whole_text : take size text ≡ text = take_all size text (omega (arith, all)) in
+    record {
+      first = text;
+      within = omega (arith, all);
+      lines = whole_lines-last config.at_end text ends (omega (arith, all, some))
+          (λ k after below. one k after (omega (arith, all, below)))
+          ∙ ap (λ (n : ℕ). text ∷ whole_lines config.at_end (drop n text)) (sym all);
+      is_read = without_return-kept config.drops_returns text
+          (λ same. other (ap (λ (n : ℕ). get_or text (n - 1) 0) all ∙ same)) ∙ sym whole_text;
+    }
+
+-- a line feed follows
+pub IsFirstLineOf-feed : (config : LineConfig) (text : List ℕ) (size : ℕ) → size < length text
+    → 0 < size → IsOneLine text 0 size
+    → get_or text (size - 1) 0 ≢ carriage_return → get_or text size 0 ≡ line_feed
+    → IsFirstLineOf config text (take size text) (size + 1)
+IsFirstLineOf-feed config text size inside some one other ends =
+    let found : IsLineEnd text 0 size =
+    record { after = omega arith; within = inside; ends = ends; first = one } in
+    let long : length (take size text) ≡ size = omega (arith, inside, length-take size text) in
+    record {
+      first = take size text;
+      within = omega (arith, inside);
+      lines = whole_lines-from config.at_end text size found;
+      is_read = without_return-kept config.drops_returns (take size text) (λ same. other (
+          sym (get_or-take size text (size - 1) 0 (omega (arith, some)))
+          ∙ ap (λ (n : ℕ). get_or (take size text) (n - 1) 0) (sym long) ∙ same));
+    }
+
+-- a line feed stands within its text
+feed-within : (text : List ℕ) (place : ℕ) → get_or text place 0 ≡ line_feed → place < length text
+feed-within text place is = grind (arith, cases_lt, get_or_past)
+
+-- a carriage return follows, which is dropped, and then a line feed
+pub IsFirstLineOf-return : (config : LineConfig) (text : List ℕ) (size : ℕ)
+    → config.drops_returns ≡ true → IsOneLine text 0 size
+    → get_or text size 0 ≡ carriage_return → get_or text (size + 1) 0 ≡ line_feed
+    → IsFirstLineOf config text (take size text) (size + 2)
+IsFirstLineOf-return config text size drop_it one return ends =
+    let inside : size + 1 < length text = feed-within text (size + 1) ends in
+    let found : IsLineEnd text 0 (size + 1) = record {
+      after = omega arith;
+      within = inside;
+      ends = ends;
+      first = joined_one_line text 0 size (size + 1) one (λ k after below same.
+          let here : k ≡ size = omega (arith, after, below) in
+          absurd (omega (arith, sym return ∙ ap (λ (n : ℕ). get_or text n 0) (sym here) ∙ same)));
+    } in
+    let long : length (take (size + 1) text) ≡ size + 1 =
+    omega (arith, inside, length-take (size + 1) text) in
+    record {
+      first = take (size + 1) text;
+      within = omega (arith, inside);
+      lines = whole_lines-from config.at_end text (size + 1) found
+          ∙ ap (λ (n : ℕ). take (size + 1) text ∷ whole_lines config.at_end (drop n text))
+          (omega arith);
+      is_read = without_return-dropped config.drops_returns (take (size + 1) text) size drop_it long
+          (get_or-take (size + 1) text size 0 (omega arith) ∙ return)
+          ∙ take-take size (size + 1) text (omega arith);
+    }

@@ -1,0 +1,150 @@
+-- Columns: the lines of a text as numbers.
+use Rattle.std.specs.Prelude.{◌≡◌, ◌≢◌, ℕ, ◌-◌, ◌^◌, ◌<◌, ◌≤◌, Bool, ◌||◌, List, [], ◌∷◌, length, slice_index, take, drop, nat_lt, Option, Some, None, is_some, Result, Ok, Err, ℤ, unsigned_abs, if◌then◌else◌}
+use Rattle.speedate_civil.specs.Base.{ParseError}
+use Rattle.speedate_base.specs.Ascii.{carriage_return}
+use Rattle.speedate_base.specs.Config.{time_choices}
+use Rattle.speedate_base.specs.Fault.{fault_number}
+use Rattle.speedate_base.specs.Requirement.{◌else_fault◌, first_fault_or, result_and_then}
+use Rattle.speedate_civil.specs.Calendar.{Ymd, days_between}
+use Rattle.speedate_civil.specs.Date.{date_answer, date_or_timestamp}
+use Rattle.speedate_civil.specs.DateTime.{DateAndTime, date_time_answer, date_time_by_config, utc_microsecond}
+use Rattle.speedate_civil.specs.Standard.{strict_date_time_answer}
+pub use Rattle.speedate.specs.declared.column.LineConfig.{LineConfig}
+pub use Rattle.speedate.specs.declared.column.LineError.{LineError}
+use Rattle.speedate.specs.declared.column.Line.{Line}
+use Rattle.speedate.specs.declared.column.date.DateReader.{DateReader}
+use Rattle.speedate.specs.declared.column.date_time.DateTimeParser.{DateTimeParser}
+use Rattle.speedate.specs.declared.column.date_time.DateTimeReader.{DateTimeReader}
+use Rattle.speedate.specs.declared.column.duration.DurationReader.{DurationReader}
+use Rattle.speedate.specs.Duration.{duration_answer, signed_amount}
+use Rattle.speedate.specs.DurationNumbers.{DurationNumbers}
+use Rattle.speedate.specs.Lines.{IsOneLine, whole_lines, without_return}
+
+-- what a column holds: the numbers of lines, the number of the error of each, which is 0 for none,
+-- and the error of the line after these, if it ends the column
+pub record Column (N : Type 0) : Type 0 where
+  pub numbers : List N
+  pub errors : List ℕ
+  pub fault : Option LineError
+
+-- the number of an error
+abbrev pub error_number : LineError → ℕ
+error_number (LineError.Parse fault) = fault_number fault
+error_number LineError.NumberTooLarge = 97
+
+-- what a column holds of a line: its number, or of a refused line another number, if there is one
+-- for that, and the error's
+abbrev pub entry : {N : Type 0} → Option N → Result N LineError → Result (N × ℕ) LineError
+entry refused (Ok number) = Ok (number, 0)
+entry (Some number) (Err fault) = Ok (number, error_number fault)
+entry None (Err fault) = Err fault
+
+-- a column with what it holds of a line put before it; a line of which it holds nothing ends it
+abbrev pub onto_column : {N : Type 0} → Result (N × ℕ) LineError → Column N → Column N
+onto_column (Ok entry) column = record {
+  numbers = entry.0 ∷ column.numbers;
+  errors = entry.1 ∷ column.errors;
+  fault = column.fault;
+}
+onto_column (Err fault) column = record { numbers = []; errors = []; fault = Some fault }
+
+-- the column of lines, by the answer to each
+abbrev pub column : {N : Type 0} → (List ℕ → Result N LineError) → Option N → List (List ℕ)
+    → Column N
+column answer refused [] = record { numbers = []; errors = []; fault = None }
+column answer refused (line ∷ lines) =
+    onto_column (entry refused (answer line)) (column answer refused lines)
+
+-- the answer to a line, by the answer to its text
+abbrev pub line_answer : {N : Type 0} → (List ℕ → Result N LineError) → LineConfig → List ℕ
+    → Result N LineError
+line_answer answer config line = answer (without_return config.drops_returns line)
+
+-- the column of the whole lines of a text, of as many as there is room for
+unfoldable pub text_column : {N : Type 0} → (List ℕ → Result N LineError) → LineConfig → Option N
+    → ℕ → List ℕ → Column N
+text_column answer config refused room text =
+    column (line_answer answer config) refused (take room (whole_lines config.at_end text))
+
+-- some bytes at the front of a text, with no line feed among them and no carriage return at their
+-- end, have this number as a line
+pub record IsFront {N : Type 0} (answer : List ℕ → Result N LineError) (text : List ℕ) (number : N)
+    (size : ℕ) : Type 0 where
+  pub there : 0 < size
+  pub within : size ≤ length text
+  pub one_line : IsOneLine text 0 size
+  pub no_return : slice_index text (size - 1) ≢ carriage_return
+  pub read : answer (take size text) ≡ Ok number
+
+-- the first whole line of a text takes so many bytes with its end, and this is what is read of it
+pub record IsFirstLineOf (config : LineConfig) (text read : List ℕ) (size : ℕ) : Type 0 where
+  pub first : List ℕ
+  pub within : size ≤ length text
+  pub lines : whole_lines config.at_end text ≡ first ∷ whole_lines config.at_end (drop size text)
+  pub is_read : without_return config.drops_returns first ≡ read
+
+-- the first whole line of a text has this answer, and takes so many bytes with its end
+pub record IsFirstLine {N : Type 0} (answer : List ℕ → Result N LineError) (config : LineConfig)
+    (text : List ℕ) (line : Line N) : Type 0 where
+  pub read : List ℕ
+  pub first : IsFirstLineOf config text read line.size
+  pub answered : line.answer ≡ answer read
+
+-- a list, overwritten from its front by another, as far as it goes
+abbrev pub overwritten : {N : Type 0} → List N → List N → List N
+overwritten [] new = []
+overwritten (one ∷ ones) [] = one ∷ ones
+overwritten (one ∷ ones) (other ∷ others) = other ∷ overwritten ones others
+
+-- the value of an answer to a text as a number, or the error of the line
+abbrev pub as_number : {A N : Type 0} → (A → N) → Result A ParseError → Result N LineError
+as_number number (Ok value) = Ok (number value)
+as_number number (Err fault) = Err (LineError.Parse fault)
+
+-- the day from which days are counted (Unix time)
+abbrev pub epoch : Ymd
+epoch = record { year = 1970; month = 1; day = 1 }
+
+-- the date of a line, or the error
+abbrev pub date_of_line : DateReader → List ℕ → Result Ymd ParseError
+date_of_line DateReader.Rfc3339 line = date_answer line
+date_of_line (DateReader.OrTimestamp config) line = date_or_timestamp config.timestamp_unit line
+
+-- the number of a line in a column of dates: the days since 1970-01-01
+abbrev pub date_number : DateReader → List ℕ → Result ℤ LineError
+date_number reader line = as_number (days_between epoch) (date_of_line reader line)
+
+-- the date-time of a line, or the error
+abbrev pub date_time_of_line : DateTimeParser → List ℕ → Result DateAndTime ParseError
+date_time_of_line (DateTimeParser.Rfc3339 config) line =
+    date_time_answer (time_choices config).behavior line
+date_time_of_line (DateTimeParser.OrTimestamp config) line = date_time_by_config config line
+date_time_of_line (DateTimeParser.Strict behavior) line = strict_date_time_answer behavior line
+
+-- a date-time that has an offset, or that is taken to be in UTC without one
+abbrev pub with_offset : Bool → DateAndTime → Result DateAndTime ParseError
+with_offset assumes_utc value =
+    first_fault_or ((assumes_utc || is_some value.time.offset else_fault ParseError.TzRequired)
+    ∷ []) (Ok value)
+
+-- the number of a line in a column of date-times: the microseconds since 1970-01-01T00:00:00 in UTC
+abbrev pub date_time_number : DateTimeReader → List ℕ → Result ℤ LineError
+date_time_number reader line =
+    as_number utc_microsecond (result_and_then (with_offset reader.assumes_utc)
+    (date_time_of_line reader.parser line))
+
+-- the microseconds of a duration as a number of 64 bits, whose smallest one is left free
+abbrev pub number_of_amount : ℤ → Result ℤ LineError
+number_of_amount amount =
+    if nat_lt (unsigned_abs amount) (2 ^ 63) then Ok amount else Err LineError.NumberTooLarge
+
+-- the number of the duration of a line, or the error
+abbrev pub number_of_duration : Result DurationNumbers ParseError → Result ℤ LineError
+number_of_duration (Ok duration) = number_of_amount (signed_amount duration)
+number_of_duration (Err fault) = Err (LineError.Parse fault)
+
+-- the number of a line in a column of durations: its microseconds, with the sign
+abbrev pub duration_number : DurationReader → List ℕ → Result ℤ LineError
+duration_number reader line =
+    let chosen = time_choices reader.config in
+    number_of_duration (duration_answer chosen.order chosen.behavior line)

@@ -1,0 +1,87 @@
+//! Columns: the lines of a text as numbers, by one call.
+
+mod date;
+mod date_time;
+mod duration;
+mod read;
+
+pub use date::DateReader;
+pub use date_time::{DateTimeParser, DateTimeReader};
+pub use duration::DurationReader;
+pub use read::{read_column, read_column_with_errors};
+use speedate_base::faults::ParseError;
+
+/// How a text is cut into lines.
+#[derive(Clone, Copy, Debug)]
+pub struct LineConfig {
+    /// Whether the end of the text ends its last line. Otherwise that line is left, since it may go on.
+    pub at_end: bool,
+    /// Whether a carriage return at the end of a line is dropped, as files of Windows have it.
+    pub drops_returns: bool,
+}
+
+/// Why a line has no number.
+#[derive(Clone, Copy, Debug, PartialEq, Eq)]
+pub enum LineError {
+    /// The text is refused.
+    Parse(ParseError),
+    /// The number of the value does not fit.
+    NumberTooLarge,
+}
+
+impl LineError {
+    ghost use Rattle.std.specs.Prelude.{◌≡◌, ◌≤◌};
+    ghost use Rattle.speedate.specs.Column.{error_number};
+
+    /// The number of the error: of a refused text [`ParseError::number`], 1 to 42, and 97 for
+    /// `LineError::NumberTooLarge`.
+    #[inline]
+    pub fn number(&self) -> u8
+        ensures number { result ≡ error_number self.now }
+    {
+        match self {
+            LineError::Parse(fault) => fault.number(),
+            LineError::NumberTooLarge => 97,
+        }
+    }
+}
+
+/// How far a column has come.
+#[derive(Clone, Copy, Debug)]
+pub struct Progress {
+    /// How many lines have a number in the column.
+    pub lines: usize,
+    /// How many bytes of the text these lines take, with their ends.
+    pub bytes: usize,
+    /// The error of the next line, if it ends the column.
+    pub error: Option<LineError>,
+}
+
+/// Reads a line as a number.
+pub trait LineReader {
+    ghost use Rattle.std.specs.Prelude.{◌≡◌, ℕ, IfSome, List, Result};
+    ghost use Rattle.speedate.specs.declared.column.LineError.{LineError};
+    ghost use Rattle.speedate.specs.Column.{IsFront};
+
+    /// What a line is read as.
+    type Number: Copy;
+
+    // The number of a line, or its error.
+    ghost answer: { Self → List ℕ → Result Self.Number LineError };
+
+    /// The number of a line, which is given without its end.
+    fn number(&self, line: &[u8]) -> Result<Self::Number, LineError>
+        ensures answer { result ≡ answer self.now line.now };
+
+    /// The number of the bytes at the front of a text, and how many they are, if they have that number
+    /// as a line and no line feed is among them. `None` tells nothing.
+    fn front(&self, text: &[u8]) -> Option<(Self::Number, usize)>
+        ensures front { IfSome result (λ front. IsFront (answer self.now) text.now front.0 front.1) };
+}
+
+/// The answer to a line, and how many bytes it takes with its end.
+#[derive(Clone, Copy)]
+struct Line<N> {
+    answer: Result<N, LineError>,
+    size: usize,
+}

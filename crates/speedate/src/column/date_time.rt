@@ -1,0 +1,82 @@
+//! Columns of date-times.
+
+use super::{LineError, LineReader};
+use speedate_base::config::{DateTimeConfig, MicrosecondsPrecisionOverflowBehavior, TimeConfig};
+use speedate_base::faults::ParseError;
+use speedate_civil::datetime::DateTime;
+
+/// How a column parses its date-times.
+#[derive(Clone, Copy, Debug)]
+pub enum DateTimeParser {
+    /// No timestamps, as [`DateTime::parse_bytes_rfc3339_with_config`].
+    Rfc3339(TimeConfig),
+    /// Timestamps too, as [`DateTime::parse_bytes_with_config`].
+    OrTimestamp(DateTimeConfig),
+    /// Texts of RFC 3339 alone, as [`DateTime::parse_bytes_strict`].
+    Strict(MicrosecondsPrecisionOverflowBehavior),
+}
+
+/// Reads a line as a date-time, and counts its microseconds from 1970-01-01T00:00:00 in UTC, as
+/// [`DateTime::timestamp_tz_us`] does: 1,000,000 for `1970-01-01T00:00:01Z`, and 0 for
+/// `1970-01-01T01:00+01:00`.
+#[derive(Clone, Copy, Debug)]
+pub struct DateTimeReader {
+    /// How a line is parsed.
+    pub parser: DateTimeParser,
+    /// Whether a date-time without an offset is taken to be in UTC. Otherwise it is refused, with
+    /// `TzRequired`.
+    pub assumes_utc: bool,
+}
+
+impl DateTimeReader {
+    ghost use Rattle.std.specs.Prelude.{◌≡◌, IfSome};
+    ghost use Rattle.speedate_civil.specs.DateTime.{date_and_time, utc_microsecond, ◌gives◌};
+    ghost use Rattle.speedate.specs.Column.{as_number, date_time_of_line, with_offset};
+
+    /// The date-time of a line.
+    #[inline(always)]
+    fn date_time(&self, line: &[u8]) -> Result<DateTime, ParseError>
+        ensures answer { result gives date_time_of_line self.now.parser line.now }
+    {
+        match &self.parser {
+            DateTimeParser::Rfc3339(config) => {
+                DateTime::parse_bytes_rfc3339_with_config(line, config)
+            }
+            DateTimeParser::OrTimestamp(config) => DateTime::parse_bytes_with_config(line, config),
+            DateTimeParser::Strict(behavior) => DateTime::parse_bytes_strict(line, *behavior),
+        }
+    }
+
+    /// The microseconds of a date-time, if it has an offset or needs none.
+    #[inline(always)]
+    fn microsecond(&self, value: &DateTime) -> Result<i64, LineError>
+        ensures number { result ≡ as_number utc_microsecond
+            (with_offset self.now.assumes_utc (date_and_time value.now)) }
+    {
+        if value.time.tz_offset.is_none() && !self.assumes_utc {
+            return Err(LineError::Parse(ParseError::TzRequired));
+        }
+        Ok(value.timestamp_tz_us())
+    }
+}
+
+impl LineReader for DateTimeReader {
+    ghost use Rattle.speedate.specs.Column.{date_time_number};
+
+    type Number = i64;
+
+    ghost answer = { date_time_number };
+
+    #[inline(always)]
+    fn number(&self, line: &[u8]) -> Result<i64, LineError> {
+        match self.date_time(line) {
+            Ok(value) => self.microsecond(&value),
+            Err(fault) => Err(LineError::Parse(fault)),
+        }
+    }
+
+    #[inline(always)]
+    fn front(&self, text: &[u8]) -> Option<(i64, usize)> {
+        None
+    }
+}

@@ -1,0 +1,218 @@
+//! The column of a text.
+
+ghost use Rattle.std.specs.Prelude.{◌≡◌, ◌≢◌, ◌-◌, ◌<◌, ◌≤◌, ◌++◌, [], IfSome, MatchOption, None, Some, drop, length, min, slice_index, slice_set, take};
+ghost use Rattle.speedate_base.specs.Ascii.{carriage_return};
+ghost use Rattle.speedate.specs.Lines.{IsOneLine, whole_lines};
+ghost use Rattle.speedate.specs.Column.{IsFirstLine, IsFirstLineOf, entry, overwritten, text_column};
+
+use super::{Line, LineConfig, LineError, LineReader, Progress};
+use crate::lines::{line_end, without_return};
+use speedate_base::numbers::byte_at;
+
+/// Reads the lines of a text as numbers, as many as there is room for, and returns how far it came.
+///
+/// If `refused` is a number, a refused line gets it, and the column goes on; otherwise a refused line
+/// ends it.
+#[inline(always)]
+pub fn read_column<R: LineReader>(
+    text: &[u8],
+    config: LineConfig,
+    reader: &R,
+    refused: Option<R::Number>,
+    out: &mut [R::Number],
+) -> Progress
+    ensures numbers { out.new
+        ≡ (text_column (R.answer reader.now) config refused (length out.old) text.now).numbers
+        ++ drop result.lines out.old }
+    ensures lines { result.lines ≡ length (text_column (R.answer reader.now) config refused
+        (length out.old) text.now).numbers }
+    ensures error { result.error ≡ (text_column (R.answer reader.now) config refused
+        (length out.old) text.now).fault }
+    ensures within { result.bytes ≤ length text.now }
+    ensures rest { whole_lines config.at_end (drop result.bytes text.now)
+        ≡ drop result.lines (whole_lines config.at_end text.now) }
+{
+    fill(text, config, reader, refused, out, &mut [])
+}
+
+/// Reads the lines of a text as numbers, and the number of the error of each, which is 0 for none, as
+/// many as there is room for in both slices, and returns how far it came. A refused line gets the number
+/// `refused`.
+#[inline(always)]
+pub fn read_column_with_errors<R: LineReader>(
+    text: &[u8],
+    config: LineConfig,
+    reader: &R,
+    refused: R::Number,
+    out: &mut [R::Number],
+    errors: &mut [u8],
+) -> Progress
+    ensures numbers { out.new ≡ (text_column (R.answer reader.now) config (Some refused)
+        (min (length out.old) (length errors.old)) text.now).numbers
+        ++ drop result.lines out.old }
+    ensures errors { errors.new ≡ (text_column (R.answer reader.now) config (Some refused)
+        (min (length out.old) (length errors.old)) text.now).errors
+        ++ drop result.lines errors.old }
+    ensures lines { result.lines ≡ length (text_column (R.answer reader.now) config (Some refused)
+        (min (length out.old) (length errors.old)) text.now).numbers }
+    ensures error { result.error ≡ None }
+    ensures within { result.bytes ≤ length text.now }
+    ensures rest { whole_lines config.at_end (drop result.bytes text.now)
+        ≡ drop result.lines (whole_lines config.at_end text.now) }
+{
+    let room = out.len().min(errors.len());
+    fill(
+        text,
+        config,
+        reader,
+        Some(refused),
+        &mut out[..room],
+        &mut errors[..room],
+    )
+}
+
+/// Reads the lines of a text as numbers, as many as there is room for, and the numbers of their errors,
+/// where there is a place for them.
+#[inline(always)]
+fn fill<R: LineReader>(
+    text: &[u8],
+    config: LineConfig,
+    reader: &R,
+    refused: Option<R::Number>,
+    out: &mut [R::Number],
+    errors: &mut [u8],
+) -> Progress
+    ensures numbers { out.new ≡ overwritten out.old (text_column (R.answer reader.now) config refused
+        (length out.old) text.now).numbers }
+    ensures errors { errors.new ≡ overwritten errors.old (text_column (R.answer reader.now) config refused
+        (length out.old) text.now).errors }
+    ensures lines { result.lines ≡ length (text_column (R.answer reader.now) config refused
+        (length out.old) text.now).numbers }
+    ensures error { result.error ≡ (text_column (R.answer reader.now) config refused
+        (length out.old) text.now).fault }
+    ensures within { result.bytes ≤ length text.now }
+    ensures rest { whole_lines config.at_end (drop result.bytes text.now)
+        ≡ drop result.lines (whole_lines config.at_end text.now) }
+{
+    let mut lines = 0;
+    let mut bytes = 0;
+    while lines < out.len() {
+        let Some(line) = first_line(&text[bytes..], config, reader) else {
+            return Progress {
+                lines,
+                bytes,
+                error: None,
+            };
+        };
+        let (number, code) = match entry(line.answer, refused) {
+            Ok(entry) => entry,
+            Err(error) => return Progress {
+                lines,
+                bytes,
+                error: Some(error),
+            },
+        };
+        out[lines] = number;
+        put(errors, lines, code);
+        lines += 1;
+        bytes += line.size;
+    }
+    Progress {
+        lines,
+        bytes,
+        error: None,
+    }
+}
+
+/// Puts the number of an error at its place, if there is one.
+#[inline(always)]
+#[tactic(auto, using(std::proofs::lemmas::List::set_past))]
+fn put(errors: &mut [u8], place: usize, number: u8)
+    ensures put { errors.new ≡ slice_set errors.old place number }
+{
+    if place < errors.len() {
+        errors[place] = number;
+    }
+}
+
+/// What a column holds of a line by its answer: a number, and that of the error, which is 0 for none.
+#[inline(always)]
+fn entry<N: Copy>(answer: Result<N, LineError>, refused: Option<N>) -> Result<(N, u8), LineError>
+    ensures entry { result ≡ entry refused answer }
+{
+    match (answer, refused) {
+        (Ok(number), _) => Ok((number, 0)),
+        (Err(error), Some(number)) => Ok((number, error.number())),
+        (Err(error), None) => Err(error),
+    }
+}
+
+/// The first whole line of a text, if it has one.
+#[inline(always)]
+fn first_line<R: LineReader>(text: &[u8], config: LineConfig, reader: &R) -> Option<Line<R::Number>>
+    ensures line { MatchOption result (whole_lines config.at_end text.now ≡ [])
+        (IsFirstLine (R.answer reader.now) config text.now) }
+{
+    if let Some((number, size)) = reader.front(text) {
+        if let Some(size) = size_with_end(text, size, config) {
+            return Some(Line {
+                answer: Ok(number),
+                size,
+            });
+        }
+    }
+    searched_line(text, config, reader)
+}
+
+/// The first whole line of a text, if it has one, by a search for its end.
+#[inline(always)]
+fn searched_line<R: LineReader>(
+    text: &[u8],
+    config: LineConfig,
+    reader: &R,
+) -> Option<Line<R::Number>>
+    ensures line { MatchOption result (whole_lines config.at_end text.now ≡ [])
+        (IsFirstLine (R.answer reader.now) config text.now) }
+{
+    let (line, size) = first_text(text, config)?;
+    Some(Line {
+        answer: reader.number(line),
+        size,
+    })
+}
+
+/// What is read of the first whole line of a text, if it has one, and how many bytes it takes with its
+/// end.
+#[inline(always)]
+fn first_text(text: &[u8], config: LineConfig) -> Option<(&[u8], usize)>
+    ensures line { MatchOption result (whole_lines config.at_end text.now ≡ [])
+        (λ line. IsFirstLineOf config text.now line.0.now line.1) }
+{
+    let drops = config.drops_returns;
+    match line_end(text, 0) {
+        Some(end) => Some((without_return(&text[..end], drops), end + 1)),
+        None if config.at_end && !text.is_empty() => {
+            Some((without_return(text, drops), text.len()))
+        }
+        None => None,
+    }
+}
+
+/// How many bytes a line takes with its end whose text is the first `size` bytes, if it ends there.
+#[inline(always)]
+fn size_with_end(text: &[u8], size: usize, config: LineConfig) -> Option<usize>
+    requires there { 0 < size }
+    requires within { size ≤ length text.now }
+    requires one_line { IsOneLine text.now 0 size }
+    requires no_return { slice_index text.now (size - 1) ≢ carriage_return }
+    ensures line { IfSome result (IsFirstLineOf config text.now (take size text.now)) }
+{
+    if size == text.len() {
+        return config.at_end.then_some(size);
+    }
+    match text[size] {
+        b'\n' => Some(size + 1),
+        b'\r' if config.drops_returns && byte_at(text, size + 1) == b'\n' => Some(size + 2),
+        _ => None,
+    }
+}
