@@ -118,6 +118,15 @@ prove() {
     }
 }
 
+# Sets `cpu`, the flags by which the C functions are built for every processor of a target: those of x86-64 lack what the
+# kit would use otherwise, and no call of a library asks for the processor.
+find_cpu() {
+    case $triple in
+    x86_64-*) cpu='--cpu x86-64' ;;
+    *) cpu= ;;
+    esac
+}
+
 # build_archive TRIPLE: leaves the static library of these sources and this kit in out/, and sets `archive` to its path.
 build_archive() {
     triple=$1
@@ -128,6 +137,7 @@ build_archive() {
 
 make_archive() {
     find_kit
+    find_cpu
     libraries_sum=$(sum_of $libraries) || exit 3
     gate=$root/out/libraries-$libraries_sum.tar
     made=$(mktemp -d) || fail 'there is no folder for temporary files'
@@ -147,7 +157,7 @@ make_archive() {
 
 build_from_sources() {
     # The libraries of all targets have one name, so each is copied at once.
-    rt lib --target "$triple" && cp out/libspeedate_c.a "$made/libspeedate.a"
+    rt lib --target "$triple" $cpu && cp out/libspeedate_c.a "$made/libspeedate.a"
 }
 
 # Proves and builds the C functions alone, over the libraries that the gate proved.
@@ -158,7 +168,7 @@ build_over_gate() {
         [ ! -d "$root/crates/$it" ] || folder=$made
         set -- "$@" --extern "$it=$folder/$it.rlib"
     done
-    set -- build --crate-name speedate_c src/lib.rt --crate-type staticlib --target "$triple" "$@" \
+    set -- build --crate-name speedate_c src/lib.rt --crate-type staticlib --target "$triple" $cpu "$@" \
         -L "dependency=$kit/rlibs" -L "dependency=$made" --antt-project "$kit/rattle/logic/antt-project.json" \
         --logic-built "$kit/logic_built" --incremental "$root/out/incremental" --links speedate_c= \
         --toolchain "$kit/toolchain" --backend llvm -o "$made/libspeedate.a"

@@ -30,6 +30,19 @@
 extern "C" {
 #endif
 
+/* Stands before each call that returns a code, so that a compiler warns if the code is not used: after a call that
+ * fails, the variable that it should have written may have no value. Define it as nothing before the #include to have no
+ * such warnings. */
+#ifndef SPEEDATE_NODISCARD
+#if (defined(__cplusplus) && __cplusplus >= 201703L) || (defined(__STDC_VERSION__) && __STDC_VERSION__ >= 202311L)
+#define SPEEDATE_NODISCARD [[nodiscard]]
+#elif defined(__GNUC__)
+#define SPEEDATE_NODISCARD __attribute__((warn_unused_result))
+#else
+#define SPEEDATE_NODISCARD
+#endif
+#endif
+
 /* The version of this interface. Within a version no name, struct, number of a code or accepted text changes or goes
  * away; a later minor version may add calls and codes. So a program runs with any library that has the version of its
  * header, and the same minor version or a later one. */
@@ -48,7 +61,8 @@ enum SpeedateCode {
     /* Success. */
     SPEEDATE_OK = 0,
 
-    /* 1 to 99: faults of a text or of a number. A strict call is one whose name ends in _strict. */
+    /* 1 to 99: faults of a text or of a number, which any input may have. Errors of the library have the numbers from 1
+     * on. A strict call is one whose name ends in _strict. */
 
     /* The text ends too early. */
     SPEEDATE_TOO_SHORT = 1,
@@ -140,28 +154,35 @@ enum SpeedateCode {
     /* A timestamp in microseconds has a digit after its point, which the configuration refuses. */
     SPEEDATE_MICROSECOND_FRACTION_TOO_LONG = 42,
 
+    /* The library has no error for the next two. */
+
+    /* From speedate_int_parse: the text is no whole number, or one that does not fit 64 bits. */
+    SPEEDATE_INVALID_INTEGER = 98,
+    /* No date from 0000-01-01 to 9999-12-31 has that day number, or is that many days away. Other calls return
+     * SPEEDATE_DATE_TOO_SMALL or SPEEDATE_DATE_TOO_LARGE. */
+    SPEEDATE_NO_SUCH_DATE = 99,
+
     /* From 101 on: mistakes of the caller. */
 
     /* A value that was passed is out of range, such as month 13 or a flag of 2; or, from speedate_code_name and
-     * speedate_code_documentation, the number is no code; or, from speedate_int_parse, the text is no whole number that
-     * fits 64 bits. */
+     * speedate_code_documentation, the number is no code. */
     SPEEDATE_VALUE_OUT_OF_RANGE = 101,
     /* A field of the configuration is out of range. */
     SPEEDATE_CONFIG_OUT_OF_RANGE = 102,
     /* The buffer has no room for the text and its zero byte. */
-    SPEEDATE_BUFFER_TOO_SMALL = 103,
-    /* No date from 0000-01-01 to 9999-12-31 has that day number, or is that many days away. Other calls return
-     * SPEEDATE_DATE_TOO_SMALL or SPEEDATE_DATE_TOO_LARGE. */
-    SPEEDATE_NO_SUCH_DATE = 104
+    SPEEDATE_BUFFER_TOO_SMALL = 103
 };
 
 /* Calls return int. A switch over a cast to this type is checked by -Wswitch. */
 typedef enum SpeedateCode SpeedateCode;
 
+/* The number of the last error of the library. A later minor version may add errors, with the numbers after it. */
+#define SPEEDATE_LAST_FAULT 42
+
 /* The name of a code as a constant string: "too_short" for 1, "ok" for 0, and "unknown code", never NULL, for a number
  * that is not a code of this header. */
 static inline const char *speedate_code_string(int code) {
-    static const char *const faults[] = {
+    static const char *const faults[SPEEDATE_LAST_FAULT + 1] = {
         "ok", "too_short", "extra_characters", "invalid_char_date_time_sep", "invalid_char_date_sep", "date_not_exact",
         "invalid_char_year", "invalid_char_month", "invalid_char_day", "invalid_char_time_sep", "invalid_char_hour",
         "invalid_char_minute", "invalid_char_second", "invalid_char_second_fraction", "invalid_char_tz_sign",
@@ -172,11 +193,13 @@ static inline const char *speedate_code_string(int code) {
         "duration_invalid_date_unit", "duration_invalid_days", "duration_value_too_large",
         "duration_hour_value_too_large", "duration_days_too_large", "date_too_small", "date_too_large",
         "time_too_large", "duration_unit_order", "microsecond_fraction_too_long"};
-    static const char *const mistakes[] = {"value_out_of_range", "config_out_of_range", "buffer_too_small",
-                                           "no_such_date"};
-    if (code >= SPEEDATE_OK && code <= SPEEDATE_MICROSECOND_FRACTION_TOO_LONG)
+    static const char *const others[] = {"invalid_integer", "no_such_date"};
+    static const char *const mistakes[] = {"value_out_of_range", "config_out_of_range", "buffer_too_small"};
+    if (code >= SPEEDATE_OK && code <= SPEEDATE_LAST_FAULT)
         return faults[code];
-    if (code >= SPEEDATE_VALUE_OUT_OF_RANGE && code <= SPEEDATE_NO_SUCH_DATE)
+    if (code >= SPEEDATE_INVALID_INTEGER && code <= SPEEDATE_NO_SUCH_DATE)
+        return others[code - SPEEDATE_INVALID_INTEGER];
+    if (code >= SPEEDATE_VALUE_OUT_OF_RANGE && code <= SPEEDATE_BUFFER_TOO_SMALL)
         return mistakes[code - SPEEDATE_VALUE_OUT_OF_RANGE];
     return "unknown code";
 }
@@ -186,16 +209,18 @@ static inline const char *speedate_code_string(int code) {
 
 /* Prints the name of a code of the library: "too_short" for 1. It fails with SPEEDATE_VALUE_OUT_OF_RANGE for 0 and for
  * a number that is not a code. */
-int speedate_code_name(int code, char *buffer, size_t size, size_t *length);
+SPEEDATE_NODISCARD int speedate_code_name(int code, char *buffer, size_t size, size_t *length);
 
 /* Prints the documentation text of a code: "input is too short" for 1. It fails when speedate_code_name does. The texts
  * of 1 to 40 were written for the Rust crate and can mention the wrong cause, so log the name too. */
-int speedate_code_documentation(int code, char *buffer, size_t size, size_t *length);
+SPEEDATE_NODISCARD int speedate_code_documentation(int code, char *buffer, size_t size, size_t *length);
 
 /* ---- Configurations ---- */
 
 /* How texts and timestamps are parsed. In each field 0 is the default. A field that a call does not use has to be in
- * range too. */
+ * range too. The struct fits a register and gets no further field: what a later minor version adds is a further value
+ * of a field, or a bit of one. A library fails with SPEEDATE_CONFIG_OUT_OF_RANGE if it does not know a value, and takes
+ * all others as the versions before it do. */
 typedef struct SpeedateConfig {
     /* The offset from UTC, in seconds, that the value of a timestamp gets: less than 24 hours in either direction. For
      * Unix time set has_timestamp_offset to 1 and this to 0. Any other offset is attached and shifts nothing, so the
@@ -284,203 +309,216 @@ typedef struct SpeedateDuration {
 
 /* Parses a date, "2020-02-29", or in its place a timestamp, "1582934400", in the unit of the configuration. Every whole
  * number is a timestamp, 20200229 too, and has to be a midnight. speedate_date_parse_rfc3339 refuses timestamps. */
-int speedate_date_parse(const char *text, size_t size, SpeedateConfig config, SpeedateDate *out);
+SPEEDATE_NODISCARD int speedate_date_parse(const char *text, size_t size, SpeedateConfig config, SpeedateDate *out);
 
 /* Parses a date and no timestamp. */
-int speedate_date_parse_rfc3339(const char *text, size_t size, SpeedateDate *out);
+SPEEDATE_NODISCARD int speedate_date_parse_rfc3339(const char *text, size_t size, SpeedateDate *out);
 
 /* Parses the date at the front of a text, whatever follows it, and writes how many bytes it takes to *taken:
  * 2020-02-29, and 10, from "2020-02-29 opening balance". */
-int speedate_date_parse_front(const char *text, size_t size, SpeedateDate *out, size_t *taken);
+SPEEDATE_NODISCARD int speedate_date_parse_front(const char *text, size_t size, SpeedateDate *out, size_t *taken);
 
 /* SPEEDATE_OK if the numbers are those of a date; otherwise the first of SPEEDATE_DATE_TOO_LARGE,
  * SPEEDATE_OUT_OF_RANGE_MONTH and SPEEDATE_OUT_OF_RANGE_DAY that applies. */
-int speedate_date_check(SpeedateDate date);
+SPEEDATE_NODISCARD int speedate_date_check(SpeedateDate date);
 
 /* Prints a date: "2020-02-29". The text parses as the date. */
-int speedate_date_to_text(SpeedateDate date, char *buffer, size_t size, size_t *length);
+SPEEDATE_NODISCARD int speedate_date_to_text(SpeedateDate date, char *buffer, size_t size, size_t *length);
 
 /* Writes -1 if the first date is the earlier one, 0 if they are equal, otherwise 1. Their texts have the same order. */
-int speedate_date_compare(SpeedateDate first, SpeedateDate second, int32_t *out);
+SPEEDATE_NODISCARD int speedate_date_compare(SpeedateDate first, SpeedateDate second, int32_t *out);
 
 /* The date of a timestamp in the unit of the configuration: 1970-01-02 for 86,400 seconds. If require_exact is 1, a
  * timestamp that is not a midnight fails with SPEEDATE_DATE_NOT_EXACT; if it is 0, the date is that of the day in which
  * the timestamp lies; any other number fails with SPEEDATE_VALUE_OUT_OF_RANGE. A timestamp before the year 0000 fails
  * with SPEEDATE_DATE_TOO_SMALL, one after the year 9999 with SPEEDATE_DATE_TOO_LARGE. */
-int speedate_date_from_timestamp(int64_t timestamp, uint8_t require_exact, SpeedateConfig config, SpeedateDate *out);
+SPEEDATE_NODISCARD int speedate_date_from_timestamp(int64_t timestamp, uint8_t require_exact, SpeedateConfig config,
+                                                    SpeedateDate *out);
 
 /* The second, and the millisecond, at which a date begins, counted from 1970-01-01T00:00:00. */
-int speedate_date_timestamp(SpeedateDate date, int64_t *out);
-int speedate_date_timestamp_ms(SpeedateDate date, int64_t *out);
+SPEEDATE_NODISCARD int speedate_date_timestamp(SpeedateDate date, int64_t *out);
+SPEEDATE_NODISCARD int speedate_date_timestamp_ms(SpeedateDate date, int64_t *out);
 
 /* The number of days from 0000-01-01 to a date, 737,790 for 2020-01-01, and the date of such a number. A number over
  * 3,652,424 fails with SPEEDATE_NO_SUCH_DATE. */
-int speedate_date_day_number(SpeedateDate date, uint32_t *out);
-int speedate_date_from_day_number(uint32_t number, SpeedateDate *out);
+SPEEDATE_NODISCARD int speedate_date_day_number(SpeedateDate date, uint32_t *out);
+SPEEDATE_NODISCARD int speedate_date_from_day_number(uint32_t number, SpeedateDate *out);
 
 /* The day of the year, 1 to 366. */
-int speedate_date_ordinal_day(SpeedateDate date, uint16_t *out);
+SPEEDATE_NODISCARD int speedate_date_ordinal_day(SpeedateDate date, uint16_t *out);
 
 /* The date `days` days later, or earlier if the number is negative. It fails with SPEEDATE_NO_SUCH_DATE if that is
  * before 0000-01-01 or after 9999-12-31. */
-int speedate_date_add_days(SpeedateDate date, int32_t days, SpeedateDate *out);
+SPEEDATE_NODISCARD int speedate_date_add_days(SpeedateDate date, int32_t days, SpeedateDate *out);
 
 /* The number of days from `earlier` to `date`: 2 for 2020-03-01 and the earlier 2020-02-28. It is negative if `earlier`
  * is the later one. Note the order: speedate_duration_between_dates takes the earlier date first. */
-int speedate_date_days_since(SpeedateDate date, SpeedateDate earlier, int32_t *out);
+SPEEDATE_NODISCARD int speedate_date_days_since(SpeedateDate date, SpeedateDate earlier, int32_t *out);
 
 /* ---- Times ---- */
 
 /* Parses a time: "12:13:14.5+01:00". */
-int speedate_time_parse(const char *text, size_t size, SpeedateConfig config, SpeedateTime *out);
+SPEEDATE_NODISCARD int speedate_time_parse(const char *text, size_t size, SpeedateConfig config, SpeedateTime *out);
 
 /* Parses the times of RFC 3339 and no others. Of these it refuses a second 60, and with SPEEDATE_OVERFLOW_ERROR more
  * than six digits in a fraction. Of the configuration only overflow_behavior matters. A text that speedate_time_parse
  * refuses has the same fault here. */
-int speedate_time_parse_strict(const char *text, size_t size, SpeedateConfig config, SpeedateTime *out);
+SPEEDATE_NODISCARD int speedate_time_parse_strict(const char *text, size_t size, SpeedateConfig config,
+                                                  SpeedateTime *out);
 
 /* Parses the time at the front of a text, and writes how many bytes it takes to *taken: 12:13:14Z, and 9, from
  * "12:13:14Z GET /". */
-int speedate_time_parse_front(const char *text, size_t size, SpeedateConfig config, SpeedateTime *out, size_t *taken);
+SPEEDATE_NODISCARD int speedate_time_parse_front(const char *text, size_t size, SpeedateConfig config,
+                                                 SpeedateTime *out, size_t *taken);
 
 /* SPEEDATE_OK if the numbers are those of a time; otherwise the first of SPEEDATE_OUT_OF_RANGE_HOUR,
  * SPEEDATE_OUT_OF_RANGE_MINUTE, SPEEDATE_OUT_OF_RANGE_SECOND, SPEEDATE_TIME_TOO_LARGE (the microsecond) and
  * SPEEDATE_OUT_OF_RANGE_TZ (the offset or its flag) that applies. */
-int speedate_time_check(SpeedateTime time);
+SPEEDATE_NODISCARD int speedate_time_check(SpeedateTime time);
 
 /* Prints a time: "12:13:14.500000+01:30", "12:13:14Z". The text parses as the time if the offset is absent or whole
  * minutes; the seconds of any other offset are not printed. */
-int speedate_time_to_text(SpeedateTime time, char *buffer, size_t size, size_t *length);
+SPEEDATE_NODISCARD int speedate_time_to_text(SpeedateTime time, char *buffer, size_t size, size_t *length);
 
 /* Writes -1 if the first time is the earlier one, 0 if they are the same instant, otherwise 1: in UTC if both have an
  * offset, otherwise as clocks show them. Times at different offsets can be the same instant. Sort only values that all
  * have an offset, or that all have none: in a mixture the order is not transitive. */
-int speedate_time_compare(SpeedateTime first, SpeedateTime second, int32_t *out);
+SPEEDATE_NODISCARD int speedate_time_compare(SpeedateTime first, SpeedateTime second, int32_t *out);
 
 /* The time `second` seconds and `microsecond` microseconds after midnight, with the offset of the configuration:
  * 10:00:06.5 for 36,005 and 1,500,000. It fails with SPEEDATE_TIME_TOO_LARGE if that is not on the same day. */
-int speedate_time_from_timestamp(uint32_t second, uint32_t microsecond, SpeedateConfig config, SpeedateTime *out);
+SPEEDATE_NODISCARD int speedate_time_from_timestamp(uint32_t second, uint32_t microsecond, SpeedateConfig config,
+                                                    SpeedateTime *out);
 
 /* The seconds since midnight, and the milliseconds, rounded down, whatever the offset. */
-int speedate_time_total_seconds(SpeedateTime time, uint32_t *out);
-int speedate_time_total_ms(SpeedateTime time, uint32_t *out);
+SPEEDATE_NODISCARD int speedate_time_total_seconds(SpeedateTime time, uint32_t *out);
+SPEEDATE_NODISCARD int speedate_time_total_ms(SpeedateTime time, uint32_t *out);
 
 /* The time at the same instant, as a clock at another offset, in seconds, shows it. It fails with
  * SPEEDATE_OUT_OF_RANGE_TZ if the offset is 24 hours or more, SPEEDATE_TZ_REQUIRED if the time has none, and
  * SPEEDATE_TIME_TOO_LARGE if that clock shows another day. */
-int speedate_time_in_timezone(SpeedateTime time, int32_t offset, SpeedateTime *out);
+SPEEDATE_NODISCARD int speedate_time_in_timezone(SpeedateTime time, int32_t offset, SpeedateTime *out);
 
 /* ---- Date-times ---- */
 
 /* Parses a date-time, "2020-02-29T12:13:14.5+01:00", or in its place a timestamp, "1582978394.5", in the unit and with
  * the offset of the configuration, and without one if that has none. Every number is a timestamp, 20200229 too:
  * speedate_datetime_parse_rfc3339 refuses them. */
-int speedate_datetime_parse(const char *text, size_t size, SpeedateConfig config, SpeedateDateTime *out);
+SPEEDATE_NODISCARD int speedate_datetime_parse(const char *text, size_t size, SpeedateConfig config,
+                                               SpeedateDateTime *out);
 
 /* Parses the same texts as speedate_datetime_parse, without timestamps. Despite its name it is otherwise as relaxed:
  * RFC 3339 and nothing else is speedate_datetime_parse_strict. */
-int speedate_datetime_parse_rfc3339(const char *text, size_t size, SpeedateConfig config, SpeedateDateTime *out);
+SPEEDATE_NODISCARD int speedate_datetime_parse_rfc3339(const char *text, size_t size, SpeedateConfig config,
+                                                       SpeedateDateTime *out);
 
 /* Parses the date-times of RFC 3339 and no others, as speedate_time_parse_strict parses times. */
-int speedate_datetime_parse_strict(const char *text, size_t size, SpeedateConfig config, SpeedateDateTime *out);
+SPEEDATE_NODISCARD int speedate_datetime_parse_strict(const char *text, size_t size, SpeedateConfig config,
+                                                      SpeedateDateTime *out);
 
 /* Parses the date-time at the front of a text, and writes how many bytes it takes to *taken: 2026-11-22T12:13:14Z, and
  * 20, from "2026-11-22T12:13:14Z GET /". It parses no timestamp (cut out the word and call speedate_datetime_parse) and
  * no date alone (call speedate_date_parse_front). An offset has to follow without a space. For texts with nanoseconds
  * set SPEEDATE_OVERFLOW_TRUNCATE. */
-int speedate_datetime_parse_front(const char *text, size_t size, SpeedateConfig config, SpeedateDateTime *out,
-                                  size_t *taken);
+SPEEDATE_NODISCARD int speedate_datetime_parse_front(const char *text, size_t size, SpeedateConfig config,
+                                                     SpeedateDateTime *out, size_t *taken);
 
 /* SPEEDATE_OK if the numbers are those of a date-time; otherwise what speedate_date_check returns for the date, or, if
  * the date is in range, what speedate_time_check returns for the time. */
-int speedate_datetime_check(SpeedateDateTime value);
+SPEEDATE_NODISCARD int speedate_datetime_check(SpeedateDateTime value);
 
 /* Prints a date-time: "2020-02-29T12:13:14.500000+01:30". The text parses as the date-time
  * under the condition of speedate_time_to_text. */
-int speedate_datetime_to_text(SpeedateDateTime value, char *buffer, size_t size, size_t *length);
+SPEEDATE_NODISCARD int speedate_datetime_to_text(SpeedateDateTime value, char *buffer, size_t size, size_t *length);
 
 /* Compares date-times as speedate_time_compare does times. What is said there of sorting holds here too. An offset that
  * is missing is not taken as UTC, as it is by speedate_duration_between and speedate_datetime_timestamp_tz: 12:00
  * without one comes before 12:30+01:00 of the same day, and the duration from it to that is minus 30 minutes. */
-int speedate_datetime_compare(SpeedateDateTime first, SpeedateDateTime second, int32_t *out);
+SPEEDATE_NODISCARD int speedate_datetime_compare(SpeedateDateTime first, SpeedateDateTime second, int32_t *out);
 
 /* The date-time `microsecond` microseconds after a timestamp in the unit of the configuration, with the offset of the
  * configuration: 1970-01-01T00:00:01.000002 for 1 second and 2 microseconds. It fails with SPEEDATE_TIME_TOO_LARGE if a
  * sum that leads to it is too large, SPEEDATE_DATE_TOO_SMALL before the year 0000, and SPEEDATE_DATE_TOO_LARGE after
  * the year 9999. */
-int speedate_datetime_from_timestamp(int64_t timestamp, uint32_t microsecond, SpeedateConfig config,
-                                     SpeedateDateTime *out);
+SPEEDATE_NODISCARD int speedate_datetime_from_timestamp(int64_t timestamp, uint32_t microsecond, SpeedateConfig config,
+                                                        SpeedateDateTime *out);
 
 /* The seconds since 1970-01-01T00:00:00, and the milliseconds, rounded down, as if date and time were in UTC: the
  * offset is ignored. For Unix time call speedate_datetime_timestamp_tz. */
-int speedate_datetime_timestamp(SpeedateDateTime value, int64_t *out);
-int speedate_datetime_timestamp_ms(SpeedateDateTime value, int64_t *out);
+SPEEDATE_NODISCARD int speedate_datetime_timestamp(SpeedateDateTime value, int64_t *out);
+SPEEDATE_NODISCARD int speedate_datetime_timestamp_ms(SpeedateDateTime value, int64_t *out);
 
-/* Unix time: the seconds since 1970-01-01T00:00:00 in UTC, and the milliseconds, rounded down. A date-time without an
- * offset is taken to be in UTC. time.microsecond is the rest of the second: tv_nsec is 1000 times that. */
-int speedate_datetime_timestamp_tz(SpeedateDateTime value, int64_t *out);
-int speedate_datetime_timestamp_tz_ms(SpeedateDateTime value, int64_t *out);
+/* Unix time: the seconds since 1970-01-01T00:00:00 in UTC, the milliseconds, rounded down, and the microseconds. A
+ * date-time without an offset is taken to be in UTC. time.microsecond is the rest of the second: tv_nsec is 1000 times
+ * that. speedate_datetime_from_timestamp with SPEEDATE_UNIT_MICROSECOND makes a date-time of the microseconds. */
+SPEEDATE_NODISCARD int speedate_datetime_timestamp_tz(SpeedateDateTime value, int64_t *out);
+SPEEDATE_NODISCARD int speedate_datetime_timestamp_tz_ms(SpeedateDateTime value, int64_t *out);
+SPEEDATE_NODISCARD int speedate_datetime_timestamp_tz_us(SpeedateDateTime value, int64_t *out);
 
 /* The date-time at the same instant, as a clock at another offset, in seconds, shows it. It fails with
  * SPEEDATE_OUT_OF_RANGE_TZ if the offset is 24 hours or more, SPEEDATE_TZ_REQUIRED if the date-time has none, and
  * SPEEDATE_DATE_TOO_SMALL or SPEEDATE_DATE_TOO_LARGE if that clock shows a date outside the years 0000 to 9999. */
-int speedate_datetime_in_timezone(SpeedateDateTime value, int32_t offset, SpeedateDateTime *out);
+SPEEDATE_NODISCARD int speedate_datetime_in_timezone(SpeedateDateTime value, int32_t offset, SpeedateDateTime *out);
 
 /* ---- Durations ---- */
 
 /* Parses a duration: "P1Y2DT3H4M5.5S" (ISO 8601), "-00:01:30.5" (a clock) or "2 days, 10:20" (days and a clock). A year
  * is 365 days and a month 30; no call adds calendar months. */
-int speedate_duration_parse(const char *text, size_t size, SpeedateConfig config, SpeedateDuration *out);
+SPEEDATE_NODISCARD int speedate_duration_parse(const char *text, size_t size, SpeedateConfig config,
+                                               SpeedateDuration *out);
 
 /* Brings days, seconds and microseconds of any size into their ranges: 2 days, 101 seconds and 123 microseconds for 1,
  * 86,500 and 1,000,123. It fails with SPEEDATE_VALUE_OUT_OF_RANGE if `negative` is over 1,
  * SPEEDATE_DURATION_VALUE_TOO_LARGE if a sum is over 4,294,967,295, and SPEEDATE_DURATION_DAYS_TOO_LARGE if the days
  * are over 999,999,999. */
-int speedate_duration_normalize(SpeedateDuration numbers, SpeedateDuration *out);
+SPEEDATE_NODISCARD int speedate_duration_normalize(SpeedateDuration numbers, SpeedateDuration *out);
 
 /* SPEEDATE_OK if the numbers are those of a duration. Otherwise the first field that is out of range decides:
  * SPEEDATE_DURATION_DAYS_TOO_LARGE for the days, SPEEDATE_DURATION_VALUE_TOO_LARGE for any other. */
-int speedate_duration_check(SpeedateDuration duration);
+SPEEDATE_NODISCARD int speedate_duration_check(SpeedateDuration duration);
 
 /* Prints a duration: "PT1H30M". The text parses as the duration. */
-int speedate_duration_to_text(SpeedateDuration duration, char *buffer, size_t size, size_t *length);
+SPEEDATE_NODISCARD int speedate_duration_to_text(SpeedateDuration duration, char *buffer, size_t size, size_t *length);
 
 /* Writes -1 if the first duration is the smaller one, 0 if they are equal, otherwise 1. Negative zero is smaller than
  * zero. */
-int speedate_duration_compare(SpeedateDuration first, SpeedateDuration second, int32_t *out);
+SPEEDATE_NODISCARD int speedate_duration_compare(SpeedateDuration first, SpeedateDuration second, int32_t *out);
 
 /* The whole seconds of a duration, cut toward zero, with its sign. */
-int speedate_duration_signed_total_seconds(SpeedateDuration duration, int64_t *out);
+SPEEDATE_NODISCARD int speedate_duration_signed_total_seconds(SpeedateDuration duration, int64_t *out);
 /* The whole milliseconds of a duration, cut toward zero, with its sign. */
-int speedate_duration_signed_total_ms(SpeedateDuration duration, int64_t *out);
+SPEEDATE_NODISCARD int speedate_duration_signed_total_ms(SpeedateDuration duration, int64_t *out);
 /* The microseconds of a duration beyond its whole seconds, with its sign. */
-int speedate_duration_signed_microseconds(SpeedateDuration duration, int32_t *out);
+SPEEDATE_NODISCARD int speedate_duration_signed_microseconds(SpeedateDuration duration, int32_t *out);
 
 /* The duration with the other sign. */
-int speedate_duration_negate(SpeedateDuration duration, SpeedateDuration *out);
+SPEEDATE_NODISCARD int speedate_duration_negate(SpeedateDuration duration, SpeedateDuration *out);
 
 /* The duration from one date-time to another, by their instants. A date-time without an offset is taken to be in UTC,
  * unlike in speedate_datetime_compare. The duration is negative if `later` is the earlier one. */
-int speedate_duration_between(SpeedateDateTime earlier, SpeedateDateTime later, SpeedateDuration *out);
+SPEEDATE_NODISCARD int speedate_duration_between(SpeedateDateTime earlier, SpeedateDateTime later,
+                                                 SpeedateDuration *out);
 
 /* Add a duration to a date-time, and subtract one; the offset stays. They fail with SPEEDATE_DATE_TOO_SMALL or
  * SPEEDATE_DATE_TOO_LARGE if the date is outside the years 0000 to 9999. */
-int speedate_duration_after(SpeedateDuration duration, SpeedateDateTime start, SpeedateDateTime *out);
-int speedate_duration_before(SpeedateDuration duration, SpeedateDateTime start, SpeedateDateTime *out);
+SPEEDATE_NODISCARD int speedate_duration_after(SpeedateDuration duration, SpeedateDateTime start,
+                                               SpeedateDateTime *out);
+SPEEDATE_NODISCARD int speedate_duration_before(SpeedateDuration duration, SpeedateDateTime start,
+                                                SpeedateDateTime *out);
 
 /* The duration from one date to another, in whole days. */
-int speedate_duration_between_dates(SpeedateDate earlier, SpeedateDate later, SpeedateDuration *out);
+SPEEDATE_NODISCARD int speedate_duration_between_dates(SpeedateDate earlier, SpeedateDate later, SpeedateDuration *out);
 
 /* Add a duration to a date, and subtract one. They fail with SPEEDATE_DATE_NOT_EXACT if the duration is not whole
  * days, and SPEEDATE_DATE_TOO_SMALL or SPEEDATE_DATE_TOO_LARGE if the date is outside the years 0000 to 9999. */
-int speedate_duration_after_date(SpeedateDuration duration, SpeedateDate start, SpeedateDate *out);
-int speedate_duration_before_date(SpeedateDuration duration, SpeedateDate start, SpeedateDate *out);
+SPEEDATE_NODISCARD int speedate_duration_after_date(SpeedateDuration duration, SpeedateDate start, SpeedateDate *out);
+SPEEDATE_NODISCARD int speedate_duration_before_date(SpeedateDuration duration, SpeedateDate start, SpeedateDate *out);
 
 /* ---- Numbers ---- */
 
 /* Parses a whole number, "-012": one optional + or - and one or more digits. Any other text, and a number that does not
- * fit 64 bits, fails with SPEEDATE_VALUE_OUT_OF_RANGE. */
-int speedate_int_parse(const char *text, size_t size, int64_t *out);
+ * fit 64 bits, fails with SPEEDATE_INVALID_INTEGER. */
+SPEEDATE_NODISCARD int speedate_int_parse(const char *text, size_t size, int64_t *out);
 
 #ifdef __cplusplus
 }

@@ -352,6 +352,7 @@ static int run_value(void) {
     VALUE(int64_t, say_number, datetime_timestamp_ms, SpeedateDateTime, datetime)
     VALUE(int64_t, say_number, datetime_timestamp_tz, SpeedateDateTime, datetime)
     VALUE(int64_t, say_number, datetime_timestamp_tz_ms, SpeedateDateTime, datetime)
+    VALUE(int64_t, say_number, datetime_timestamp_tz_us, SpeedateDateTime, datetime)
     TWO_VALUES(SpeedateDateTime, say_datetime, datetime_in_timezone, SpeedateDateTime, datetime, int32_t, (int32_t)number)
     VALUE(SpeedateDuration, say_duration, duration_normalize, SpeedateDuration, duration)
     CHECK(duration_check, SpeedateDuration, duration)
@@ -401,8 +402,9 @@ static int cut(char *row) {
 static void try_code(int code) {
     char name[SPEEDATE_CODE_TEXT_SIZE], text[SPEEDATE_CODE_TEXT_SIZE];
     size_t length = 0;
-    int is_one = (code >= SPEEDATE_TOO_SHORT && code <= SPEEDATE_MICROSECOND_FRACTION_TOO_LONG) ||
-                 (code >= SPEEDATE_VALUE_OUT_OF_RANGE && code <= SPEEDATE_NO_SUCH_DATE);
+    int is_one = (code >= SPEEDATE_TOO_SHORT && code <= SPEEDATE_LAST_FAULT) ||
+                 (code >= SPEEDATE_INVALID_INTEGER && code <= SPEEDATE_NO_SUCH_DATE) ||
+                 (code >= SPEEDATE_VALUE_OUT_OF_RANGE && code <= SPEEDATE_BUFFER_TOO_SMALL);
     int wanted = is_one ? SPEEDATE_OK : SPEEDATE_VALUE_OUT_OF_RANGE;
     const char *string = speedate_code_string(code);
     strcpy(name, code == SPEEDATE_OK ? "ok" : "unknown code");
@@ -415,7 +417,7 @@ static void try_code(int code) {
 
 /* Whether a field is the name of a code, with which the answer begins. */
 static int is_code(const char *it) {
-    for (int code = 0; code <= SPEEDATE_NO_SUCH_DATE; code++)
+    for (int code = 0; code <= SPEEDATE_BUFFER_TOO_SMALL; code++)
         if (strcmp(it, speedate_code_string(code)) == 0)
             return 1;
     return 0;

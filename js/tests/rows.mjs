@@ -89,9 +89,13 @@ function read([, kind, names], how, fields) {
   });
 }
 
+const rows = readFileSync(process.argv[2], "utf8").split("\n").filter((it) => it && !it.startsWith("#"));
+/** The faults by which `_check` calls refuse values. */
+const checked = new Map(rows.map((row) => row.split("|")).filter(([call, , fault]) => call.endsWith("_check") && fault !== "ok")
+  .map(([, value, fault]) => [value, fault]));
 let ran = 0;
 const left = {};
-for (const row of readFileSync(process.argv[2], "utf8").split("\n").filter((it) => it && !it.startsWith("#"))) {
+for (const row of rows) {
   const [call, ...fields] = row.split("|");
   const [, kind, name] = /^([a-z]+)_?(.*)$/.exec(call);
   const [, how] = /^parse(|_rfc3339|_strict|_front)$/.exec(name) ?? [];
@@ -104,7 +108,7 @@ for (const row of readFileSync(process.argv[2], "utf8").split("\n").filter((it) 
   ran++;
   const hasNoOffset = name.startsWith("timestamp_tz") && args[0].split(" ")[6] === "0";
   for (const { fault = "ok", value } of how === undefined ? [outcome(CALLS[name], KINDS[kind][0], ...args)] : read(KINDS[kind], how, args)) {
-    if (code === "value_out_of_range") assert.match(fault, /^(out_of_range_|date_too_|time_too_|duration_\w+_too_)/, row);
+    if (code === "value_out_of_range") assert.equal(fault, args.map((it) => checked.get(it)).find(Boolean), row);
     else assert.equal(fault, hasNoOffset ? "tz_required" : code, row);
     if (size) assert.equal(value.size, Number(size), row);
     if (fault === "ok" && written !== undefined) assert.deepEqual(size ? value.value : value, answered(written), row);

@@ -14,15 +14,14 @@
 
 #define QUARTER 900 /* seconds */
 #define QUARTERS 95 /* below 24 hours, either way */
-#define LAST_FAULT SPEEDATE_MICROSECOND_FRACTION_TOO_LONG
 
 /* The places of the objects that are held from the import on. Nothing is added afterwards. */
 enum {
     DATETIME, ARRAY, CONFIG, FAULT, UNREPRESENTABLE, INTEGER, CHOICE, PLAIN, /* what is imported */
     NUMBERS, INDEX, UTCOFFSET,                                               /* names of attributes */
     ARGUMENTS,                                                               /* of the fault of each code */
-    ATTRIBUTES = ARGUMENTS + LAST_FAULT + 1,                                 /* the same */
-    ZONES = ATTRIBUTES + LAST_FAULT + 1,                                     /* of each offset of quarter hours */
+    ATTRIBUTES = ARGUMENTS + SPEEDATE_LAST_FAULT + 1,                        /* the same */
+    ZONES = ATTRIBUTES + SPEEDATE_LAST_FAULT + 1,                            /* of each offset of quarter hours */
     ALL = ZONES + 2 * QUARTERS + 1
 };
 
@@ -60,7 +59,7 @@ static int wrong_type(const char *name, const char *kinds, PyObject *value) {
 
 /* A Fault without a call of its __init__, which would take longer than all the rest. */
 static PyObject *new_fault(const State *state, int code) {
-    if (code < 1 || code > LAST_FAULT)
+    if (code < 1 || code > SPEEDATE_LAST_FAULT)
         return PyObject_CallFunction(state->held[FAULT], "i", code);
     PyTypeObject *type = (PyTypeObject *)state->held[FAULT], *base = (PyTypeObject *)PyExc_ValueError;
     PyObject *fault = base->tp_new(type, state->held[ARGUMENTS + code], NULL);
@@ -491,7 +490,6 @@ static PyObject *call_date_time_from_timestamp(GIVEN) {
 
 /* ---- Columns ---- */
 
-#define MICROSECONDS 1000000 /* of a second */
 #define NOT_A_TIME INT64_MIN
 
 /* The numbers so far, in an object of bytes that has room for more, and how texts become numbers. */
@@ -529,16 +527,15 @@ static int raise_in_column(const Column *column, int code) {
 
 static inline int add_text(Column *column, const Text *text) {
     Value value;
-    int64_t second;
+    int64_t microsecond;
     int code = column->parse(text, column->config, &value, NULL);
     if (code == SPEEDATE_OK && !value.date_time.time.has_offset && !column->naive_is_utc)
         code = SPEEDATE_TZ_REQUIRED;
     if (code == SPEEDATE_OK)
-        code = speedate_datetime_timestamp_tz(value.date_time, &second);
-    /* The library counts seconds; the microsecond is the rest, also before 1970. */
+        code = speedate_datetime_timestamp_tz_us(value.date_time, &microsecond);
     if (code == SPEEDATE_OK)
-        return add_number(column, second * MICROSECONDS + value.date_time.time.microsecond);
-    if (column->faults_are_nat && code <= LAST_FAULT)
+        return add_number(column, microsecond);
+    if (column->faults_are_nat && code <= SPEEDATE_LAST_FAULT)
         return add_number(column, NOT_A_TIME);
     return raise_in_column(column, code);
 }
@@ -812,7 +809,7 @@ static int start(PyObject *module) {
         hold(state, INDEX, PyUnicode_InternFromString("index")) < 0 ||
         hold(state, UTCOFFSET, PyUnicode_InternFromString("utcoffset")) < 0)
         return -1;
-    for (int code = 1; code <= LAST_FAULT; code++)
+    for (int code = 1; code <= SPEEDATE_LAST_FAULT; code++)
         if (hold_fault(state, code) < 0)
             return -1;
     for (int i = -QUARTERS; i <= QUARTERS; i++)

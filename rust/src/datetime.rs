@@ -252,6 +252,12 @@ impl DateTime {
     pub fn timestamp_tz_ms(&self) -> i64 {
         self.total(ffi::speedate_datetime_timestamp_tz_ms(self))
     }
+
+    /// [`timestamp_tz`](Self::timestamp_tz) in microseconds. The crate has no such call.
+    #[must_use]
+    pub fn timestamp_tz_us(&self) -> i64 {
+        self.total(ffi::speedate_datetime_timestamp_tz_us(self))
+    }
 }
 
 impl From<&DateTimeConfig> for Config {

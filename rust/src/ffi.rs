@@ -279,6 +279,7 @@ calls! {
     fn speedate_datetime_timestamp_ms(value: CDateTime) -> i64;
     fn speedate_datetime_timestamp_tz(value: CDateTime) -> i64;
     fn speedate_datetime_timestamp_tz_ms(value: CDateTime) -> i64;
+    fn speedate_datetime_timestamp_tz_us(value: CDateTime) -> i64;
     fn speedate_datetime_in_timezone(value: CDateTime, offset: i32) -> CDateTime;
     fn speedate_duration_parse([text] config: Config) -> CDuration;
     fn speedate_duration_normalize(numbers: CDuration) -> CDuration;
@@ -324,7 +325,7 @@ mod tests {
 
     #[test]
     fn unknown_codes_have_one_error() {
-        for number in [c_int::MIN, -1, 0, 41, 42, 43, 99, 100, 101, 103, 104, 105, c_int::MAX] {
+        for number in [c_int::MIN, -1, 0, 41, 42, 43, 97, 98, 99, 100, 101, 103, 104, c_int::MAX] {
             assert_eq!(ParseError::from(Code(number)), ParseError::InvalidCharSecondFraction);
         }
         let known: [ParseError; 40] = core::array::from_fn(|place| Code(place as c_int + 1).into());

@@ -73,6 +73,7 @@ fn date_times() {
     let both = TIMES.map(|(time, ..)| (DateTime { date: DATES[0].0, time }, ParseError::DateTooLarge, "year"));
     for (it, error, field) in dates.into_iter().chain(times).chain(both) {
         assert_panics!(field; it.to_string(), it.timestamp(), it.timestamp_ms(), it.timestamp_tz(), it.timestamp_tz_ms());
+        assert_panics!(field; it.timestamp_tz_us());
         assert_panics!(field; Duration::between(&it, &good), Duration::between(&good, &it));
         let moved = [it.in_timezone(0), it.with_timezone_offset(it.time.tz_offset)];
         assert_eq!(moved, [Err(error.clone()), Err(error.clone())]);

@@ -36,7 +36,7 @@ impl Row<'_> {
         let behavior = |place| Some(time_config(place)?.microseconds_precision_overflow_behavior);
         let text = |place: usize| self.0[place].as_bytes();
         Some(match self.0[0] {
-            "int_parse" => self.has(2, int_parse_str(self.0[1]).ok_or("value_out_of_range")),
+            "int_parse" => self.has(2, int_parse_str(self.0[1]).ok_or("invalid_integer")),
             "date_parse" => self.has(3, Date::parse_bytes_with_config(text(2), &self.get(1)?)),
             "date_parse_rfc3339" => self.has(2, Date::parse_bytes_rfc3339(text(1))),
             "date_parse_front" => self.has_front(2, Date::parse_front(text(1))),
@@ -79,6 +79,7 @@ impl Row<'_> {
             "datetime_timestamp_ms" => self.has_total(self.get::<DateTime>(1)?.timestamp_ms()),
             "datetime_timestamp_tz" => self.has_total(self.get::<DateTime>(1)?.timestamp_tz()),
             "datetime_timestamp_tz_ms" => self.has_total(self.get::<DateTime>(1)?.timestamp_tz_ms()),
+            "datetime_timestamp_tz_us" => self.has_total(self.get::<DateTime>(1)?.timestamp_tz_us()),
             "datetime_in_timezone" => self.has(3, self.get::<DateTime>(1)?.in_timezone(self.get(2)?)),
             "duration_parse" => self.has(3, Duration::parse_bytes_with_config(text(2), &time_config(1)?)),
             "duration_normalize" => {

@@ -1,4 +1,5 @@
--- The codes that calls answer: 0, the numbers of the faults, and those of what a caller got wrong.
+-- The codes that calls answer: 0, the numbers of the faults and of two further answers, and those
+-- of what a caller got wrong.
 use Rattle.std.specs.Prelude.{ℕ, ◌+◌, ◌-◌, ℤ, pos, negsuc, unsigned_abs, int_le, List, map, codes, slice_get, Option, Some, None, Result, Ok, Err, if◌then◌else◌}
 use Rattle.std.specs.Option.{option_map, option_or}
 use Rattle.std.specs.Ordering.{int_eq}
@@ -9,6 +10,14 @@ use Rattle.speedate.specs.Fault.{FaultRow, fault_rows, fault_place, fault_name, 
 -- what was asked for is written
 abbrev pub success : ℤ
 success = pos 0
+
+-- a text is no whole number, or one that does not fit 64 bits
+abbrev pub invalid_integer : ℤ
+invalid_integer = pos 98
+
+-- the date that a call would give is outside the years 0000 to 9999
+abbrev pub no_such_date : ℤ
+no_such_date = pos 99
 
 -- a value or a flag of the caller's is out of range
 abbrev pub value_out_of_range : ℤ
@@ -21,10 +30,6 @@ config_out_of_range = pos 102
 -- a text does not fit into the caller's buffer
 abbrev pub buffer_too_small : ℤ
 buffer_too_small = pos 103
-
--- the date that a call would give is outside the years 0000 to 9999
-abbrev pub no_such_date : ℤ
-no_such_date = pos 104
 
 -- the code of a fault: its place in the enum, counted from 1
 abbrev pub fault_code : ParseError → ℤ
@@ -41,7 +46,11 @@ fault_of code = if int_le (pos 1) code then slice_get faults (unsigned_abs code 
 -- the name and the documentation text of a code that is no fault
 abbrev pub refusal_row : ℤ → Option (List ℕ × List ℕ)
 refusal_row code =
-    if int_eq code value_out_of_range
+    if int_eq code invalid_integer
+    then Some (codes "invalid_integer", codes "no whole number, or one that does not fit 64 bits")
+    else (if int_eq code no_such_date
+    then Some (codes "no_such_date", codes "the years 0000 to 9999 have no such date")
+    else (if int_eq code value_out_of_range
     then Some (codes "value_out_of_range", codes "a value or a flag is out of range")
     else (if int_eq code config_out_of_range
     then Some (
@@ -50,9 +59,7 @@ refusal_row code =
     )
     else (if int_eq code buffer_too_small
     then Some (codes "buffer_too_small", codes "the buffer is too small for the text")
-    else (if int_eq code no_such_date
-    then Some (codes "no_such_date", codes "the years 0000 to 9999 have no such date")
-    else None)))
+    else None))))
 
 -- the name and the documentation text of a code
 abbrev pub code_row : ℤ → Option (List ℕ × List ℕ)

@@ -10,6 +10,12 @@ use std::cmp::Ordering;
 /// What was asked for is written.
 pub(crate) const SUCCESS: i32 = 0;
 
+/// A text is no whole number, or one that does not fit 64 bits.
+pub(crate) const INVALID_INTEGER: i32 = 98;
+
+/// The years 0000 to 9999 have no such date.
+pub(crate) const NO_SUCH_DATE: i32 = 99;
+
 /// A value or a flag of the caller's is out of range.
 pub(crate) const VALUE_OUT_OF_RANGE: i32 = 101;
 
@@ -18,9 +24,6 @@ pub(crate) const CONFIG_OUT_OF_RANGE: i32 = 102;
 
 /// A text does not fit into the caller's buffer.
 pub(crate) const BUFFER_TOO_SMALL: i32 = 103;
-
-/// The years 0000 to 9999 have no such date.
-pub(crate) const NO_SUCH_DATE: i32 = 104;
 
 /// A list of errors by their names.
 macro_rules! faults {
@@ -86,13 +89,17 @@ fn refusal_row(code: i32) -> Option<(&'static str, &'static str)>
     ensures short { IfSome result (λ row. (length row.0.now ≤ 63) × (length row.1.now ≤ 63)) }
 {
     Some(match code {
+        INVALID_INTEGER => (
+            "invalid_integer",
+            "no whole number, or one that does not fit 64 bits",
+        ),
+        NO_SUCH_DATE => ("no_such_date", "the years 0000 to 9999 have no such date"),
         VALUE_OUT_OF_RANGE => ("value_out_of_range", "a value or a flag is out of range"),
         CONFIG_OUT_OF_RANGE => (
             "config_out_of_range",
             "a number of the configuration is out of range",
         ),
         BUFFER_TOO_SMALL => ("buffer_too_small", "the buffer is too small for the text"),
-        NO_SUCH_DATE => ("no_such_date", "the years 0000 to 9999 have no such date"),
         _ => return None,
     })
 }

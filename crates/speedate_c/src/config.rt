@@ -3,7 +3,7 @@
 ghost use Rattle.std.specs.Option.{option_map};
 ghost use Rattle.std.specs.Prelude.{◌≡◌, IsTrue, Some, slice_get};
 ghost use Rattle.speedate.specs.Config.{choices, default_choices, time_choices};
-ghost use Rattle.speedate_c.specs.Config.{behaviors, choices_of, flags, offset_by_flag, orders, time_choices_of, units};
+ghost use Rattle.speedate_c.specs.Config.{behaviors, choices_of, flags, offset_by_flag, one_choice_of_texts, orders, time_choices_of, units};
 
 use speedate::{
     DateConfig, DateTimeConfig, IsoOrder, MicrosecondsPrecisionOverflowBehavior, ParseError,
@@ -28,19 +28,58 @@ pub struct SpeedateConfig {
 }
 
 impl SpeedateConfig {
-    /// Whether all numbers are 0, as nearly every caller has them.
-    pub(crate) fn is_default(self) -> bool
-        ensures choices { IsTrue result → choices_of self ≡ Some default_choices }
+    /// The configuration of date-times, if each number has a value. One that changes one choice of texts
+    /// at most is looked for first, by few comparisons.
+    #[inline(always)]
+    pub(crate) fn to_config(self) -> Option<DateTimeConfig>
+        ensures choices { option_map choices result ≡ choices_of self }
     {
-        self.timestamp_offset == 0
-            && self.has_timestamp_offset == 0
-            && self.timestamp_unit == 0
-            && self.overflow_behavior == 0
-            && self.iso_order == 0
+        let Some((behavior, order)) = self.one_choice_of_texts() else {
+            return self.to_config_apart();
+        };
+        let time_config = TimeConfig::builder()
+            .microseconds_precision_overflow_behavior(behavior)
+            .iso_order(order);
+        Some(DateTimeConfig {
+            timestamp_unit: TimestampUnit::Infer,
+            time_config: time_config.build(),
+        })
     }
 
-    /// The configuration of date-times, if each number has a value.
-    pub(crate) fn to_config(self) -> Option<DateTimeConfig>
+    /// The behavior and the order, if one of them at most is not the default, and all other numbers are
+    /// 0. Four bytes are compared as one number.
+    #[inline(always)]
+    fn one_choice_of_texts(self) -> Option<(MicrosecondsPrecisionOverflowBehavior, IsoOrder)>
+        ensures choices { result ≡ one_choice_of_texts self }
+    {
+        use MicrosecondsPrecisionOverflowBehavior::{Error, Truncate};
+
+        let bytes = [
+            self.has_timestamp_offset,
+            self.timestamp_unit,
+            self.overflow_behavior,
+            self.iso_order,
+        ];
+        match (self.timestamp_offset, u32::from_le_bytes(bytes)) {
+            (0, 0) => Some((Error, IsoOrder::Lax)),
+            (0, 0x1_0000) => Some((Truncate, IsoOrder::Lax)),
+            (0, 0x100_0000) => Some((Error, IsoOrder::Strict)),
+            _ => None,
+        }
+    }
+
+    /// The configuration of date-times, out of line, so that it keeps no registers from the calls.
+    #[cold]
+    #[inline(never)]
+    fn to_config_apart(self) -> Option<DateTimeConfig>
+        ensures choices { option_map choices result ≡ choices_of self }
+    {
+        self.to_config_by_fields()
+    }
+
+    /// The configuration of date-times, if each number has a value, field by field.
+    #[inline(always)]
+    pub(crate) fn to_config_by_fields(self) -> Option<DateTimeConfig>
         ensures choices { option_map choices result ≡ choices_of self }
     {
         let time_config = self.to_time_config()?;

@@ -1,7 +1,7 @@
 //! Date-times as C sees them.
 
 ghost use Rattle.std.specs.Prelude.{◌≡◌, ◌≢◌, ◌≤◌, length};
-ghost use Rattle.speedate.specs.DateTime.{local_millisecond, local_second, utc_millisecond, utc_second, date_and_time, date_time_answer, date_time_front, date_time_text, date_time_or_timestamp, date_time_timestamp_answer, date_time_instant_order, date_time_in_timezone, ◌gives◌};
+ghost use Rattle.speedate.specs.DateTime.{local_millisecond, local_second, utc_microsecond, utc_millisecond, utc_second, date_and_time, date_time_answer, date_time_front, date_time_text, date_time_or_timestamp, date_time_timestamp_answer, date_time_instant_order, date_time_in_timezone, ◌gives◌};
 ghost use Rattle.speedate.specs.Standard.{strict_date_time_answer};
 ghost use Rattle.speedate.specs.Requirement.{result_map};
 ghost use Rattle.speedate_c.specs.Written.{written_answer, written_front, written_text, written_value, with_option, with_value};
@@ -220,7 +220,7 @@ pub extern "C" fn speedate_datetime_from_timestamp(
         (λ config. written_answer shown_date_time out.old
         (date_time_timestamp_answer config.unit config.offset microsecond timestamp)) }
 {
-    let config = config_or_return!(config.to_config());
+    let config = config_or_return!(config.to_config_by_fields());
     let answer = DateTime::from_timestamp_with_config(timestamp, microsecond, &config);
     write_date_time(answer, out)
 }
@@ -267,6 +267,17 @@ pub extern "C" fn speedate_datetime_timestamp_tz_ms(value: SpeedateDateTime, out
         (λ value. written_value (utc_millisecond value)) }
 {
     write_of!(value => *out = value.timestamp_tz_ms())
+}
+
+/// The microsecond since 1970-01-01T00:00:00 in UTC, as [`DateTime::timestamp_tz_us`] gives it:
+/// 82,800,123,456 for 1970-01-02T00:00:00.123456+01:00.
+#[unsafe(no_mangle)]
+pub extern "C" fn speedate_datetime_timestamp_tz_us(value: SpeedateDateTime, out: &mut i64) -> i32
+    ensures answer { (result, out.new)
+        ≡ with_value (date_time_of value) (value_out_of_range, out.old)
+        (λ value. written_value (utc_microsecond value)) }
+{
+    write_of!(value => *out = value.timestamp_tz_us())
 }
 
 /// The date-time at the same instant, as a clock at another offset shows it, as

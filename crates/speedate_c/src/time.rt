@@ -91,21 +91,6 @@ pub extern "C" fn speedate_time_parse(
         ≡ with_option (choices_of config) (config_out_of_range, out.old)
         (λ config. written_answer shown_time out.old (time_answer config.behavior text.now)) }
 {
-    // The default, which nearly every caller has, is not translated field by field.
-    if config.is_default() {
-        return write_time(Time::parse_bytes(text), out);
-    }
-    parse_configured(text, config, out)
-}
-
-/// Parses a time under a configuration that is not the default.
-#[cold]
-#[inline(never)]
-fn parse_configured(text: &[u8], config: SpeedateConfig, out: &mut SpeedateTime) -> i32
-    ensures answer { (result, out.new)
-        ≡ with_option (choices_of config) (config_out_of_range, out.old)
-        (λ config. written_answer shown_time out.old (time_answer config.behavior text.now)) }
-{
     let config = config_or_return!(config.to_config());
     let time = Time::parse_bytes_with_config(text, &config.time_config);
     write_time(time, out)
@@ -238,7 +223,7 @@ pub extern "C" fn speedate_time_from_timestamp(
         (λ config. written_answer shown_time out.old
         (timestamp_answer second microsecond config.offset)) }
 {
-    let config = config_or_return!(config.to_config());
+    let config = config_or_return!(config.to_config_by_fields());
     let time = Time::from_timestamp_with_config(second, microsecond, &config.time_config);
     write_time(time, out)
 }

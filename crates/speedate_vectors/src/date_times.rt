@@ -171,10 +171,12 @@ s      9223372036854775807   1000000     time_too_large
 us     1                     4294967295  time_too_large
 us     -62167219200000001    1           0000-01-01T00:00:00";
 
-/// Date-times, the seconds and milliseconds that a clock at the offset shows, and those in UTC.
+/// Date-times, the seconds and milliseconds that a clock at the offset shows, and those in UTC with the
+/// microseconds.
 const COUNTED: &str = "\
-1970-01-02T00:00:00.123+01:00  86400  86400123  82800  82800123
-1969-12-31T23:59:59.999-00:01  -1     -1        59     59999";
+1970-01-02T00:00:00.123456+01:00  86400  86400123  82800  82800123  82800123456
+1969-12-31T23:59:59.999-00:01     -1     -1        59     59999     59999000
+1969-12-31T23:59:59.999999        -1     -1        -1     -1        -1";
 
 /// A date-time, an offset, the date-time with it, and the one that a clock at it shows then.
 const OFFSETS: &str = "\
@@ -296,13 +298,22 @@ fn timestamps(rt: HostRuntime) {
 #[test]
 fn counted(rt: HostRuntime) {
     for row in COUNTED.lines() {
-        let [text, second, millisecond, utc_second, utc_millisecond, ..] = words(row);
+        let [
+            text,
+            second,
+            millisecond,
+            utc_second,
+            utc_millisecond,
+            utc_microsecond,
+        ] = words(row);
         let shown: DateTime = parsed(&rt, text);
         same(&rt, shown.timestamp(), value(&rt, second), row);
         same(&rt, shown.timestamp_ms(), value(&rt, millisecond), row);
         same(&rt, shown.timestamp_tz(), value(&rt, utc_second), row);
         let found = shown.timestamp_tz_ms();
         same(&rt, found, value(&rt, utc_millisecond), row);
+        let found = shown.timestamp_tz_us();
+        same(&rt, found, value(&rt, utc_microsecond), row);
     }
 }
 

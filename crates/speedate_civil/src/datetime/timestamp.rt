@@ -118,6 +118,7 @@ impl DateTime {
     /// for second 1 and the offset 3,600. Fails with `DateTooSmall` before the year 0000, with
     /// `DateTooLarge` after the year 9999. The offset is less than 24 hours, which is a condition on the
     /// caller.
+    #[inline(always)]
     pub fn from_unix_time(time: UnixTime, offset: Option<i32>) -> Result<Self, ParseError>
         requires { ForSome offset IsOffset }
         ensures answer { result gives instant_date_time offset (unix_instant time) }
@@ -181,7 +182,7 @@ impl DateTime {
         1000 * self.timestamp_tz() + i64::from(self.time.microsecond / 1000)
     }
 
-    /// The Unix timestamp, in microseconds: 82,800,000,001 for 1970-01-02T00:00:00.000001+01:00. A
+    /// The Unix timestamp, in microseconds: 82,800,123,456 for 1970-01-02T00:00:00.123456+01:00. A
     /// date-time without an offset is taken to be in UTC.
     pub fn timestamp_tz_us(&self) -> i64
         ensures microsecond { result ≡ utc_microsecond (date_and_time self.now) }
