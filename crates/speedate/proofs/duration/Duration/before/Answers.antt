@@ -1,4 +1,4 @@
-use Rattle.std.proofs.Common.{neg_ℤ}
+use Rattle.std.proofs.Common.{rules, neg_ℤ}
 use Rattle.std.proofs.lemmas.Result.{IfOk-weaker}
 use Rattle.speedate_civil.specs.DateTime.{date_and_time}
 use Rattle.speedate.specs.Duration.{duration_numbers, signed_amount}
@@ -24,3 +24,6 @@ pub returns-clause-leads_back : goal.returns-clause-leads_back
 returns-clause-leads_back c =
     ends-back c.after.result c.args.start.now _ (signed_amount (duration_numbers c.args.self.now))
     c.after.ensures.offset c.negated.ensures.length c.after.ensures.ends
+
+pub returns-clause-answer : goal.returns-clause-answer
+returns-clause-answer c = search rules

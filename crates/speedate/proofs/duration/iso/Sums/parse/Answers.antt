@@ -1,0 +1,5 @@
+use Rattle.std.proofs.Common.{rules}
+use Rattle.speedate.proofs.duration.iso.Sums.parse.Goals as goal
+
+pub returns : goal.returns
+returns c = search rules
