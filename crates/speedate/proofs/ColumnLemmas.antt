@@ -13,8 +13,8 @@ overwritten-nil (one ∷ ones) = refl
 
 -- one more of its places overwritten
 overwritten-step : {N : Type 0} → (old : List N) (k : ℕ) (one : N) (others : List N)
-    → take k old ++ overwritten (drop k old) (one ∷ others)
-    ≡ take (suc k) (set old k one) ++ overwritten (drop (suc k) (set old k one)) others
+    → take k old ++ overwritten (drop k old) (one ∷ others) ≡ take (suc k)
+    (set old k one) ++ overwritten (drop (suc k) (set old k one)) others
 overwritten-step [] zero one others = refl
 overwritten-step [] (suc k) one others = refl
 overwritten-step (first ∷ rest) zero one others = refl
@@ -55,10 +55,10 @@ pub record IsSoFar {N : Type 0} (whole left : Column N) (lines : ℕ) (out_old o
     (errors_old errors_new : List ℕ) : Type 0 where
   pub count : length whole.numbers ≡ lines + length left.numbers
   pub fault : whole.fault ≡ left.fault
-  pub numbers : overwritten out_old whole.numbers
-      ≡ take lines out_new ++ overwritten (drop lines out_new) left.numbers
-  pub errors : overwritten errors_old whole.errors
-      ≡ take lines errors_new ++ overwritten (drop lines errors_new) left.errors
+  pub numbers : overwritten out_old whole.numbers ≡ take lines out_new ++ overwritten
+      (drop lines out_new) left.numbers
+  pub errors : overwritten errors_old whole.errors ≡ take lines errors_new ++ overwritten
+      (drop lines errors_new) left.errors
 
 -- at the start
 pub IsSoFar-start : {N : Type 0} → (whole : Column N) (out : List N) (errors : List ℕ)
@@ -86,7 +86,7 @@ IsSoFar-more {N = N} whole left rest lines next out_old out out_new errors_old e
           ∙ rw (counted, out_is, add-one) refl;
       errors =
           before.errors
-          ∙ ap (λ (all : Column N). take lines errors ++ overwritten (drop lines errors) all.errors) is
+          ∙ ap (λ (c : Column N). take lines errors ++ overwritten (drop lines errors) c.errors) is
           ∙ overwritten-step errors lines held.1 rest.errors
           ∙ rw (counted, errors_is, add-one) refl;
     }
@@ -105,25 +105,21 @@ pub IsSoFar-whole : {N : Type 0}
     → IsSoFar whole left lines out_old out_new errors_old errors_new
     → left ≡ record { numbers = []; errors = []; fault = fault }
     → IsWhole whole fault lines out_old out_new errors_old errors_new
-IsSoFar-whole {N = N} whole left fault lines out_old out_new errors_old errors_new before none =
-    record {
-      numbers = sym (
-          before.numbers
-          ∙ ap (λ (all : Column N). take lines out_new ++ overwritten (drop lines out_new) all.numbers)
-          none
-          ∙ ap (λ (list : List N). take lines out_new ++ list) (overwritten-nil (drop lines out_new))
-          ∙ take-append-drop lines out_new);
-      errors = sym (
-          before.errors
-          ∙ ap (λ (all : Column N). take lines errors_new
-          ++ overwritten (drop lines errors_new) all.errors) none
-          ∙ ap (λ (list : List ℕ). take lines errors_new ++ list)
-          (overwritten-nil (drop lines errors_new))
-          ∙ take-append-drop lines errors_new);
-      count = sym (before.count ∙ ap (λ (all : Column N). lines + length all.numbers) none
-          ∙ omega arith);
-      ends = sym (before.fault ∙ ap (λ (all : Column N). all.fault) none);
-    }
+IsSoFar-whole {N = N} whole left fault lines out_old out errors_old errors before none = record {
+  numbers = sym (
+      before.numbers
+      ∙ ap (λ (all : Column N). take lines out ++ overwritten (drop lines out) all.numbers) none
+      ∙ ap (λ (list : List N). take lines out ++ list) (overwritten-nil (drop lines out))
+      ∙ take-append-drop lines out);
+  errors = sym (
+      before.errors
+      ∙ ap (λ (c : Column N). take lines errors ++ overwritten (drop lines errors) c.errors) none
+      ∙ ap (λ (list : List ℕ). take lines errors ++ list) (overwritten-nil (drop lines errors))
+      ∙ take-append-drop lines errors);
+  count = sym (
+      before.count ∙ ap (λ (all : Column N). lines + length all.numbers) none ∙ omega arith);
+  ends = sym (before.fault ∙ ap (λ (all : Column N). all.fault) none);
+}
 
 -- The column of a text from its first line on.
 
@@ -132,15 +128,14 @@ pub text_column-first : {N : Type 0}
     → (answer : List ℕ → Result N LineError) (config : LineConfig) (refused : Option N)
     (room more : ℕ) (text : List ℕ) (line : Line N)
     → IsFirstLine answer config text line → room ≡ more + 1
-    → text_column answer config refused room text
-    ≡ onto_column (entry refused line.answer)
+    → text_column answer config refused room text ≡ onto_column (entry refused line.answer)
     (text_column answer config refused more (drop line.size text))
 unfolding text_column
 text_column-first {N = N} answer config refused room more text line found one =
     let rest = text_column answer config refused more (drop line.size text) in
     ap (λ (n : ℕ). text_column answer config refused n text) (one ∙ add-one more)
-    ∙ ap (λ (all : List (List ℕ)). column (line_answer answer config) refused
-    (take (suc more) all)) found.first.lines
+    ∙ ap (λ (all : List (List ℕ)). column (line_answer answer config) refused (take (suc more) all))
+    found.first.lines
     ∙ ap (λ (read : List ℕ). onto_column (entry refused (answer read)) rest) found.first.is_read
     ∙ ap (λ (given : Result N LineError). onto_column (entry refused given) rest)
     (sym found.answered)
@@ -151,8 +146,8 @@ pub text_column-more : {N : Type 0}
     (room more bytes : ℕ) (text : List ℕ) (line : Line N) (held : N × ℕ)
     → IsFirstLine answer config (drop bytes text) line → room ≡ more + 1
     → entry refused line.answer ≡ Ok held
-    → text_column answer config refused room (drop bytes text)
-    ≡ onto_column (Ok held) (text_column answer config refused more (drop (bytes + line.size) text))
+    → text_column answer config refused room (drop bytes text) ≡ onto_column (Ok held)
+    (text_column answer config refused more (drop (bytes + line.size) text))
 text_column-more {N = N} answer config refused room more bytes text line held found one is =
     text_column-first answer config refused room more (drop bytes text) line found one
     ∙ ap (λ (kept : Result (N × ℕ) LineError). onto_column kept
@@ -164,8 +159,12 @@ text_column-more {N = N} answer config refused room more bytes text line held fo
 pub text_column-full : {N : Type 0}
     → (answer : List ℕ → Result N LineError) (config : LineConfig) (refused : Option N) (room : ℕ)
     (text : List ℕ)
-    → room ≡ 0 → text_column answer config refused room text
-    ≡ record { numbers = []; errors = []; fault = None }
+    → room ≡ 0 → text_column answer config refused room text ≡ record {
+      numbers = [];
+      errors =
+          [];
+      fault = None;
+    }
 unfolding text_column
 text_column-full answer config refused room text none =
     ap (λ (n : ℕ). text_column answer config refused n text) none
@@ -174,8 +173,8 @@ pub text_column-none : {N : Type 0}
     → (answer : List ℕ → Result N LineError) (config : LineConfig) (refused : Option N) (room : ℕ)
     (text : List ℕ)
     → whole_lines config.at_end text ≡ []
-    → text_column answer config refused room text
-    ≡ record { numbers = []; errors = []; fault = None }
+    → text_column answer config refused room text ≡ record
+    { numbers = []; errors = []; fault = None }
 unfolding text_column
 text_column-none answer config refused room text none =
     ap (λ (all : List (List ℕ)). column (line_answer answer config) refused (take room all)) none
@@ -185,8 +184,8 @@ pub text_column-ended : {N : Type 0}
     → (answer : List ℕ → Result N LineError) (config : LineConfig) (refused : Option N)
     (room more : ℕ) (text : List ℕ) (line : Line N) (fault : LineError)
     → IsFirstLine answer config text line → room ≡ more + 1 → entry refused line.answer ≡ Err fault
-    → text_column answer config refused room text
-    ≡ record { numbers = []; errors = []; fault = Some fault }
+    → text_column answer config refused room text ≡ record
+    { numbers = []; errors = []; fault = Some fault }
 text_column-ended {N = N} answer config refused room more text line fault found one ended =
     text_column-first answer config refused room more text line found one
     ∙ ap (λ (held : Result (N × ℕ) LineError). onto_column held
@@ -198,8 +197,9 @@ onto_column-short : {N : Type 0} → (held : Result (N × ℕ) LineError) (rest 
 onto_column-short (Ok held) rest room short = omega (arith, short)
 onto_column-short (Err fault) rest room short = omega arith
 
-column-short : {N : Type 0} → (answer : List ℕ → Result N LineError) (refused : Option N)
-    (lines : List (List ℕ)) → length (column answer refused lines).numbers ≤ length lines
+column-short : {N : Type 0}
+    → (answer : List ℕ → Result N LineError) (refused : Option N) (lines : List (List ℕ))
+    → length (column answer refused lines).numbers ≤ length lines
 column-short answer refused [] = omega arith
 column-short answer refused (line ∷ lines) =
     onto_column-short (entry refused (answer line)) (column answer refused lines) (length lines)
@@ -214,7 +214,8 @@ text_column-short answer config refused room text =
     let all : List (List ℕ) = whole_lines config.at_end text in
     omega (
       arith,
-      column-short (line_answer answer config) refused (take room all),
+      column-short (line_answer answer config) refused
+          (take room all),
       length-take room all,
     )
 
@@ -225,8 +226,8 @@ onto_column-errors : {N : Type 0} → (held : Result (N × ℕ) LineError) (rest
 onto_column-errors (Ok held) rest same = ap suc same
 onto_column-errors (Err fault) rest same = refl
 
-column-errors : {N : Type 0} → (answer : List ℕ → Result N LineError) (refused : Option N)
-    (lines : List (List ℕ))
+column-errors : {N : Type 0}
+    → (answer : List ℕ → Result N LineError) (refused : Option N) (lines : List (List ℕ))
     → length (column answer refused lines).errors ≡ length (column answer refused lines).numbers
 column-errors answer refused [] = refl
 column-errors answer refused (line ∷ lines) =
@@ -236,8 +237,8 @@ column-errors answer refused (line ∷ lines) =
 pub text_column-errors : {N : Type 0}
     → (answer : List ℕ → Result N LineError) (config : LineConfig) (refused : Option N) (room : ℕ)
     (text : List ℕ)
-    → length (text_column answer config refused room text).errors
-    ≡ length (text_column answer config refused room text).numbers
+    → length (text_column answer config refused room text).errors ≡ length
+    (text_column answer config refused room text).numbers
 unfolding text_column
 text_column-errors answer config refused room text =
     column-errors (line_answer answer config) refused (take room (whole_lines config.at_end text))
@@ -280,8 +281,8 @@ text_column-written {N = N} answer config refused old text lines counted =
 -- the rest of a text after one more whole line
 pub rest-more : (at_end : Bool) (text first : List ℕ) (bytes size lines next : ℕ)
     → whole_lines at_end (drop bytes text) ≡ drop lines (whole_lines at_end text)
-    → whole_lines at_end (drop bytes text)
-    ≡ first ∷ whole_lines at_end (drop size (drop bytes text)) → next ≡ lines + 1
+    → whole_lines at_end (drop bytes text) ≡ first ∷ whole_lines at_end
+    (drop size (drop bytes text)) → next ≡ lines + 1
     → whole_lines at_end (drop (bytes + size) text) ≡ drop next (whole_lines at_end text)
 rest-more at_end text first bytes size lines next before is counted =
     let all : List (List ℕ) = whole_lines at_end text in

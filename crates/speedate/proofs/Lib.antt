@@ -13,3 +13,4 @@ pub mod LineLemmas
 mod MarkLemmas
 mod WholeLineLemmas
 mod ColumnLemmas
+mod FrontNumberLemmas

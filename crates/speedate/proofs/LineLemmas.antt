@@ -1,9 +1,9 @@
 -- How the lines of a text are found from place to place, and from block to block.
-use Rattle.std.proofs.Common.{rules, ◌≡◌, ◌≢◌, ◌∙◌, ap, sym, subst, refl, ℕ, ◌+◌, ◌-◌, ◌<◌, ◌≤◌, Bool, List, [], ◌∷◌, ◌++◌, length, take, drop, append-nil, if◌then◌else◌, ◌==◌, arith, All}
+use Rattle.std.proofs.Common.{rules, ◌≡◌, ◌≢◌, ◌∙◌, ap, sym, subst, refl, ℕ, ◌+◌, ◌-◌, ◌<◌, ◌≤◌, Bool, List, [], ◌∷◌, ◌++◌, length, take, drop, get_or, append-nil, if◌then◌else◌, ◌==◌, arith, All}
 use Rattle.std.proofs.lemmas.Bool.{cases_lt, eqb-false, ne_eqb}
 use Rattle.std.proofs.lemmas.List.{take_rest, length-take, get_or-take, get_or-drop, take-append-drop, drop_more, drop-drop}
 use Rattle.std.proofs.lemmas.List.Elements.{All-head, All-tail, All-nil, All-cons, All-from_get_or}
-use Rattle.speedate_base.specs.Ascii.{line_feed}
+use Rattle.speedate_base.specs.Ascii.{HasNoControl, carriage_return, line_feed}
 use Rattle.speedate.specs.Lines.{Pieces, pieces, onto_first, complete_lines, unfinished_line, IsOneLine, IsLineEnd}
 
 -- a byte that ends no line
@@ -132,3 +132,14 @@ pieces-rest text start searched one none =
     let free = part-free text start (length text) (omega arith)
     (joined_one_line text start searched (length text) one none) in
     pieces-free (drop start text) (subst IsFree (take_rest text start) free)
+
+-- a front without control characters is one line, and ends with no carriage return
+pub IsOneLine-printed : (text : List ℕ) (size : ℕ) → HasNoControl size text
+    → IsOneLine text 0 size
+IsOneLine-printed text size printed k after below same =
+    absurd (omega (arith, printed k below, same))
+
+pub no_return-printed : (text : List ℕ) (size : ℕ) → HasNoControl size text → 0 < size
+    → get_or text (size - 1) 0 ≢ carriage_return
+no_return-printed text size printed some same =
+    absurd (omega (arith, some, printed (size - 1) (omega (arith, some)), same))

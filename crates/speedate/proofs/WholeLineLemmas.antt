@@ -11,9 +11,15 @@ use Rattle.speedate.proofs.LineLemmas.{pieces-from, pieces-rest, joined_one_line
 abbrev whole : Bool → Pieces → List (List ℕ)
 whole at_end all = if at_end then all.complete ++ last_line all.unfinished else all.complete
 
+-- some pieces with a line put before them
+abbrev with_first : List ℕ → Pieces → Pieces
+with_first line rest = record {
+  complete = line ∷ rest.complete;
+  unfinished = rest.unfinished;
+}
+
 whole-first : (at_end : Bool) (line : List ℕ) (rest : Pieces)
-    → whole at_end (record { complete = line ∷ rest.complete; unfinished = rest.unfinished })
-    ≡ line ∷ whole at_end rest
+    → whole at_end (with_first line rest) ≡ line ∷ whole at_end rest
 whole-first true line rest = refl
 whole-first false line rest = refl
 
@@ -81,8 +87,8 @@ IsFirstLineOf-last config text size ends all some one other =
       lines = whole_lines-last config.at_end text ends (omega (arith, all, some))
           (λ k after below. one k after (omega (arith, all, below)))
           ∙ ap (λ (n : ℕ). text ∷ whole_lines config.at_end (drop n text)) (sym all);
-      is_read = without_return-kept config.drops_returns text
-          (λ same. other (ap (λ (n : ℕ). get_or text (n - 1) 0) all ∙ same)) ∙ sym whole_text;
+      is_read = without_return-kept config.drops_returns text (λ same. other
+          (ap (λ (n : ℕ). get_or text (n - 1) 0) all ∙ same)) ∙ sym whole_text;
     }
 
 -- a line feed follows

@@ -20,8 +20,8 @@ use Rattle.speedate.specs.Duration.{duration_answer, signed_amount}
 use Rattle.speedate.specs.DurationNumbers.{DurationNumbers}
 use Rattle.speedate.specs.Lines.{IsOneLine, whole_lines, without_return}
 
--- what a column holds: the numbers of lines, the number of the error of each, which is 0 for none,
--- and the error of the line after these, if it ends the column
+-- the numbers of lines, the number of the error of each, which is 0 for none, and the error of the
+-- line after these, if it ends the column
 pub record Column (N : Type 0) : Type 0 where
   pub numbers : List N
   pub errors : List ℕ
@@ -32,8 +32,8 @@ abbrev pub error_number : LineError → ℕ
 error_number (LineError.Parse fault) = fault_number fault
 error_number LineError.NumberTooLarge = 97
 
--- what a column holds of a line: its number, or of a refused line another number, if there is one
--- for that, and the error's
+-- what a column holds of a line: its number, and 0; of a refused line the number that was passed
+-- for it, if one was, and that of the error
 abbrev pub entry : {N : Type 0} → Option N → Result N LineError → Result (N × ℕ) LineError
 entry refused (Ok number) = Ok (number, 0)
 entry (Some number) (Err fault) = Ok (number, error_number fault)
@@ -55,7 +55,7 @@ column answer refused [] = record { numbers = []; errors = []; fault = None }
 column answer refused (line ∷ lines) =
     onto_column (entry refused (answer line)) (column answer refused lines)
 
--- the answer to a line, by the answer to its text
+-- the answer to a line, whose carriage return may be dropped
 abbrev pub line_answer : {N : Type 0} → (List ℕ → Result N LineError) → LineConfig → List ℕ
     → Result N LineError
 line_answer answer config line = answer (without_return config.drops_returns line)
@@ -66,10 +66,10 @@ unfoldable pub text_column : {N : Type 0} → (List ℕ → Result N LineError) 
 text_column answer config refused room text =
     column (line_answer answer config) refused (take room (whole_lines config.at_end text))
 
--- some bytes at the front of a text, with no line feed among them and no carriage return at their
--- end, have this number as a line
-pub record IsFront {N : Type 0} (answer : List ℕ → Result N LineError) (text : List ℕ) (number : N)
-    (size : ℕ) : Type 0 where
+-- some bytes at the front of a text have this number as a line: no line feed is among them, and no
+-- carriage return ends them
+pub record IsFront {N : Type 0} (answer : List ℕ → Result N LineError) (text : List ℕ)
+    (number : N) (size : ℕ) : Type 0 where
   pub there : 0 < size
   pub within : size ≤ length text
   pub one_line : IsOneLine text 0 size
@@ -95,6 +95,8 @@ abbrev pub overwritten : {N : Type 0} → List N → List N → List N
 overwritten [] new = []
 overwritten (one ∷ ones) [] = one ∷ ones
 overwritten (one ∷ ones) (other ∷ others) = other ∷ overwritten ones others
+
+-- Readers: the number of a line, or its error.
 
 -- the value of an answer to a text as a number, or the error of the line
 abbrev pub as_number : {A N : Type 0} → (A → N) → Result A ParseError → Result N LineError
@@ -125,15 +127,16 @@ date_time_of_line (DateTimeParser.Strict behavior) line = strict_date_time_answe
 abbrev pub with_offset : Bool → DateAndTime → Result DateAndTime ParseError
 with_offset assumes_utc value =
     first_fault_or ((assumes_utc || is_some value.time.offset else_fault ParseError.TzRequired)
-    ∷ []) (Ok value)
+    ∷ [])
+    (Ok value)
 
 -- the number of a line in a column of date-times: the microseconds since 1970-01-01T00:00:00 in UTC
 abbrev pub date_time_number : DateTimeReader → List ℕ → Result ℤ LineError
 date_time_number reader line =
-    as_number utc_microsecond (result_and_then (with_offset reader.assumes_utc)
-    (date_time_of_line reader.parser line))
+    as_number utc_microsecond
+    (result_and_then (with_offset reader.assumes_utc) (date_time_of_line reader.parser line))
 
--- the microseconds of a duration as a number of 64 bits, whose smallest one is left free
+-- microseconds as a number of 64 bits, whose smallest one is left free
 abbrev pub number_of_amount : ℤ → Result ℤ LineError
 number_of_amount amount =
     if nat_lt (unsigned_abs amount) (2 ^ 63) then Ok amount else Err LineError.NumberTooLarge

@@ -1,5 +1,5 @@
 -- The ASCII characters that the grammars use, by name.
-use Rattle.std.specs.Prelude.{ℕ}
+use Rattle.std.specs.Prelude.{ℕ, ◌<◌, ◌≤◌, List, slice_index}
 
 -- `\n`, which ends a line
 abbrev pub line_feed : ℕ
@@ -70,3 +70,7 @@ small_t = 116
 
 abbrev pub small_z : ℕ
 small_z = 122
+
+-- no control character, which is below the space, is among the first bytes of a text
+abbrev pub HasNoControl : ℕ → List ℕ → Type 0
+HasNoControl size text = (k : ℕ) → k < size → space ≤ slice_index text k

@@ -8,6 +8,7 @@ pub mod DateTimeTimestampLemmas
 mod DayNumberLemmas
 mod FrontLemmas
 pub mod InstantOrderLemmas
+mod NoControlLemmas
 mod NumberTextLemmas
 mod OffsetLemmas
 mod ReadLemmas

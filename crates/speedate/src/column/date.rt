@@ -42,6 +42,9 @@ impl LineReader for DateReader {
 
     #[inline(always)]
     fn front(&self, text: &[u8]) -> Option<(i32, usize)> {
-        None
+        match Date::parse_front(text) {
+            Ok((date, size)) => Some((date.days_since(&EPOCH), size)),
+            Err(_) => None,
+        }
     }
 }

@@ -29,8 +29,9 @@ pub struct DateTimeReader {
 }
 
 impl DateTimeReader {
-    ghost use Rattle.std.specs.Prelude.{◌≡◌, IfSome};
-    ghost use Rattle.speedate_civil.specs.DateTime.{date_and_time, utc_microsecond, ◌gives◌};
+    ghost use Rattle.std.specs.Prelude.{◌≡◌, ℕ, IfSome, List, Ok};
+    ghost use Rattle.speedate_base.specs.Config.{time_choices};
+    ghost use Rattle.speedate_civil.specs.DateTime.{DateAndTime, date_and_time, date_time_answer, utc_microsecond, ◌gives◌};
     ghost use Rattle.speedate.specs.Column.{as_number, date_time_of_line, with_offset};
 
     /// The date-time of a line.
@@ -44,6 +45,20 @@ impl DateTimeReader {
             }
             DateTimeParser::OrTimestamp(config) => DateTime::parse_bytes_with_config(line, config),
             DateTimeParser::Strict(behavior) => DateTime::parse_bytes_strict(line, *behavior),
+        }
+    }
+
+    /// The configuration of the texts of date-times, unless they are those of RFC 3339 alone.
+    #[inline(always)]
+    fn text_config(&self) -> Option<&TimeConfig>
+        ensures config { IfSome result (λ config. (line : List ℕ) (value : DateAndTime)
+            → date_time_answer (time_choices config.now).behavior line ≡ Ok value
+            → date_time_of_line self.now.parser line ≡ Ok value) }
+    {
+        match &self.parser {
+            DateTimeParser::Rfc3339(config) => Some(config),
+            DateTimeParser::OrTimestamp(config) => Some(&config.time_config),
+            DateTimeParser::Strict(_) => None,
         }
     }
 
@@ -77,6 +92,13 @@ impl LineReader for DateTimeReader {
 
     #[inline(always)]
     fn front(&self, text: &[u8]) -> Option<(i64, usize)> {
-        None
+        let config = self.text_config()?;
+        match DateTime::parse_front(text, config) {
+            Ok((value, size)) => match self.microsecond(&value) {
+                Ok(number) => Some((number, size)),
+                Err(_) => None,
+            },
+            Err(_) => None,
+        }
     }
 }

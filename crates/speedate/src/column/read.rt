@@ -9,10 +9,14 @@ use super::{Line, LineConfig, LineError, LineReader, Progress};
 use crate::lines::{line_end, without_return};
 use speedate_base::numbers::byte_at;
 
-/// Reads the lines of a text as numbers, as many as there is room for, and returns how far it came.
+/// Reads the whole lines of a text as numbers, in order, as many as `out` has room for, and returns how
+/// far it came: the days 1 and 2, and 22 bytes, for `b"1970-01-02\n1970-01-03\n"` and
+/// [`DateReader::Rfc3339`](crate::DateReader).
 ///
-/// If `refused` is a number, a refused line gets it, and the column goes on; otherwise a refused line
-/// ends it.
+/// The [lines](docs/GRAMMAR.md#columns) are those that `config` cuts. If `refused` is a number, a refused
+/// line gets it, and the column goes on; otherwise it ends the column, and the progress has its error.
+/// What follows the bytes that the progress counts is left for a further call. The other places of
+/// `out` stay as they are.
 #[inline(always)]
 pub fn read_column<R: LineReader>(
     text: &[u8],
@@ -35,9 +39,12 @@ pub fn read_column<R: LineReader>(
     fill(text, config, reader, refused, out, &mut [])
 }
 
-/// Reads the lines of a text as numbers, and the number of the error of each, which is 0 for none, as
-/// many as there is room for in both slices, and returns how far it came. A refused line gets the number
-/// `refused`.
+/// Reads the whole lines of a text as numbers, as [`read_column`] does, and writes the number of the
+/// error of each line too, by [`LineError::number`], or 0 for none: the days 1 and -1, and the errors 0
+/// and 6, for `b"1970-01-02\nnever-ever\n"`, [`DateReader::Rfc3339`](crate::DateReader) and -1.
+///
+/// It reads as many lines as both slices have room for. A refused line gets the number `refused`, and
+/// none ends the column.
 #[inline(always)]
 pub fn read_column_with_errors<R: LineReader>(
     text: &[u8],

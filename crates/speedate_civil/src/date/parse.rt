@@ -2,6 +2,7 @@
 
 ghost use Rattle.std.specs.Prelude.{◌≡◌, ◌≤◌, ◌↔◌, Err, IfOk, Ok, OnOk, length, take};
 ghost use Rattle.speedate_civil.specs.Base.{TimestampUnit};
+ghost use Rattle.speedate_base.specs.Ascii.{HasNoControl};
 ghost use Rattle.speedate_base.specs.Numbers.{NoNumber, number_answer};
 ghost use Rattle.speedate_civil.specs.Calendar.{Ymd};
 ghost use Rattle.speedate_civil.specs.Date.{ymd, date_front, date_answer, date_or_timestamp, ◌gives◌, ◌gives_front◌};
@@ -128,6 +129,7 @@ impl Date {
             → (date_answer bytes.now ≡ Ok date) ↔ (result gives_front Ok (date, length bytes.now)) }
         ensures alone { IfOk result (λ front. date_answer (take front.1 bytes.now)
             ≡ Ok (ymd front.0)) }
+        ensures no_control { IfOk result (λ front. HasNoControl front.1 bytes.now) }
     {
         Self::front(bytes)
     }

@@ -2,7 +2,7 @@
 //! timestamps.
 
 ghost use Rattle.std.specs.Prelude.{◌≡◌, ◌+◌, ◌≤◌, ◌↔◌, ◌==◌, ◌||◌, Err, IfOk, IsOk, IsTrue, None, Ok, OnOk, drop, length, slice_index, take};
-ghost use Rattle.speedate_base.specs.Ascii.{capital_t, small_t};
+ghost use Rattle.speedate_base.specs.Ascii.{HasNoControl, capital_t, small_t};
 ghost use Rattle.speedate_base.specs.Config.{choices, time_choices};
 ghost use Rattle.speedate_base.specs.Numbers.{NoNumber, decimal_value, number_answer};
 ghost use Rattle.speedate_base.specs.Offset.{IsWholeMinutes};
@@ -225,6 +225,7 @@ impl DateTime {
         ensures alone { IfOk result (λ front.
             date_time_answer (time_choices config.now).behavior (take front.1 bytes.now)
             ≡ Ok (date_and_time front.0)) }
+        ensures no_control { IfOk result (λ front. HasNoControl front.1 bytes.now) }
         ensures minutes { IfOk result (λ front. IsWholeMinutes front.0.time.tz_offset) }
         ensures no_number { OnOk result (number_answer bytes.now ≡ NoNumber) }
     {

@@ -1,6 +1,7 @@
 //! Parsers of times of day: of texts, of texts of RFC 3339 alone, and at the front of a text.
 
 ghost use Rattle.std.specs.Prelude.{◌≡◌, ◌≤◌, ◌↔◌, IfOk, IsOk, Ok, drop, take, length};
+ghost use Rattle.speedate_base.specs.Ascii.{HasNoControl};
 ghost use Rattle.speedate_base.specs.Config.{time_choices};
 ghost use Rattle.speedate_base.specs.Offset.{IsWholeMinutes};
 ghost use Rattle.speedate_base.specs.Requirement.{first_fault_or};
@@ -134,6 +135,7 @@ impl Time {
         ensures alone { IfOk result (λ front.
             time_answer (time_choices config.now).behavior (take front.1 bytes.now)
             ≡ Ok (time_of_day front.0)) }
+        ensures no_control { IfOk result (λ front. HasNoControl front.1 bytes.now) }
         ensures minutes { IfOk result (λ front. IsWholeMinutes front.0.tz_offset) }
     {
         Self::front(bytes, config.microseconds_precision_overflow_behavior)

@@ -20,8 +20,8 @@ loop-lines-preserved g c =
     record {
       room = omega (arith, c.loop-lines-test.true, length-set out lines held.0);
       within = omega (arith, before.within, found.first.within, length-drop bytes text);
-      rest = rest-more _ text found.first.first bytes _ lines (lines + 1)
-          before.rest found.first.lines refl;
+      rest = rest-more _ text found.first.first bytes _ lines
+          (lines + 1) before.rest found.first.lines refl;
       so_far = IsSoFar-more _ _ _ lines _ _ out _ _ _ _ held before.so_far is refl refl
           c.put.ensures.put;
     }
@@ -35,7 +35,8 @@ returns-in_default g c =
       numbers = all.numbers;
       errors = all.errors;
       lines = all.count;
-      error = all.ends;
+      error =
+          all.ends;
       within = before.within;
       rest = before.rest;
     }
@@ -46,14 +47,15 @@ returns-in-Err g c =
     let found = rw (take_rest c.args.text.now c.loop-lines.bytes) at c.in-Some.ensures.line in
     let left : ℕ = length c.loop-lines.out - c.loop-lines.lines in
     let more : left ≡ (left - 1) + 1 = omega (arith, c.loop-lines-test.true) in
-    let ended = text_column-ended _ _ c.args.refused _ _ _ _ c.in-Err.error found more
-    (sym c.in-Err.ensures.entry) in
+    let ended = text_column-ended _ _ c.args.refused _ _ _ _ c.in-Err.error found more (sym
+    c.in-Err.ensures.entry) in
     let all = IsSoFar-whole _ _ (Some c.in-Err.error) _ _ _ _ _ before.so_far ended in
     record {
       numbers = all.numbers;
       errors = all.errors;
       lines = all.count;
-      error = all.ends;
+      error =
+          all.ends;
       within = before.within;
       rest = before.rest;
     }
@@ -68,7 +70,8 @@ returns g c =
       numbers = all.numbers;
       errors = all.errors;
       lines = all.count;
-      error = all.ends;
+      error =
+          all.ends;
       within = before.within;
       rest = before.rest;
     }

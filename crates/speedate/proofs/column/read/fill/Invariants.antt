@@ -11,8 +11,8 @@ invariant-loop-lines g l =
     record {
       room : l.lines ≤ length l.out;
       within : l.bytes ≤ length l.text;
-      rest : whole_lines l.config.at_end (drop l.bytes l.text)
-          ≡ drop l.lines (whole_lines l.config.at_end l.text);
+      rest : whole_lines l.config.at_end (drop l.bytes l.text) ≡ drop l.lines
+          (whole_lines l.config.at_end l.text);
       so_far : IsSoFar (text_column answer l.config l.refused (length l.initial.out) l.text)
           (text_column answer l.config l.refused (length l.out - l.lines) (drop l.bytes l.text))
           l.lines l.initial.out l.out l.initial.errors l.errors;

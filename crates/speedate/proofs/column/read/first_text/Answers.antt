@@ -36,9 +36,9 @@ returns-in-None-2 c =
     let text : List ℕ = c.args.text.now in
     record {
       line = elim c.if-config.branch [
-        | then-config+else-not-is_empty w ↦
-            whole_lines-empty c.args.config.at_end text (grind (arith, nat_tests))
-        | else-config w ↦
-            whole_lines-none c.args.config.at_end text c.in-None-2.ensures.found w.if-config.false
+        | then-config+else-not-is_empty w ↦ whole_lines-empty c.args.config.at_end text
+            (grind (arith, nat_tests))
+        | else-config w ↦ whole_lines-none c.args.config.at_end text c.in-None-2.ensures.found
+            w.if-config.false
       ];
     }

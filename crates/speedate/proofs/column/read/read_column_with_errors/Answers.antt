@@ -23,11 +23,12 @@ returns g c =
       arith,
       lines,
       c.min-room.ensures,
-      text_column-short answer config (Some number) most text,
+      text_column-short answer config
+          (Some number) most text,
     ) in
     record {
-      numbers = overwritten-front out _ _ room c.fill.result.lines
-          (omega (arith, c.min-room.ensures)) few lines numbers;
+      numbers = overwritten-front out _ _ room c.fill.result.lines (omega
+          (arith, c.min-room.ensures)) few lines numbers;
       errors = overwritten-front errors _ _ room c.fill.result.lines
           (omega (arith, c.min-room.ensures)) few
           (lines ∙ sym (text_column-errors answer config (Some number) most text)) codes;

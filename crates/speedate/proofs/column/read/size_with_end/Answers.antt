@@ -12,8 +12,9 @@ returns-in-10 c =
     let inside : c.args.size < length c.args.text.now =
     omega (arith, c.requires.within, c.if-size-text.false) in
     record {
-      line = IsFirstLineOf-feed c.args.config c.args.text.now c.args.size inside
-          c.requires.there c.requires.one_line c.requires.no_return c.in-10.is;
+      line =
+          IsFirstLineOf-feed c.args.config c.args.text.now c.args.size inside c.requires.there
+          c.requires.one_line c.requires.no_return c.in-10.is;
     }
 
 pub returns-in-13 : goal.returns-in-13
@@ -21,6 +22,7 @@ returns-in-13 c =
     let text : List ℕ = c.args.text.now in
     let feed : slice_index text (c.args.size + 1) ≡ line_feed = grind (arith, nat_tests) in
     record {
-      line = IsFirstLineOf-return c.args.config text c.args.size c.if-config.true
-          c.requires.one_line c.in-13.is feed;
+      line =
+          IsFirstLineOf-return c.args.config text c.args.size c.if-config.true c.requires.one_line
+          c.in-13.is feed;
     }

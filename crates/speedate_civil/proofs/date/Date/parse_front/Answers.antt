@@ -4,6 +4,8 @@ use Rattle.speedate_base.proofs.RequirementLemmas.{whole_or_fault-iff}
 use Rattle.speedate_base.specs.Requirement.{with_size}
 use Rattle.speedate_civil.specs.Calendar.{Ymd}
 use Rattle.speedate_civil.specs.Date.{ymd, date_answer}
+use Rattle.speedate_base.specs.Ascii.{HasNoControl}
+use Rattle.speedate_civil.proofs.NoControlLemmas.{date_front-no_control}
 use Rattle.speedate_civil.proofs.FrontLemmas.{date_front-within, date_front-alone}
 use Rattle.speedate_civil.proofs.ReadLemmas.{read-result}
 use Rattle.speedate_civil.proofs.date.Date.parse_front.Goals as goal
@@ -24,3 +26,9 @@ returns-clause-alone c =
     read-result (with_size ymd) (λ (front : Ymd × ℕ). date_answer (take front.1 c.args.bytes.now)
     ≡ Ok front.0) c.front.result _ c.front.ensures.answer
     (date_front-alone c.args.bytes.now)
+
+pub returns-clause-no_control : goal.returns-clause-no_control
+returns-clause-no_control c =
+    read-result (with_size ymd) (λ (front : Ymd × ℕ). HasNoControl front.1 c.args.bytes.now)
+    c.front.result _ c.front.ensures.answer
+    (date_front-no_control c.args.bytes.now)

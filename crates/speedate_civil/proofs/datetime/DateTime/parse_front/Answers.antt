@@ -4,6 +4,9 @@ use Rattle.speedate_base.specs.Requirement.{result_map, with_size}
 use Rattle.speedate_civil.specs.DateTime.{DateAndTime, date_time_front, date_time_answer, date_and_time, DateTime}
 use Rattle.speedate_civil.specs.Time.{end_fault}
 use Rattle.speedate_base.proofs.RequirementLemmas.{whole_or_fault-iff}
+use Rattle.speedate_base.specs.Ascii.{HasNoControl}
+use Rattle.speedate_civil.proofs.ReadLemmas.{read-result}
+use Rattle.speedate_civil.proofs.NoControlLemmas.{date_time_front-no_control}
 use Rattle.speedate_civil.proofs.FrontLemmas.{date_time_front-alone}
 use Rattle.speedate_civil.proofs.datetime.DateTime.parse_front.Goals as goal
 
@@ -25,3 +28,11 @@ pub returns-clause-alone : goal.returns-clause-alone
 returns-clause-alone c =
     read-alone c.args.config.now.microseconds_precision_overflow_behavior c.args.bytes.now _
     c.front.ensures.answer c.front.ensures.within
+
+pub returns-clause-no_control : goal.returns-clause-no_control
+returns-clause-no_control c =
+    read-result (with_size date_and_time)
+    (λ (front : DateAndTime × ℕ). HasNoControl front.1 c.args.bytes.now)
+    c.front.result _ c.front.ensures.answer
+    (date_time_front-no_control c.args.config.now.microseconds_precision_overflow_behavior
+    c.args.bytes.now)

@@ -3,6 +3,9 @@ use Rattle.speedate_civil.specs.Base.{Behavior, ParseError}
 use Rattle.speedate_base.specs.Requirement.{result_map, with_size}
 use Rattle.speedate_civil.specs.Time.{end_fault, TimeOfDay, time_front, time_answer, time_of_day, Time}
 use Rattle.speedate_base.proofs.RequirementLemmas.{whole_or_fault-iff}
+use Rattle.speedate_base.specs.Ascii.{HasNoControl}
+use Rattle.speedate_civil.proofs.ReadLemmas.{read-result}
+use Rattle.speedate_civil.proofs.NoControlLemmas.{time_front-no_control}
 use Rattle.speedate_civil.proofs.FrontLemmas.{time_front-alone}
 use Rattle.speedate_civil.proofs.time.Time.parse_front.Goals as goal
 
@@ -23,3 +26,11 @@ pub returns-clause-alone : goal.returns-clause-alone
 returns-clause-alone c =
     read-alone c.args.config.now.microseconds_precision_overflow_behavior c.args.bytes.now _
     c.front.ensures.answer c.front.ensures.within
+
+pub returns-clause-no_control : goal.returns-clause-no_control
+returns-clause-no_control c =
+    read-result (with_size time_of_day)
+    (λ (front : TimeOfDay × ℕ). HasNoControl front.1 c.args.bytes.now)
+    c.front.result _ c.front.ensures.answer
+    (time_front-no_control c.args.config.now.microseconds_precision_overflow_behavior
+    c.args.bytes.now)

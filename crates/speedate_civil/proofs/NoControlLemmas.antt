@@ -1,0 +1,192 @@
+-- No control character stands in a value at the front of a text.
+use Rattle.std.proofs.Common.{◌≡◌, ℕ, suc, ◌+◌, ◌-◌, ◌≤◌, Bool, true, false, ◌==◌, List, drop, slice_index, Option, ℤ, IfOk, Result, Ok, refl, arith, ap, subst, ◌∙◌, inl, inr}
+use Rattle.speedate_civil.specs.Base.{Behavior, ParseError}
+use Rattle.std.proofs.lemmas.Bool.{and_parts, cases_lt}
+use Rattle.std.proofs.lemmas.Bool.Decides.{nat_tests}
+use Rattle.std.proofs.lemmas.List.{get_or-drop}
+use Rattle.std.proofs.lemmas.List.Sums.{prefix_len_passes}
+use Rattle.std.specs.Char.{is_ascii_digit}
+use Rattle.speedate_base.specs.Ascii.{HasNoControl, colon, hyphen, space}
+use Rattle.speedate_base.specs.Digits.{run_length, four_digits_at, two_digits_at, is_decimal_mark}
+use Rattle.speedate_base.specs.Requirement.{AllHold, ◌implies◌, first_fault_or}
+use Rattle.speedate_base.proofs.RequirementLemmas.{first_fault_or-ok}
+use Rattle.speedate_civil.specs.Calendar.{Ymd}
+use Rattle.speedate_civil.specs.Date.{date_front, date_numbers, date_table}
+use Rattle.speedate_civil.specs.DateTime.{date_time_front, is_separator, separator_table}
+use Rattle.speedate_civil.specs.Time.{Clock, clock_front, has_decimal_mark, has_minus_sign, has_second, is_plus_or_minus, is_utc, minute_clock, offset_digits, offset_digits_size, offset_front, offset_ranges, signed_front, time_front}
+use Rattle.speedate_civil.proofs.FrontLemmas.{clock-read, clock-size, minute_size}
+use Rattle.speedate_civil.proofs.OffsetLemmas.{offset-cases}
+use Rattle.speedate_civil.proofs.ReadLemmas.{read-rows, read-then, read-value}
+
+-- bytes one after the other
+none : (text : List ℕ) → HasNoControl 0 text
+none text k below = absurd (omega (arith, below))
+
+more : (count : ℕ) (text : List ℕ) → HasNoControl count text → space ≤ slice_index text count
+    → HasNoControl (suc count) text
+more count text before last k below = elim (cases_lt k count) [
+  | inl small ↦ before k small
+  | inr large ↦
+      let same : count ≡ k = omega (arith, below, large) in
+      subst (λ (place : ℕ). space ≤ slice_index text place) same last
+]
+
+joined : (first second : ℕ) (text : List ℕ) → HasNoControl first text
+    → HasNoControl second (drop first text) → HasNoControl (first + second) text
+joined first second text before after k below = elim (cases_lt k first) [
+  | inl small ↦ before k small
+  | inr large ↦
+      let place : first + (k - first) ≡ k = omega (arith, large) in
+      let there : slice_index (drop first text) (k - first) ≡ slice_index text k =
+      get_or-drop first text (k - first) 0 ∙ ap (slice_index text) place in
+      subst (λ (byte : ℕ). space ≤ byte) there (after (k - first) (omega (arith, below, large)))
+]
+
+-- the bytes that grammars name
+digit : (byte : ℕ) → is_ascii_digit byte ≡ true → space ≤ byte
+digit byte is = grind (arith, nat_tests)
+
+first_digit : (text : List ℕ) (place : ℕ) → two_digits_at text place ≡ true
+    → space ≤ slice_index text place
+first_digit text place are = grind (arith, nat_tests)
+
+second_digit : (text : List ℕ) (place : ℕ) → two_digits_at text place ≡ true
+    → space ≤ slice_index text (place + 1)
+second_digit text place are = grind (arith, nat_tests)
+
+mark : (byte : ℕ) → is_decimal_mark byte ≡ true → space ≤ byte
+mark byte is = grind (arith, nat_tests)
+
+is_colon : (byte : ℕ) → (byte == colon) ≡ true → space ≤ byte
+is_colon byte is = grind (arith, nat_tests)
+
+two_digits : (text : List ℕ) → two_digits_at text 0 ≡ true → HasNoControl 2 text
+two_digits text are = more 1 text (more 0 text (none text)
+    (first_digit text 0 are)) (second_digit text 0 are)
+
+run : (text : List ℕ) (place : ℕ) → HasNoControl (run_length text place) (drop place text)
+run text place k below = digit _ (prefix_len_passes is_ascii_digit (drop place text) k 0 below)
+
+-- a date
+year : (text : List ℕ) → four_digits_at text 0 ≡ true → HasNoControl 4 text
+year text are =
+    let both = and_parts (two_digits_at text 0) (two_digits_at text 2) are in
+    more 3 text (more 2 text (two_digits text both.0) (first_digit text 2 both.1))
+    (second_digit text 2 both.1)
+
+date_rows : (text : List ℕ) → AllHold (date_table text) → HasNoControl 10 text
+date_rows text rows =
+    more 9 text (more 8 text (more 7 text
+    (more 6 text (more 5 text (more 4 text (year text rows.1.0)
+    (grind (arith, nat_tests)))
+    (first_digit text 5 rows.1.1.1.0)) (second_digit text 5 rows.1.1.1.0))
+    (grind (arith, nat_tests)))
+    (first_digit text 8 rows.1.1.1.1.1.0)) (second_digit text 8 rows.1.1.1.1.1.0)
+
+pub date_front-no_control : (text : List ℕ)
+    → IfOk (date_front text) (λ front. HasNoControl front.1 text)
+date_front-no_control text =
+    read-rows (λ (front : Ymd × ℕ). HasNoControl front.1 text) (date_table text)
+    (Ok (date_numbers text, 10)) (date_rows text)
+
+-- a clock, from its minute on
+to_second : (rest : List ℕ) → has_second rest ≡ true → two_digits_at rest 0 ≡ true
+    → two_digits_at rest 3 ≡ true → HasNoControl 5 rest
+to_second rest there digits seconds =
+    more 4 rest (more 3 rest (more 2 rest (two_digits rest digits) (is_colon _ there))
+    (first_digit rest 3 seconds)) (second_digit rest 3 seconds)
+
+minute : (rest : List ℕ) (second point : Bool) → has_second rest ≡ second
+    → has_decimal_mark rest ≡ point
+    → two_digits_at rest 0 ≡ true → (second implies two_digits_at rest 3) ≡ true
+    → HasNoControl (minute_size second point (run_length rest 6)) rest
+minute rest false point other unread digits seconds = two_digits rest digits
+minute rest true false there unread digits seconds = to_second rest there digits seconds
+minute rest true true there point digits seconds =
+    joined 6 (run_length rest 6) rest
+    (more 5 rest (to_second rest there digits seconds) (mark _ point)) (run rest 6)
+
+-- a clock, from its hour on
+clock-no_control : (behavior : Behavior) (text : List ℕ)
+    (clock : Clock) → clock_front behavior text ≡ Ok clock
+    → HasNoControl clock.size text
+clock-no_control behavior text clock read =
+    let rows = clock-read behavior text clock read in
+    let rest : List ℕ = drop 3 text in
+    subst (λ (size : ℕ). HasNoControl size text) (clock-size behavior text clock read)
+    (joined 3 (minute_clock rest).size text
+    (more 2 text (two_digits text rows.hour.1.0) (is_colon _ rows.hour.1.1.0))
+    (minute rest (has_second rest) (has_decimal_mark rest) refl refl rows.digits.0 rows.minute.1.0))
+
+-- an offset, after its sign
+offset_numbers : (numbers : List ℕ) (there : Bool) → (slice_index numbers 2 == colon) ≡ there
+    → AllHold (offset_digits numbers)
+    → HasNoControl (offset_digits_size numbers) numbers
+offset_numbers numbers true there rows =
+    let digits : two_digits_at numbers 3 ≡ true = rw there at rows.1.0 in
+    rw there (more 4 numbers (more 3 numbers
+    (more 2 numbers (two_digits numbers rows.0) (is_colon _ there))
+    (first_digit numbers 3 digits)) (second_digit numbers 3 digits))
+offset_numbers numbers false other rows =
+    let digits : two_digits_at numbers 2 ≡ true = rw other at rows.1.0 in
+    rw other (more 3 numbers (more 2 numbers (two_digits numbers rows.0)
+    (first_digit numbers 2 digits)) (second_digit numbers 2 digits))
+
+signed : (west : Bool) (sign : ℕ) (rest : List ℕ) → HasNoControl sign rest
+    → IfOk (signed_front west sign (drop sign rest)) (λ front. HasNoControl front.1 rest)
+signed west sign rest before =
+    let numbers : List ℕ = drop sign rest in
+    read-rows (λ (front : Option ℤ × ℕ). HasNoControl front.1 rest) (offset_digits numbers) _
+    (λ digits.
+    read-rows (λ (front : Option ℤ × ℕ). HasNoControl front.1 rest) (offset_ranges numbers) _
+    (λ ranges.
+    joined sign (offset_digits_size numbers) rest before
+    (offset_numbers numbers (slice_index numbers 2 == colon) refl digits)))
+
+-- an offset, by what it begins with
+sign_byte : (byte : ℕ) → is_plus_or_minus byte ≡ true → space ≤ byte
+sign_byte byte is = grind (arith, nat_tests)
+
+utc_byte : (byte : ℕ) → is_utc byte ≡ true → space ≤ byte
+utc_byte byte is = grind (arith, nat_tests)
+
+minus_sign : (rest : List ℕ) → has_minus_sign rest ≡ true → HasNoControl 3 rest
+minus_sign rest there =
+    more 2 rest (more 1 rest (more 0 rest (none rest) (grind (arith, nat_tests)))
+    (grind (arith, nat_tests))) (grind (arith, nat_tests))
+
+offset : (rest : List ℕ) → IfOk (offset_front rest) (λ front. HasNoControl front.1 rest)
+offset rest =
+    offset-cases (λ (answer : Result (Option ℤ × ℕ) ParseError). IfOk answer
+    (λ front. HasNoControl front.1 rest)) rest
+    (λ some. signed (slice_index rest 0 == hyphen) 1 rest
+    (more 0 rest (none rest) (sign_byte _ some)))
+    (λ other utc. more 0 rest (none rest) (utc_byte _ utc))
+    (λ other unread there. signed true 3 rest (minus_sign rest there))
+    (λ other unread nothing. none rest)
+
+-- a time: a clock and an offset
+pub time_front-no_control : (behavior : Behavior) (text : List ℕ)
+    → IfOk (time_front behavior text) (λ front. HasNoControl front.1 text)
+time_front-no_control behavior text =
+    read-then _ _ (clock_front behavior text)
+    (λ clock read. read-then _ _ (offset_front (drop clock.size text)) (λ front after.
+    joined clock.size front.1 text (clock-no_control behavior text clock read)
+    (read-value _ (offset_front (drop clock.size text)) front after
+    (offset (drop clock.size text)))))
+
+-- a date-time: a date, a separator and a time
+separator : (byte : ℕ) → is_separator byte ≡ true → space ≤ byte
+separator byte is = grind (arith, nat_tests)
+
+pub date_time_front-no_control : (behavior : Behavior) (text : List ℕ)
+    → IfOk (date_time_front behavior text) (λ front. HasNoControl front.1 text)
+date_time_front-no_control behavior text =
+    let rest : List ℕ = drop 11 text in
+    read-then _ _ (date_front text)
+    (λ date dated. read-then _ _ (first_fault_or (separator_table text) (time_front behavior rest))
+    (λ time read.
+    let after = first_fault_or-ok (separator_table text) (time_front behavior rest) time read in
+    let rows = (first_fault_or-ok (date_table text) (Ok (date_numbers text, 10)) date dated).0 in
+    joined 11 time.1 text (more 10 text (date_rows text rows) (separator _ after.0.0))
+    (read-value _ (time_front behavior rest) time after.1 (time_front-no_control behavior rest))))
