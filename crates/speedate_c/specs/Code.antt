@@ -5,7 +5,7 @@ use Rattle.std.specs.Option.{option_map, option_or}
 use Rattle.std.specs.Ordering.{int_eq}
 use Rattle.std.specs.declared.cmp.Ordering.{Ordering, Ordering as ordering}
 use Rattle.speedate.specs.Base.{ParseError}
-use Rattle.speedate.specs.Fault.{FaultRow, fault_rows, fault_place, fault_name, fault_documentation}
+use Rattle.speedate.specs.Fault.{FaultRow, fault_rows, fault_number, fault_name, fault_documentation}
 
 -- what was asked for is written
 abbrev pub success : ℤ
@@ -31,9 +31,9 @@ config_out_of_range = pos 102
 abbrev pub buffer_too_small : ℤ
 buffer_too_small = pos 103
 
--- the code of a fault: its place in the enum, counted from 1
+-- the code of a fault: its number
 abbrev pub fault_code : ParseError → ℤ
-fault_code fault = pos (fault_place fault + 1)
+fault_code fault = pos (fault_number fault)
 
 -- the faults in the order of their codes
 abbrev pub faults : List ParseError

@@ -47,12 +47,12 @@ const FAULTS: [ParseError; 42] = faults! {
     DateTooSmall DateTooLarge TimeTooLarge DurationUnitOrder MicrosecondFractionTooLong
 };
 
-/// The code of an error, its place in the enum, counted from 1: 1 for `TooShort`.
+/// The code of an error, its number: 1 for `TooShort`.
 pub(crate) fn fault_code(fault: ParseError) -> i32
     ensures code { result ≡ fault_code fault }
     ensures reads_back { fault_of result ≡ Some fault }
 {
-    i32::from(fault as u8) + 1
+    i32::from(fault.number())
 }
 
 /// The error of a code.

@@ -9,7 +9,7 @@ use Rattle.speedate_civil.specs.Date.{date_text, date_front, date_answer, date_n
 pub month_length-small : (year month : ℕ) → month_length year month ≤ 31
 month_length-small year month = grind arith
 
-is_in_range-true : (low high n : ℕ) → IsInRange low high n → is_in_range low high n ≡ true
+pub is_in_range-true : (low high n : ℕ) → IsInRange low high n → is_in_range low high n ≡ true
 is_in_range-true low high n within = grind arith
 
 -- the numbers of a printed date stand at their places

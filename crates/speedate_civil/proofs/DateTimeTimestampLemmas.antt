@@ -1,16 +1,15 @@
 -- The seconds of a date-time without an offset, as a timestamp, and its microsecond lead back to
 -- it.
-use Rattle.std.proofs.Common.{◌≡◌, ℕ, ◌<◌, ◌≤◌, ℤ, pos, ◌+ℤ◌, ◌-ℤ◌, ◌*ℤ◌, unsigned_abs, Ok, rules, arith}
-use Rattle.std.specs.Int.{int_div_euclid, int_rem_euclid}
+use Rattle.std.proofs.Common.{◌≡◌, ℕ, ◌<◌, ◌≤◌, ℤ, unsigned_abs, Ok, rules, arith}
 use Rattle.std.proofs.lemmas.Bool.Decides.{nat_tests}
 use Rattle.std.proofs.lemmas.Int.{ints}
-use Rattle.speedate_base.specs.Timestamp.{seconds_per_day, later_answer}
+use Rattle.speedate_base.specs.Timestamp.{later_answer}
 use Rattle.speedate_civil.specs.DateTime.{DateAndTime, IsDateAndTime, local_second, date_time_at, instant_date_time, date_time_timestamp_answer}
-use Rattle.speedate_civil.specs.Calendar.{epoch_day}
 use Rattle.speedate_base.proofs.RequirementLemmas.{first_fault_or-all}
 use Rattle.speedate_base.proofs.TimestampLemmas.{instant_of_seconds}
 use Rattle.speedate_civil.specs.Base.{TimestampUnit}
 use Rattle.speedate_civil.proofs.DateOrderLemmas.{date_of_number-day_number}
+use Rattle.speedate_civil.proofs.DateTimestampLemmas.{day-of, second-of}
 use Rattle.speedate_civil.proofs.DayNumberLemmas.{day_number-small}
 
 -- less than a second more than an instant of whole seconds
@@ -19,17 +18,6 @@ later-microsecond : (second : ℤ) (microsecond : ℕ) → unsigned_abs second <
     → later_answer microsecond (record { second = second; microsecond = 0 })
     ≡ Ok (record { second = second; microsecond = microsecond })
 later-microsecond second microsecond small part = search rules
-
--- the day and the second of a day that a second is
-day-of : (at : ℤ) (day second : ℕ) → second < seconds_per_day
-    → at ≡ (pos day -ℤ pos epoch_day) *ℤ pos seconds_per_day +ℤ pos second
-    → unsigned_abs (int_div_euclid at (pos seconds_per_day) +ℤ pos epoch_day) ≡ day
-day-of at day second small is = search rules
-
-second-of : (at : ℤ) (day second : ℕ) → second < seconds_per_day
-    → at ≡ (pos day -ℤ pos epoch_day) *ℤ pos seconds_per_day +ℤ pos second
-    → unsigned_abs (int_rem_euclid at (pos seconds_per_day)) ≡ second
-second-of at day second small is = search rules
 
 -- the date-time at the instant of a day number, a second of that day and a microsecond
 date_time-at : (value : DateAndTime) → IsDateAndTime value

@@ -1,16 +1,21 @@
 mod AfterTimeLemmas
+mod ClockFrontLemmas
 mod ClockLemmas
+mod DateFrontLemmas
 mod DateLemmas
 pub mod DateOrderLemmas
 pub mod DateTimeInstantLemmas
 mod DateTimeLemmas
 pub mod DateTimeTimestampLemmas
+pub mod DateTimestampLemmas
 mod DayNumberLemmas
 mod FrontLemmas
 pub mod InstantOrderLemmas
 mod NoControlLemmas
+mod MomentLemmas
 mod NumberTextLemmas
 mod OffsetLemmas
+mod OffsetMoveLemmas
 mod ReadLemmas
 mod Rfc3339Lemmas
 mod TimeLemmas

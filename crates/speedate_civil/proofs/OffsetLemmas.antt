@@ -1,16 +1,12 @@
--- Offsets at the front of a text, by what they begin with; a printed offset of whole minutes is read
--- as itself; and what a clock at another offset shows.
-use Rattle.std.proofs.Common.{◌≡◌, ℕ, zero, suc, ◌%◌, ◌<◌, Bool, true, false, not, ◌||◌, List, ◌∷◌, ◌++◌, length, drop, ◌==◌, slice_index, Option, Some, None, ℤ, pos, negsuc, ◌+ℤ◌, ◌-ℤ◌, unwrap_or, Result, Ok, refl, is_some, rules, arith, le-ltb, ne_eqb}
+-- Offsets at the front of a text, by what they begin with; and a printed offset of whole minutes is
+-- read as itself.
+use Rattle.std.proofs.Common.{◌≡◌, ℕ, zero, suc, ◌%◌, ◌<◌, Bool, true, false, not, ◌||◌, List, ◌∷◌, ◌++◌, length, drop, ◌==◌, slice_index, Option, Some, None, ℤ, pos, negsuc, Result, Ok, refl, is_some, rules, arith, le-ltb, ne_eqb}
 use Rattle.speedate_civil.specs.Base.{ParseError}
 use Rattle.std.specs.Option.{ForSome}
 use Rattle.speedate_base.specs.Ascii.{plus_sign, hyphen, capital_z}
-use Rattle.std.proofs.lemmas.Int.{ints}
 use Rattle.speedate_base.specs.Numbers.{with_sign}
 use Rattle.speedate_base.specs.Offset.{IsOffset, IsWholeMinutes}
-use Rattle.speedate_base.specs.Requirement.{AllHold, first_fault_or}
 use Rattle.speedate_base.specs.Timestamp.{seconds_per_day}
-use Rattle.speedate_civil.specs.DateTime.{DateAndTime, local_second, utc_second}
-use Rattle.speedate_civil.specs.Instant.{move_table}
 use Rattle.speedate_civil.specs.Time.{begins_offset, has_minus_sign, is_plus_or_minus, is_utc, offset_front, offset_text, offset_size_text, signed_front}
 
 -- what holds of the offset of a text by what it begins with, `+` or `-`, `Z` or `z`, U+2212 or none
@@ -67,19 +63,3 @@ offset_text-front (Some (pos (suc size))) rest valid whole ends =
 offset_text-front (Some (negsuc size)) rest valid whole ends =
     rw (offset_text-west size) (signed-printed true (suc size) rest (valid (negsuc size) refl)
     (whole (negsuc size) refl))
-
--- where a clock moves by the difference of the offsets, its second is the instant's and the offset
-pub second-moved : (value : DateAndTime) (offset shift local second : ℤ)
-    → Ok shift ≡ first_fault_or (move_table offset value.time.offset)
-    (Ok (offset -ℤ unwrap_or value.time.offset (pos 0)))
-    → local ≡ local_second value → second ≡ local +ℤ shift
-    → AllHold (move_table offset value.time.offset) × (second ≡ utc_second value +ℤ offset)
-second-moved value offset shift local second moved same sum = search rules
-
--- and the instant is the same
-pub instant-kept : (value moved : DateAndTime) (offset second : ℤ)
-    → second ≡ utc_second value +ℤ offset
-    → local_second moved ≡ second → unwrap_or moved.time.offset (pos 0) ≡ offset
-    → utc_second moved ≡ utc_second value
-instant-kept value moved offset second sum shown attached =
-    omega (arith, ints, sum, shown, attached)

@@ -1,4 +1,4 @@
-use Rattle.std.proofs.Common.{◌-◌, drop, arith}
+use Rattle.std.proofs.Common.{◌≡◌, ◌-◌, drop, arith}
 use Rattle.std.proofs.lemmas.List.{take_rest, length-drop}
 use Rattle.speedate_base.proofs.RoundingLemmas.{front_all, rest_all, block-taken}
 use Rattle.speedate_base.proofs.util.rounding.twice_microseconds.Goals as goal
@@ -17,3 +17,20 @@ loop-place-init c = grind (arith, take_rest, length-drop)
 
 pub loop-place-preserved : goal.loop-place-preserved
 loop-place-preserved c = grind (arith, block-taken)
+
+pub digits_taken-twice-requires-clause-value : goal.digits_taken-twice-requires-clause-value
+digits_taken-twice-requires-clause-value c = c.eight_digits-value.ensures.small
+
+pub digits_taken-twice-requires-clause-rest : goal.digits_taken-twice-requires-clause-rest
+digits_taken-twice-requires-clause-rest c = c.loop-place.invariant.within
+
+pub digits_taken-twice-requires-clause-unit : goal.digits_taken-twice-requires-clause-unit
+digits_taken-twice-requires-clause-unit c = c.requires.unit
+
+pub returns-clause-twice : goal.returns-clause-twice
+returns-clause-twice c =
+    let none : c.loop-place.place ≡ 0 = omega arith in
+    rw none at c.loop-place.invariant.twice
+
+pub returns-clause-within : goal.returns-clause-within
+returns-clause-within c = c.loop-place.invariant.within

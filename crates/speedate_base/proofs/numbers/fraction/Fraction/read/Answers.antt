@@ -1,7 +1,9 @@
-use Rattle.std.proofs.Common.{rules, ◌≡◌, ◌∙◌, ap, sym, refl, ℕ, zero, suc, ◌≤◌, List, [], ◌∷◌, take, drop, min, arith, take-take}
+use Rattle.std.proofs.Common.{rules, ◌≡◌, ◌∙◌, ap, sym, refl, ℕ, zero, suc, ◌+◌, ◌≤◌, List, [], ◌∷◌, length, take, drop, min, replicate, arith, take-take, drop-drop, length-drop}
 use Rattle.std.specs.Char.{is_ascii_digit}
 use Rattle.std.specs.List.{prefix_len}
-use Rattle.speedate_base.specs.Digits.{run_length, run_digits, fraction_value, eight_at}
+use Rattle.std.proofs.lemmas.List.Sums.{prefix_len-le-length}
+use Rattle.speedate_base.specs.Ascii.{digit_zero}
+use Rattle.speedate_base.specs.Digits.{fit_length, run_length, run_digits, fraction_value, eight_at}
 use Rattle.speedate_base.proofs.DigitRunLemmas.{fraction_value-take}
 use Rattle.speedate_base.proofs.PatternLemmas.{eight_at-drop}
 use Rattle.speedate_base.proofs.numbers.fraction.Fraction.read.Goals as goal
@@ -44,9 +46,79 @@ known text front place count from counted =
     let run = counted ∙ ap (prefix_len is_ascii_digit) are ∙ first-run 8 rest in
     record {
       counted = run;
-      digits = ap (take count) are ∙ first-digits count 8 rest (omega (arith, run))
-          (omega (arith, run));
+      digits = ap (take count) are
+          ∙ first-digits count 8 rest (omega (arith, run)) (omega (arith, run));
     }
+
+-- so many digits lie within the text, and fit as many zeros of a pattern
+known-within : (text front : List ℕ) (place count : ℕ) → Known text front place count
+    → place ≤ length text → place + count ≤ length text
+known-within text front place count is there =
+    omega (
+      arith,
+      is.counted,
+      prefix_len-le-length is_ascii_digit (drop place text),
+      length-drop place text,
+    )
+
+fit-run : (places : ℕ) (bytes : List ℕ)
+    → fit_length (replicate places digit_zero) bytes ≡ min places (prefix_len is_ascii_digit bytes)
+fit-run zero bytes = omega arith
+fit-run (suc places) [] = omega arith
+fit-run (suc places) (byte ∷ bytes) = grind (arith, fit-run places bytes)
+
+-- and after them the run goes on
+run-longer : (count : ℕ) (bytes : List ℕ) → count ≤ prefix_len is_ascii_digit bytes
+    → prefix_len is_ascii_digit bytes ≡ count + prefix_len is_ascii_digit (drop count bytes)
+run-longer zero bytes enough = omega arith
+run-longer (suc count) [] enough = absurd (omega arith)
+run-longer (suc count) (byte ∷ bytes) enough = grind (arith, run-longer count bytes)
+
+known-more : (text front : List ℕ) (place : ℕ) → Known text front place 8
+    → run_length text place ≡ 8 + run_length text (place + 8)
+known-more text front place is =
+    run-longer 8 (drop place text) (omega (arith, is.counted))
+    ∙ ap (λ (rest : List ℕ). 8 + prefix_len is_ascii_digit rest) (drop-drop 8 place text)
+
+pub run_end-requires : goal.run_end-requires
+run_end-requires c =
+    let is = known c.args.bytes.now _ c.args.place 8 c.eight_bytes-front.ensures.bytes
+    (sym c.in-8.is ∙ c.digits_in_front.ensures.count) in
+    known-within c.args.bytes.now _ c.args.place 8 is c.requires
+
+pub six_places-requires-clause-digits : goal.six_places-requires-clause-digits
+six_places-requires-clause-digits c =
+    omega (arith, fit-run 8 c.eight_bytes-front.result, c.in-8.is, c.digits_in_front.ensures.count)
+
+pub returns-in-8-clause-length : goal.returns-in-8-clause-length
+returns-in-8-clause-length c =
+    let is = known c.args.bytes.now _ c.args.place 8 c.eight_bytes-front.ensures.bytes
+    (sym c.in-8.is ∙ c.digits_in_front.ensures.count) in
+    omega (arith, known-more c.args.bytes.now _ c.args.place is, c.run_end.ensures.end)
+
+pub returns-in_default-clause-within : goal.returns-in_default-clause-within
+returns-in_default-clause-within c =
+    let is = known c.args.bytes.now _ c.args.place _ c.eight_bytes-front.ensures.bytes
+    c.digits_in_front.ensures.count in
+    known-within c.args.bytes.now _ c.args.place _ is c.requires
+
+pub returns-in-0-clause-length : goal.returns-in-0-clause-length
+returns-in-0-clause-length c =
+    let is = known c.args.bytes.now _ c.args.place 0 c.eight_bytes-front.ensures.bytes
+    (sym c.in-0.is ∙ c.digits_in_front.ensures.count) in
+    omega (arith, is.counted)
+
+-- no digits mean 0
+none-value : (text : List ℕ) (count : ℕ) → 0 ≡ count → 0 ≡ fraction_value 6 (take count text)
+none-value text count none = rw (sym none) refl
+
+pub returns-in-0-clause-microsecond : goal.returns-in-0-clause-microsecond
+returns-in-0-clause-microsecond c =
+    let bytes = c.args.bytes.now in
+    let place = c.args.place in
+    let is = known bytes _ place 0 c.eight_bytes-front.ensures.bytes
+    (sym c.in-0.is ∙ c.digits_in_front.ensures.count) in
+    none-value (drop place bytes) (run_length bytes place) (omega (arith, is.counted))
 
 pub returns-in_default-clause-length : goal.returns-in_default-clause-length
 returns-in_default-clause-length c =
@@ -74,6 +146,6 @@ returns-in-8-clause-microsecond c =
     let whole : 6 ≤ run_length bytes place = omega (arith, is.counted) in
     c.six_places.ensures.microsecond ∙ ap (fraction_value 6) is.digits
     ∙ sym (fraction_value-take 6 (take 8 rest))
-    ∙ ap (fraction_value 6) (take-take 6 8 rest (omega arith)
-    ∙ sym (take-take 6 (run_length bytes place) rest whole))
+    ∙ ap (fraction_value 6)
+    (take-take 6 8 rest (omega arith) ∙ sym (take-take 6 (run_length bytes place) rest whole))
     ∙ fraction_value-take 6 (run_digits bytes place)

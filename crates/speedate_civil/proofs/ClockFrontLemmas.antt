@@ -1,0 +1,163 @@
+-- The clock at the front of a text, as its eight bytes give its hour and its minute.
+use Rattle.std.proofs.Common.{◌≡◌, ◌∙◌, ap, sym, subst, refl, ℕ, ◌<◌, ◌≤◌, ◌==◌, Bool, true, false, ◌&&◌, if◌then◌else◌, List, length, get_or, take, drop, slice_index, codes, Ok, Err, ◌+◌, ◌-◌, arith, rules, get_or-drop, length-drop, le-leb}
+use Rattle.speedate_civil.specs.Base.{Behavior, ParseError}
+use Rattle.std.proofs.lemmas.Bool.{and_from, lt-leb}
+use Rattle.std.proofs.lemmas.Grind.{common_steps}
+use Rattle.std.proofs.lemmas.List.{take_rest}
+use Rattle.speedate_base.specs.Ascii.{colon}
+use Rattle.speedate_base.specs.Digits.{two_digits_at, two_digit_value, eight_at, fit_length, fit_digits, neighbours}
+use Rattle.speedate_base.specs.Requirement.{first_fault_or, result_map}
+use Rattle.speedate_base.proofs.PatternLemmas.{fit_length-all}
+use Rattle.speedate_civil.specs.ParserParts.{second_of}
+use Rattle.speedate_civil.specs.Time.{at_hour, clock_front, minute_clock, minute_front, second_table}
+
+-- a clock as it looks
+abbrev pub pattern : List ℕ
+pattern = codes "00:00:00"
+
+-- what is known of a text whose front looks so up to the minute
+pub record Front (text numbers : List ℕ) : Type 0 where
+  pub hour : two_digits_at text 0 ≡ true
+  pub separator : (slice_index text 2 == colon) ≡ true
+  pub minute : two_digits_at (drop 3 text) 0 ≡ true
+  pub hour_is : get_or numbers 0 0 ≡ two_digit_value text 0
+  pub minute_is : get_or numbers 3 0 ≡ two_digit_value (drop 3 text) 0
+
+front_is : (text : List ℕ) → 5 ≤ fit_length pattern (eight_at text 0)
+    → Front text (neighbours (fit_digits 5 pattern (eight_at text 0)))
+front_is text fits = grind (arith, common_steps, and_from, get_or-drop, fit_length-all)
+
+pub front-read : (text front numbers : List ℕ) (fits : ℕ) → front ≡ eight_at text 0
+    → fits ≡ fit_length pattern front
+    → 5 ≤ fits → numbers ≡ neighbours (fit_digits 5 pattern front) → Front text numbers
+front-read text front numbers fits from counted enough spelled =
+    let five : 5 ≤ fit_length pattern (eight_at text 0) =
+    subst (λ (block : List ℕ). 5 ≤ fit_length pattern block) from
+    (subst (λ (count : ℕ). 5 ≤ count) counted enough) in
+    let is = spelled ∙ ap (λ (block : List ℕ). neighbours (fit_digits 5 pattern block)) from in
+    subst (λ (all : List ℕ). Front text all) (sym is) (front_is text five)
+
+-- the rows of the hour and the minute hold, so what follows the minute decides
+pub decided : (behavior : Behavior) (text numbers : List ℕ)
+    → Front text numbers → 5 ≤ length text
+    → get_or numbers 0 0 ≤ 23 → get_or numbers 3 0 ≤ 59 → clock_front behavior text
+    ≡ result_map (at_hour (get_or numbers 0 0))
+    (first_fault_or (second_table behavior (drop 3 text)) (Ok (minute_clock (drop 3 text))))
+decided behavior text numbers front long early short =
+    let hour = subst (λ (n : ℕ). n ≤ 23) front.hour_is early in
+    let minute = subst (λ (n : ℕ). n ≤ 59) front.minute_is short in
+    rw (
+      le-leb 5 (length text) long,
+      front.hour,
+      front.separator,
+      front.minute,
+      le-leb (two_digit_value text 0) 23 hour,
+      le-leb (two_digit_value (drop 3 text) 0) 59 minute,
+      front.hour_is,
+    ) refl
+
+-- and those that do not hold are the fault
+pub late-hour : (behavior : Behavior) (text numbers : List ℕ)
+    → Front text numbers → 5 ≤ length text
+    → 23 < get_or numbers 0 0 → clock_front behavior text ≡ Err ParseError.OutOfRangeHour
+late-hour behavior text numbers front long late =
+    let hour = subst (λ (n : ℕ). 23 < n) front.hour_is late in
+    rw (
+      le-leb 5 (length text) long,
+      front.hour,
+      front.separator,
+      front.minute,
+      lt-leb (two_digit_value text 0) 23 hour,
+    ) refl
+
+pub late-minute : (behavior : Behavior) (text numbers : List ℕ)
+    → Front text numbers → 5 ≤ length text
+    → get_or numbers 0 0 ≤ 23 → 59 < get_or numbers 3 0
+    → clock_front behavior text ≡ Err ParseError.OutOfRangeMinute
+late-minute behavior text numbers front long early late =
+    let hour = subst (λ (n : ℕ). n ≤ 23) front.hour_is early in
+    let minute = subst (λ (n : ℕ). 59 < n) front.minute_is late in
+    rw (
+      le-leb 5 (length text) long,
+      front.hour,
+      front.separator,
+      front.minute,
+      le-leb (two_digit_value text 0) 23 hour,
+      lt-leb (two_digit_value (drop 3 text) 0) 59 minute,
+    ) refl
+
+-- so are those that the eight bytes do not meet, and the length
+pub no-clock : (behavior : Behavior) (text : List ℕ) → length text < 5
+    → clock_front behavior text ≡ Err ParseError.TooShort
+no-clock behavior text short = rw (lt-leb 5 (length text) short) refl
+
+-- the second is that of the eight bytes
+second-same : (text : List ℕ) → second_of (drop 3 (eight_at text 0)) ≡ second_of (drop 3 text)
+second-same text = search (rules, get_or-drop)
+
+pub second-read : (text front : List ℕ) → front ≡ eight_at text 0
+    → second_of (drop 3 front) ≡ second_of (drop 3 text)
+second-read text front from = ap (λ (block : List ℕ). second_of (drop 3 block)) from
+    ∙ second-same text
+
+-- what ends within the rest of a text ends within the text
+pub within-rest : (bytes : List ℕ) (place size : ℕ) → place ≤ length bytes
+    → size ≤ length (take (length bytes - place) (drop place bytes)) → place + size ≤ length bytes
+within-rest bytes place size there within =
+    let rest : size ≤ length (drop place bytes) =
+    subst (λ (text : List ℕ). size ≤ length text) (take_rest bytes place) within in
+    omega (arith, length-drop place bytes, rest, there)
+
+-- A clock that begins with its minute.
+
+-- what is known of a text whose front looks like a minute
+pub record Minute (text numbers : List ℕ) : Type 0 where
+  pub digits : two_digits_at text 0 ≡ true
+  pub is : get_or numbers 0 0 ≡ two_digit_value text 0
+
+minute_is : (text : List ℕ) → 2 ≤ fit_length pattern (eight_at text 0)
+    → Minute text (neighbours (fit_digits 2 pattern (eight_at text 0)))
+minute_is text fits = grind (arith, common_steps, and_from, fit_length-all)
+
+pub minute-read : (text front numbers : List ℕ) (fits : ℕ) → front ≡ eight_at text 0
+    → fits ≡ fit_length pattern front → 2 ≤ fits
+    → numbers ≡ neighbours (fit_digits 2 pattern front) → Minute text numbers
+minute-read text front numbers fits from counted enough spelled =
+    let two : 2 ≤ fit_length pattern (eight_at text 0) =
+    subst (λ (block : List ℕ). 2 ≤ fit_length pattern block) from
+    (subst (λ (count : ℕ). 2 ≤ count) counted enough) in
+    let is = spelled ∙ ap (λ (block : List ℕ). neighbours (fit_digits 2 pattern block)) from in
+    subst (λ (all : List ℕ). Minute text all) (sym is) (minute_is text two)
+
+-- its range holds, so what follows it decides
+pub minute-decided : (behavior : Behavior) (text numbers : List ℕ)
+    → Minute text numbers → get_or numbers 0 0 ≤ 59
+    → minute_front behavior text ≡ first_fault_or (second_table behavior text)
+    (Ok (minute_clock text))
+minute-decided behavior text numbers minute short =
+    let range = subst (λ (n : ℕ). n ≤ 59) minute.is short in
+    rw (minute.digits, le-leb (two_digit_value text 0) 59 range) refl
+
+-- and where it does not hold, it is the fault
+pub minute-late : (behavior : Behavior) (text numbers : List ℕ)
+    → Minute text numbers → 59 < get_or numbers 0 0
+    → minute_front behavior text ≡ Err ParseError.OutOfRangeMinute
+minute-late behavior text numbers minute late =
+    let range = subst (λ (n : ℕ). 59 < n) minute.is late in
+    rw (minute.digits, lt-leb (two_digit_value text 0) 59 range) refl
+
+-- two tests of which one does not hold
+first-two : (a b : Bool) (rest : ℕ) → (if a then 1 + (if b then 1 + rest else 0) else 0) < 2
+    → (a && b) ≡ false
+first-two false b rest few = refl
+first-two true false rest few = refl
+first-two true true rest few = absurd (omega arith)
+
+pub minute-none : (behavior : Behavior) (text front : List ℕ)
+    (fits : ℕ) → front ≡ eight_at text 0 → fits ≡ fit_length pattern front → fits < 2
+    → minute_front behavior text ≡ Err ParseError.InvalidCharMinute
+minute-none behavior text front fits from counted few =
+    let early : fit_length pattern (eight_at text 0) < 2 =
+    subst (λ (block : List ℕ). fit_length pattern block < 2) from
+    (subst (λ (count : ℕ). count < 2) counted few) in
+    rw (first-two _ _ _ early) refl

@@ -1,0 +1,6 @@
+use Rattle.std.proofs.Common.{arith}
+use Rattle.speedate_lines.proofs.SentLemmas.{writing}
+use Rattle.speedate_lines.proofs.run.write_all.Goals as goal
+
+pub loop-rest-preserved : goal.loop-rest-preserved
+loop-rest-preserved g c = grind (arith, writing)
