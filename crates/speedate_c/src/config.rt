@@ -1,8 +1,8 @@
 //! Configurations from outside.
 
 ghost use Rattle.std.specs.Option.{option_map};
-ghost use Rattle.std.specs.Prelude.{◌≡◌, IsTrue, Some, slice_get};
-ghost use Rattle.speedate.specs.Config.{choices, default_choices, time_choices};
+ghost use Rattle.std.specs.Prelude.{◌≡◌, slice_get};
+ghost use Rattle.speedate.specs.Config.{choices, time_choices};
 ghost use Rattle.speedate_c.specs.Config.{behaviors, choices_of, flags, offset_by_flag, one_choice_of_texts, orders, time_choices_of, units};
 
 use speedate::{
