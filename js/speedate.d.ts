@@ -4,21 +4,27 @@
 // such as 1.5 days.
 
 /** A day of the Gregorian calendar, carried back to the year 0: `year` 0 to 9999, `month` 1 to 12, `day` 1 to the length of
- * the month. */
-export type SpeedateDate = { readonly year: number; readonly month: number; readonly day: number };
+ * the month. A date-time is none. */
+export type SpeedateDate = { readonly year: number; readonly month: number; readonly day: number; readonly hour?: never };
 /** A time of day: `hour` 0 to 23, `minute` and `second` 0 to 59, `millisecond` and `microsecond` 0 to 999 each, and
- * `offsetSeconds`, the offset from UTC, -86399 to 86399, positive east of it, or null. */
+ * `offsetSeconds`, the offset from UTC, -86399 to 86399, positive east of it, or null. A date-time is none. */
 export type SpeedateTime = {
   readonly hour: number; readonly minute: number; readonly second: number;
   readonly millisecond: number; readonly microsecond: number; readonly offsetSeconds: number | null;
+  readonly year?: never;
 };
 /** A date and a time of day, as a clock at the offset shows them. */
-export type SpeedateDateTime = SpeedateDate & SpeedateTime;
+export type SpeedateDateTime = {
+  readonly year: number; readonly month: number; readonly day: number;
+  readonly hour: number; readonly minute: number; readonly second: number;
+  readonly millisecond: number; readonly microsecond: number; readonly offsetSeconds: number | null;
+};
 /** A length of time: `days` of 86400 seconds up to 999999999, `seconds` up to 86399, `milliseconds` and `microseconds` up to
  * 999. If `sign` is -1, they are 0 or negative. Zero may be negative too: `-PT0S` and `PT0S` differ. */
 export type SpeedateDuration = {
   readonly sign: 1 | -1; readonly days: number; readonly seconds: number; readonly milliseconds: number; readonly microseconds: number;
 };
+/** A value of each kind. */
 export type SpeedateValue = SpeedateDate | SpeedateTime | SpeedateDateTime | SpeedateDuration;
 
 /** Why a text or a value is refused. */
@@ -31,6 +37,7 @@ export class SpeedateError extends RangeError {
 }
 /** The result of a `safe` call, which returns a refusal where another throws it. */
 export type Answer<Value> = { readonly ok: true; readonly value: Value } | Refusal;
+/** A refusal as a `safe` call returns it. */
 export type Refusal = { readonly ok: false; readonly fault: Fault; readonly code: number; readonly message: string };
 /** The value at the front of a text, and its size in bytes of UTF-8, and in units of a string: 10 of `2020-02-29 rent`. */
 export type Front<Value, Text> = { readonly value: Value; readonly size: number } & (Text extends string ? { readonly length: number } : unknown);
@@ -58,31 +65,30 @@ export type DurationOptions = OverflowOptions & { isoOrder?: "lax" | "strict" };
 
 /** A string, in which a lone surrogate counts as U+FFFD, or bytes of UTF-8. */
 export type Text = string | Uint8Array;
-type Reader<Value, Options> = (text: Text, options?: Options) => Value;
-type FrontReader<Value, Options> = <It extends Text>(text: It, options?: Options) => Front<Value, It>;
-type SafeFrontReader<Value, Options> = <It extends Text>(text: It, options?: Options) => Answer<Front<Value, It>>;
+type NoOptions = Record<string, never>;
 
 /** Parses a date: `2020-02-29`. */
-export const parseDate: Reader<SpeedateDate, TimestampOptions>;
+export function parseDate(text: Text, options?: TimestampOptions): SpeedateDate;
 /** Parses a time of day: `12:13:14.5+01:00`. */
-export const parseTime: Reader<SpeedateTime, StrictOptions>;
+export function parseTime(text: Text, options?: StrictOptions): SpeedateTime;
 /** Parses a date-time: `2020-02-29T12:13:14.5+01:00`. */
-export const parseDateTime: Reader<SpeedateDateTime, DateTimeOptions>;
+export function parseDateTime(text: Text, options?: DateTimeOptions): SpeedateDateTime;
 /** Parses a duration: `PT90M`, `-00:01:30.5` or `2 days, 10:20`. A year is 365 days, and a month 30. */
-export const parseDuration: Reader<SpeedateDuration, DurationOptions>;
+export function parseDuration(text: Text, options?: DurationOptions): SpeedateDuration;
 /** Parses the date at the front of a text, whatever follows it. It has no options. */
-export const parseDateFront: FrontReader<SpeedateDate, Record<string, never>>;
+export function parseDateFront<It extends Text>(text: It, options?: NoOptions): Front<SpeedateDate, It>;
 /** The same of a time: `12:13` of `12:13, noon`. */
-export const parseTimeFront: FrontReader<SpeedateTime, OverflowOptions>;
+export function parseTimeFront<It extends Text>(text: It, options?: OverflowOptions): Front<SpeedateTime, It>;
 /** The same of a date-time: `2020-02-29T12:13:14Z` of `2020-02-29T12:13:14Z GET /`. */
-export const parseDateTimeFront: FrontReader<SpeedateDateTime, OverflowOptions>;
+export function parseDateTimeFront<It extends Text>(text: It, options?: OverflowOptions): Front<SpeedateDateTime, It>;
 // As above, but a refusal is returned, not thrown.
-export const safeParseDate: Reader<Answer<SpeedateDate>, TimestampOptions>, safeParseTime: Reader<Answer<SpeedateTime>, StrictOptions>;
-export const safeParseDateTime: Reader<Answer<SpeedateDateTime>, DateTimeOptions>;
-export const safeParseDuration: Reader<Answer<SpeedateDuration>, DurationOptions>;
-export const safeParseDateFront: SafeFrontReader<SpeedateDate, Record<string, never>>;
-export const safeParseTimeFront: SafeFrontReader<SpeedateTime, OverflowOptions>;
-export const safeParseDateTimeFront: SafeFrontReader<SpeedateDateTime, OverflowOptions>;
+export function safeParseDate(text: Text, options?: TimestampOptions): Answer<SpeedateDate>;
+export function safeParseTime(text: Text, options?: StrictOptions): Answer<SpeedateTime>;
+export function safeParseDateTime(text: Text, options?: DateTimeOptions): Answer<SpeedateDateTime>;
+export function safeParseDuration(text: Text, options?: DurationOptions): Answer<SpeedateDuration>;
+export function safeParseDateFront<It extends Text>(text: It, options?: NoOptions): Answer<Front<SpeedateDate, It>>;
+export function safeParseTimeFront<It extends Text>(text: It, options?: OverflowOptions): Answer<Front<SpeedateTime, It>>;
+export function safeParseDateTimeFront<It extends Text>(text: It, options?: OverflowOptions): Answer<Front<SpeedateDateTime, It>>;
 
 /** The date of a timestamp: 1970-01-02 of 86400 seconds. `date_not_exact` where that is no midnight, unless `exact` is false;
  * `date_too_small` or `date_too_large` outside the years 0 to 9999. */
@@ -104,7 +110,10 @@ export function format(value: SpeedateValue): string;
 /** The order of two values, for `sort`: -1 if the first is the smaller one, 0 if they are equal, otherwise 1. Times and
  * date-times compare by instant if both have an offset, otherwise as clocks show them, unlike in `between`: sort values that
  * all have one, or that all have none. */
-export function compare<Value extends SpeedateValue>(first: Value, second: Value): -1 | 0 | 1;
+export function compare(first: SpeedateDate, second: SpeedateDate): -1 | 0 | 1;
+export function compare(first: SpeedateTime, second: SpeedateTime): -1 | 0 | 1;
+export function compare(first: SpeedateDateTime, second: SpeedateDateTime): -1 | 0 | 1;
+export function compare(first: SpeedateDuration, second: SpeedateDuration): -1 | 0 | 1;
 /** The date so many days later. `no_such_date` outside the years 0 to 9999. */
 export function addDays(date: SpeedateDate, days: number): SpeedateDate;
 /** The days from `earlier` to `date`, negative where `earlier` is the later one. */
@@ -113,12 +122,15 @@ export function daysSince(date: SpeedateDate, earlier: SpeedateDate): number;
 export function dayOfYear(date: SpeedateDate): number;
 /** The value `duration` after `start`, at the same offset. `date_not_exact` where a date would move by a part of a day;
  * `date_too_small` or `date_too_large` outside the years 0 to 9999. */
-export function after<Start extends SpeedateDate>(start: Start, duration: SpeedateDuration): Start;
+export function after(start: SpeedateDate, duration: SpeedateDuration): SpeedateDate;
+export function after(start: SpeedateDateTime, duration: SpeedateDuration): SpeedateDateTime;
 /** The value `duration` before `start`, or the faults of `after`. */
-export function before<Start extends SpeedateDate>(start: Start, duration: SpeedateDuration): Start;
+export function before(start: SpeedateDate, duration: SpeedateDuration): SpeedateDate;
+export function before(start: SpeedateDateTime, duration: SpeedateDuration): SpeedateDateTime;
 /** The duration from one value to the other. A date-time without offset is taken to be in UTC, unlike in `compare`: 12:00
  * without one comes before 12:30+01:00 of the same day, and the duration from it to that is minus 30 minutes. */
-export function between<Value extends SpeedateDate>(earlier: Value, later: Value): SpeedateDuration;
+export function between(earlier: SpeedateDate, later: SpeedateDate): SpeedateDuration;
+export function between(earlier: SpeedateDateTime, later: SpeedateDateTime): SpeedateDuration;
 /** The duration with the other sign. */
 export function negate(duration: SpeedateDuration): SpeedateDuration;
 /** The whole seconds of a duration, with its sign: -90 of `-PT1M30.5S`. */
@@ -126,4 +138,9 @@ export function totalSeconds(duration: SpeedateDuration): number;
 /** The value at the same instant, as a clock at another offset shows it. `out_of_range_tz` from 24 hours on; `tz_required` without
  * an offset; `time_too_large` if a time would fall on another day; `date_too_small` or `date_too_large` if a date-time
  * would fall outside the years 0 to 9999. */
-export function inTimezone<Value extends SpeedateTime>(value: Value, offsetSeconds: number): Value;
+export function inTimezone(value: SpeedateTime, offsetSeconds: number): SpeedateTime;
+export function inTimezone(value: SpeedateDateTime, offsetSeconds: number): SpeedateDateTime;
+
+/** Hands over `speedate/speedate.wasm` as a compiled `WebAssembly.Module`, in an engine that compiles no bytes at run time. It has
+ * to come before all other calls, and changes nothing after one. A TypeError if it is another module. */
+export function init(module: object): void;

@@ -1,9 +1,9 @@
 // SPDX-License-Identifier: MIT
 // Exact dates, times of day, date-times and durations. speedate.d.ts says what each call takes and answers.
 
-/** The functions of speedate.h: a WebAssembly module, in base64. */
-const MODULE = "@MODULE@";
-const NEEDED = "speedate needs WebAssembly with BigInt and bulk memory (Node 16, Chrome 115, Firefox 79, Safari 15) that a policy allows";
+/** The functions of speedate.h, a WebAssembly module. */
+const moduleBytes = () => decoded("@MODULE@");
+const NEEDED = "speedate needs WebAssembly with BigInt and bulk memory (Node 20, Chrome 115, Firefox 79, Safari 15) that a policy allows";
 
 /** Where what goes in and comes out stands in the memory, from the end of the module's own part. */
 const PLACE = { out: 0, taken: 16, config: 24, defaultConfig: 32, first: 40, second: 56, buffer: 72, text: 136 };
@@ -17,89 +17,119 @@ const SECONDS_IN_DAY = 86400;
 const CODE = { tzRequired: 19, dateTooSmall: 38 };
 
 export class SpeedateError extends RangeError {
+  name = "SpeedateError";
+  fault;
+  code;
   constructor({ fault, code, message }) {
     super(message);
-    Object.assign(this, { name: "SpeedateError", fault, code });
+    this.fault = fault;
+    this.code = code;
   }
 }
 
 // ---- The module ----
 
-/** The module, the addresses of the places, the library that is kept, and the one in use: another while a long text is read. */
-let compiled, address, kept, library;
+/** The module, the addresses of the places, and the library that is kept with its functions. */
+let compiled, address, kept, calls;
 
 /** An instance of the module, with views of its memory from the first place on. */
 class Library {
   constructor(size) {
-    this.calls = new WebAssembly.Instance(compiled).exports;
-    this.start = Number(this.calls.__heap_base.value);
+    const { memory, __heap_base: end, ...functions } = new WebAssembly.Instance(compiled).exports;
+    this.memory = memory;
+    this.calls = functions;
+    this.start = Number(end.value);
     this.reserve(size);
   }
 
   /** Makes room for a text. Where the memory grows, its old views are gone. */
   reserve(size) {
-    const { memory } = this.calls;
-    const missing = this.start + PLACE.text + size - memory.buffer.byteLength;
-    if (missing > 0) memory.grow(Math.ceil(missing / PAGE_SIZE));
-    if (this.view?.buffer === memory.buffer) return;
-    this.bytes = new Uint8Array(memory.buffer, this.start);
-    this.view = new DataView(memory.buffer, this.start);
+    const missing = this.start + PLACE.text + size - this.memory.buffer.byteLength;
+    if (missing > 0) this.memory.grow(Math.ceil(missing / PAGE_SIZE));
+    if (this.view?.buffer === this.memory.buffer) return;
+    this.bytes = new Uint8Array(this.memory.buffer, this.start);
+    this.view = new DataView(this.memory.buffer, this.start);
   }
+}
+
+function decoded(base64) {
+  if (Uint8Array.fromBase64 !== undefined) return Uint8Array.fromBase64(base64);
+  const units = atob(base64);
+  const bytes = new Uint8Array(units.length);
+  for (let i = 0; i < bytes.length; i++) bytes[i] = units.charCodeAt(i);
+  return bytes;
+}
+
+export function init(module) {
+  const names = WebAssembly.Module.exports(module).map((it) => it.name);
+  if (!names.includes("speedate_date_parse")) throw new TypeError("module has to be speedate.wasm, compiled");
+  if (kept !== undefined) return;
+  compiled = module;
+  const library = new Library(SHORT_SIZES.length);
+  calls = library.calls;
+  for (const { calls: ofKind } of ALL_KINDS) for (const [name, inC] of Object.entries(ofKind)) ofKind[name] = calls[`speedate_${inC}`];
+  address = Object.fromEntries(Object.entries(PLACE).map(([name, place]) => [name, BigInt(library.start + place)]));
+  kept = library;
 }
 
 function start() {
-  if (library !== undefined) return;
+  if (kept !== undefined) return;
+  let module;
   try {
-    compiled = new WebAssembly.Module(Uint8Array.from(atob(MODULE), (it) => it.charCodeAt(0)));
+    module = new WebAssembly.Module(moduleBytes());
   } catch (cause) {
     throw new Error(NEEDED, { cause });
   }
-  library = kept = new Library(SHORT_SIZES.length);
-  for (const { calls } of ALL_KINDS)
-    for (const [name, inC] of Object.entries(calls)) calls[name] = kept.calls[`speedate_${inC}`];
-  address = Object.fromEntries(Object.entries(PLACE).map(([name, place]) => [name, BigInt(kept.start + place)]));
+  init(module);
 }
 
-/** The answers to what is refused, by code: the same object each time. */
-const refusals = [];
+/** The names and texts of the faults, by code. */
+const faults = [];
+const told = (call, code) => printed(call(code, address.buffer, BUFFER_SIZE, address.taken));
+
+/** The answer to what is refused. */
 function refusal(code) {
-  const told = (name) => printed(library.calls[`speedate_code_${name}`](code, address.buffer, BUFFER_SIZE, address.taken));
-  return (refusals[code] ??= Object.freeze({ ok: false, fault: told("name"), code, message: told("documentation") }));
+  const { fault, message } = (faults[code] ??= {
+    fault: told(calls.speedate_code_name, code), message: told(calls.speedate_code_documentation, code),
+  });
+  return { ok: false, fault, code, message };
 }
 
-/** Throws if this is the code of a call that refused. Otherwise it gives the library, where the call has written. */
+/** Throws if this is the code of a call that refused. */
 function accept(code) {
   if (code !== 0) throw new SpeedateError(refusal(code));
-  return library;
 }
 
 /** The size that a call has written: of its 64 bits a memory needs 32. */
-const takenOf = ({ view }) => view.getUint32(PLACE.taken, true);
+const takenSize = () => kept.view.getUint32(PLACE.taken, true);
 
-/** The text that a call has printed. */
+/** The text that a call has printed: ASCII alone. */
 function printed(code) {
-  const used = accept(code);
-  return decoder.decode(used.bytes.subarray(PLACE.buffer, PLACE.buffer + takenOf(used)));
+  accept(code);
+  const { bytes } = kept;
+  const end = PLACE.buffer + takenSize();
+  let text = "";
+  let at = PLACE.buffer;
+  for (; at + 8 <= end; at += 8) {
+    text += String.fromCharCode(
+      bytes[at], bytes[at + 1], bytes[at + 2], bytes[at + 3], bytes[at + 4], bytes[at + 5], bytes[at + 6], bytes[at + 7],
+    );
+  }
+  for (; at < end; at++) text += String.fromCharCode(bytes[at]);
+  return text;
 }
 
 // ---- Texts, numbers and options ----
 
 const encoder = new TextEncoder();
-const decoder = new TextDecoder();
-const typeName = Object.getOwnPropertyDescriptor(Object.getPrototypeOf(Uint8Array.prototype), Symbol.toStringTag).get;
+const getterOf = (name) => Object.getOwnPropertyDescriptor(Object.getPrototypeOf(Uint8Array.prototype), name).get;
+const typeName = getterOf(Symbol.toStringTag);
+const byteCount = getterOf("length");
 
-/** Puts a text into the memory, and gives its size. */
-function putText(text) {
-  start();
-  if (typeof text === "string") return putShort(text) ?? putBytes(encoder.encode(text));
-  if (typeName.call(text) === "Uint8Array") return putBytes(text);
-  throw new TypeError("text has to be a string or a Uint8Array");
-}
-
-/** The same of a short string of ASCII alone. */
+/** Puts a short string of ASCII alone into the kept memory, and gives its size; nothing for another text, or before the start. */
 function putShort(text) {
-  if (text.length >= SHORT_SIZES.length) return undefined;
-  const { bytes } = library;
+  if (typeof text !== "string" || text.length >= SHORT_SIZES.length || kept === undefined) return undefined;
+  const { bytes } = kept;
   for (let i = 0; i < text.length; i++) {
     const unit = text.charCodeAt(i);
     if (unit > 127) return undefined;
@@ -108,11 +138,32 @@ function putShort(text) {
   return SHORT_SIZES[text.length];
 }
 
-function putBytes(text) {
-  if (text.length > MOST_KEPT) library = new Library(text.length);
-  else library.reserve(text.length);
-  library.bytes.set(text, PLACE.text);
-  return BigInt(text.length);
+/** What a reader of a front can look at: 20 bytes, the digits after them, and an offset, with what tells that it ends. */
+function frontSize(text, size, unitAt) {
+  let end = 20;
+  while (end < size && unitAt(text, end) >= 48 && unitAt(text, end) <= 57) end++;
+  return Math.min(end + 12, size);
+}
+const stringUnit = (text, at) => text.charCodeAt(at);
+const byteAt = (text, at) => text[at];
+const frontOf = (text) => (typeof text === "string" && text.length > 32 ? text.slice(0, frontSize(text, text.length, stringUnit)) : text);
+
+/** Has a text read by a call, and gives its code. What the call has written stands in the kept memory. */
+function read(text, isFront, numbers, call) {
+  start();
+  const short = putShort(text);
+  if (short !== undefined) return call(kept, short, numbers);
+  const bytes = typeof text === "string" ? encoder.encode(text) : text;
+  if (typeName.call(bytes) !== "Uint8Array") throw new TypeError("text has to be a string or a Uint8Array");
+  const whole = byteCount.call(bytes);
+  const size = isFront ? frontSize(bytes, whole, byteAt) : whole;
+  const library = size > MOST_KEPT ? new Library(size) : kept;
+  library.reserve(size);
+  if (size < whole) for (let i = 0; i < size; i++) library.bytes[PLACE.text + i] = bytes[i];
+  else library.bytes.set(bytes, PLACE.text);
+  const code = call(library, size < SHORT_SIZES.length ? SHORT_SIZES[size] : BigInt(size), numbers);
+  if (library !== kept) kept.bytes.set(library.bytes.subarray(0, PLACE.config));
+  return code;
 }
 
 function integer(value, name) {
@@ -136,7 +187,11 @@ const UNITS = ["infer", "s", "ms", "us"];
 const FLAG = [false, true];
 /** What an option may be. The place of a choice is its number in C. */
 const CHOICES = { timestamps: UNITS, overflow: ["error", "truncate"], isoOrder: ["lax", "strict"], strict: FLAG, exact: FLAG };
-const NO_OPTIONS = Object.freeze({});
+/** No options as numbers. All names are its own: a prototype may have them too. */
+const noNumbers = () => ({
+  timestamps: undefined, timestampOffset: undefined, overflow: undefined, isoOrder: undefined, strict: undefined, exact: undefined,
+});
+const NO_OPTIONS = noNumbers();
 
 function choiceOf(value, choices, name) {
   const number = choices.indexOf(value);
@@ -158,25 +213,25 @@ function isPlain(it) {
 function numbersOf(options, names) {
   if (options === undefined) return NO_OPTIONS;
   if (!isPlain(options)) throw new TypeError("options has to be a plain object");
-  const numbers = {};
-  for (const name of Reflect.ownKeys(options)) {
+  const numbers = noNumbers();
+  for (const name of Object.getOwnPropertyNames(options)) {
     const value = options[name];
     if (value === undefined) continue;
-    if (!names.includes(name)) throw new TypeError(`${String(name)} is no option of this call`);
+    if (!names.includes(name)) throw new TypeError(`${name} is no option of this call`);
     numbers[name] = name === "timestampOffset" ? offsetOption(value) : choiceOf(value, CHOICES[name], name);
   }
-  if (numbers.strict === 1 && "timestamps" in numbers) throw new TypeError("strict and timestamps exclude each other");
-  const isOffsetAlone = "timestampOffset" in numbers && names.includes("timestamps") && !("timestamps" in numbers);
+  if (Object.getOwnPropertySymbols(options).length > 0) throw new TypeError("a symbol is no option");
+  const { timestamps, timestampOffset, strict } = numbers;
+  if (strict === 1 && timestamps !== undefined) throw new TypeError("strict and timestamps exclude each other");
+  const isOffsetAlone = timestampOffset !== undefined && timestamps === undefined && names.includes("timestamps");
   if (isOffsetAlone) throw new TypeError("timestampOffset needs timestamps");
   return numbers;
 }
 
-/** Writes a configuration, and gives its address. */
-function putConfig(numbers) {
-  start();
+/** Writes a configuration into the memory of a library, and gives its address. */
+function putConfig({ view }, numbers) {
   if (numbers === NO_OPTIONS) return address.defaultConfig;
   const { timestampOffset, timestamps = 0, overflow = 0, isoOrder = 0 } = numbers;
-  const { view } = library;
   view.setInt32(PLACE.config, timestampOffset ?? 0, true);
   view.setUint8(PLACE.config + 4, timestampOffset === undefined ? 0 : 1);
   view.setUint8(PLACE.config + 5, timestamps);
@@ -192,8 +247,8 @@ const millisecondOf = (view, at) => Math.floor(view.getUint32(at + 4, true) / 10
 const microsecondOf = (view, at) => view.getUint32(at + 4, true) % 1000;
 const offsetOf = (view, at) => (view.getUint8(at + 3) === 1 ? view.getInt32(at + 8, true) : null);
 /** The number that a call has written. One of 64 bits is no larger than 53 hold. */
-const int32Of = ({ view }) => view.getInt32(PLACE.out, true);
-const int64Of = ({ view }) => Number(view.getBigInt64(PLACE.out, true));
+const int32Out = () => kept.view.getInt32(PLACE.out, true);
+const int64Out = () => Number(kept.view.getBigInt64(PLACE.out, true));
 /** Microseconds, or a number out of range where one of the two is not 0 to 999. */
 const joined = (milli, micro) => (milli >= 0 && milli < 1000 && micro >= 0 && micro < 1000 ? milli * 1000 + micro : -1);
 
@@ -208,21 +263,22 @@ function sizeOf(number, sign, name) {
   return Math.abs(number);
 }
 
-// Kinds of values: the name in C, the calls, by their names there until `start` puts the functions into their place, the fields,
+// Kinds of values: the name in C, the calls, by their names there until `init` puts the functions into their place, the fields,
 // what reads a value out of the memory, what looks at one that was given, at each field once, and what puts that into the
 // memory. The fields are written out, and not gone through by name.
 const DATE = {
   name: "date",
   calls: {
     check: "date_check", print: "date_to_text", compare: "date_compare",
-    addDays: "date_add_days", daysSince: "date_days_since", dayOfYear: "date_ordinal_day",
     between: "duration_between_dates", after: "duration_after_date", before: "duration_before_date",
   },
   fields: ["year", "month", "day"],
-  read: ({ view }) => Object.freeze({
+  read: ({ view }) => ({
     year: view.getUint16(PLACE.out, true), month: view.getUint8(PLACE.out + 2), day: view.getUint8(PLACE.out + 3),
   }),
-  look: (it) => ({ kind: DATE, year: integer(it.year, "year"), month: integer(it.month, "month"), day: integer(it.day, "day") }),
+  look: (it) => ({
+    kind: DATE, year: integer(it.year, "year"), month: integer(it.month, "month"), day: integer(it.day, "day"), offsetSeconds: null,
+  }),
   put(view, at, { year, month, day }) {
     if (year < 0) accept(CODE.dateTooSmall);
     view.setUint16(at, fitting(year, 0xffff), true);
@@ -234,7 +290,7 @@ const TIME = {
   name: "time",
   calls: { check: "time_check", print: "time_to_text", compare: "time_compare", inTimezone: "time_in_timezone" },
   fields: ["hour", "minute", "second", "millisecond", "microsecond", "offsetSeconds"],
-  read: ({ view }) => Object.freeze({
+  read: ({ view }) => ({
     hour: view.getUint8(PLACE.out), minute: view.getUint8(PLACE.out + 1), second: view.getUint8(PLACE.out + 2),
     millisecond: millisecondOf(view, PLACE.out), microsecond: microsecondOf(view, PLACE.out),
     offsetSeconds: offsetOf(view, PLACE.out),
@@ -261,7 +317,7 @@ const DATE_TIME = {
     between: "duration_between", after: "duration_after", before: "duration_before", inTimezone: "datetime_in_timezone",
   },
   fields: [...DATE.fields, ...TIME.fields],
-  read: ({ view }) => Object.freeze({
+  read: ({ view }) => ({
     year: view.getUint16(PLACE.out, true), month: view.getUint8(PLACE.out + 2), day: view.getUint8(PLACE.out + 3),
     hour: view.getUint8(PLACE.out + 4), minute: view.getUint8(PLACE.out + 5), second: view.getUint8(PLACE.out + 6),
     millisecond: millisecondOf(view, PLACE.out + 4), microsecond: microsecondOf(view, PLACE.out + 4),
@@ -281,10 +337,7 @@ const DATE_TIME = {
 };
 const DURATION = {
   name: "duration",
-  calls: {
-    check: "duration_check", print: "duration_to_text", compare: "duration_compare",
-    negate: "duration_negate", totalSeconds: "duration_signed_total_seconds",
-  },
+  calls: { check: "duration_check", print: "duration_to_text", compare: "duration_compare" },
   fields: ["sign", "days", "seconds", "milliseconds", "microseconds"],
   read({ view }) {
     const sign = view.getUint32(PLACE.out, true) === 1 ? -1 : 1;
@@ -292,12 +345,12 @@ const DURATION = {
     const seconds = signed(view.getUint32(PLACE.out + 8, true), sign);
     const milliseconds = signed(millisecondOf(view, PLACE.out + 8), sign);
     const microseconds = signed(microsecondOf(view, PLACE.out + 8), sign);
-    return Object.freeze({ sign, days, seconds, milliseconds, microseconds });
+    return { sign, days, seconds, milliseconds, microseconds };
   },
   look: (it) => ({
     kind: DURATION,
     sign: integer(it.sign, "sign"), days: integer(it.days, "days"), seconds: integer(it.seconds, "seconds"),
-    milliseconds: integer(it.milliseconds, "milliseconds"), microseconds: integer(it.microseconds, "microseconds"),
+    milliseconds: integer(it.milliseconds, "milliseconds"), microseconds: integer(it.microseconds, "microseconds"), offsetSeconds: null,
   }),
   put(view, at, { sign, days, seconds, milliseconds, microseconds }) {
     view.setUint32(at, sign === 1 ? 0 : sign === -1 ? 1 : 0xffffffff, true);
@@ -308,97 +361,179 @@ const DURATION = {
   },
 };
 const ALL_KINDS = [DATE, TIME, DATE_TIME, DURATION];
+const WITH_DATE = [DATE, DATE_TIME];
+const WITH_OFFSET = [TIME, DATE_TIME];
+const JUST = { date: [DATE], dateTime: [DATE_TIME], duration: [DURATION] };
 
 /** A value of one of these kinds as it was given: its kind, and its fields, whose names mostly come in their order. */
 function given(value, name, kinds) {
   start();
   const names = Object(value) === value ? Object.getOwnPropertyNames(value) : [];
-  const fits = ({ fields }) => fields.length === names.length && fields.every((it, i) => it === names[i] || names.includes(it));
-  const kind = kinds.find(fits);
-  if (kind === undefined || Object.getOwnPropertySymbols(value).length > 0)
-    throw new TypeError(`${name} has to be a ${kinds.map((it) => it.name).join(" or ")} with just its fields`);
-  return kind.look(value);
+  for (const kind of kinds) if (areFields(names, kind.fields) && Object.getOwnPropertySymbols(value).length === 0) return kind.look(value);
+  throw new TypeError(`${name} has to be a ${kinds.map((it) => it.name).join(" or ")} with just its fields`);
+}
+
+function areFields(names, fields) {
+  if (names.length !== fields.length) return false;
+  for (let i = 0; i < fields.length; i++) if (names[i] !== fields[i] && !names.includes(fields[i])) return false;
+  return true;
 }
 
 /** Puts a value that was given into the memory as the first or the second one, and gives its address. */
 const putFirst = (it) => put(it, PLACE.first, address.first);
 const putSecond = (it) => put(it, PLACE.second, address.second);
 function put(it, at, place) {
-  it.kind.put(library.view, at, it);
+  it.kind.put(kept.view, at, it);
   accept(it.kind.calls.check(place));
   return place;
 }
 
 // ---- Reading ----
 
-/** The two readers that call C so, and have options of these names. */
-function readers(read, names, call) {
-  const answering = (answer) => (text, options) => {
-    // Options come first, since their getters may call this too.
-    const numbers = numbersOf(options, names);
-    const size = putText(text);
-    const code = call(library.calls, size, numbers);
-    const used = library;
-    library = kept;
-    return answer(code, used, text);
-  };
-  return [
-    answering((code, used, text) => (accept(code), read(used, text))),
-    answering((code, used, text) => (code === 0 ? Object.freeze({ ok: true, value: read(used, text) }) : refusal(code))),
-  ];
-}
+// Of each reader the code comes from a function of its own, which takes the short way for a short string without options: an
+// engine makes the fastest code of a function if no other shares what it has seen there.
 
-/** What reads a value at the front of a text. Of a string, U+2212 alone has another number of bytes there than units. */
-const frontOf = ({ read }) => (used, text) => {
-  const value = read(used);
-  const size = takenOf(used);
-  return Object.freeze(typeof text === "string" ? { value, size, length: unitsOf(used, size) } : { value, size });
+const OPTIONS_OF = {
+  date: ["timestamps"], time: ["strict", "overflow"], dateTime: ["strict", "timestamps", "timestampOffset", "overflow"],
+  duration: ["overflow", "isoOrder"], dateFront: [], front: ["overflow"],
 };
 
-/** The units of a string at the front of the text: bytes that go on with a character are none. */
-function unitsOf({ bytes }, size) {
+function callDate(library, size, it) {
+  if (it.timestamps === undefined) return library.calls.speedate_date_parse_rfc3339(address.text, size, address.out);
+  return library.calls.speedate_date_parse(address.text, size, putConfig(library, it), address.out);
+}
+function callTime(library, size, it) {
+  const { speedate_time_parse: lax, speedate_time_parse_strict: strict } = library.calls;
+  return (it.strict === 1 ? strict : lax)(address.text, size, putConfig(library, it), address.out);
+}
+function callDateTime(library, size, it) {
+  const { speedate_datetime_parse: all, speedate_datetime_parse_rfc3339: lax, speedate_datetime_parse_strict: strict } = library.calls;
+  const parse = it.timestamps !== undefined ? all : it.strict === 1 ? strict : lax;
+  return parse(address.text, size, putConfig(library, it), address.out);
+}
+const callDuration = (library, size, it) => library.calls.speedate_duration_parse(address.text, size, putConfig(library, it), address.out);
+const callDateFront = ({ calls }, size) => calls.speedate_date_parse_front(address.text, size, address.out, address.taken);
+const callTimeFront = (library, size, it) =>
+  library.calls.speedate_time_parse_front(address.text, size, putConfig(library, it), address.out, address.taken);
+const callDateTimeFront = (library, size, it) =>
+  library.calls.speedate_datetime_parse_front(address.text, size, putConfig(library, it), address.out, address.taken);
+
+// Options come first, since their getters may call this too.
+function codeOfDate(text, options) {
+  const size = options === undefined ? putShort(text) : undefined;
+  if (size !== undefined) return calls.speedate_date_parse_rfc3339(address.text, size, address.out);
+  return read(text, false, numbersOf(options, OPTIONS_OF.date), callDate);
+}
+function codeOfTime(text, options) {
+  const size = options === undefined ? putShort(text) : undefined;
+  if (size !== undefined) return calls.speedate_time_parse(address.text, size, address.defaultConfig, address.out);
+  return read(text, false, numbersOf(options, OPTIONS_OF.time), callTime);
+}
+function codeOfDateTime(text, options) {
+  const size = options === undefined ? putShort(text) : undefined;
+  if (size !== undefined) return calls.speedate_datetime_parse_rfc3339(address.text, size, address.defaultConfig, address.out);
+  return read(text, false, numbersOf(options, OPTIONS_OF.dateTime), callDateTime);
+}
+function codeOfDuration(text, options) {
+  const size = options === undefined ? putShort(text) : undefined;
+  if (size !== undefined) return calls.speedate_duration_parse(address.text, size, address.defaultConfig, address.out);
+  return read(text, false, numbersOf(options, OPTIONS_OF.duration), callDuration);
+}
+const codeOfDateFront = (text, options) => read(frontOf(text), true, numbersOf(options, OPTIONS_OF.dateFront), callDateFront);
+const codeOfTimeFront = (text, options) => read(frontOf(text), true, numbersOf(options, OPTIONS_OF.front), callTimeFront);
+const codeOfDateTimeFront = (text, options) => read(frontOf(text), true, numbersOf(options, OPTIONS_OF.front), callDateTimeFront);
+
+export function parseDate(text, options) {
+  accept(codeOfDate(text, options));
+  return DATE.read(kept);
+}
+export function parseTime(text, options) {
+  accept(codeOfTime(text, options));
+  return TIME.read(kept);
+}
+export function parseDateTime(text, options) {
+  accept(codeOfDateTime(text, options));
+  return DATE_TIME.read(kept);
+}
+export function parseDuration(text, options) {
+  accept(codeOfDuration(text, options));
+  return DURATION.read(kept);
+}
+export function safeParseDate(text, options) {
+  const code = codeOfDate(text, options);
+  return code === 0 ? { ok: true, value: DATE.read(kept) } : refusal(code);
+}
+export function safeParseTime(text, options) {
+  const code = codeOfTime(text, options);
+  return code === 0 ? { ok: true, value: TIME.read(kept) } : refusal(code);
+}
+export function safeParseDateTime(text, options) {
+  const code = codeOfDateTime(text, options);
+  return code === 0 ? { ok: true, value: DATE_TIME.read(kept) } : refusal(code);
+}
+export function safeParseDuration(text, options) {
+  const code = codeOfDuration(text, options);
+  return code === 0 ? { ok: true, value: DURATION.read(kept) } : refusal(code);
+}
+
+/** A value that was read at the front of a text, with its size. */
+function frontAnswer(value, text) {
+  const size = takenSize();
+  return typeof text === "string" ? { value, size, length: unitsOf(text, size) } : { value, size };
+}
+
+/** The units of a value at the front of a string. U+2212 alone has another number of bytes than units. */
+function unitsOf(text, size) {
   let units = 0;
-  for (let at = PLACE.text; at < PLACE.text + size; at++) if ((bytes[at] & 0xc0) !== 0x80) units++;
+  for (let bytes = 0; bytes < size; units++) bytes += text.charCodeAt(units) > 127 ? 3 : 1;
   return units;
 }
 
-export const [parseDate, safeParseDate] = readers(DATE.read, ["timestamps"], (calls, size, it) => {
-  if (it.timestamps === undefined) return calls.speedate_date_parse_rfc3339(address.text, size, address.out);
-  return calls.speedate_date_parse(address.text, size, putConfig(it), address.out);
-});
-export const [parseTime, safeParseTime] = readers(TIME.read, ["strict", "overflow"], (calls, size, it) => {
-  const parse = it.strict === 1 ? calls.speedate_time_parse_strict : calls.speedate_time_parse;
-  return parse(address.text, size, putConfig(it), address.out);
-});
-const DATE_TIME_OPTIONS = ["strict", "timestamps", "timestampOffset", "overflow"];
-export const [parseDateTime, safeParseDateTime] = readers(DATE_TIME.read, DATE_TIME_OPTIONS, (calls, size, it) => {
-  const withoutTimestamps = it.strict === 1 ? calls.speedate_datetime_parse_strict : calls.speedate_datetime_parse_rfc3339;
-  const parse = it.timestamps === undefined ? withoutTimestamps : calls.speedate_datetime_parse;
-  return parse(address.text, size, putConfig(it), address.out);
-});
-export const [parseDuration, safeParseDuration] = readers(DURATION.read, ["overflow", "isoOrder"], (calls, size, it) =>
-  calls.speedate_duration_parse(address.text, size, putConfig(it), address.out));
-export const [parseDateFront, safeParseDateFront] = readers(frontOf(DATE), [], (calls, size) =>
-  calls.speedate_date_parse_front(address.text, size, address.out, address.taken));
-export const [parseTimeFront, safeParseTimeFront] = readers(frontOf(TIME), ["overflow"], (calls, size, it) =>
-  calls.speedate_time_parse_front(address.text, size, putConfig(it), address.out, address.taken));
-export const [parseDateTimeFront, safeParseDateTimeFront] = readers(frontOf(DATE_TIME), ["overflow"], (calls, size, it) =>
-  calls.speedate_datetime_parse_front(address.text, size, putConfig(it), address.out, address.taken));
+export function parseDateFront(text, options) {
+  accept(codeOfDateFront(text, options));
+  return frontAnswer(DATE.read(kept), text);
+}
+export function parseTimeFront(text, options) {
+  accept(codeOfTimeFront(text, options));
+  return frontAnswer(TIME.read(kept), text);
+}
+export function parseDateTimeFront(text, options) {
+  accept(codeOfDateTimeFront(text, options));
+  return frontAnswer(DATE_TIME.read(kept), text);
+}
+export function safeParseDateFront(text, options) {
+  const code = codeOfDateFront(text, options);
+  return code === 0 ? { ok: true, value: frontAnswer(DATE.read(kept), text) } : refusal(code);
+}
+export function safeParseTimeFront(text, options) {
+  const code = codeOfTimeFront(text, options);
+  return code === 0 ? { ok: true, value: frontAnswer(TIME.read(kept), text) } : refusal(code);
+}
+export function safeParseDateTimeFront(text, options) {
+  const code = codeOfDateTimeFront(text, options);
+  return code === 0 ? { ok: true, value: frontAnswer(DATE_TIME.read(kept), text) } : refusal(code);
+}
 
 // ---- Timestamps ----
 
+/** The configuration of a unit, and of the offset that options have as numbers. */
+function putUnit(unit, { timestampOffset }) {
+  const timestamps = choiceOf(unit, UNITS, "unit");
+  start();
+  return putConfig(kept, { timestamps, timestampOffset, overflow: 0, isoOrder: 0 });
+}
+
 export function dateFromTimestamp(timestamp, unit, options) {
   const { exact = 1 } = numbersOf(options, ["exact"]);
-  const config = putConfig({ timestamps: choiceOf(unit, UNITS, "unit") });
-  const it = integer64(timestamp, "timestamp");
-  return DATE.read(accept(library.calls.speedate_date_from_timestamp(it, exact, config, address.out)));
+  const config = putUnit(unit, NO_OPTIONS);
+  accept(calls.speedate_date_from_timestamp(integer64(timestamp, "timestamp"), exact, config, address.out));
+  return DATE.read(kept);
 }
 
 export function dateTimeFromTimestamp(timestamp, unit, options) {
-  const { timestampOffset } = numbersOf(options, ["timestampOffset"]);
-  const config = putConfig({ timestamps: choiceOf(unit, UNITS, "unit"), timestampOffset });
-  const it = integer64(timestamp, "timestamp");
-  return DATE_TIME.read(accept(library.calls.speedate_datetime_from_timestamp(it, 0, config, address.out)));
+  const config = putUnit(unit, numbersOf(options, ["timestampOffset"]));
+  accept(calls.speedate_datetime_from_timestamp(integer64(timestamp, "timestamp"), 0, config, address.out));
+  return DATE_TIME.read(kept);
 }
 
 export function timeFromTimestamp(timestamp, unit, options) {
@@ -406,19 +541,23 @@ export function timeFromTimestamp(timestamp, unit, options) {
   const units = [1n, 1000n, 1000000n][choiceOf(unit, ["s", "ms", "us"], "unit")];
   if (it < 0n || it / units >= 2n ** 32n) throw new RangeError("timestamp has to be seconds that fit 32 bits, and not negative");
   const microsecond = ((it % units) * 1000000n) / units;
-  const config = putConfig(numbersOf(options, ["timestampOffset"]));
-  const code = library.calls.speedate_time_from_timestamp(Number(it / units), Number(microsecond), config, address.out);
-  return TIME.read(accept(code));
+  const numbers = numbersOf(options, ["timestampOffset"]);
+  start();
+  accept(calls.speedate_time_from_timestamp(Number(it / units), Number(microsecond), putConfig(kept, numbers), address.out));
+  return TIME.read(kept);
 }
 
 export function epochMilliseconds(value) {
-  const it = given(value, "value", [DATE_TIME]);
-  const used = accept(library.calls.speedate_datetime_timestamp_tz_ms(putFirst(it), address.out));
+  const it = given(value, "value", JUST.dateTime);
+  accept(calls.speedate_datetime_timestamp_tz_ms(putFirst(it), address.out));
   if (it.offsetSeconds === null) accept(CODE.tzRequired);
-  return int64Of(used);
+  return int64Out();
 }
 
-export const toDate = (value) => new Date(epochMilliseconds(value));
+export function toDate(value) {
+  return new Date(epochMilliseconds(value));
+}
+
 export function fromDate(date) {
   if (Object.prototype.toString.call(date) !== "[object Date]") throw new TypeError("date has to be a Date");
   return dateTimeFromTimestamp(integer(Date.prototype.getTime.call(date), "date"), "ms", { timestampOffset: 0 });
@@ -433,35 +572,69 @@ export function format(value) {
   return printed(it.kind.calls.print(place, address.buffer, BUFFER_SIZE, address.taken));
 }
 
-/** A call of one value, a call of a value and a number, and one of two values of a kind: what may be the first one, the names
- * of the arguments, the function of C, and what reads its answer. */
-const ofOne = (kind, name, inC, read) => (value) => {
-  const it = given(value, name, [kind]);
-  return read(accept(inC(kind.calls)(putFirst(it), address.out)));
-};
-const ofNumber = (kinds, name, numberName, inC) => (value, number) => {
-  const it = given(value, name, kinds);
-  const checked = integer32(number, numberName);
-  return it.kind.read(accept(inC(it.kind.calls)(putFirst(it), checked, address.out)));
-};
-const ofTwo = (kinds, firstName, secondName, inC, read) => (first, second) => {
-  const one = given(first, firstName, kinds);
-  const other = given(second, secondName, [one.kind]);
-  return read(accept(inC(one.kind.calls)(putFirst(one), putSecond(other), address.out)));
-};
-const moving = (inC) => (start, duration) => {
-  const it = given(start, "start", [DATE, DATE_TIME]);
-  const by = putFirst(given(duration, "duration", [DURATION]));
-  return it.kind.read(accept(inC(it.kind.calls)(by, putSecond(it), address.out)));
-};
+export function compare(first, second) {
+  const one = given(first, "first", ALL_KINDS);
+  const other = given(second, "second", [one.kind]);
+  accept(one.kind.calls.compare(putFirst(one), putSecond(other), address.out));
+  return int32Out();
+}
 
-export const compare = ofTwo(ALL_KINDS, "first", "second", ({ compare }) => compare, int32Of);
-export const addDays = ofNumber([DATE], "date", "days", ({ addDays }) => addDays);
-export const daysSince = ofTwo([DATE], "date", "earlier", ({ daysSince }) => daysSince, int32Of);
-export const dayOfYear = ofOne(DATE, "date", ({ dayOfYear }) => dayOfYear, ({ view }) => view.getUint16(PLACE.out, true));
-export const after = moving(({ after }) => after);
-export const before = moving(({ before }) => before);
-export const between = ofTwo([DATE, DATE_TIME], "earlier", "later", ({ between }) => between, DURATION.read);
-export const negate = ofOne(DURATION, "duration", ({ negate }) => negate, DURATION.read);
-export const totalSeconds = ofOne(DURATION, "duration", ({ totalSeconds }) => totalSeconds, int64Of);
-export const inTimezone = ofNumber([TIME, DATE_TIME], "value", "offsetSeconds", ({ inTimezone }) => inTimezone);
+export function addDays(date, days) {
+  const it = given(date, "date", JUST.date);
+  const number = integer32(days, "days");
+  accept(calls.speedate_date_add_days(putFirst(it), number, address.out));
+  return DATE.read(kept);
+}
+
+export function daysSince(date, earlier) {
+  const one = given(date, "date", JUST.date);
+  const other = given(earlier, "earlier", JUST.date);
+  accept(calls.speedate_date_days_since(putFirst(one), putSecond(other), address.out));
+  return int32Out();
+}
+
+export function dayOfYear(date) {
+  const it = given(date, "date", JUST.date);
+  accept(calls.speedate_date_ordinal_day(putFirst(it), address.out));
+  return kept.view.getUint16(PLACE.out, true);
+}
+
+export function after(start, duration) {
+  const it = given(start, "start", WITH_DATE);
+  const by = given(duration, "duration", JUST.duration);
+  accept(it.kind.calls.after(putFirst(by), putSecond(it), address.out));
+  return it.kind.read(kept);
+}
+
+export function before(start, duration) {
+  const it = given(start, "start", WITH_DATE);
+  const by = given(duration, "duration", JUST.duration);
+  accept(it.kind.calls.before(putFirst(by), putSecond(it), address.out));
+  return it.kind.read(kept);
+}
+
+export function between(earlier, later) {
+  const one = given(earlier, "earlier", WITH_DATE);
+  const other = given(later, "later", [one.kind]);
+  accept(one.kind.calls.between(putFirst(one), putSecond(other), address.out));
+  return DURATION.read(kept);
+}
+
+export function negate(duration) {
+  const it = given(duration, "duration", JUST.duration);
+  accept(calls.speedate_duration_negate(putFirst(it), address.out));
+  return DURATION.read(kept);
+}
+
+export function totalSeconds(duration) {
+  const it = given(duration, "duration", JUST.duration);
+  accept(calls.speedate_duration_signed_total_seconds(putFirst(it), address.out));
+  return int64Out();
+}
+
+export function inTimezone(value, offsetSeconds) {
+  const it = given(value, "value", WITH_OFFSET);
+  const offset = integer32(offsetSeconds, "offsetSeconds");
+  accept(it.kind.calls.inTimezone(putFirst(it), offset, address.out));
+  return it.kind.read(kept);
+}

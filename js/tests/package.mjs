@@ -1,6 +1,8 @@
-// Wrong arguments, options, values, long texts, many calls, and the examples of documents: node package.mjs DOCUMENT..
+// Wrong arguments, options, values, other realms and prototypes, long texts, many calls, CommonJS, how a module is found, and the
+// examples of documents: node package.mjs DOCUMENT..
 import assert from "node:assert/strict";
 import { readFileSync, writeFileSync } from "node:fs";
+import { createRequire } from "node:module";
 import { setFlagsFromString } from "node:v8";
 import { runInNewContext } from "node:vm";
 import * as speedate from "speedate";
@@ -12,6 +14,7 @@ const time = parseTime("12:13:14.5Z");
 const dateTime = parseDateTime("2020-02-29T12:13:14.5Z");
 const duration = parseDuration("-P1DT0.001002S");
 const readers = Object.keys(speedate).filter((it) => /arse/.test(it));
+const wasm = new WebAssembly.Module(readFileSync("node_modules/speedate/speedate.wasm"));
 
 // ---- Wrong arguments: of each call those that are right, and what is wrong in the place of each ----
 
@@ -19,6 +22,7 @@ const noObject = [null, true, 5, 5n, NaN, "x", Symbol("x"), () => 1];
 const noText = [undefined, ...noObject.filter((it) => it !== "x"), {}, ["12:13"], new String("12:13"), new Uint16Array(4), new ArrayBuffer(4)];
 const noOptions = [...noObject, [], new Map(), new Date(), { other: 1 }, { [Symbol("x")]: 1 }];
 const noValue = [undefined, ...noObject, {}, [], new Date(), { ...date, week: 1 }, { year: 2020, month: 2 }, { ...date, day: "29" },
+  { ...date, [Symbol("x")]: 1 }, Object.create(date), { ...date, day: Symbol("x") },
   { ...date, day: 29n }, { ...time, second: undefined }, { ...dateTime, offsetSeconds: undefined }, { ...duration, sign: null }];
 const noNumber = [undefined, ...noObject.filter((it) => typeof it !== "number"), {}];
 const noUnit = [undefined, ...noObject, {}, "S", "", "seconds"];
@@ -34,6 +38,7 @@ const CALLS = {
   format: [[time, noValue]], compare: [ofDate, ofDate], between: [ofDate, ofDate], daysSince: [ofDate, ofDate],
   addDays: [ofDate, [1, noNumber]], dayOfYear: [ofDate], negate: [ofDuration], totalSeconds: [ofDuration],
   after: ofMove, before: ofMove, inTimezone: [[time, [...noValue, date, duration]], [0, noNumber]],
+  init: [[wasm, [undefined, ...noObject, {}, new WebAssembly.Module(new Uint8Array([0, 97, 115, 109, 1, 0, 0, 0]))]]],
 };
 assert.deepEqual([...Object.keys(CALLS), "SpeedateError"].sort(), Object.keys(speedate).sort());
 for (const [name, places] of Object.entries(CALLS))
@@ -48,15 +53,21 @@ for (const it of [...noIntegers, 2 ** 31, -(2 ** 31) - 1]) assert.throws(() => a
 for (const it of [...noIntegers, 2 ** 31, -(2 ** 31) - 1]) assert.throws(() => inTimezone(time, it), outside("offsetSeconds"));
 for (const it of [...noIntegers, 2 ** 63, 2n ** 63n, -(2n ** 63n) - 1n]) assert.throws(() => dateFromTimestamp(it, "s"), outside("timestamp"));
 for (const it of [-1, 2 ** 32]) assert.throws(() => speedate.timeFromTimestamp(it, "s"), outside("timestamp"));
+for (const it of [-1, -1n]) for (const unit of ["ms", "us"]) assert.throws(() => speedate.timeFromTimestamp(it, unit), outside("timestamp"));
+assert.throws(() => dateFromTimestamp(1, "s"), refused("date_not_exact"));
 for (const it of noIntegers) assert.throws(() => format({ ...date, day: it }), outside("day"));
 for (const it of [-1, 256, 2 ** 40]) assert.throws(() => format({ ...date, month: it }), refused("out_of_range_month"));
 for (const it of [-1, 1000, 2 ** 40]) assert.throws(() => format({ ...time, microsecond: it }), refused("time_too_large"));
-for (const it of [86400, -86400, 2 ** 40]) assert.throws(() => format({ ...time, offsetSeconds: it }), refused("out_of_range_tz"));
+for (const it of [86400, -86400, 2 ** 40, -(2 ** 40)]) assert.throws(() => format({ ...time, offsetSeconds: it }), refused("out_of_range_tz"));
 assert.throws(() => format({ ...date, year: -1 }), refused("date_too_small"));
 assert.throws(() => format({ ...duration, days: 1 }), outside("days"));
 assert.throws(() => format({ ...time, offsetSeconds: 90 }), outside("offsetSeconds"));
 assert.throws(() => fromDate(new Date(NaN)), outside("date"));
 assert.throws(() => toDate({ ...dateTime, offsetSeconds: null }), refused("tz_required"));
+for (const call of [format, toDate]) for (const offsetSeconds of [null, 90])
+  assert.throws(() => call({ ...dateTime, day: 32, offsetSeconds }), refused("out_of_range_day"), "the range comes first");
+assert.throws(() => parseTime("12:13\u00e2\u0088\u009208:00"), refused("invalid_char_tz_sign"), "three characters are not the bytes of U+2212");
+assert.equal(parseTime("12:13\u221208:00").offsetSeconds, -28800);
 
 // ---- Options: the readers that have each, and values that it has not ----
 
@@ -72,18 +83,72 @@ for (const name of readers) {
     const isNamed = (error) => error instanceof TypeError && error.message.includes(option);
     const besides = option === "timestampOffset" && has.test(name) ? { timestamps: "s" } : {};
     for (const it of has.test(name) ? wrong : [true, "s", "error", 0]) assert.throws(() => speedate[name]("x", { ...besides, [option]: it }), isNamed);
-    if (name.startsWith("safe")) assert.equal(speedate[name]("x", { [option]: undefined }), speedate[name]("x"));
+    if (name.startsWith("safe")) assert.deepEqual(speedate[name]("x", { [option]: undefined }), speedate[name]("x"));
   }
 }
 assert.throws(() => parseDateTime("x", { strict: true, timestamps: "s" }), /strict and timestamps/);
 assert.throws(() => parseDateTime("x", { timestampOffset: 0 }), /timestampOffset/);
 
+// ---- Errors, and what is handed out ----
+
+const thrown = (call) => {
+  try {
+    call();
+  } catch (error) {
+    return error;
+  }
+};
+const error = thrown(() => parseDate("x"));
+assert.deepEqual({ ...error }, { name: "SpeedateError", fault: "too_short", code: 1 });
+assert.equal(String(error), "SpeedateError: input is too short");
+assert.match(error.stack, /\bparseDate\b/);
+for (const [name, it] of Object.entries(speedate)) assert.equal(it.name, name);
+for (const make of [() => parseDate("2020-02-29"), () => parseTime("12:13"), () => parseDateTime("2020-02-29T12:13"), () => parseDuration("PT1S"),
+  () => parseDateFront("2020-02-29"), () => safeParseDate("2020-02-29"), () => safeParseDate("x")]) {
+  const before = structuredClone(make());
+  const it = make();
+  for (const name of Object.keys(it)) it[name] = "changed";
+  assert.deepEqual(make(), before, "what is handed out is the caller's");
+}
+
+// ---- Other realms, prototypes that others have changed, and arrays that are not what they say ----
+
+const elsewhere = (code) => runInNewContext(code);
+assert.deepEqual(parseDate("86400", elsewhere("({ timestamps: 's' })")), parseDate("1970-01-02"));
+assert.equal(format(fromDate(elsewhere("new Date(0)"))), "1970-01-01T00:00:00Z");
+assert.deepEqual(parseTime(elsewhere("new Uint8Array([49, 50, 58, 49, 51])")), parseTime("12:13"));
+assert.equal(format(elsewhere("({ year: 2020, month: 2, day: 29 })")), "2020-02-29");
+
+const polluted = { timestamps: "s", timestampOffset: 0, overflow: "truncate", isoOrder: "strict", strict: true, exact: false, offsetSeconds: 90, hour: 1, kind: 1 };
+const unchanged = () => [safeParseDate("86400"), safeParseDate("86400", {}), speedate.safeParseTime("12:13:14.1234567", {}), speedate.safeParseDateTime("2020-02-29 12:13"),
+  speedate.safeParseDateTime("1.5", { overflow: "truncate" }), speedate.safeParseDuration("P1D1Y"), thrown(() => dateFromTimestamp(1, "s")).fault,
+  speedate.dateTimeFromTimestamp(1, "s"), speedate.dateTimeFromTimestamp(1, "s", {}), format(date), format(duration), speedate.dayOfYear(date)];
+const before = unchanged();
+for (const [name, value] of Object.entries(polluted)) Object.prototype[name] = value;
+try {
+  assert.deepEqual(unchanged(), before);
+} finally {
+  for (const name of Object.keys(polluted)) delete Object.prototype[name];
+}
+for (const length of [20, -1, 2 ** 24 + 1, NaN]) {
+  class Odd extends Uint8Array {
+    get length() {
+      return length;
+    }
+  }
+  parseDate("2020-02-29");
+  assert.equal(safeParseDate(Odd.from(Buffer.from("2020-02-29"))).value?.day, 29, "the length of an array is its own");
+  assert.equal(parseDateFront(Odd.from(Buffer.from("2020-02-29 ".padEnd(100)))).size, 10);
+}
+const gone = new Uint8Array(2 ** 25);
+structuredClone(gone.buffer, { transfer: [gone.buffer] });
+assert.throws(() => parseDate(gone));
+assert.deepEqual(parseDate("2020-02-29"), date);
+
 // ---- Values, long texts, and many ----
 
-assert.ok([date, time, dateTime, duration, safeParseDate("x"), safeParseDate("2020-02-29"), parseDateFront("2020-02-29")].every(Object.isFrozen));
 assert.deepEqual(duration, { sign: -1, days: -1, seconds: 0, milliseconds: -1, microseconds: -2 });
 assert.deepEqual(safeParseDate("x"), { ok: false, fault: "too_short", code: 1, message: "input is too short" });
-assert.equal(safeParseDate("x"), speedate.safeParseTime("x"));
 assert.deepEqual(fromDate(toDate(dateTime)), dateTime);
 const seen = [];
 format(new Proxy(dateTime, { get: (it, name) => (seen.push(name), it[name]) }));
@@ -94,6 +159,40 @@ for (const size of [63, 64, 65, 65000, 66000, 2 ** 24, 2 ** 24 + 1]) {
   for (const it of [text, Buffer.from(text)]) assert.equal(parseDuration(it).sign, 1);
   assert.deepEqual(parseDateFront(`2020-02-29${"\u2212".repeat(size)}`), { value: date, size: 10, length: 10 });
 }
+
+// Of a long line a reader of fronts gets no more than it can look at. The functions of C get all of it, and answer alike.
+const { memory, __heap_base: base, ...inC } = new WebAssembly.Instance(wasm).exports;
+memory.grow(1);
+const [OUT, TAKEN, CONFIG, TEXT] = [0, 16, 24, 32].map((it) => Number(base.value) + it);
+/** The code and the size that C gives of the front of a text. */
+function frontInC(kind, text, isTruncated) {
+  const bytes = Buffer.from(text);
+  const view = new DataView(memory.buffer);
+  new Uint8Array(memory.buffer).set(bytes, TEXT);
+  view.setUint8(CONFIG + 6, isTruncated ? 1 : 0);
+  const config = kind === "date" ? [] : [BigInt(CONFIG)];
+  const code = inC[`speedate_${kind}_parse_front`](BigInt(TEXT), BigInt(bytes.length), ...config, BigInt(OUT), BigInt(TAKEN));
+  return [code, code === 0 ? view.getUint32(TAKEN, true) : undefined];
+}
+let drawn = 1;
+const one = (all) => all[(drawn = (drawn * 48271) % 2147483647) % all.length];
+const VALUES = ["2020-02-29", "2020-02-29T12:13", "2020-02-29T12:13:14", "2020-02-29 12:13:14.5", "12:13", "12:13:14,", "12:13:14.1234567", "2020-02-29T12:13:14.1234567", "12:1", "2020-13"];
+const DIGITS = ["", "", "0".repeat(12), "1".repeat(31), "2".repeat(40), "3".repeat(100)];
+const ZONES = ["", "Z", "+01:00", "-0130", "\u221208:00", "\u22128:00", "+25:00", "+01:0", "+", "\u00e2\u0088\u009208:00", "9", "-00:00", "\u{1f600}", "\ud83d"];
+const RESTS = ["", " x", "x".repeat(70), "7".repeat(200), "\u{1f600}".repeat(50), "+01:00".repeat(40), " ".repeat(1000)];
+const FRONT_KINDS = { date: speedate.safeParseDateFront, time: speedate.safeParseTimeFront, datetime: speedate.safeParseDateTimeFront };
+for (let i = 0; i < 5000; i++) {
+  const text = one(VALUES) + one(DIGITS) + one(ZONES) + one(RESTS);
+  for (const [kind, parse] of Object.entries(FRONT_KINDS)) {
+    const isTruncated = kind !== "date" && one([true, false]);
+    const options = isTruncated ? { overflow: "truncate" } : undefined;
+    for (const it of [text, Buffer.from(text)]) {
+      const { ok, code = 0, value } = parse(it, options);
+      assert.deepEqual([code, value?.size], frontInC(kind, text, isTruncated), text);
+      if (ok && it === text) assert.equal(Buffer.byteLength(text.slice(0, value.length)), value.size, text);
+    }
+  }
+}
 setFlagsFromString("--expose-gc");
 const collect = runInNewContext("gc");
 const held = () => (collect(), process.memoryUsage().rss / 2 ** 20);
@@ -102,6 +201,35 @@ const long = Buffer.alloc(2 ** 25, "2020-02-29");
 for (let i = 0; i < 100; i++) assert.equal(safeParseDate(long).fault, "extra_characters");
 for (let i = 0; i < 1000000; i++) safeParseDate(i % 2 ? "2020-02-29" : "2021-02-29");
 assert.ok(held() < atFirst + 200, `${atFirst} megabytes at first, and ${held()} in the end`);
+
+// ---- CommonJS, a module that is handed over, and engines without WebAssembly ----
+
+const require = createRequire(import.meta.url);
+const inCommonJs = require("speedate");
+assert.ok(require.resolve("speedate").endsWith("speedate.cjs"));
+assert.deepEqual(Object.keys(inCommonJs), Object.keys(speedate).sort((one, other) => Object.keys(inCommonJs).indexOf(one) - Object.keys(inCommonJs).indexOf(other)));
+assert.deepEqual(inCommonJs.parseDate("2020-02-29"), date);
+assert.equal(require("speedate/package.json").name, "speedate");
+const copy = (name) => import(`./node_modules/speedate/speedate.js?${name}`);
+const { Module } = WebAssembly;
+const handedOver = await copy("init");
+WebAssembly.Module = class { static exports = Module.exports; constructor() { throw new Error("no bytes are compiled here"); } };
+assert.throws(() => handedOver.parseDate("2020-02-29"), { message: /^speedate needs WebAssembly/ });
+handedOver.init(new Module(readFileSync(require.resolve("speedate/speedate.wasm"))));
+assert.deepEqual(handedOver.parseDate("2020-02-29"), date);
+WebAssembly.Module = Module;
+const { WebAssembly: there } = globalThis;
+delete globalThis.WebAssembly;
+const without = await copy("without");
+assert.throws(() => without.parseDate("2020-02-29"), { constructor: Error, message: /^speedate needs WebAssembly with BigInt and bulk memory \(Node 20/ });
+globalThis.WebAssembly = there;
+for (const fromBase64 of [undefined, (text) => Uint8Array.from(Buffer.from(text, "base64"))]) {
+  const { fromBase64: own } = Uint8Array;
+  Uint8Array.fromBase64 = fromBase64;
+  assert.deepEqual((await copy(`base64${fromBase64}`)).parseDate("2020-02-29"), date);
+  if (own) Uint8Array.fromBase64 = own;
+  else delete Uint8Array.fromBase64;
+}
 
 // ---- The documents of the package: each link leads to a place in one of them ----
 

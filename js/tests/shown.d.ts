@@ -1,6 +1,10 @@
-// What the document's blocks in TypeScript name besides this package.
+// What the document's blocks in TypeScript, and the test of the types, name besides this package.
 declare module "zod" {
   interface Context { addIssue(issue: { code: "custom"; message: string; params: object }): void }
   export const z: { string(): { transform<T>(of: (text: string, context: Context) => T): T }; NEVER: never };
+}
+declare module "node:assert/strict" {
+  const assert: { deepEqual(one: unknown, other: unknown): void; throws(call: () => unknown, type: unknown, text: string): void };
+  export default assert;
 }
 declare const Temporal: any;

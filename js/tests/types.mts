@@ -1,21 +1,96 @@
 // What the types allow, and what they refuse.
+import assert from "node:assert/strict";
 import * as speedate from "speedate";
-import type { Answer, Fault, SpeedateDate, SpeedateDateTime } from "speedate";
+import type { Answer, Fault, Front, Refusal, SpeedateDate, SpeedateDateTime, SpeedateDuration, SpeedateTime, SpeedateValue } from "speedate";
 
-const date: SpeedateDate = speedate.parseDate("2020-02-29", { timestamps: "s" });
-const moment: SpeedateDateTime = speedate.after(speedate.parseDateTime(new Uint8Array(), { strict: true }), speedate.parseDuration("PT1S"));
-const answer: Answer<SpeedateDate> = speedate.safeParseDate("2020-02-29");
-const fault: Fault | number = answer.ok ? answer.value.year : answer.fault;
-const length: number = speedate.parseTimeFront("12:13 x").length;
-export const used = [date, length, fault, speedate.toDate(moment), speedate.dayOfYear(date), speedate.dateTimeFromTimestamp(1n, "us", { timestampOffset: 0 })];
+// Whether two types are the same one, not only whether one fits the other.
+type Same<One, Other> = (<It>() => It extends One ? 1 : 2) extends <It>() => It extends Other ? 1 : 2 ? true : false;
+const same = <One, Other>(is: Same<One, Other>, value: One): One => value;
+type Clock = { readonly ok: true; readonly value: SpeedateTime } | Refusal;
 
-// @ts-expect-error
-["2020-02-29"].map(speedate.parseDate);
-// @ts-expect-error
-speedate.parseDateFront("", { overflow: "truncate" });
-// @ts-expect-error
-speedate.parseDateTime("", { strict: true, timestamps: "s" });
-// @ts-expect-error
-speedate.parseTimeFront(new Uint8Array()).length;
-// @ts-expect-error
-speedate.dateFromTimestamp(0);
+// One use of each export, whose type is written out. The record has all names that the types declare, and no others.
+const date: SpeedateDate = { year: 2020, month: 2, day: 29 };
+const time: SpeedateTime = { hour: 12, minute: 13, second: 14, millisecond: 500, microsecond: 0, offsetSeconds: 0 };
+const moment: SpeedateDateTime = { ...date, ...time, hour: 12, year: 2020 };
+const second: SpeedateDuration = { sign: 1, days: 0, seconds: 1, milliseconds: 0, microseconds: 0 };
+const bytes = new Uint8Array([49, 50, 58, 49, 51]);
+const uses: Record<keyof typeof speedate, unknown> = {
+  parseDate: same<SpeedateDate, ReturnType<typeof speedate.parseDate>>(true, speedate.parseDate("86400", { timestamps: "s" })),
+  parseTime: same<SpeedateTime, ReturnType<typeof speedate.parseTime>>(true, speedate.parseTime(bytes, { strict: false, overflow: "error" })),
+  parseDateTime: same<SpeedateDateTime, ReturnType<typeof speedate.parseDateTime>>(true, speedate.parseDateTime("1", { timestamps: "us", timestampOffset: 0 })),
+  parseDuration: same<SpeedateDuration, ReturnType<typeof speedate.parseDuration>>(true, speedate.parseDuration("PT1S", { isoOrder: "strict", overflow: "truncate" })),
+  parseDateFront: same<number, Front<SpeedateDate, string>["length"]>(true, speedate.parseDateFront("2020-02-29 x").length),
+  parseTimeFront: same<SpeedateTime, Front<SpeedateTime, Uint8Array>["value"]>(true, speedate.parseTimeFront(bytes).value),
+  parseDateTimeFront: same<number, Front<SpeedateDateTime, string>["size"]>(true, speedate.parseDateTimeFront("2020-02-29T12:13", { overflow: "truncate" }).size),
+  safeParseDate: same<Answer<SpeedateDate>, ReturnType<typeof speedate.safeParseDate>>(true, speedate.safeParseDate("x", { timestamps: "infer" })),
+  safeParseTime: same<Clock, ReturnType<typeof speedate.safeParseTime>>(true, speedate.safeParseTime("12:13Z", { strict: true })),
+  safeParseDateTime: same<Answer<SpeedateDateTime>, ReturnType<typeof speedate.safeParseDateTime>>(true, speedate.safeParseDateTime("x", { strict: true })),
+  safeParseDuration: same<Answer<SpeedateDuration>, ReturnType<typeof speedate.safeParseDuration>>(true, speedate.safeParseDuration("x", { isoOrder: "lax" })),
+  safeParseDateFront: ((it: Answer<Front<SpeedateDate, "x">>): Fault | number => (it.ok ? it.value.length : it.fault))(speedate.safeParseDateFront("x")),
+  safeParseTimeFront: ((it: Answer<Front<SpeedateTime, "x">>): string | number => (it.ok ? it.value.value.hour : it.message))(speedate.safeParseTimeFront("x", { overflow: "truncate" })),
+  safeParseDateTimeFront: ((it: Answer<Front<SpeedateDateTime, "x">>): number => (it.ok ? it.value.value.hour : it.code))(speedate.safeParseDateTimeFront("x", { overflow: "error" })),
+  dateFromTimestamp: same<SpeedateDate, ReturnType<typeof speedate.dateFromTimestamp>>(true, speedate.dateFromTimestamp(1n, "s", { exact: false })),
+  timeFromTimestamp: same<SpeedateTime, ReturnType<typeof speedate.timeFromTimestamp>>(true, speedate.timeFromTimestamp(1, "us", { timestampOffset: 0 })),
+  dateTimeFromTimestamp: same<SpeedateDateTime, ReturnType<typeof speedate.dateTimeFromTimestamp>>(true, speedate.dateTimeFromTimestamp(1n, "infer", { timestampOffset: 0 })),
+  epochMilliseconds: same<number, ReturnType<typeof speedate.epochMilliseconds>>(true, speedate.epochMilliseconds(moment)),
+  toDate: same<Date, ReturnType<typeof speedate.toDate>>(true, speedate.toDate(moment)),
+  fromDate: same<SpeedateDateTime, ReturnType<typeof speedate.fromDate>>(true, speedate.fromDate(new Date(0))),
+  format: same<string, ReturnType<typeof speedate.format>>(true, speedate.format(date as SpeedateValue)),
+  compare: [
+    same<-1 | 0 | 1, ReturnType<typeof speedate.compare>>(true, speedate.compare(date, date)), speedate.compare(time, time),
+    speedate.compare(moment, moment), speedate.compare(second, second), [date, date].sort(speedate.compare), [moment, moment].sort(speedate.compare),
+  ],
+  addDays: same<SpeedateDate, ReturnType<typeof speedate.addDays>>(true, speedate.addDays(date, 1)),
+  daysSince: same<number, ReturnType<typeof speedate.daysSince>>(true, speedate.daysSince(date, date)),
+  dayOfYear: same<number, ReturnType<typeof speedate.dayOfYear>>(true, speedate.dayOfYear(date)),
+  after: [((it: SpeedateDate) => it.day)(speedate.after(date, speedate.parseDuration("P1D"))), speedate.after(moment, second).hour],
+  before: [((it: SpeedateDate) => it.day)(speedate.before(date, speedate.parseDuration("P1D"))), speedate.before(moment, second).hour],
+  between: [same<SpeedateDuration, ReturnType<typeof speedate.between>>(true, speedate.between(date, date)), speedate.between(moment, moment).sign],
+  negate: same<SpeedateDuration, ReturnType<typeof speedate.negate>>(true, speedate.negate(second)),
+  totalSeconds: same<number, ReturnType<typeof speedate.totalSeconds>>(true, speedate.totalSeconds(second)),
+  inTimezone: [((it: SpeedateTime) => it.hour)(speedate.inTimezone(time, 0)), speedate.inTimezone(moment, 3600).year],
+  init: ((call: (module: object) => void): string => call.name)(speedate.init),
+  SpeedateError: ((it: speedate.SpeedateError): [Fault, number, string] => [it.fault, it.code, it.message]).length,
+};
+// An import of CommonJS has a default too.
+assert.deepEqual(Object.keys(uses).sort(), Object.keys(speedate).filter((it) => it !== "default").sort());
+
+// What the types refuse, the calls refuse too.
+const refused = [
+  // @ts-expect-error
+  () => ["2020-02-29"].map(speedate.parseDate),
+  // @ts-expect-error
+  () => speedate.parseDateFront("", { overflow: "truncate" }),
+  // @ts-expect-error
+  () => speedate.parseDateTime("", { strict: true, timestamps: "s" }),
+  // @ts-expect-error
+  () => speedate.dateFromTimestamp(0),
+  // @ts-expect-error
+  () => speedate.addDays(moment, 1),
+  // @ts-expect-error
+  () => speedate.daysSince(date, moment),
+  // @ts-expect-error
+  () => speedate.dayOfYear(moment),
+  // @ts-expect-error
+  () => speedate.compare(date, moment),
+  // @ts-expect-error
+  () => speedate.compare(moment, time),
+  // @ts-expect-error
+  () => speedate.between(date, moment),
+  // @ts-expect-error
+  () => speedate.between(time, time),
+  // @ts-expect-error
+  () => speedate.inTimezone(date, 0),
+  // @ts-expect-error
+  () => speedate.epochMilliseconds(date),
+  // @ts-expect-error
+  () => speedate.after(time, second),
+];
+for (const call of refused) assert.throws(call, TypeError, String(call));
+
+export const unsaid = [
+  // @ts-expect-error
+  () => speedate.parseTimeFront(bytes).length,
+  // @ts-expect-error
+  () => (speedate.parseDate("2020-02-29").day = 1),
+];
