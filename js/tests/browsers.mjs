@@ -1,52 +1,110 @@
 // In an engine the page from disk, narrow and wide, the rows of C, the examples of a document with Temporal, and drawn texts,
-// whose answers are those of Node: node browsers.mjs ENGINE OUT ROWS DOCUMENT. ENGINE is chromium, firefox-esr, or the path of
-// WebKit's MiniBrowser, which WebKitWebDriver opens.
+// whose answers are those of Node: node browsers.mjs ENGINE ROOT. engine.mjs says what ENGINE is, and ROOT is the clone.
 import assert from "node:assert/strict";
-import { spawn } from "node:child_process";
-import { on } from "node:events";
-import { mkdtempSync, readFileSync, writeFileSync } from "node:fs";
-import { createServer } from "node:http";
-import { text } from "node:stream/consumers";
-import { setTimeout as sleep } from "node:timers/promises";
+import { spawnSync } from "node:child_process";
+import { readdirSync, readFileSync, writeFileSync } from "node:fs";
 import { pathToFileURL } from "node:url";
+import * as speedate from "speedate";
 import { readDrawn } from "./drawn.mjs";
+import { open, serve } from "./engine.mjs";
 import { scriptOf } from "./examples.mjs";
 
-const [engine, out, rows, document] = process.argv.slice(2);
+const [engine, root] = process.argv.slice(2);
+const source = (name) => readFileSync(`${root}/${name}`, "utf8");
 
 // ---- What runs in a page, which posts what it finds to a server on the loopback ----
 
-/** What the page to try shows by its address and after each step of a visitor, whether it is as wide as its frame, and the least
- * milliseconds in which it shows what a typed text is: the machine may be busy. */
-function visit() {
+/** What the page to try shows by its address and after each step of a visitor; what is wrong with how it looks and is reached,
+ * which should be nothing; the calls that it shows; and the least milliseconds in which it shows what a typed text is: the
+ * machine may be busy. */
+async function visit() {
   const form = document.forms[0];
-  const [nav, summary, main] = ["nav", "summary", "main"].map((it) => document.querySelector(it));
-  const shown = () => Array.from(main.children, (it) => `${it.className} ${it.querySelector("output").textContent}`).join(", ");
-  const fits = () => document.documentElement.scrollWidth <= innerWidth;
+  const [nav, options, main, status] = ["nav", "details", "main", "[role=status]"].map((it) => document.querySelector(it));
+  const sleep = (milliseconds) => new Promise((resolve) => setTimeout(resolve, milliseconds));
+  const all = (selector, map) => Array.from(main.querySelectorAll(selector), map);
+  const shown = () => [
+    ...all("section", (it) => `${it.querySelector("h2").textContent}: ${it.querySelector("dd:last-child").textContent}`),
+    ...all("details", (it) => `${it.querySelector("b").textContent}: ${it.querySelector("p").textContent}`),
+  ].join(", ");
   const type = (it) => {
     const start = performance.now();
     form.text.value = it;
     form.text.dispatchEvent(new Event("input", { bubbles: true }));
-    return fits() ? performance.now() - start : Infinity;
+    return document.documentElement.scrollWidth <= innerWidth ? performance.now() - start : Infinity;
   };
+  let changes = 0;
+  const { replaceState } = history;
+  history.replaceState = (...its) => (changes++, replaceState.apply(history, its));
+
   const steps = [shown(), main.querySelector("a").getAttribute("href"), form.timestampOffset.disabled];
   type("PT90M");
   steps.push(shown());
   nav.querySelector('a[href*="20200229&timestamps"]').click();
-  steps.push(shown(), location.search, summary.textContent, form.timestampOffset.disabled);
+  steps.push(shown(), options.querySelector("summary").textContent, form.timestampOffset.disabled);
   form.strict.click();
-  steps.push(shown(), summary.offsetTop < main.offsetTop);
-  steps.push(Array.from(nav.querySelectorAll("a"), (it) => (it.click(), fits())).every(Boolean));
+  steps.push(shown());
   const typed = "2020-02-29T12:13:14.5+01:30";
-  report({ width: innerWidth, steps, least: Math.min(...Array.from(typed, (_, i) => type(typed.slice(0, i + 1)))) });
+  form.reset();
+  const least = Math.min(...Array.from(typed, (_, i) => type(typed.slice(0, i + 1))));
+  steps.push(changes, main.querySelector(".said").textContent, all(".said span, dd span", (it) => `${it.className} ${it.textContent}`).join("|"));
+  await sleep(900);
+  steps.push(changes, location.search, status.textContent);
+
+  const wrong = [];
+  const has = (holds, what) => holds || wrong.push(what);
+  has(document.querySelectorAll("[aria-live], [role=status], [role=alert]").length === 1, "one live line");
+  has(document.getElementById(form.text.getAttribute("aria-describedby")).textContent, "a description");
+  const follows = (one, other) => one.compareDocumentPosition(other) & Node.DOCUMENT_POSITION_FOLLOWING;
+  has(follows(options, nav) && follows(nav, main), "options, examples and then the answer");
+  options.open = true;
+  const light = (color) => {
+    const [red, green, blue] = color.match(/[\d.]+/g).map((it) => (it / 255 <= 0.03928 ? it / 255 / 12.92 : ((it / 255 + 0.055) / 1.055) ** 2.4));
+    return 0.2126 * red + 0.7152 * green + 0.0722 * blue;
+  };
+  const calls = [];
+  for (const link of nav.querySelectorAll("a")) {
+    link.click();
+    const name = link.textContent;
+    has(document.documentElement.scrollWidth <= innerWidth, `${name} is as wide as its frame`);
+    for (const it of document.querySelectorAll("a, button, summary, input, select")) {
+      const { width, height } = it.getBoundingClientRect();
+      has(height === 0 || (height >= 24 && width >= 24), `${name}: ${it.textContent || it.name} has ${width} by ${height} points`);
+      const { borderTopWidth, borderTopColor } = getComputedStyle(it);
+      has(borderTopWidth === "0px" || 1.05 / (light(borderTopColor) + 0.05) >= 3, `${name}: the border of ${it.textContent || it.name}`);
+    }
+    for (const it of all("dd", (it) => it)) has(it.scrollWidth <= it.clientWidth, `${name}: ${it.textContent} in one line`);
+    for (const section of all("section", (it) => it)) {
+      const value = section.querySelector("dd:last-child").textContent;
+      const [copy] = Array.from(section.querySelectorAll("button")).slice(-1);
+      has(copy.textContent === "Copy", "a button that copies");
+      for (const button of section.querySelectorAll("button:not(:last-child)")) {
+        button.click();
+        has(button.getAttribute("aria-pressed") === "true", "the language that is chosen");
+        calls.push([button.textContent, value, section.querySelector("pre").textContent]);
+      }
+    }
+  }
+  options.open = false;
+  for (const link of nav.querySelectorAll("a")) {
+    link.click();
+    const { bottom } = main.querySelector(".said, .none").getBoundingClientRect();
+    has(bottom < 640, `${link.textContent} is answered at ${bottom} points`);
+    for (const it of all("details", (it) => it)) has(it.getBoundingClientRect().height < 50, `${link.textContent}: a refusal in a line`);
+  }
+  report({ width: innerWidth, steps, wrong, calls, least });
 }
 const STEPS = [
-  "refused out_of_range_day, refused invalid_char_time_sep, refused out_of_range_day, refused invalid_char_hour",
-  "faults.html#fault-out_of_range_day", true,
-  "refused too_short, refused invalid_char_hour, refused too_short, read PT1H30M",
-  "refused date_not_exact, refused invalid_char_time_sep, read 1970-08-22T19:10:29, refused invalid_char_hour",
-  "?text=20200229&timestamps=infer", "Options, timestamps: infer", false,
-  "refused date_not_exact, refused invalid_char_time_sep, refused TypeError, refused invalid_char_hour", true, true,
+  "Date: out_of_range_day, Time: invalid_char_time_sep, Date-time: out_of_range_day, Duration: invalid_char_hour",
+  "../docs/GRAMMAR.md#fault-out_of_range_day", true,
+  "Duration: PT1H30M, Date: too_short, Time: invalid_char_hour, Date-time: too_short",
+  "Date-time: 1970-08-22T19:10:29, Date: date_not_exact, Time: invalid_char_time_sep, Duration: invalid_char_hour",
+  "Options, timestamps: infer", false,
+  "Date: date_not_exact, Time: invalid_char_time_sep, Date-time: TypeError, Duration: invalid_char_hour",
+  0, "Saturday, 29 February 2020, 12:13:14.5, 1:30 east of UTC: 10:43:14.5 UTC",
+  "date Saturday, 29 February 2020|time 12:13:14.5|offset 1:30 east of UTC|date 2020-02-29|time 12:13:14.5|offset +01:30" +
+    "|date 2020-02-29|time 12:13:14.500000|offset +01:30",
+  1, "?text=2020-02-29T12%3A13%3A14.5%2B01%3A30",
+  "Date-time: Saturday, 29 February 2020, 12:13:14.5, 1:30 east of UTC: 10:43:14.5 UTC.",
 ];
 
 /** The rows, the examples and the drawn texts. */
@@ -58,21 +116,14 @@ async function readAll() {
   report({ width: 0, temporal: typeof Temporal, drawn: readDrawn() });
 }
 
-// ---- The server, the pages and the engine ----
+// ---- The pages, in the engine ----
 
 const files = {
   ...Object.fromEntries(["rows.mjs", "shim.mjs", "drawn.mjs"].map((it) => [it, readFileSync(it)])),
-  "speedate.js": readFileSync(`${out}/js/speedate.js`), "rows.txt": readFileSync(rows),
-  "examples.js": scriptOf(readFileSync(document, "utf8"), "ts", "Temporal"),
+  "speedate.js": source("out/js/speedate.js"), "rows.txt": source("c/tests/rows.txt"),
+  "examples.js": scriptOf(source("docs/JAVASCRIPT.md"), "ts", "Temporal"),
 };
-const server = createServer(async (request, response) => {
-  if (request.method === "POST") server.emit("report", JSON.parse(await text(request)));
-  response.setHeader("content-type", `text/${request.url.endsWith("html") ? "html" : "javascript"};charset=utf-8`);
-  response.end(files[request.url.slice(1)]);
-});
-await new Promise((resolve) => server.listen(0, "127.0.0.1", resolve));
-const { port } = server.address();
-
+const { port, next } = await serve(files);
 const reporting = `<script>
   const report = (it) => fetch("http://127.0.0.1:${port}/", { method: "POST", mode: "no-cors", body: JSON.stringify(it) })
     .then(() => parent.postMessage("next", "*"));
@@ -82,47 +133,48 @@ const reporting = `<script>
 files["all.html"] = `<!DOCTYPE html>${reporting}
   <script type="importmap">{ "imports": { "speedate": "./speedate.js", "node:assert/strict": "./shim.mjs", "node:fs": "./shim.mjs" } }</script>
   <script type="module">(${readAll})()</script>`;
-const page = readFileSync(`${out}/try.html`, "utf8").replace('content="#fault-"', 'content="faults.html#fault-"');
-writeFileSync("try.html", `${page}${reporting}<script type="module">(${visit})()</script>`);
+writeFileSync("try.html", `${source("out/try.html")}${reporting}<script type="module">(${visit})()</script>`);
 writeFileSync("frames.html", `<!DOCTYPE html><body><script>
   const frames = [[360, "try.html?text=2021-02-29"], [1280, "try.html?text=2021-02-29"], [100, "http://127.0.0.1:${port}/all.html"]];
   const add = ([width, src]) => document.body.append(Object.assign(document.createElement("iframe"), { width, src, height: 800 }));
   onmessage = () => frames.length && add(frames.shift());
   onmessage();
 </script>`);
-
-/** Starts a program, which ends with this one. As root, WebKit wants no sandbox. */
-function start(command, ...args) {
-  const env = { ...process.env, WEBKIT_DISABLE_SANDBOX_THIS_IS_DANGEROUS: "1" };
-  const { pid } = spawn(command, args, { detached: true, stdio: "ignore", env });
-  process.on("exit", () => process.kill(-pid));
-}
-
-setTimeout(() => assert.fail(`${engine} does not answer`), 240000);
-const url = pathToFileURL("frames.html").href;
-const profile = mkdtempSync(`${process.cwd()}/profile`);
-if (engine === "chromium") start(engine, "--headless", "--no-sandbox", "--disable-gpu", `--user-data-dir=${profile}`, url);
-else if (engine === "firefox-esr") start(engine, "--headless", "--no-remote", "--profile", profile, url);
-else {
-  start("xvfb-run", "-a", "WebKitWebDriver", `--port=${port + 1}`);
-  const driver = `http://127.0.0.1:${port + 1}`;
-  while (!(await fetch(`${driver}/status`).catch(() => false))) await sleep(100);
-  const ask = async (path, body) => (await fetch(`${driver}/session${path}`, { method: "POST", body: JSON.stringify(body) })).json();
-  const alwaysMatch = { "webkitgtk:browserOptions": { binary: engine, args: ["--automation"] } };
-  const { value } = await ask("", { capabilities: { alwaysMatch } });
-  await ask(`/${value.sessionId}/url`, { url });
-}
-
-const reports = [];
-for await (const [it] of on(server, "report")) {
-  assert.ok(!it.error, it.error);
-  if (reports.push(it) === 3) break;
-}
-const [all, ...visits] = reports.sort((one, other) => one.width - other.width);
+await open(engine, pathToFileURL("frames.html").href);
+const told = async (seconds, what) => {
+  const it = await next(seconds, `${engine}, ${what}`);
+  assert.ok(!it.error, `${engine}, ${what}: ${it.error}`);
+  return it;
+};
+const visits = [await told(120, "the page, narrow"), await told(120, "the page, wide")];
+const all = await told(240, "the rows and the drawn texts");
 assert.deepEqual(all.drawn, readDrawn());
 for (const [i, width] of [360, 1280].entries()) {
-  assert.deepEqual({ ...visits[i], least: 0 }, { width, steps: STEPS, least: 0 });
-  assert.ok(visits[i].least < 16, `what is typed is shown after ${visits[i].least} milliseconds`);
+  const { calls, least, ...others } = visits[i];
+  assert.deepEqual(others, { width, steps: STEPS, wrong: [] });
+  assert.ok(least < 16, `what is typed is shown after ${least} milliseconds`);
 }
+
+// ---- The calls that the page shows: those of JavaScript give the value, those of C are compiled, the others have names that are there ----
+
+const { calls } = visits[0];
+assert.deepEqual(calls, visits[1].calls);
+const of = (language) => calls.filter(([it]) => it === language).map(([, value, code]) => [code, value]);
+assert.ok(["Rust", "Python", "C", "JavaScript"].every((it) => of(it).length > 8));
+for (const [code, value] of of("JavaScript"))
+  assert.equal(speedate.format(new Function(...Object.keys(speedate), `return ${code}`)(...Object.values(speedate))), value);
+if (!spawnSync("cc", ["--version"]).error) {
+  const functions = of("C").map(([code], i) => `int call${i}(void) {\n${code}\nreturn code;\n}\n`);
+  writeFileSync("calls.c", `#include "${root}/c/speedate.h"\n${functions.join("")}`);
+  const { status, stderr } = spawnSync("cc", ["-Wall", "-Wextra", "-Werror", "-fsyntax-only", "calls.c"], { encoding: "utf8" });
+  assert.equal(status, 0, stderr);
+}
+const inPython = source("python/speedate/_speedate.pyi") + source("python/speedate/__init__.py");
+for (const [code] of of("Python"))
+  for (const [, called, named] of code.matchAll(/speedate\.(\w+)\(|(\w+)=/g))
+    assert.match(inPython, new RegExp(called ? `\\b(def|class) ${called}\\b` : `\\b${named}: `), code);
+const inRust = readdirSync(`${root}/rust/src`).map((it) => source(`rust/src/${it}`)).join("");
+for (const [code] of of("Rust").filter(([it]) => !it.startsWith("//")))
+  for (const [word] of code.replace(/"[^"]*"|^let \w+|&?\bconfig\b/gm, "").matchAll(/[A-Za-z]\w+/g)) assert.match(inRust, new RegExp(`\\b${word}\\b`), code);
 console.log(`${engine}: the page, the rows and the drawn texts${all.temporal === "undefined" ? "" : ", these beside Temporal too"}`);
 process.exit();
