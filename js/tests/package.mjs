@@ -155,8 +155,11 @@ format(new Proxy(dateTime, { get: (it, name) => (seen.push(name), it[name]) }));
 assert.deepEqual(seen, Object.keys(dateTime), "each field is looked at once");
 assert.equal(speedate.compare({ ...date, get day() { return format(time) && 29; } }, date), 0, "what a getter calls changes nothing");
 for (const size of [63, 64, 65, 65000, 66000, 2 ** 24, 2 ** 24 + 1]) {
-  const text = `PT0.${"0".repeat(size)}S`;
-  for (const it of [text, Buffer.from(text)]) assert.equal(parseDuration(it).sign, 1);
+  const text = `-P3DT0.${"0".repeat(size)}S`;
+  for (const it of [text, Buffer.from(text)]) {
+    assert.equal(format(parseDuration(it)), "-P3D");
+    assert.equal(format(parseDuration("PT1S")), "PT1S");
+  }
   assert.deepEqual(parseDateFront(`2020-02-29${"\u2212".repeat(size)}`), { value: date, size: 10, length: 10 });
 }
 
@@ -197,7 +200,9 @@ setFlagsFromString("--expose-gc");
 const collect = runInNewContext("gc");
 const held = () => (collect(), process.memoryUsage().rss / 2 ** 20);
 const atFirst = held();
-const long = Buffer.alloc(2 ** 25, "2020-02-29");
+let long = Buffer.alloc(2 ** 28, "2020-02-29");
+assert.equal(safeParseDate(long).fault, "extra_characters");
+long = Buffer.alloc(2 ** 25, "2020-02-29");
 for (let i = 0; i < 100; i++) assert.equal(safeParseDate(long).fault, "extra_characters");
 for (let i = 0; i < 1000000; i++) safeParseDate(i % 2 ? "2020-02-29" : "2021-02-29");
 assert.ok(held() < atFirst + 200, `${atFirst} megabytes at first, and ${held()} in the end`);

@@ -6,13 +6,19 @@ import type { Answer, Fault, Front, Refusal, SpeedateDate, SpeedateDateTime, Spe
 // Whether two types are the same one, not only whether one fits the other.
 type Same<One, Other> = (<It>() => It extends One ? 1 : 2) extends <It>() => It extends Other ? 1 : 2 ? true : false;
 const same = <One, Other>(is: Same<One, Other>, value: One): One => value;
-type Clock = { readonly ok: true; readonly value: SpeedateTime } | Refusal;
+type TimeOrRefusal = { readonly ok: true; readonly value: SpeedateTime } | Refusal;
 
 // One use of each export, whose type is written out. The record has all names that the types declare, and no others.
 const date: SpeedateDate = { year: 2020, month: 2, day: 29 };
 const time: SpeedateTime = { hour: 12, minute: 13, second: 14, millisecond: 500, microsecond: 0, offsetSeconds: 0 };
 const moment: SpeedateDateTime = { ...date, ...time, hour: 12, year: 2020 };
 const second: SpeedateDuration = { sign: 1, days: 0, seconds: 1, milliseconds: 0, microseconds: 0 };
+export const shapes = [
+  same<number, SpeedateDate["year" | "month" | "day"]>(true, 0),
+  same<number | null, SpeedateTime["offsetSeconds"]>(true, null), same<number, SpeedateTime["hour" | "minute" | "second" | "millisecond" | "microsecond"]>(true, 0),
+  same<number | null, SpeedateDateTime["offsetSeconds"]>(true, null), same<number, Exclude<SpeedateDateTime[keyof SpeedateDateTime], null>>(true, 0),
+  same<SpeedateDuration["sign"], 1 | -1>(true, second.sign), same<SpeedateDuration[keyof SpeedateDuration], number>(true, second.days),
+];
 const bytes = new Uint8Array([49, 50, 58, 49, 51]);
 const uses: Record<keyof typeof speedate, unknown> = {
   parseDate: same<SpeedateDate, ReturnType<typeof speedate.parseDate>>(true, speedate.parseDate("86400", { timestamps: "s" })),
@@ -23,7 +29,7 @@ const uses: Record<keyof typeof speedate, unknown> = {
   parseTimeFront: same<SpeedateTime, Front<SpeedateTime, Uint8Array>["value"]>(true, speedate.parseTimeFront(bytes).value),
   parseDateTimeFront: same<number, Front<SpeedateDateTime, string>["size"]>(true, speedate.parseDateTimeFront("2020-02-29T12:13", { overflow: "truncate" }).size),
   safeParseDate: same<Answer<SpeedateDate>, ReturnType<typeof speedate.safeParseDate>>(true, speedate.safeParseDate("x", { timestamps: "infer" })),
-  safeParseTime: same<Clock, ReturnType<typeof speedate.safeParseTime>>(true, speedate.safeParseTime("12:13Z", { strict: true })),
+  safeParseTime: same<TimeOrRefusal, ReturnType<typeof speedate.safeParseTime>>(true, speedate.safeParseTime("12:13Z", { strict: true })),
   safeParseDateTime: same<Answer<SpeedateDateTime>, ReturnType<typeof speedate.safeParseDateTime>>(true, speedate.safeParseDateTime("x", { strict: true })),
   safeParseDuration: same<Answer<SpeedateDuration>, ReturnType<typeof speedate.safeParseDuration>>(true, speedate.safeParseDuration("x", { isoOrder: "lax" })),
   safeParseDateFront: ((it: Answer<Front<SpeedateDate, "x">>): Fault | number => (it.ok ? it.value.length : it.fault))(speedate.safeParseDateFront("x")),
@@ -43,12 +49,12 @@ const uses: Record<keyof typeof speedate, unknown> = {
   addDays: same<SpeedateDate, ReturnType<typeof speedate.addDays>>(true, speedate.addDays(date, 1)),
   daysSince: same<number, ReturnType<typeof speedate.daysSince>>(true, speedate.daysSince(date, date)),
   dayOfYear: same<number, ReturnType<typeof speedate.dayOfYear>>(true, speedate.dayOfYear(date)),
-  after: [((it: SpeedateDate) => it.day)(speedate.after(date, speedate.parseDuration("P1D"))), speedate.after(moment, second).hour],
-  before: [((it: SpeedateDate) => it.day)(speedate.before(date, speedate.parseDuration("P1D"))), speedate.before(moment, second).hour],
+  after: [((it: SpeedateDate) => it.day)(speedate.after(date, speedate.parseDuration("P1D"))), same<SpeedateDateTime, ReturnType<typeof speedate.after>>(true, speedate.after(moment, second))],
+  before: [((it: SpeedateDate) => it.day)(speedate.before(date, speedate.parseDuration("P1D"))), same<SpeedateDateTime, ReturnType<typeof speedate.before>>(true, speedate.before(moment, second))],
   between: [same<SpeedateDuration, ReturnType<typeof speedate.between>>(true, speedate.between(date, date)), speedate.between(moment, moment).sign],
   negate: same<SpeedateDuration, ReturnType<typeof speedate.negate>>(true, speedate.negate(second)),
   totalSeconds: same<number, ReturnType<typeof speedate.totalSeconds>>(true, speedate.totalSeconds(second)),
-  inTimezone: [((it: SpeedateTime) => it.hour)(speedate.inTimezone(time, 0)), speedate.inTimezone(moment, 3600).year],
+  inTimezone: [((it: SpeedateTime) => it.hour)(speedate.inTimezone(time, 0)), same<SpeedateDateTime, ReturnType<typeof speedate.inTimezone>>(true, speedate.inTimezone(moment, 3600))],
   init: ((call: (module: object) => void): string => call.name)(speedate.init),
   SpeedateError: ((it: speedate.SpeedateError): [Fault, number, string] => [it.fault, it.code, it.message]).length,
 };
