@@ -85,7 +85,10 @@ function start() {
 
 /** The names and texts of the faults, by code. */
 const faults = [];
-const told = (call, code) => printed(call(code, address.buffer, BUFFER_SIZE, address.taken));
+function told(call, code) {
+  accept(call(code, address.buffer, BUFFER_SIZE, address.taken));
+  return printed();
+}
 
 /** The answer to what is refused. */
 function refusal(code) {
@@ -104,8 +107,7 @@ function accept(code) {
 const takenSize = () => kept.view.getUint32(PLACE.taken, true);
 
 /** The text that a call has printed: ASCII alone. */
-function printed(code) {
-  accept(code);
+function printed() {
   const { bytes } = kept;
   const end = PLACE.buffer + takenSize();
   let text = "";
@@ -256,11 +258,11 @@ const joined = (milli, micro) => (milli >= 0 && milli < 1000 && micro >= 0 && mi
 const fitting = (number, largest) => (number >= 0 && number <= largest ? number : largest);
 const integerOrNull = (value, name) => (value === null ? null : integer(value, name));
 
-/** A number of a duration with the sign, which no zero gets, and one without it. */
+/** A number of a duration with the sign, which no zero gets, and one as it was given without it. */
 const signed = (size, sign) => size * sign || 0;
-function sizeOf(number, sign, name) {
-  if (sign * number < 0) throw new RangeError(`${name} has another sign than sign`);
-  return Math.abs(number);
+function unsigned(value, sign, name) {
+  if (sign * integer(value, name) < 0) throw new RangeError(`${name} has another sign than sign`);
+  return Math.abs(value);
 }
 
 // Kinds of values: the name in C, the calls, by their names there until `init` puts the functions into their place, the fields,
@@ -280,7 +282,6 @@ const DATE = {
     kind: DATE, year: integer(it.year, "year"), month: integer(it.month, "month"), day: integer(it.day, "day"), offsetSeconds: null,
   }),
   put(view, at, { year, month, day }) {
-    if (year < 0) accept(CODE.dateTooSmall);
     view.setUint16(at, fitting(year, 0xffff), true);
     view.setUint8(at + 2, fitting(month, 0xff));
     view.setUint8(at + 3, fitting(day, 0xff));
@@ -347,17 +348,19 @@ const DURATION = {
     const microseconds = signed(microsecondOf(view, PLACE.out + 8), sign);
     return { sign, days, seconds, milliseconds, microseconds };
   },
-  look: (it) => ({
-    kind: DURATION,
-    sign: integer(it.sign, "sign"), days: integer(it.days, "days"), seconds: integer(it.seconds, "seconds"),
-    milliseconds: integer(it.milliseconds, "milliseconds"), microseconds: integer(it.microseconds, "microseconds"), offsetSeconds: null,
-  }),
+  look(it) {
+    const sign = integer(it.sign, "sign");
+    const days = unsigned(it.days, sign, "days");
+    const seconds = unsigned(it.seconds, sign, "seconds");
+    const milliseconds = unsigned(it.milliseconds, sign, "milliseconds");
+    const microseconds = unsigned(it.microseconds, sign, "microseconds");
+    return { kind: DURATION, sign, days, seconds, milliseconds, microseconds, offsetSeconds: null };
+  },
   put(view, at, { sign, days, seconds, milliseconds, microseconds }) {
     view.setUint32(at, sign === 1 ? 0 : sign === -1 ? 1 : 0xffffffff, true);
-    view.setUint32(at + 4, fitting(sizeOf(days, sign, "days"), 0xffffffff), true);
-    view.setUint32(at + 8, fitting(sizeOf(seconds, sign, "seconds"), 0xffffffff), true);
-    const micro = joined(sizeOf(milliseconds, sign, "milliseconds"), sizeOf(microseconds, sign, "microseconds"));
-    view.setUint32(at + 12, fitting(micro, 0xffffffff), true);
+    view.setUint32(at + 4, fitting(days, 0xffffffff), true);
+    view.setUint32(at + 8, fitting(seconds, 0xffffffff), true);
+    view.setUint32(at + 12, fitting(joined(milliseconds, microseconds), 0xffffffff), true);
   },
 };
 const ALL_KINDS = [DATE, TIME, DATE_TIME, DURATION];
@@ -380,12 +383,25 @@ function areFields(names, fields) {
 }
 
 /** Puts a value that was given into the memory as the first or the second one, and gives its address. */
-const putFirst = (it) => put(it, PLACE.first, address.first);
-const putSecond = (it) => put(it, PLACE.second, address.second);
-function put(it, at, place) {
-  it.kind.put(kept.view, at, it);
+function putFirst(it) {
+  it.kind.put(kept.view, PLACE.first, it);
+  return address.first;
+}
+function putSecond(it) {
+  it.kind.put(kept.view, PLACE.second, it);
+  return address.second;
+}
+
+/** Throws if this is the code of a call of these values that refused: for the first of them that is out of range, or by itself. */
+function acceptOf(code, first, second) {
+  if (code === 0) return;
+  check(first, address.first);
+  if (second !== undefined) check(second, address.second);
+  accept(code);
+}
+function check(it, place) {
+  if (WITH_DATE.includes(it.kind) && it.year < 0) accept(CODE.dateTooSmall);
   accept(it.kind.calls.check(place));
-  return place;
 }
 
 // ---- Reading ----
@@ -549,7 +565,7 @@ export function timeFromTimestamp(timestamp, unit, options) {
 
 export function epochMilliseconds(value) {
   const it = given(value, "value", JUST.dateTime);
-  accept(calls.speedate_datetime_timestamp_tz_ms(putFirst(it), address.out));
+  acceptOf(calls.speedate_datetime_timestamp_tz_ms(putFirst(it), address.out), it);
   if (it.offsetSeconds === null) accept(CODE.tzRequired);
   return int64Out();
 }
@@ -567,74 +583,74 @@ export function fromDate(date) {
 
 export function format(value) {
   const it = given(value, "value", ALL_KINDS);
-  const place = putFirst(it);
+  acceptOf(it.kind.calls.print(putFirst(it), address.buffer, BUFFER_SIZE, address.taken), it);
   if (it.offsetSeconds % 60) throw new RangeError("offsetSeconds has to be whole minutes in print");
-  return printed(it.kind.calls.print(place, address.buffer, BUFFER_SIZE, address.taken));
+  return printed();
 }
 
 export function compare(first, second) {
   const one = given(first, "first", ALL_KINDS);
   const other = given(second, "second", [one.kind]);
-  accept(one.kind.calls.compare(putFirst(one), putSecond(other), address.out));
+  acceptOf(one.kind.calls.compare(putFirst(one), putSecond(other), address.out), one, other);
   return int32Out();
 }
 
 export function addDays(date, days) {
   const it = given(date, "date", JUST.date);
   const number = integer32(days, "days");
-  accept(calls.speedate_date_add_days(putFirst(it), number, address.out));
+  acceptOf(calls.speedate_date_add_days(putFirst(it), number, address.out), it);
   return DATE.read(kept);
 }
 
 export function daysSince(date, earlier) {
   const one = given(date, "date", JUST.date);
   const other = given(earlier, "earlier", JUST.date);
-  accept(calls.speedate_date_days_since(putFirst(one), putSecond(other), address.out));
+  acceptOf(calls.speedate_date_days_since(putFirst(one), putSecond(other), address.out), one, other);
   return int32Out();
 }
 
 export function dayOfYear(date) {
   const it = given(date, "date", JUST.date);
-  accept(calls.speedate_date_ordinal_day(putFirst(it), address.out));
+  acceptOf(calls.speedate_date_ordinal_day(putFirst(it), address.out), it);
   return kept.view.getUint16(PLACE.out, true);
 }
 
 export function after(start, duration) {
   const it = given(start, "start", WITH_DATE);
   const by = given(duration, "duration", JUST.duration);
-  accept(it.kind.calls.after(putFirst(by), putSecond(it), address.out));
+  acceptOf(it.kind.calls.after(putFirst(by), putSecond(it), address.out), by, it);
   return it.kind.read(kept);
 }
 
 export function before(start, duration) {
   const it = given(start, "start", WITH_DATE);
   const by = given(duration, "duration", JUST.duration);
-  accept(it.kind.calls.before(putFirst(by), putSecond(it), address.out));
+  acceptOf(it.kind.calls.before(putFirst(by), putSecond(it), address.out), by, it);
   return it.kind.read(kept);
 }
 
 export function between(earlier, later) {
   const one = given(earlier, "earlier", WITH_DATE);
   const other = given(later, "later", [one.kind]);
-  accept(one.kind.calls.between(putFirst(one), putSecond(other), address.out));
+  acceptOf(one.kind.calls.between(putFirst(one), putSecond(other), address.out), one, other);
   return DURATION.read(kept);
 }
 
 export function negate(duration) {
   const it = given(duration, "duration", JUST.duration);
-  accept(calls.speedate_duration_negate(putFirst(it), address.out));
+  acceptOf(calls.speedate_duration_negate(putFirst(it), address.out), it);
   return DURATION.read(kept);
 }
 
 export function totalSeconds(duration) {
   const it = given(duration, "duration", JUST.duration);
-  accept(calls.speedate_duration_signed_total_seconds(putFirst(it), address.out));
+  acceptOf(calls.speedate_duration_signed_total_seconds(putFirst(it), address.out), it);
   return int64Out();
 }
 
 export function inTimezone(value, offsetSeconds) {
   const it = given(value, "value", WITH_OFFSET);
   const offset = integer32(offsetSeconds, "offsetSeconds");
-  accept(it.kind.calls.inTimezone(putFirst(it), offset, address.out));
+  acceptOf(it.kind.calls.inTimezone(putFirst(it), offset, address.out), it);
   return it.kind.read(kept);
 }

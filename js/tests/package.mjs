@@ -3,6 +3,7 @@
 import assert from "node:assert/strict";
 import { readFileSync, writeFileSync } from "node:fs";
 import { createRequire } from "node:module";
+import { dirname } from "node:path";
 import { setFlagsFromString } from "node:v8";
 import { runInNewContext } from "node:vm";
 import * as speedate from "speedate";
@@ -66,6 +67,13 @@ assert.throws(() => fromDate(new Date(NaN)), outside("date"));
 assert.throws(() => toDate({ ...dateTime, offsetSeconds: null }), refused("tz_required"));
 for (const call of [format, toDate]) for (const offsetSeconds of [null, 90])
   assert.throws(() => call({ ...dateTime, day: 32, offsetSeconds }), refused("out_of_range_day"), "the range comes first");
+assert.throws(() => speedate.compare({ ...date, month: 13 }, { ...date, year: -1 }), refused("out_of_range_month"));
+assert.throws(() => speedate.compare({ ...date, year: -1 }, { ...date, month: 13 }), refused("date_too_small"));
+assert.throws(() => speedate.compare(date, { ...date, month: 13 }), refused("out_of_range_month"));
+assert.throws(() => speedate.compare({ ...duration, days: -(2 ** 32) }, { ...duration, days: 1 }), outside("days"), "an argument that cannot be comes first");
+assert.throws(() => speedate.after({ ...date, day: 32 }, { ...duration, days: -(2 ** 32) }), refused("duration_days_too_large"));
+assert.throws(() => inTimezone({ ...time, hour: 24 }, 86400), refused("out_of_range_hour"));
+assert.throws(() => addDays({ ...date, day: 32 }, 2 ** 31 - 1), refused("out_of_range_day"));
 assert.throws(() => parseTime("12:13\u00e2\u0088\u009208:00"), refused("invalid_char_tz_sign"), "three characters are not the bytes of U+2212");
 assert.equal(parseTime("12:13\u221208:00").offsetSeconds, -28800);
 
@@ -119,9 +127,10 @@ assert.equal(format(fromDate(elsewhere("new Date(0)"))), "1970-01-01T00:00:00Z")
 assert.deepEqual(parseTime(elsewhere("new Uint8Array([49, 50, 58, 49, 51])")), parseTime("12:13"));
 assert.equal(format(elsewhere("({ year: 2020, month: 2, day: 29 })")), "2020-02-29");
 
-const polluted = { timestamps: "s", timestampOffset: 0, overflow: "truncate", isoOrder: "strict", strict: true, exact: false, offsetSeconds: 90, hour: 1, kind: 1 };
+const polluted = { timestamps: "s", timestampOffset: 0, overflow: "truncate", isoOrder: "strict", strict: true, exact: false, offsetSeconds: 90, year: -1, hour: 1, kind: 1 };
 const unchanged = () => [safeParseDate("86400"), safeParseDate("86400", {}), speedate.safeParseTime("12:13:14.1234567", {}), speedate.safeParseDateTime("2020-02-29 12:13"),
   speedate.safeParseDateTime("1.5", { overflow: "truncate" }), speedate.safeParseDuration("P1D1Y"), thrown(() => dateFromTimestamp(1, "s")).fault,
+  thrown(() => inTimezone(parseTime("12:13"), 0)).fault,
   speedate.dateTimeFromTimestamp(1, "s"), speedate.dateTimeFromTimestamp(1, "s", {}), format(date), format(duration), speedate.dayOfYear(date)];
 const before = unchanged();
 for (const [name, value] of Object.entries(polluted)) Object.prototype[name] = value;
@@ -215,6 +224,11 @@ assert.ok(require.resolve("speedate").endsWith("speedate.cjs"));
 assert.deepEqual(Object.keys(inCommonJs), Object.keys(speedate).sort((one, other) => Object.keys(inCommonJs).indexOf(one) - Object.keys(inCommonJs).indexOf(other)));
 assert.deepEqual(inCommonJs.parseDate("2020-02-29"), date);
 assert.equal(require("speedate/package.json").name, "speedate");
+// A runner of tests, such as Jest, loads a script in a realm of its own.
+const file = require.resolve("speedate");
+const inRealm = { exports: {} };
+runInNewContext(`(function (module, require, __dirname) {${readFileSync(file, "utf8")}\n})`, { TextEncoder })(inRealm, require, dirname(file));
+assert.equal(inRealm.exports.format(inRealm.exports.parseDateTime(Buffer.from("2020-02-29 12:13"), { overflow: "truncate" })), "2020-02-29T12:13:00");
 const copy = (name) => import(`./node_modules/speedate/speedate.js?${name}`);
 const { Module } = WebAssembly;
 const handedOver = await copy("init");
