@@ -244,9 +244,8 @@ function putConfig({ view }, numbers) {
 
 // ---- Values ----
 
-/** Of a time at this place: what its microsecond is in milliseconds, the rest, and the offset. */
-const millisecondOf = (view, at) => Math.floor(view.getUint32(at + 4, true) / 1000);
-const microsecondOf = (view, at) => view.getUint32(at + 4, true) % 1000;
+/** Microseconds in whole milliseconds, and the offset of a time at this place. */
+const milliOf = (micro) => (micro / 1000) | 0;
 const offsetOf = (view, at) => (view.getUint8(at + 3) === 1 ? view.getInt32(at + 8, true) : null);
 /** The number that a call has written. One of 64 bits is no larger than 53 hold. */
 const int32Out = () => kept.view.getInt32(PLACE.out, true);
@@ -291,11 +290,13 @@ const TIME = {
   name: "time",
   calls: { check: "time_check", print: "time_to_text", compare: "time_compare", inTimezone: "time_in_timezone" },
   fields: ["hour", "minute", "second", "millisecond", "microsecond", "offsetSeconds"],
-  read: ({ view }) => ({
-    hour: view.getUint8(PLACE.out), minute: view.getUint8(PLACE.out + 1), second: view.getUint8(PLACE.out + 2),
-    millisecond: millisecondOf(view, PLACE.out), microsecond: microsecondOf(view, PLACE.out),
-    offsetSeconds: offsetOf(view, PLACE.out),
-  }),
+  read({ view }) {
+    const micro = view.getInt32(PLACE.out + 4, true);
+    return {
+      hour: view.getUint8(PLACE.out), minute: view.getUint8(PLACE.out + 1), second: view.getUint8(PLACE.out + 2),
+      millisecond: milliOf(micro), microsecond: micro % 1000, offsetSeconds: offsetOf(view, PLACE.out),
+    };
+  },
   look: (it) => ({
     kind: TIME,
     hour: integer(it.hour, "hour"), minute: integer(it.minute, "minute"), second: integer(it.second, "second"),
@@ -318,12 +319,14 @@ const DATE_TIME = {
     between: "duration_between", after: "duration_after", before: "duration_before", inTimezone: "datetime_in_timezone",
   },
   fields: [...DATE.fields, ...TIME.fields],
-  read: ({ view }) => ({
-    year: view.getUint16(PLACE.out, true), month: view.getUint8(PLACE.out + 2), day: view.getUint8(PLACE.out + 3),
-    hour: view.getUint8(PLACE.out + 4), minute: view.getUint8(PLACE.out + 5), second: view.getUint8(PLACE.out + 6),
-    millisecond: millisecondOf(view, PLACE.out + 4), microsecond: microsecondOf(view, PLACE.out + 4),
-    offsetSeconds: offsetOf(view, PLACE.out + 4),
-  }),
+  read({ view }) {
+    const micro = view.getInt32(PLACE.out + 8, true);
+    return {
+      year: view.getUint16(PLACE.out, true), month: view.getUint8(PLACE.out + 2), day: view.getUint8(PLACE.out + 3),
+      hour: view.getUint8(PLACE.out + 4), minute: view.getUint8(PLACE.out + 5), second: view.getUint8(PLACE.out + 6),
+      millisecond: milliOf(micro), microsecond: micro % 1000, offsetSeconds: offsetOf(view, PLACE.out + 4),
+    };
+  },
   look: (it) => ({
     kind: DATE_TIME,
     year: integer(it.year, "year"), month: integer(it.month, "month"), day: integer(it.day, "day"),
@@ -341,11 +344,12 @@ const DURATION = {
   calls: { check: "duration_check", print: "duration_to_text", compare: "duration_compare" },
   fields: ["sign", "days", "seconds", "milliseconds", "microseconds"],
   read({ view }) {
-    const sign = view.getUint32(PLACE.out, true) === 1 ? -1 : 1;
-    const days = signed(view.getUint32(PLACE.out + 4, true), sign);
-    const seconds = signed(view.getUint32(PLACE.out + 8, true), sign);
-    const milliseconds = signed(millisecondOf(view, PLACE.out + 8), sign);
-    const microseconds = signed(microsecondOf(view, PLACE.out + 8), sign);
+    const sign = view.getInt32(PLACE.out, true) === 1 ? -1 : 1;
+    const days = signed(view.getInt32(PLACE.out + 4, true), sign);
+    const seconds = signed(view.getInt32(PLACE.out + 8, true), sign);
+    const micro = view.getInt32(PLACE.out + 12, true);
+    const milliseconds = signed(milliOf(micro), sign);
+    const microseconds = signed(micro % 1000, sign);
     return { sign, days, seconds, milliseconds, microseconds };
   },
   look(it) {

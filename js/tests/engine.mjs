@@ -2,7 +2,7 @@
 // started here ends with this program, by a signal too, and nothing is waited for without a limit.
 import assert from "node:assert/strict";
 import { spawn } from "node:child_process";
-import { mkdtempSync } from "node:fs";
+import { mkdtempSync, rmSync } from "node:fs";
 import { createServer } from "node:http";
 import { tmpdir } from "node:os";
 import { join } from "node:path";
@@ -85,10 +85,17 @@ async function drive(browser) {
   return (path, body) => ask(`/session/${sessionId}${path}`, body);
 }
 
-/** Opens a page in an engine. */
+/** Opens a page in an engine, with a profile that goes with this program. */
 export async function open(engine, url) {
   const profile = mkdtempSync(join(tmpdir(), "profile"));
   if (engine === "chromium") start(engine, ["--headless", "--no-sandbox", "--disable-gpu", `--user-data-dir=${profile}`, url]);
   else if (engine === "firefox-esr") start(engine, ["--headless", "--no-remote", "--profile", profile, url]);
   else await within(120, url, (await drive(engine))("/url", { url }));
+  process.on("exit", () => {
+    try {
+      rmSync(profile, { recursive: true, force: true, maxRetries: 5 });
+    } catch {
+      // The engine, which ends now, has still written there.
+    }
+  });
 }
