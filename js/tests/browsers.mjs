@@ -17,7 +17,7 @@ const source = (name) => readFileSync(`${root}/${name}`, "utf8");
 /** What the page to try shows by its address and after each step of a visitor; what is wrong with how it looks and is reached,
  * which should be nothing; the calls that it shows; and the least milliseconds in which it shows what a typed text is: the
  * machine may be busy. */
-async function visit() {
+async function visit(SAID) {
   const form = document.forms[0];
   const [nav, options, main, status] = ["nav", "details", "main", "[role=status]"].map((it) => document.querySelector(it));
   const sleep = (milliseconds) => new Promise((resolve) => setTimeout(resolve, milliseconds));
@@ -43,12 +43,23 @@ async function visit() {
   steps.push(shown(), options.querySelector("summary").textContent, form.timestampOffset.disabled);
   form.strict.click();
   steps.push(shown());
+  form.strict.click();
+  form.timestampOffset.value = "90";
+  type("1");
+  steps.push(shown());
   const typed = "2020-02-29T12:13:14.5+01:30";
   form.reset();
+  for (const it of SAID) {
+    type(it);
+    steps.push(all(".said", (it) => it.textContent).join(" or "));
+  }
   const least = Math.min(...Array.from(typed, (_, i) => type(typed.slice(0, i + 1))));
   steps.push(changes, main.querySelector(".said").textContent, all(".said span, dd span", (it) => `${it.className} ${it.textContent}`).join("|"));
   await sleep(900);
   steps.push(changes, location.search, status.textContent);
+  type("12:13");
+  await sleep(450);
+  steps.push(changes, location.search);
 
   const wrong = [];
   const has = (holds, what) => holds || wrong.push(what);
@@ -87,12 +98,22 @@ async function visit() {
   options.open = false;
   for (const link of nav.querySelectorAll("a")) {
     link.click();
+    has(all("section, .none, details", (it) => it.tagName)[0] !== "DETAILS", `${link.textContent}: what reads it comes first`);
     const { bottom } = main.querySelector(".said, .none").getBoundingClientRect();
     has(bottom < 640, `${link.textContent} is answered at ${bottom} points`);
     for (const it of all("details", (it) => it)) has(it.getBoundingClientRect().height < 50, `${link.textContent}: a refusal in a line`);
   }
   report({ width: innerWidth, steps, wrong, calls, least });
 }
+/** Texts, and what the page says of each. */
+const SAID = {
+  "0000-01-01": "Saturday, 1 January 0000", "1969-12-31": "Wednesday, 31 December 1969",
+  "12:13:14Z": "12:13:14 UTC", "12:13:14.000001": "12:13:14.000001, no offset or 12 hours 13 minutes 14.000001 seconds",
+  "23:30-01:00": "23:30, 1:00 west of UTC: 00:30 UTC of the day after",
+  "00:10:05.000001+0130": "00:10:05.000001, 1:30 east of UTC: 22:40:05.000001 UTC of the day before",
+  "9999-12-31T23:30-01:00": "Friday, 31 December 9999, 23:30, 1:00 west of UTC: in UTC outside the years 0 to 9999",
+  "-P1DT1H1M1.5S": "minus 1 day 1 hour 1 minute 1.5 seconds", "P1Y2M": "425 days", PT0S: "0 seconds", "-PT0.01S": "minus 0.01 seconds", PT1S: "1 second",
+};
 const STEPS = [
   "Date: out_of_range_day, Time: invalid_char_time_sep, Date-time: out_of_range_day, Duration: invalid_char_hour",
   "../docs/GRAMMAR.md#fault-out_of_range_day", true,
@@ -100,11 +121,13 @@ const STEPS = [
   "Date-time: 1970-08-22T19:10:29, Date: date_not_exact, Time: invalid_char_time_sep, Duration: invalid_char_hour",
   "Options, timestamps: infer", false,
   "Date: date_not_exact, Time: invalid_char_time_sep, Date-time: TypeError, Duration: invalid_char_hour",
-  0, "Saturday, 29 February 2020, 12:13:14.5, 1:30 east of UTC: 10:43:14.5 UTC",
+  "Date: date_not_exact, Time: too_short, Date-time: RangeError, Duration: duration_invalid_days",
+  ...Object.values(SAID), 0, "Saturday, 29 February 2020, 12:13:14.5, 1:30 east of UTC: 10:43:14.5 UTC",
   "date Saturday, 29 February 2020|time 12:13:14.5|offset 1:30 east of UTC|date 2020-02-29|time 12:13:14.5|offset +01:30" +
     "|date 2020-02-29|time 12:13:14.500000|offset +01:30",
   1, "?text=2020-02-29T12%3A13%3A14.5%2B01%3A30",
   "Date-time: Saturday, 29 February 2020, 12:13:14.5, 1:30 east of UTC: 10:43:14.5 UTC.",
+  2, "?text=12%3A13",
 ];
 
 /** The rows, the examples and the drawn texts. */
@@ -133,7 +156,7 @@ const reporting = `<script>
 files["all.html"] = `<!DOCTYPE html>${reporting}
   <script type="importmap">{ "imports": { "speedate": "./speedate.js", "node:assert/strict": "./shim.mjs", "node:fs": "./shim.mjs" } }</script>
   <script type="module">(${readAll})()</script>`;
-writeFileSync("try.html", `${source("out/try.html")}${reporting}<script type="module">(${visit})()</script>`);
+writeFileSync("try.html", `${source("out/try.html")}${reporting}<script type="module">(${visit})(${JSON.stringify(Object.keys(SAID))})</script>`);
 writeFileSync("frames.html", `<!DOCTYPE html><body><script>
   const frames = [[360, "try.html?text=2021-02-29"], [1280, "try.html?text=2021-02-29"], [100, "http://127.0.0.1:${port}/all.html"]];
   const add = ([width, src]) => document.body.append(Object.assign(document.createElement("iframe"), { width, src, height: 800 }));
