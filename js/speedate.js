@@ -60,6 +60,8 @@ function decoded(base64) {
   return bytes;
 }
 
+const mapped = (all, map) => Object.fromEntries(Object.entries(all).map(([name, it]) => [name, map(it)]));
+
 export function init(module) {
   const names = WebAssembly.Module.exports(module).map((it) => it.name);
   if (!names.includes("speedate_date_parse")) throw new TypeError("module has to be speedate.wasm, compiled");
@@ -67,8 +69,8 @@ export function init(module) {
   compiled = module;
   const library = new Library(SHORT_SIZES.length);
   calls = library.calls;
-  for (const { calls: ofKind } of ALL_KINDS) for (const [name, inC] of Object.entries(ofKind)) ofKind[name] = calls[`speedate_${inC}`];
-  address = Object.fromEntries(Object.entries(PLACE).map(([name, place]) => [name, BigInt(library.start + place)]));
+  for (const kind of ALL_KINDS) kind.calls = mapped(kind.inC, (name) => calls[`speedate_${name}`]);
+  address = mapped(PLACE, (place) => BigInt(library.start + place));
   kept = library;
 }
 
@@ -264,12 +266,13 @@ function unsigned(value, sign, name) {
   return Math.abs(value);
 }
 
-// Kinds of values: the name in C, the calls, by their names there until `init` puts the functions into their place, the fields,
-// what reads a value out of the memory, what looks at one that was given, at each field once, and what puts that into the
-// memory. The fields are written out, and not gone through by name.
+// Kinds of values: the name in C, the calls by their names there, and the calls themselves from `init` on, the fields, what reads a
+// value out of the memory, what looks at one that was given, at each field once, and what puts that into the memory. The fields
+// are written out, and not gone through by name.
 const DATE = {
   name: "date",
-  calls: {
+  calls: undefined,
+  inC: {
     check: "date_check", print: "date_to_text", compare: "date_compare",
     between: "duration_between_dates", after: "duration_after_date", before: "duration_before_date",
   },
@@ -288,7 +291,8 @@ const DATE = {
 };
 const TIME = {
   name: "time",
-  calls: { check: "time_check", print: "time_to_text", compare: "time_compare", inTimezone: "time_in_timezone" },
+  calls: undefined,
+  inC: { check: "time_check", print: "time_to_text", compare: "time_compare", inTimezone: "time_in_timezone" },
   fields: ["hour", "minute", "second", "millisecond", "microsecond", "offsetSeconds"],
   read({ view }) {
     const micro = view.getInt32(PLACE.out + 4, true);
@@ -314,7 +318,8 @@ const TIME = {
 };
 const DATE_TIME = {
   name: "datetime",
-  calls: {
+  calls: undefined,
+  inC: {
     check: "datetime_check", print: "datetime_to_text", compare: "datetime_compare",
     between: "duration_between", after: "duration_after", before: "duration_before", inTimezone: "datetime_in_timezone",
   },
@@ -341,7 +346,8 @@ const DATE_TIME = {
 };
 const DURATION = {
   name: "duration",
-  calls: { check: "duration_check", print: "duration_to_text", compare: "duration_compare" },
+  calls: undefined,
+  inC: { check: "duration_check", print: "duration_to_text", compare: "duration_compare" },
   fields: ["sign", "days", "seconds", "milliseconds", "microseconds"],
   read({ view }) {
     const sign = view.getInt32(PLACE.out, true) === 1 ? -1 : 1;

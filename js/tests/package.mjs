@@ -230,6 +230,15 @@ const inRealm = { exports: {} };
 runInNewContext(`(function (module, require, __dirname) {${readFileSync(file, "utf8")}\n})`, { TextEncoder })(inRealm, require, dirname(file));
 assert.equal(inRealm.exports.format(inRealm.exports.parseDateTime(Buffer.from("2020-02-29 12:13"), { overflow: "truncate" })), "2020-02-29T12:13:00");
 const copy = (name) => import(`./node_modules/speedate/speedate.js?${name}`);
+// A first call that finds no room on the stack leaves nothing half done.
+const deep = await copy("deep");
+let attempts = 0;
+const dig = () => {
+  thrown(dig);
+  if (attempts++ < 500) thrown(() => deep.compare(date, date));
+};
+dig();
+for (const it of [date, time, dateTime, duration]) assert.equal(deep.format(it), format(it));
 const { Module } = WebAssembly;
 const handedOver = await copy("init");
 WebAssembly.Module = class { static exports = Module.exports; constructor() { throw new Error("no bytes are compiled here"); } };
