@@ -1,10 +1,11 @@
 /* The calls of the module, over the C functions of the library.
  *
  * Objects become the structs of speedate.h, and structs objects. What is read and printed is up to the library, and
- * what is rare is left to __init__.py. All state belongs to the module object, so each interpreter has its own. */
+ * what is rare is left to _types.py. All state belongs to the module object, so each interpreter has its own. */
 #define PY_SSIZE_T_CLEAN
 #include <Python.h>
 #include <datetime.h>
+#include <math.h>
 #include <stdbool.h>
 #include <string.h>
 
@@ -17,11 +18,12 @@
 
 /* The places of the objects that are held from the import on. Nothing is added afterwards. */
 enum {
-    DATETIME, ARRAY, CONFIG, FAULT, UNREPRESENTABLE, INTEGER, CHOICE, PLAIN, /* what is imported */
-    NUMBERS, INDEX, UTCOFFSET,                                               /* names of attributes */
-    ARGUMENTS,                                                               /* of the fault of each code */
-    ATTRIBUTES = ARGUMENTS + SPEEDATE_LAST_FAULT + 1,                        /* the same */
-    ZONES = ATTRIBUTES + SPEEDATE_LAST_FAULT + 1,                            /* of each offset of quarter hours */
+    /* what is imported */
+    DATETIME, ARRAY, CONFIG, FAULT, UNREPRESENTABLE, INTEGER, CHOICE, PLAIN, MISSING, BY_LINES,
+    NUMBERS, INDEX, UTCOFFSET, FROMBYTES,    /* names of attributes */
+    ARGUMENTS,                               /* of the fault of each code */
+    ATTRIBUTES = ARGUMENTS + SPEEDATE_LAST_FAULT + 1, /* the same */
+    ZONES = ATTRIBUTES + SPEEDATE_LAST_FAULT + 1,     /* of each offset of quarter hours */
     ALL = ZONES + 2 * QUARTERS + 1
 };
 
@@ -31,17 +33,18 @@ typedef struct {
 } State;
 
 static const struct {
-    int place;
     const char *module, *name;
 } imports[] = {
-    {DATETIME, "datetime", "datetime_CAPI"},
-    {ARRAY, "array", "array"},
-    {CONFIG, "speedate", "Config"},
-    {FAULT, "speedate", "Fault"},
-    {UNREPRESENTABLE, "speedate", "Unrepresentable"},
-    {INTEGER, "speedate", "_integer"},
-    {CHOICE, "speedate", "_choice"},
-    {PLAIN, "speedate", "_plain"},
+    [DATETIME] = {"datetime", "datetime_CAPI"},
+    [ARRAY] = {"array", "array"},
+    [CONFIG] = {"speedate._types", "Config"},
+    [FAULT] = {"speedate._types", "Fault"},
+    [UNREPRESENTABLE] = {"speedate._types", "Unrepresentable"},
+    [INTEGER] = {"speedate._types", "_integer"},
+    [CHOICE] = {"speedate._types", "_choice"},
+    [PLAIN] = {"speedate._types", "_plain"},
+    [MISSING] = {"speedate._types", "_missing"},
+    [BY_LINES] = {"speedate._types", "_by_lines"},
 };
 
 /* ---- Errors ---- */
@@ -58,13 +61,23 @@ static int wrong_type(const char *name, const char *kinds, PyObject *value) {
 }
 
 /* A Fault without a call of its __init__, which would take longer than all the rest. */
-static PyObject *new_fault(const State *state, int code) {
-    if (code < 1 || code > SPEEDATE_LAST_FAULT)
-        return PyObject_CallFunction(state->held[FAULT], "i", code);
+static PyObject *new_fault(const State *state, int code, PyObject *arguments) {
     PyTypeObject *type = (PyTypeObject *)state->held[FAULT], *base = (PyTypeObject *)PyExc_ValueError;
-    PyObject *fault = base->tp_new(type, state->held[ARGUMENTS + code], NULL);
+    PyObject *fault = base->tp_new(type, arguments, NULL);
     if (fault && !(((PyBaseExceptionObject *)fault)->dict = PyDict_Copy(state->held[ATTRIBUTES + code])))
         Py_CLEAR(fault);
+    return fault;
+}
+
+/* The Fault of a text of a column. */
+static PyObject *new_fault_at(const State *state, int code, Py_ssize_t index) {
+    if (code < 1 || code > SPEEDATE_LAST_FAULT)
+        return PyObject_CallFunction(state->held[FAULT], "in", code, index);
+    PyObject *arguments = Py_BuildValue("in", code, index), *fault = NULL;
+    if (arguments && (fault = new_fault(state, code, arguments)) &&
+        PyObject_SetAttr(fault, state->held[INDEX], PyTuple_GET_ITEM(arguments, 1)) < 0)
+        Py_CLEAR(fault);
+    Py_XDECREF(arguments);
     return fault;
 }
 
@@ -77,7 +90,9 @@ static PyObject *raise_error(PyObject *error) {
 }
 
 static PyObject *raise_fault(const State *state, int code) {
-    return raise_error(new_fault(state, code));
+    if (code >= 1 && code <= SPEEDATE_LAST_FAULT)
+        return raise_error(new_fault(state, code, state->held[ARGUMENTS + code]));
+    return raise_error(PyObject_CallFunction(state->held[FAULT], "i", code));
 }
 
 static PyObject *raise_unrepresentable(const State *state, const char *name) {
@@ -165,7 +180,7 @@ static PyObject *make_duration(const State *state, const Value *value) {
 /* The parameters of a call in their order. The first is required, and those after `positional` are keywords. */
 typedef struct {
     const char *name;
-    const char *parameters[7];
+    const char *parameters[8];
     Py_ssize_t positional;
 } Signature;
 
@@ -218,37 +233,68 @@ static int give_made(PyObject *made, Text *text) {
     return !made ? -1 : give_bytes(PyBytes_AS_STRING(made), PyBytes_GET_SIZE(made), made, text);
 }
 
-/* Takes the bytes that an object has. What has gaps is copied, and what may be written: other programs may share it, and
- * write it while it is read. */
-static int take_buffer(PyObject *object, Text *text) {
+/* What errors call a text: with its index in a column, or without one, if that is negative. */
+static int wrong_text(Py_ssize_t index, PyObject *object) {
+    char name[32] = "text";
+    if (index >= 0)
+        PyOS_snprintf(name, sizeof name, "text %zd", index);
+    if (PyMemoryView_Check(object))
+        return type_error("%s has to be a memoryview of bytes, not of format %s", name,
+                          PyMemoryView_GET_BUFFER(object)->format);
+    return wrong_type(name, "str or bytes or bytearray or memoryview", object);
+}
+
+/* Whether no one can write the bytes of a view. Other programs, and what holds no lock, may write those of any owner but
+ * `bytes`, whatever the view allows. */
+static bool is_fixed(const Py_buffer *buffer) {
+    return buffer->obj && PyBytes_CheckExact(buffer->obj) && PyBuffer_IsContiguous(buffer, 'C');
+}
+
+/* Takes the bytes of a memoryview. What has gaps is copied, and what may be written while it is read. */
+static int take_memoryview(PyObject *object, Py_ssize_t index, Text *text) {
     PyObject *view = PyMemoryView_FromObject(object);
     if (!view)
         return -1;
     const Py_buffer *buffer = PyMemoryView_GET_BUFFER(view);
     bool bytes = strcmp(buffer->format, "B") == 0;
-    if (bytes && buffer->readonly && PyBuffer_IsContiguous(buffer, 'C'))
+    if (bytes && is_fixed(buffer))
         return give_bytes(buffer->buf, buffer->len, view, text);
-    int status = bytes ? give_made(PyObject_CallMethod(view, "tobytes", NULL), text)
-                       : type_error("text has to be a memoryview of bytes, not of format %s", buffer->format);
+    int status = bytes ? give_made(PyObject_CallMethod(view, "tobytes", NULL), text) : wrong_text(index, object);
     Py_DECREF(view);
     return status;
 }
 
-/* No method is called that a subclass may have. */
-static int take_other_text(PyObject *object, Text *text) {
-    if (PyUnicode_Check(object))
-        return give_made(PyUnicode_AsEncodedString(object, "utf-8", "surrogatepass"), text);
-    if (PyBytes_Check(object) || PyByteArray_Check(object) || PyMemoryView_Check(object))
-        return take_buffer(object, text);
-    return wrong_type("text", "str or bytes or bytearray or memoryview", object);
+static int take_str(PyObject *object, Text *text) {
+    Py_ssize_t size;
+    const char *bytes = PyUnicode_AsUTF8AndSize(object, &size);
+    if (bytes)
+        return give_bytes(bytes, size, NULL, text);
+    if (!PyErr_ExceptionMatches(PyExc_UnicodeEncodeError))
+        return -1;
+    PyErr_Clear();
+    return give_made(PyUnicode_AsEncodedString(object, "utf-8", "surrogatepass"), text);
 }
 
-static inline int take_text(PyObject *object, Text *text) {
+static bool is_text(PyObject *object) {
+    return PyUnicode_Check(object) || PyBytes_Check(object) || PyByteArray_Check(object) || PyMemoryView_Check(object);
+}
+
+/* No method is called that a subclass may have. */
+static int take_other_text(PyObject *object, Py_ssize_t index, Text *text) {
+    if (PyUnicode_Check(object))
+        return take_str(object, text);
+    if (PyByteArray_Check(object))
+        return give_made(PyBytes_FromStringAndSize(PyByteArray_AS_STRING(object), PyByteArray_GET_SIZE(object)), text);
+    return PyMemoryView_Check(object) ? take_memoryview(object, index, text) : wrong_text(index, object);
+}
+
+/* Takes the bytes of a text: its index in a column is negative outside of one. */
+static inline int take_text(PyObject *object, Py_ssize_t index, Text *text) {
     if (PyUnicode_CheckExact(object) && PyUnicode_IS_COMPACT_ASCII(object))
         return give_bytes((const char *)PyUnicode_1BYTE_DATA(object), PyUnicode_GET_LENGTH(object), NULL, text);
-    if (PyBytes_CheckExact(object))
+    if (PyBytes_Check(object))
         return give_bytes(PyBytes_AS_STRING(object), PyBytes_GET_SIZE(object), NULL, text);
-    return take_other_text(object, text);
+    return take_other_text(object, index, text);
 }
 
 /* The functions below leave *out as it is where there is no argument. */
@@ -363,7 +409,7 @@ static inline PyObject *read_text(const Reader *reader, GIVEN) {
         return NULL;
     if (reader->parse_timestamp && take_flag("timestamps", bound[2], &timestamps) < 0)
         return NULL;
-    if (take_text(bound[0], &text) < 0)
+    if (take_text(bound[0], -1, &text) < 0)
         return NULL;
     if (take_config(state, bound[1], timestamps ? READS_ALL : READS_NONE, &config) == 0) {
         int code = (timestamps ? reader->parse_timestamp : reader->parse)(&text, config, &value, NULL);
@@ -400,7 +446,7 @@ static inline PyObject *read_front(const Reader *reader, GIVEN) {
     Value value;
     size_t taken;
     if (bind(&reader->signature, arguments, count, keywords, bound) < 0 ||
-        take_config(state, bound[1], READS_NONE, &config) < 0 || take_text(bound[0], &text) < 0)
+        take_config(state, bound[1], READS_NONE, &config) < 0 || take_text(bound[0], -1, &text) < 0)
         return NULL;
     int code = reader->parse(&text, config, &value, &taken);
     PyObject *pair = code == SPEEDATE_OK ? with_size(reader->make(state, &value), size_in(bound[0], &text, taken))
@@ -491,124 +537,344 @@ static PyObject *call_date_time_from_timestamp(GIVEN) {
 /* ---- Columns ---- */
 
 #define NOT_A_TIME INT64_MIN
+#define LAST_OF_TEXTS 99   /* the last code that tells something of a text */
+#define BLOCK 32768        /* numbers at a time */
+#define BLOCK_BYTES 262144 /* of memory that may change, at a time */
+#define LONG_BYTES 65536   /* of lines, from which on other threads run meanwhile */
 
-/* The numbers so far, in an object of bytes that has room for more, and how texts become numbers. */
+/* How the texts of a column become numbers. */
 typedef struct {
-    const State *state;
-    PyObject *bytes;
-    Py_ssize_t count, room;
     Parse *parse;
     SpeedateConfig config;
-    bool naive_is_utc, faults_are_nat;
-} Column;
+    bool naive_is_utc, goes_on, return_is_text;
+} ColumnReader;
 
-static int add_number(Column *column, int64_t number) {
-    if (column->count == column->room) {
-        if (column->room > PY_SSIZE_T_MAX / 2 / (Py_ssize_t)sizeof number)
-            return PyErr_NoMemory(), -1;
-        if (_PyBytes_Resize(&column->bytes, column->room * 2 * (Py_ssize_t)sizeof number) < 0)
-            return -1;
-        column->room *= 2;
-    }
-    memcpy(PyBytes_AS_STRING(column->bytes) + column->count++ * sizeof number, &number, sizeof number);
-    return 0;
-}
-
-static int raise_in_column(const Column *column, int code) {
-    PyObject *fault = new_fault(column->state, code), *index = PyLong_FromSsize_t(column->count);
-    if (fault && index && PyObject_SetAttr(fault, column->state->held[INDEX], index) == 0) {
-        Py_INCREF(fault);
-        raise_error(fault);
-    }
-    Py_XDECREF(index);
-    Py_XDECREF(fault);
-    return -1;
-}
-
-static inline int add_text(Column *column, const Text *text) {
+/* The number of a text, or its code, with NOT_A_TIME. */
+static inline int read_number(const ColumnReader *reader, const Text *text, int64_t *number) {
     Value value;
-    int64_t microsecond;
-    int code = column->parse(text, column->config, &value, NULL);
-    if (code == SPEEDATE_OK && !value.date_time.time.has_offset && !column->naive_is_utc)
+    int code = reader->parse(text, reader->config, &value, NULL);
+    if (code == SPEEDATE_OK && !value.date_time.time.has_offset && !reader->naive_is_utc)
         code = SPEEDATE_TZ_REQUIRED;
     if (code == SPEEDATE_OK)
-        code = speedate_datetime_timestamp_tz_us(value.date_time, &microsecond);
-    if (code == SPEEDATE_OK)
-        return add_number(column, microsecond);
-    if (column->faults_are_nat && code <= SPEEDATE_LAST_FAULT)
-        return add_number(column, NOT_A_TIME);
-    return raise_in_column(column, code);
+        code = speedate_datetime_timestamp_tz_us(value.date_time, number);
+    if (code != SPEEDATE_OK)
+        *number = NOT_A_TIME;
+    return code;
 }
 
-static int add_lines(Column *column, PyObject *lines) {
-    Text whole, line = {0};
-    int status = 0;
-    if (take_text(lines, &whole) < 0)
-        return -1;
-    for (size_t at = 0; at < whole.size && status == 0; at += line.size + 1) {
-        line.bytes = whole.bytes + at;
-        const char *feed = memchr(line.bytes, '\n', whole.size - at);
-        line.size = feed ? (size_t)(feed - line.bytes) : whole.size - at;
-        status = add_text(column, &line);
+/* Whether a text is read, or is one after which the column goes on. */
+static inline bool goes_on(const ColumnReader *reader, int code) {
+    return code == SPEEDATE_OK || (reader->goes_on && code <= LAST_OF_TEXTS);
+}
+
+/* Cuts off what ends a line: a line feed, and a carriage return before it. */
+static inline void cut_line_end(const ColumnReader *reader, Text *line) {
+    if (line->size == 0 || line->bytes[line->size - 1] != '\n')
+        return;
+    line->size--;
+    if (!reader->return_is_text && line->size > 0 && line->bytes[line->size - 1] == '\r')
+        line->size--;
+}
+
+typedef struct {
+    size_t lines, bytes;
+} Progress;
+
+/* Reads the numbers of lines, at most as many as there is room for, without the interpreter. A line that does not end
+ * is left, unless it is at the end. It stops before a line that is refused, and returns its code, unless the reader goes
+ * on. Then the codes of all lines are written, if there is a place for them. */
+static int read_lines(const ColumnReader *reader, const char *text, size_t size, bool at_end, int64_t *numbers,
+                      unsigned char *codes, size_t room, Progress *progress) {
+    size_t count = 0, at = 0;
+    int code = SPEEDATE_OK;
+    while (count < room && at < size) {
+        const char *begin = text + at, *feed = memchr(begin, '\n', size - at);
+        if (!feed && !at_end)
+            break;
+        Text line = {begin, feed ? (size_t)(feed - begin) + 1 : size - at, NULL};
+        size_t next = at + line.size;
+        cut_line_end(reader, &line);
+        code = read_number(reader, &line, numbers + count);
+        if (!goes_on(reader, code))
+            break;
+        if (codes)
+            codes[count] = (unsigned char)code;
+        code = SPEEDATE_OK;
+        count++;
+        at = next;
     }
-    Py_XDECREF(whole.owner);
+    *progress = (Progress){count, at};
+    return code;
+}
+
+/* A column: the numbers so far, in an array and in the block that is being filled. */
+typedef struct {
+    const State *state;
+    ColumnReader reader;
+    PyObject *faults;  /* the list that they go to, or NULL */
+    PyObject *missing; /* what pandas has for a missing text, once that was asked for */
+    PyObject *array;
+    int64_t *numbers;
+    unsigned char *codes; /* if there is a list of faults */
+    size_t room, count;   /* of the block */
+    Py_ssize_t before;    /* how many numbers the array has */
+} Column;
+
+static Py_ssize_t next_index(const Column *column) {
+    return column->before + (Py_ssize_t)column->count;
+}
+
+static int start_block(Column *column, size_t texts) {
+    column->room = texts < 1 ? 1 : texts < BLOCK ? texts : BLOCK;
+    column->numbers = PyMem_Malloc(column->room * sizeof *column->numbers);
+    column->codes = column->faults ? PyMem_Malloc(column->room) : NULL;
+    return column->numbers && (column->codes || !column->faults) ? 0 : (PyErr_NoMemory(), -1);
+}
+
+/* Moves the numbers of the block to the array. Signals are heard, and other threads may run. */
+static int end_block(Column *column) {
+    Py_ssize_t count = (Py_ssize_t)column->count;
+    PyObject *view = PyMemoryView_FromMemory((char *)column->numbers, count * (Py_ssize_t)sizeof *column->numbers,
+                                             PyBUF_READ);
+    PyObject *none = NULL;
+    if (view) {
+        none = PyObject_CallMethodObjArgs(column->array, column->state->held[FROMBYTES], view, NULL);
+        Py_DECREF(view);
+    }
+    if (!none)
+        return -1;
+    Py_DECREF(none);
+    column->before += count;
+    column->count = 0;
+    if (count == BLOCK) {
+        Py_BEGIN_ALLOW_THREADS
+        Py_END_ALLOW_THREADS
+    }
+    return PyErr_CheckSignals();
+}
+
+static int add_fault(Column *column, int code, Py_ssize_t index) {
+    PyObject *fault = new_fault_at(column->state, code, index);
+    int status = fault ? PyList_Append(column->faults, fault) : -1;
+    Py_XDECREF(fault);
     return status;
 }
 
-static int add_items(Column *column, PyObject *items) {
-    PyObject *item, *iterator = PyObject_GetIter(items);
-    int status = 0;
-    if (!iterator)
+/* Adds the faults of the lines that have just been read into the block. */
+static int add_faults(Column *column, size_t lines) {
+    for (size_t i = 0; i < lines; i++) {
+        int code = column->codes[column->count + i];
+        if (code != SPEEDATE_OK && add_fault(column, code, next_index(column) + (Py_ssize_t)i) < 0)
+            return -1;
+    }
+    return 0;
+}
+
+/* Reads lines into the block, and tells how many bytes of them. What has the bytes keeps them as they are. */
+static int add_some_lines(Column *column, const char *text, size_t size, bool at_end, size_t *bytes) {
+    Progress progress;
+    PyThreadState *thread = size >= LONG_BYTES ? PyEval_SaveThread() : NULL;
+    unsigned char *codes = column->codes ? column->codes + column->count : NULL;
+    int code = read_lines(&column->reader, text, size, at_end, column->numbers + column->count, codes,
+                          column->room - column->count, &progress);
+    if (thread)
+        PyEval_RestoreThread(thread);
+    if (column->faults && add_faults(column, progress.lines) < 0)
         return -1;
-    while (status == 0 && (item = PyIter_Next(iterator)) != NULL) {
-        Text text;
-        status = take_text(item, &text);
-        if (status == 0) {
-            status = add_text(column, &text);
-            Py_XDECREF(text.owner);
+    column->count += progress.lines;
+    *bytes = progress.bytes;
+    if (code != SPEEDATE_OK)
+        return raise_error(new_fault_at(column->state, code, next_index(column))), -1;
+    return column->count < column->room ? 0 : end_block(column);
+}
+
+static int add_fixed_lines(Column *column, const char *text, size_t size) {
+    size_t bytes;
+    for (size_t at = 0; at < size; at += bytes)
+        if (add_some_lines(column, text + at, size - at, true, &bytes) < 0)
+            return -1;
+    return 0;
+}
+
+/* Adds the lines that end in a copy, and tells how many bytes they have. */
+static int add_ended_lines(Column *column, const char *copy, size_t size, bool at_end, size_t *taken) {
+    size_t bytes = 1;
+    for (*taken = 0; *taken < size && bytes > 0; *taken += bytes)
+        if (add_some_lines(column, copy + *taken, size - *taken, at_end, &bytes) < 0)
+            return -1;
+    return 0;
+}
+
+/* Lines in memory that may be written while they are read: a part is copied, and its lines are read there. */
+static int add_changing_lines(Column *column, const char *text, size_t size) {
+    size_t room = size < BLOCK_BYTES ? size : BLOCK_BYTES, taken = 0;
+    char *copy = PyMem_Malloc(room);
+    int status = copy ? 0 : (PyErr_NoMemory(), -1);
+    for (size_t at = 0; at < size && status == 0; at += taken) {
+        size_t part = size - at < room ? size - at : room;
+        memcpy(copy, text + at, part);
+        status = add_ended_lines(column, copy, part, at + part == size, &taken);
+        if (status == 0 && taken == 0) {
+            /* The line is longer than the copy. */
+            char *larger = PyMem_Realloc(copy, room *= 2);
+            copy = larger ? larger : copy;
+            status = larger ? 0 : (PyErr_NoMemory(), -1);
         }
+    }
+    PyMem_Free(copy);
+    return status;
+}
+
+static int add_lines(Column *column, const char *text, Py_ssize_t size, bool fixed) {
+    if (start_block(column, (size_t)size) < 0)
+        return -1;
+    return (fixed ? add_fixed_lines : add_changing_lines)(column, text, (size_t)size);
+}
+
+/* Adds the lines of an object of bytes that has just been made, or not. */
+static int add_made(Column *column, PyObject *made) {
+    int status = made ? add_lines(column, PyBytes_AS_STRING(made), PyBytes_GET_SIZE(made), true) : -1;
+    Py_XDECREF(made);
+    return status;
+}
+
+static int add_view(Column *column, PyObject *view) {
+    const Py_buffer *buffer = PyMemoryView_GET_BUFFER(view);
+    if (!PyBuffer_IsContiguous(buffer, 'C'))
+        return add_made(column, PyObject_CallMethod(view, "tobytes", NULL));
+    return add_lines(column, buffer->buf, buffer->len, is_fixed(buffer));
+}
+
+/* Whether a buffer has bytes. ctypes says the order of the bytes of an item too. */
+static bool has_bytes(const Py_buffer *buffer) {
+    const char *format = buffer->format;
+    if (*format != '\0' && strchr("@=<>!", *format))
+        format++;
+    return buffer->itemsize == 1 && (strcmp(format, "B") == 0 || strcmp(format, "b") == 0 || strcmp(format, "c") == 0);
+}
+
+/* Makes a view of an object that has bytes in memory, and none of any other. */
+static int view_bytes(PyObject *texts, PyObject **view) {
+    *view = PyObject_CheckBuffer(texts) ? PyMemoryView_FromObject(texts) : NULL;
+    if (*view && !has_bytes(PyMemoryView_GET_BUFFER(*view)))
+        Py_CLEAR(*view);
+    if (!PyErr_Occurred())
+        return 0;
+    /* NumPy has no buffer of some types, and iterates over them. */
+    bool none = PyErr_ExceptionMatches(PyExc_ValueError) || PyErr_ExceptionMatches(PyExc_BufferError);
+    if (none)
+        PyErr_Clear();
+    return none ? 0 : -1;
+}
+
+static int is_missing(Column *column, PyObject *item) {
+    if (item == Py_None || (PyFloat_Check(item) && isnan(PyFloat_AS_DOUBLE(item))))
+        return 1;
+    if (!column->missing && !(column->missing = PyObject_CallObject(column->state->held[MISSING], NULL)))
+        return -1;
+    for (Py_ssize_t i = 0; PyTuple_Check(column->missing) && i < PyTuple_GET_SIZE(column->missing); i++)
+        if (PyTuple_GET_ITEM(column->missing, i) == item)
+            return 1;
+    return 0;
+}
+
+/* The number of an item, which may be a line with its end. */
+static int read_item(Column *column, PyObject *item, bool is_line, int64_t *number) {
+    Text text;
+    int missing = is_text(item) ? 0 : is_missing(column, item);
+    *number = NOT_A_TIME;
+    if (missing != 0)
+        return missing < 0 ? -1 : 0;
+    if (take_text(item, next_index(column), &text) < 0)
+        return -1;
+    if (is_line)
+        cut_line_end(&column->reader, &text);
+    int code = read_number(&column->reader, &text, number);
+    Py_XDECREF(text.owner);
+    if (!goes_on(&column->reader, code))
+        return raise_error(new_fault_at(column->state, code, next_index(column))), -1;
+    return code == SPEEDATE_OK || !column->faults ? 0 : add_fault(column, code, next_index(column));
+}
+
+static int add_items(Column *column, PyObject *items, size_t count, bool are_lines) {
+    PyObject *item, *iterator = PyObject_GetIter(items);
+    int status = iterator ? start_block(column, count) : -1;
+    while (status == 0 && (item = PyIter_Next(iterator)) != NULL) {
+        status = read_item(column, item, are_lines, column->numbers + column->count);
+        if (status == 0 && ++column->count == column->room)
+            status = end_block(column);
         Py_DECREF(item);
     }
-    Py_DECREF(iterator);
+    Py_XDECREF(iterator);
     return status < 0 || PyErr_Occurred() ? -1 : 0;
 }
 
+/* No method of a subclass of bytes or bytearray is called. */
 static int add_texts(Column *column, PyObject *texts) {
-    if (PyBytes_Check(texts) || PyByteArray_Check(texts) || PyMemoryView_Check(texts))
-        return add_lines(column, texts);
-    if (PyUnicode_Check(texts))
-        return wrong_type("texts", "an iterable of texts or bytes or bytearray or memoryview", texts);
-    return add_items(column, texts);
+    PyObject *view;
+    if (PyList_CheckExact(texts) || PyTuple_CheckExact(texts))
+        return add_items(column, texts, (size_t)Py_SIZE(texts), false);
+    if (PyBytes_Check(texts))
+        return add_lines(column, PyBytes_AS_STRING(texts), PyBytes_GET_SIZE(texts), true);
+    if (PyByteArray_Check(texts) && !PyByteArray_CheckExact(texts))
+        return add_made(column, PyBytes_FromStringAndSize(PyByteArray_AS_STRING(texts), PyByteArray_GET_SIZE(texts)));
+    if (view_bytes(texts, &view) < 0)
+        return -1;
+    if (view) {
+        int status = add_view(column, view);
+        Py_DECREF(view);
+        return status;
+    }
+    PyObject *by_lines = PyObject_CallFunctionObjArgs(column->state->held[BY_LINES], texts, NULL);
+    if (!by_lines)
+        return -1;
+    bool are_lines = by_lines == Py_True;
+    Py_DECREF(by_lines);
+    return add_items(column, texts, BLOCK, are_lines);
 }
 
 static PyObject *column_of(Column *column, PyObject *texts) {
-    PyObject *made = NULL;
-    column->room = 64;
-    column->bytes = PyBytes_FromStringAndSize(NULL, column->room * (Py_ssize_t)sizeof(int64_t));
-    if (column->bytes && add_texts(column, texts) == 0 &&
-        _PyBytes_Resize(&column->bytes, column->count * (Py_ssize_t)sizeof(int64_t)) == 0)
-        made = PyObject_CallFunction(column->state->held[ARRAY], "sO", "q", column->bytes);
-    Py_XDECREF(column->bytes);
-    return made;
+    column->array = PyObject_CallFunction(column->state->held[ARRAY], "s", "q");
+    if (!column->array || add_texts(column, texts) < 0 || end_block(column) < 0)
+        Py_CLEAR(column->array);
+    Py_XDECREF(column->missing);
+    PyMem_Free(column->numbers);
+    PyMem_Free(column->codes);
+    return column->array;
+}
+
+/* Takes what becomes of texts that are refused: the first one ends the column, or all are NOT_A_TIME, with their faults
+ * in a list or without. */
+static int take_faults(Column *column, PyObject *value) {
+    if (value && PyList_Check(value)) {
+        column->faults = value;
+        column->reader.goes_on = true;
+        return 0;
+    }
+    if (value && !PyUnicode_Check(value))
+        return wrong_type("faults", "str or list", value);
+    return take_choice(column->state, "faults", value, "raise", "nat", &column->reader.goes_on);
 }
 
 static PyObject *call_date_time_column(GIVEN) {
     static const Signature signature = {
-        "date_time_column", {"texts", "config", "strict", "timestamps", "naive", "faults"}, 2};
+        "date_time_column", {"texts", "config", "strict", "timestamps", "naive", "faults", "newline"}, 2};
     Column column = {.state = PyModule_GetState(module)};
-    PyObject *bound[6];
+    ColumnReader *reader = &column.reader;
+    PyObject *bound[7];
     bool strict = false, timestamps = false;
     if (bind(&signature, arguments, count, keywords, bound) < 0 || take_flag("strict", bound[2], &strict) < 0 ||
         take_flag("timestamps", bound[3], &timestamps) < 0 ||
-        take_choice(column.state, "naive", bound[4], "error", "utc", &column.naive_is_utc) < 0 ||
-        take_choice(column.state, "faults", bound[5], "raise", "nat", &column.faults_are_nat) < 0 ||
-        take_config(column.state, bound[1], timestamps ? READS_ALL : READS_NONE, &column.config) < 0)
+        take_choice(column.state, "naive", bound[4], "error", "utc", &reader->naive_is_utc) < 0 ||
+        take_faults(&column, bound[5]) < 0 ||
+        take_choice(column.state, "newline", bound[6], "\r\n", "\n", &reader->return_is_text) < 0 ||
+        take_config(column.state, bound[1], timestamps ? READS_ALL : READS_NONE, &reader->config) < 0)
         return NULL;
     if (strict && timestamps) {
         PyErr_SetString(PyExc_ValueError, "strict and timestamps exclude each other");
         return NULL;
     }
-    column.parse = strict ? parse_date_time_strict : timestamps ? parse_date_time_or_timestamp : parse_date_time;
+    reader->parse = strict ? parse_date_time_strict : timestamps ? parse_date_time_or_timestamp : parse_date_time;
     return column_of(&column, bound[0]);
 }
 
@@ -765,13 +1031,13 @@ static int hold(State *state, int place, PyObject *object) {
 }
 
 static int hold_imports(State *state) {
-    for (size_t i = 0; i < sizeof imports / sizeof imports[0]; i++) {
+    for (int i = 0; i < (int)(sizeof imports / sizeof imports[0]); i++) {
         PyObject *module = PyImport_ImportModule(imports[i].module);
         if (!module)
             return -1;
-        hold(state, imports[i].place, PyObject_GetAttrString(module, imports[i].name));
+        int status = hold(state, i, PyObject_GetAttrString(module, imports[i].name));
         Py_DECREF(module);
-        if (!state->held[imports[i].place]) {
+        if (status < 0) {
             /* So it is where datetime is the one that is written in Python. */
             if (PyErr_ExceptionMatches(PyExc_AttributeError))
                 PyErr_Format(PyExc_ImportError, "speedate needs %s.%s", imports[i].module, imports[i].name);
@@ -795,7 +1061,7 @@ static int hold_fault(State *state, int code) {
     int status = -1;
     if (!words)
         return -1;
-    if (hold(state, ARGUMENTS + code, PyTuple_GetSlice(words, 0, 1)) == 0)
+    if (hold(state, ARGUMENTS + code, Py_BuildValue("(i)", code)) == 0)
         status = hold(state, ATTRIBUTES + code,
                       Py_BuildValue("{sisOsO}", "code", code, "name", PyTuple_GET_ITEM(words, 0), "documentation",
                                     PyTuple_GET_ITEM(words, 1)));
@@ -803,11 +1069,21 @@ static int hold_fault(State *state, int code) {
     return status;
 }
 
+/* Gives the package the classes, so that it has these even if it, or _types.py, is loaded once more. */
+static int give_classes(PyObject *module, const State *state) {
+    for (int i = CONFIG; i <= UNREPRESENTABLE; i++)
+        if (PyObject_SetAttrString(module, imports[i].name, state->held[i]) < 0)
+            return -1;
+    return 0;
+}
+
 static int start(PyObject *module) {
     State *state = PyModule_GetState(module);
-    if (hold_imports(state) < 0 || hold(state, NUMBERS, PyUnicode_InternFromString("_numbers")) < 0 ||
+    if (hold_imports(state) < 0 || give_classes(module, state) < 0 ||
+        hold(state, NUMBERS, PyUnicode_InternFromString("_numbers")) < 0 ||
         hold(state, INDEX, PyUnicode_InternFromString("index")) < 0 ||
-        hold(state, UTCOFFSET, PyUnicode_InternFromString("utcoffset")) < 0)
+        hold(state, UTCOFFSET, PyUnicode_InternFromString("utcoffset")) < 0 ||
+        hold(state, FROMBYTES, PyUnicode_InternFromString("frombytes")) < 0)
         return -1;
     for (int code = 1; code <= SPEEDATE_LAST_FAULT; code++)
         if (hold_fault(state, code) < 0)
@@ -895,18 +1171,26 @@ static PyMethodDef methods[] = {
            "The date-time of a timestamp of 64 bits, and so many microseconds, of 32 bits, later.\n\n"
            ">>> date_time_from_timestamp(1582978394000, 500_000, Config(timestamp_unit=\"ms\", timestamp_offset=0))\n"
            "datetime.datetime(2020, 2, 29, 12, 13, 14, 500000, tzinfo=datetime.timezone.utc)\n"),
-    METHOD(date_time_column, "(texts, config=None, *, strict=False, timestamps=False, naive='error', faults='raise')",
+    METHOD(date_time_column,
+           "(texts, config=None, *, strict=False, timestamps=False, naive='error', faults='raise', newline='\\r\\n')",
            "The microseconds from 1970-01-01T00:00Z to each date-time, as an `array.array(\"q\")`.\n\n"
-           "`texts` is an iterable of texts, each as `date_time` takes it, or `bytes`, a `bytearray` or a `memoryview`, whose\n"
-           "lines they are: a line feed ends a line, and the last line may lack it. A carriage return is part of its line.\n"
-           "With `strict=True` they are parsed as by `date_time_strict`, and with `timestamps=True` they may be timestamps.\n\n"
+           "`texts` is an iterable of texts, each as `date_time` takes it; or a file, or bytes in memory, such as `bytes` and an\n"
+           "`mmap`, whose lines they are. A line feed ends a line, with a carriage return before it, if there is one; the last\n"
+           "line may lack its end. With `newline=\"\\n\"` a carriage return is part of the text. A mapping and a DataFrame are a\n"
+           "`TypeError`: pass one column. With `strict=True` texts are parsed as by `date_time_strict`, and with\n"
+           "`timestamps=True` they may be timestamps.\n\n"
            "A text without an offset fails with `tz_required`, or is taken as UTC with `naive=\"utc\"`; so is a timestamp, unless\n"
-           "the configuration has an offset: for Unix time it is `Config(timestamp_offset=0)`. The `index` of a `Fault` is the\n"
-           "place of its text. With `faults=\"nat\"` the smallest number, NumPy's NaT, stands in that place.\n\n"
+           "the configuration has an offset: for Unix time it is `Config(timestamp_offset=0)`.\n\n"
+           "The first text that is refused raises its `Fault`, whose `index` is its place. With `faults=\"nat\"` the smallest\n"
+           "number, NumPy's NaT, stands in the place of each such text. If `faults` is a list, their faults are appended to it\n"
+           "too. `None`, NaN, `pandas.NA` and `pandas.NaT` are NaT, and no fault.\n\n"
            ">>> date_time_column([\"1970-01-01T00:00:01Z\", \"1970-01-01T01:00+01:00\"])\n"
            "array('q', [1000000, 0])\n"
-           ">>> date_time_column(b\"1970-01-01 00:00\\nnever\\n\", naive=\"utc\", faults=\"nat\")\n"
-           "array('q', [0, -9223372036854775808])\n\n"
+           ">>> faults = []\n"
+           ">>> date_time_column(b\"1970-01-01 00:00\\nnever\\n\", naive=\"utc\", faults=faults)\n"
+           "array('q', [0, -9223372036854775808])\n"
+           ">>> faults\n"
+           "[<Fault too_short in text 1>]\n\n"
            "NumPy takes a column as it is, by `numpy.frombuffer(column, \"datetime64[us]\")`. pandas before 2 holds only the\n"
            "years 1677 to 2262.\n"),
     METHOD(text, "(value)",
@@ -917,7 +1201,7 @@ static PyMethodDef methods[] = {
            "('2020-02-29T12:13:00Z', '12:13:14.500000', '2020-02-29')\n"
            ">>> text(datetime.timedelta(microseconds=-1))\n"
            "'-PT0.000001S'\n"),
-    {"_words", call_words, METH_O, "The name and the documentation of a fault."},
+    {"_words", call_words, METH_O, "_words(code)\n--\n\nThe name and the documentation of a fault."},
     {NULL, NULL, 0, NULL},
 };
 
@@ -926,7 +1210,6 @@ static PyModuleDef_Slot slots[] = {
 #if PY_VERSION_HEX >= 0x030D0000
     /* Before, datetime has no functions for C in an interpreter with a lock of its own. */
     {Py_mod_multiple_interpreters, Py_MOD_PER_INTERPRETER_GIL_SUPPORTED},
-    {Py_mod_gil, Py_MOD_GIL_NOT_USED},
 #endif
     {0, NULL},
 };

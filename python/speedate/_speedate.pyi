@@ -1,8 +1,10 @@
 import array
 import datetime
-from typing import Iterable, Literal, Optional, Tuple, Union
+from typing import IO, Iterable, List, Literal, Optional, Tuple, Union
 
-from . import Config
+from typing_extensions import Buffer
+
+from ._types import Config as Config, Fault as Fault, Unrepresentable as Unrepresentable
 
 _Text = Union[str, bytes, bytearray, memoryview]
 
@@ -21,8 +23,9 @@ def date_time_from_timestamp(
     timestamp: int, microsecond: int = 0, config: Optional[Config] = None
 ) -> datetime.datetime: ...
 def date_time_column(
-    texts: Union[Iterable[_Text], bytes, bytearray, memoryview], config: Optional[Config] = None, *, strict: bool = False,
-    timestamps: bool = False, naive: Literal["error", "utc"] = "error", faults: Literal["raise", "nat"] = "raise"
+    texts: Union[Iterable[Union[_Text, float, None]], IO[str], IO[bytes], Buffer], config: Optional[Config] = None, *,
+    strict: bool = False, timestamps: bool = False, naive: Literal["error", "utc"] = "error",
+    faults: Union[Literal["raise", "nat"], List[Fault]] = "raise", newline: Literal["\r\n", "\n"] = "\r\n"
 ) -> array.array[int]: ...
 def text(value: Union[datetime.date, datetime.time, datetime.timedelta]) -> str: ...
 def _words(code: int) -> Tuple[str, str]: ...

@@ -8,22 +8,25 @@ import ctypes
 import dataclasses
 import datetime
 import functools
+import io
 import pathlib
 import struct
 
-from speedate import _FIELDS, _choice, _integer, _plain, _wrong
+from speedate._types import _FIELDS, _by_lines, _choice, _integer, _missing, _plain, _wrong
 
 
 class Fault(ValueError):
     index = None
 
-    def __init__(self, code):
+    def __init__(self, code, index=None):
         self.code = _integer("code", code, 0, 2**31 - 1)
         self.name, self.documentation = _words(self.code)
-        super().__init__(self.name)
+        super().__init__(*[self.code, index][: 1 if index is None else 2])
+        if index is not None:
+            self.index = index
 
-    def __reduce__(self):
-        return type(self), (self.code,), vars(self)
+    def __str__(self):
+        return self.name + (f" in text {self.index}" if self.index is not None else "")
 
 
 class Unrepresentable(ValueError):
@@ -150,17 +153,17 @@ def _words(code):
 # ---- Arguments ----
 
 
-def _bytes(text):
+def _bytes(text, name="text"):
     """The bytes of a text. No method is called that a subclass may have."""
     if isinstance(text, str):
         return str.encode(text, "utf-8", "surrogatepass")
-    if type(text) is bytes:
-        return text
-    if not isinstance(text, (bytes, bytearray, memoryview)):
-        raise _wrong("text", text, str, bytes, bytearray, memoryview)
+    if isinstance(text, (bytes, bytearray)):
+        return bytes((bytes if isinstance(text, bytes) else bytearray).__getitem__(text, slice(None)))
+    if not isinstance(text, memoryview):
+        raise _wrong(name, text, str, bytes, bytearray, memoryview)
     view = memoryview(text)
     if view.format != "B":
-        raise TypeError(f"text has to be a memoryview of bytes, not of format {view.format}")
+        raise TypeError(f"{name} has to be a memoryview of bytes, not of format {view.format}")
     return view.tobytes()
 
 
@@ -288,38 +291,65 @@ def date_time_from_timestamp(timestamp, microsecond=0, config=None):
     return _value(out, _library.speedate_datetime_from_timestamp(timestamp, microsecond, numbers, out))
 
 
-def _lines(texts):
-    """The texts of a column: lines end with a line feed, which the last one may lack."""
-    if isinstance(texts, str):
-        raise TypeError(f"texts has to be an iterable of texts or bytes or bytearray or memoryview, not {type(texts).__name__}")
-    if not isinstance(texts, (bytes, bytearray, memoryview)):
-        return texts
-    lines = _bytes(texts).split(b"\n")
-    return lines if lines[-1] else lines[:-1]
+def _view(texts):
+    """The view of an object that has bytes in memory."""
+    try:
+        view = memoryview(texts)
+    except (BufferError, TypeError, ValueError):
+        return None
+    return view if view.itemsize == 1 and view.format.lstrip("@=<>!") in ("B", "b", "c") else None
 
 
-def date_time_column(texts, config=None, *, strict=False, timestamps=False, naive="error", faults="raise"):
+def _lines(texts, ends):
+    """The texts of a column. Of lines one of some ends, the first one that is there, is cut off."""
+    view = None if isinstance(texts, (bytes, bytearray)) else _view(texts)
+    if view is not None or isinstance(texts, (bytes, bytearray)):
+        texts = io.BytesIO(view.tobytes() if view is not None else _bytes(texts))
+    if not _by_lines(texts):
+        yield from texts
+        return
+    for it in texts:
+        if not isinstance(it, (str, bytes, bytearray)):
+            yield it
+            continue
+        line = _bytes(it)
+        yield line[: len(line) - len(next((end for end in ends if line.endswith(end)), b""))]
+
+
+def _is_missing(text):
+    return text is None or isinstance(text, float) and text != text or any(text is it for it in _missing())
+
+
+def date_time_column(texts, config=None, *, strict=False, timestamps=False, naive="error", faults="raise", newline="\r\n"):
     _flag("strict", strict), _flag("timestamps", timestamps)
-    _choice("naive", naive, "error", "utc"), _choice("faults", faults, "raise", "nat")
+    _choice("naive", naive, "error", "utc")
+    if not isinstance(faults, (str, list)):
+        raise _wrong("faults", faults, str, list)
+    if isinstance(faults, str):
+        _choice("faults", faults, "raise", "nat")
+    _choice("newline", newline, "\r\n", "\n")
     numbers = _configured(config, _OF_TIMESTAMPS if timestamps else ())
     if strict and timestamps:
         raise ValueError("strict and timestamps exclude each other")
     name = "datetime_parse_strict" if strict else "datetime_parse" if timestamps else "datetime_parse_rfc3339"
     column = array.array("q")
-    for index, text in enumerate(_lines(texts)):
-        whole, out, second = _bytes(text), _DateTime(), ctypes.c_int64()
+    for index, text in enumerate(_lines(texts, [b"\r\n", b"\n"] if newline == "\r\n" else [b"\n"])):
+        if _is_missing(text):
+            column.append(-(2**63))
+            continue
+        whole, out, second = _bytes(text, f"text {index}"), _DateTime(), ctypes.c_int64()
         code = getattr(_library, f"speedate_{name}")(whole, len(whole), numbers, out)
         if not code and not out.has_offset and naive == "error":
             code = 19  # tz_required
         if not code:
             _library.speedate_datetime_timestamp_tz(out, second)
             column.append(second.value * 1_000_000 + out.microsecond)
-        elif faults == "nat":
-            column.append(-(2**63))
-        else:
-            fault = Fault(code)
-            fault.index = index
-            raise fault
+            continue
+        if faults == "raise":
+            raise Fault(code, index)
+        column.append(-(2**63))
+        if isinstance(faults, list):
+            faults.append(Fault(code, index))
     return column
 
 

@@ -7,6 +7,7 @@ import datetime
 import gc
 import importlib.util
 import inspect
+import io
 import pathlib
 import random
 import sys
@@ -30,6 +31,10 @@ DAY = datetime.date(2020, 2, 29)
 
 def same(value):
     return lambda side: value
+
+
+def anew(make):
+    return lambda side: make()
 
 
 def configured(*fields):
@@ -121,16 +126,27 @@ def drawn_integer(draw, name):
 
 
 def drawn_column(draw, name):
+    """A function that makes a column: an iterator would be used up by the first side."""
     texts = [drawn_text(draw, name) for _ in range(draw.randrange(4))]
-    lines = b"\n".join(bytes(it) if not isinstance(it, str) else str.encode(it, "utf-8", "surrogatepass") for it in texts)
-    return draw.choice([lambda: texts, lambda: tuple(texts), lambda: lines, lambda: bytearray(lines), lambda: memoryview(lines + b"\n")])()
+    end = draw.choice([b"\n", b"\n", b"\r\n", b"\r"])
+    lines = end.join(bytes(it) if not isinstance(it, str) else str.encode(it, "utf-8", "surrogatepass") for it in texts)
+    items = [draw.choice([it] * 9 + [None, float("nan")]) for it in texts]
+    return draw.choice([
+        lambda: items, lambda: tuple(items), lambda: iter(items), lambda: lines, lambda: bytearray(lines), lambda: memoryview(lines + end),
+        lambda: memoryview(b"x".join(lines[i:i + 1] for i in range(len(lines))))[::2], lambda: array.array("b", lines), lambda: io.BytesIO(lines + end),
+        lambda: io.StringIO(lines.decode("utf-8", "replace"), newline="")])
 
 
-# The drawn values of a parameter. An iterator would be used up by the first side.
+def drawn_faults(draw, name):
+    return draw.choice([lambda: "raise", lambda: "nat", list])
+
+
+# The drawn values of a parameter, and what makes those that a call changes or uses up.
 DRAWN = {
-    "text": drawn_text, "value": drawn_value, "timestamp": drawn_integer, "second": drawn_integer, "microsecond": drawn_integer, "texts": drawn_column,
+    "text": drawn_text, "value": drawn_value, "timestamp": drawn_integer, "second": drawn_integer, "microsecond": drawn_integer,
     **dict.fromkeys(["timestamps", "exact", "strict"], lambda draw, name: draw.random() < 0.5),
-    "naive": lambda draw, name: draw.choice(["error", "utc"]), "faults": lambda draw, name: draw.choice(["raise", "nat"])}
+    "naive": lambda draw, name: draw.choice(["error", "utc"]), "newline": lambda draw, name: draw.choice(["\r\n", "\n"])}
+MADE = {"texts": drawn_column, "faults": drawn_faults}
 PARAMETERS = {name: list(inspect.signature(getattr(speedate, name)).parameters.values()) for name in CALLS}
 
 
@@ -140,7 +156,10 @@ def drawn_call(draw):
     for place, it in enumerate(PARAMETERS[name]):
         if it.default is not it.empty and draw.random() < 0.5:
             continue
-        value = draw.choice(CONFIGS) if it.name == "config" else same(DRAWN[it.name](draw, name))
+        if it.name in MADE:
+            value = anew(MADE[it.name](draw, name))
+        else:
+            value = draw.choice(CONFIGS) if it.name == "config" else same(DRAWN[it.name](draw, name))
         if it.kind is not it.KEYWORD_ONLY and len(positional) == place and draw.random() < 0.8:
             positional.append(value)
         else:
@@ -150,11 +169,17 @@ def drawn_call(draw):
 
 def outcome(side, name, positional=(), named={}):
     """What a call answers, told so that both sides tell the same."""
+    named = {word: it(side) for word, it in named.items()}
     try:
-        value = getattr(side, name)(*(it(side) for it in positional), **{word: it(side) for word, it in named.items()})
+        value = getattr(side, name)(*(it(side) for it in positional), **named)
+        told = type(value).__name__, repr(value)
     except Exception as error:
-        return type(error).__name__, str(error), {word: it for word, it in vars(error).items()}
-    return type(value).__name__, repr(value)
+        told = told_error(error)
+    return (*told, *map(told_error, named["faults"])) if type(named.get("faults")) is list else told
+
+
+def told_error(error):
+    return (type(error).__name__, str(error), error.args, dict(vars(error))) if isinstance(error, Exception) else error
 
 
 # ---- Wrong types ----
@@ -195,7 +220,7 @@ def released():
 ODD = list(map(same, [
     None, True, False, 0, 1, -1, 2**31, 2**64, -(2**70), 1.5, float("nan"), 3j, "", "1", "utc", "nat", "\ud800", b"", b"1", bytearray(b"1"), [], {}, (), set(),
     object(), object, int, str, type, len, DAY, datetime.date, datetime.time(1), datetime.timedelta(1), datetime.timezone.utc, array.array("d", [1]),
-    array.array("B", [50]), memoryview(b"12345678").cast("d"), memoryview(b"12345678").cast("B", [2, 2, 2]), memoryview(b"12345678").cast("c"), memoryview(b""),
+    array.array("B", [50]), array.array("b", [10, 13, 10]), array.array("h", [1]), [5], ["1", None, 5], io.BytesIO(b"\n"), memoryview(b"12345678").cast("d"), memoryview(b"12345678").cast("B", [2, 2, 2]), memoryview(b"12345678").cast("c"), memoryview(b""),
     Index(5), Index(2**70), Index(None), Iterates("2020-02-29T00:00Z"), Iterates(5), Iterates("2020-02-29T00:00Z", "2020-02-29T00:00Z"), Nameless("N", (), {})(),
     Other("2020-02-29"), type("Bytes", (bytes,), {})(b"12:13"), collections.UserString("1"), Ellipsis, NotImplemented, ValueError("x"), types,
 ])) + [lambda side: released(), lambda side: side.Config, lambda side: side.Config("ms", 0), lambda side: side, lambda side: side.Fault]
@@ -347,19 +372,19 @@ class Extension(unittest.TestCase):
         for name, right in calls:
             for it in numbers:
                 config = speedate.Config()
-                vars(config)["_numbers"] = it
+                object.__setattr__(config, "_numbers", it)
                 with self.subTest(name, it=it), self.assertRaisesRegex(TypeError, "config is not as Config made it"):
                     getattr(speedate, name)(right, config=config)
             config = speedate.Config()
             for byte in range(8):
-                vars(config)["_numbers"] = bytes(0xFF if it == byte else 0 for it in range(8))
+                object.__setattr__(config, "_numbers", bytes(0xFF if it == byte else 0 for it in range(8)))
                 try:
                     getattr(speedate, name)(right, config=config)
                 except speedate.Fault as fault:
                     self.assertNotEqual(fault.name, "ok")
                 except TypeError as error:
                     self.assertIn("which is not read here", str(error))
-            del vars(config)["_numbers"]
+            object.__delattr__(config, "_numbers")
             with self.assertRaises(AttributeError):
                 getattr(speedate, name)(right, config=config)
 
@@ -386,6 +411,8 @@ class Extension(unittest.TestCase):
                     call(*positional, **named)
                 except Exception:
                     pass
+                if type(named.get("faults")) is list:
+                    named["faults"].clear()
             once()
             before = [sys.getrefcount(it) for it in [*watched, *positional, *named.values()]]
             for _ in range(20):
@@ -399,10 +426,21 @@ class Extension(unittest.TestCase):
                 outcome(speedate, name, positional, named)
         self.assertLess(growth(each, 20), len(calls) / 200)
 
+    def test_references_of_columns(self):
+        # Python keeps the small integers, so an index has to be a large one.
+        texts = ["1970-01-01T00:00Z"] * 1_000 + [""] * 3
+        lines, long = "\n".join(texts).encode(), b"1970-01-01T00:00Z\n" * 40_000 + b"\n\n"
+        sources = [lambda: texts, lambda: iter(texts), lambda: lines, lambda: bytearray(lines), lambda: memoryview(lines), lambda: array.array("B", lines),
+                   lambda: io.BytesIO(lines), lambda: memoryview(lines)[::2], lambda: [*texts, 5], lambda: {}, lambda: long, lambda: [None] * 1_000]
+        for make in sources:
+            for faults in (lambda: "raise", lambda: "nat", list):
+                once = lambda: outcome(speedate, "date_time_column", [anew(make)], {"faults": anew(faults)})
+                self.assertLess(growth(once, 20), 0.5, (make(), faults))
+
     def test_imports(self):
         # What is left behind by an import that leaks are all its zones, faults and functions.
         self.assertLess(growth(import_anew, 20), 20)
-        failing = [("datetime", {"datetime_CAPI": None}), ("speedate", {"Config": None}), ("speedate", {"_plain": None}), ("speedate", {"Fault": KeyError}), ("speedate", {"Fault": 5})]
+        failing = [("datetime", {"datetime_CAPI": None}), *(("speedate._types", it) for it in ({"Config": None}, {"_by_lines": None}, {"Fault": KeyError}, {"Fault": 5}))]
         for module, names in failing:
             with self.subTest(module, names=names):
                 self.assertRegex(fail_import(module, **names), "^speedate needs|^speedate.Fault is no ValueError")
@@ -430,15 +468,11 @@ class Extension(unittest.TestCase):
     def test_threads(self):
         draw = random.Random(2)
         calls = [drawn_call(draw) for _ in range(500)]
-        made = [(name, [it(speedate) for it in positional], {word: it(speedate) for word, it in named.items()}) for name, positional, named in calls]
-
-        def told(name, positional, named):
-            return outcome(speedate, name, map(same, positional), {word: same(it) for word, it in named.items()})
-        wanted = [told(*it) for it in made]
+        wanted = [outcome(speedate, *it) for it in calls]
 
         def run():
             for _ in range(5):
-                assert [told(*it) for it in made] == wanted
+                assert [outcome(speedate, *it) for it in calls] == wanted
         self.assertEqual(in_threads(run), [])
 
 

@@ -1,26 +1,24 @@
-"""Tests of the module that is installed: its docstrings, the rows below, the recorded lines of diff/, arguments of wrong types,
-and texts that `datetime` reads too."""
+"""Tests of the module that is installed: its docstrings and types, the rows below and those of C, the recorded lines of diff/,
+arguments of wrong types, and texts that `datetime` reads too."""
 import array
+import ast
+import collections
+import copy
 import datetime
 import doctest
 import importlib.metadata
+import importlib.util
 import inspect
 import pathlib
 import pickle
 import random
+import subprocess
+import sys
+import types
 import unittest
 
 import speedate
-
-
-def installed(name):
-    try:
-        return importlib.import_module(name)
-    except ImportError:
-        return None
-
-
-numpy, pandas = map(installed, ("numpy", "pandas"))
+from speedate import _speedate
 
 # An expression, and its value or its error.
 ROWS = r"""
@@ -30,6 +28,8 @@ date("20200229", timestamps=True) -> Fault: date_not_exact
 date("86400000", Config("ms", 3600), timestamps=True) -> datetime.date(1970, 1, 2)
 date("") -> Fault: too_short
 date("2020-02-2\ud800") -> Fault: invalid_char_day
+date("\ud800" * 4) -> Fault: invalid_char_year
+date(subclass(str)("\ud800" * 4)) -> Fault: invalid_char_year
 date("2020-02-29", Config(timestamp_unit="s")) -> TypeError: config has a timestamp_unit, which is not read here: date and date_time do with timestamps=True
 time("12:13:14.5\u221200:30") -> datetime.time(12, 13, 14, 500000, tzinfo=datetime.timezone(datetime.timedelta(days=-1, seconds=84600)))
 time(bytearray(b"12:13")) -> datetime.time(12, 13)
@@ -58,26 +58,47 @@ date_time_front("2020-02-29") -> Fault: invalid_char_date_time_sep
 date_time("2020-01-01T00:00Z").tzinfo is datetime.timezone.utc -> True
 date_time_column([]) -> array('q')
 date_time_column(b"") -> array('q')
-date_time_column(b"\n") -> Fault: too_short
-date_time_column(b"1970-01-01T00:00:01Z\r\n") -> Fault: extra_characters
+date_time_column(b"\n") -> Fault: too_short in text 0
+date_time_column(b"1970-01-01T00:00Z\r\n1970-01-01T00:00:01Z\r\n1970-01-01T00:00:02Z\n") -> array('q', [0, 1000000, 2000000])
+date_time_column(b"1970-01-01T00:00Z\r\n", newline="\r\n") -> array('q', [0])
+date_time_column(b"1970-01-01T00:00Z\r\n", newline="\n") -> Fault: extra_characters in text 0
+date_time_column(b"1970-01-01T00:00Z\r") -> Fault: extra_characters in text 0
+date_time_column(b"1970-01-01T00:00Z\r\r\n") -> Fault: extra_characters in text 0
+date_time_column(b"1970-01-01T00:00Z\n\r\n") -> Fault: too_short in text 1
+date_time_column(["1970-01-01T00:00Z\n"]) -> Fault: extra_characters in text 0
+date_time_column([], newline="\r") -> ValueError: newline has to be '\r\n' or '\n'
 date_time_column(bytearray(b"1970-01-01T00:00:00.000001Z\n1969-12-31T23:59:59Z")) -> array('q', [1, -1000000])
 date_time_column(memoryview(b"1970-01-01T00:00Z\n\n"), faults="nat") -> array('q', [0, -9223372036854775808])
 date_time_column(it for it in ["0000-01-01T00:00Z", b"9999-12-31T23:59:59.999999-23:59"]) -> array('q', [-62167219200000000, 253402387139999999])
-date_time_column("1970-01-01T00:00Z") -> TypeError: texts has to be an iterable of texts or bytes or bytearray or memoryview, not str
-date_time_column(["1970-01-01T00:00Z", 5], faults="nat") -> TypeError: text has to be str or bytes or bytearray or memoryview, not int
-date_time_column(["1970-01-01T00:00:01"]) -> Fault: tz_required
+date_time_column("1970-01-01T00:00Z") -> TypeError: texts has to be an iterable of texts, a file, or bytes, not str
+date_time_column({"moment": ["1970-01-01T00:00Z"]}, faults="nat") -> TypeError: texts has to be one column, not dict: pass its values, or one of its columns
+date_time_column(types.MappingProxyType({})) -> TypeError: texts has to be one column, not mappingproxy: pass its values, or one of its columns
+date_time_column({"b": "1970-01-01T00:00Z"}.values()) -> array('q', [0])
+date_time_column(memoryview(b"12345678").cast("d")) -> TypeError: text 0 has to be str or bytes or bytearray or memoryview, not float
+date_time_column(["1970-01-01T00:00Z", 5], faults="nat") -> TypeError: text 1 has to be str or bytes or bytearray or memoryview, not int
+date_time_column(["1970-01-01T00:00Z", memoryview(b"12345678").cast("d")]) -> TypeError: text 1 has to be a memoryview of bytes, not of format d
+date_time_column(["", 1.5], faults="nat") -> TypeError: text 1 has to be str or bytes or bytearray or memoryview, not float
+date_time_column([None, "1970-01-01T00:00Z", float("nan"), subclass(float)("nan")]) -> array('q', [-9223372036854775808, 0, -9223372036854775808, -9223372036854775808])
+date_time_column([None], strict=True), date_time_column([None], timestamps=True, naive="utc", faults="nat") -> (array('q', [-9223372036854775808]), array('q', [-9223372036854775808]))
+faulted([None, "1970-01-01T00:00Z", "", "1970-01-01T00:00", None]) -> (5, ['too_short in text 2', 'tz_required in text 3'])
+faulted(b"\n1970-01-01T00:00Z\r\n1970-01-01\n") -> (3, ['too_short in text 0', 'invalid_char_date_time_sep in text 2'])
+faulted(["1970-01-01T00:00Z"]) -> (1, [])
+faulted(["x", 5]) -> TypeError: text 1 has to be str or bytes or bytearray or memoryview, not int
+date_time_column([], faults=()) -> TypeError: faults has to be str or list, not tuple
+date_time_column(["1970-01-01T00:00:01"]) -> Fault: tz_required in text 0
 date_time_column(["1970-01-01T00:00:01"], naive="utc") -> array('q', [1000000])
-date_time_column(["1970-01-01T00:00:01"], naive="utc", strict=True) -> Fault: tz_required
+date_time_column(["1970-01-01T00:00:01"], naive="utc", strict=True) -> Fault: tz_required in text 0
 date_time_column(["1970-01-01 00:00Z"], strict=True, faults="nat") -> array('q', [-9223372036854775808])
-date_time_column(["1", "1.5"], timestamps=True) -> Fault: tz_required
+date_time_column(["1", "1.5"], timestamps=True) -> Fault: tz_required in text 0
 date_time_column(["1", "1.5"], Config(timestamp_offset=0), timestamps=True) -> array('q', [1000000, 1500000])
 date_time_column(["1"], Config("us", 3600), timestamps=True) -> array('q', [-3599999999])
 date_time_column(["1"], Config(timestamp_offset=0)) -> TypeError: config has a timestamp_offset, which is not read here: date and date_time do with timestamps=True
 date_time_column([], strict=True, timestamps=True) -> ValueError: strict and timestamps exclude each other
 date_time_column([], naive="local") -> ValueError: naive has to be error or utc
 date_time_column([], faults="coerce") -> ValueError: faults has to be raise or nat
-faulty(["1970-01-01T00:00Z", "1970-01-01T00:00"]) -> ('tz_required', 1, 1)
+faulty(["1970-01-01T00:00Z", "1970-01-01T00:00"]) -> ('tz_required', 1, (19, 1))
 Fault(1).index -> None
+[Fault(1), Fault(1, 1000)] -> [<Fault too_short>, <Fault too_short in text 1000>]
 date_from_timestamp(1) -> Fault: date_not_exact
 date_from_timestamp(2**63 - 1) -> Fault: date_too_large
 date_from_timestamp(2**63) -> ValueError: timestamp has to be from -9223372036854775808 to 9223372036854775807
@@ -90,11 +111,27 @@ date_time_from_timestamp(-(2**63) - 1) -> ValueError: timestamp has to be from -
 date_time_from_timestamp(0, 2**32) -> ValueError: microsecond has to be from 0 to 4294967295
 Config(timestamp_offset=86_400) -> ValueError: timestamp_offset has to be from -86399 to 86399
 Config(iso_order="loose") -> ValueError: iso_order has to be lax or strict
+Config(timestamp_offset=numbers(3600)).timestamp_offset -> 3600
 Config("ms") -> Config(timestamp_unit='ms', timestamp_offset=None, overflow_behavior='error', iso_order='lax')
 Config() == pickle.loads(pickle.dumps(Config())) != Config("s") -> True
+Config("s", 0, "truncate", "strict") == copy.deepcopy(Config("s", 0, "truncate", "strict")) -> True
+len({Config(), Config(timestamp_offset=0), Config("s"), Config("infer", None)}) -> 3
+Config() == subclass(Config)(), Config() == 5 -> (False, False)
+Config().__reduce__() -> (<class 'speedate.Config'>, ('infer', None, 'error', 'lax'))
+pickle.loads(pickle.dumps(Config()).replace(b"error", b"trunc")) -> ValueError: overflow_behavior has to be error or truncate
+setattr(Config(), "timestamp_unit", "s") -> AttributeError: timestamp_unit cannot be changed: a Config stays as it was made
+setattr(Config(), "_numbers", bytes(8)) -> AttributeError: _numbers cannot be changed: a Config stays as it was made
+setattr(Config(), "other", 1) -> AttributeError: other cannot be changed: a Config stays as it was made
+delattr(Config(), "timestamp_unit") -> AttributeError: timestamp_unit cannot be changed: a Config stays as it was made
+vars(Config()) -> TypeError: vars() argument must have __dict__ attribute
 pickle.loads(pickle.dumps(Fault(22))).documentation -> 'day value is outside expected range'
+again(Fault(22)) -> ['Fault', (22,), 'out_of_range_day', 22, 'day value is outside expected range', None, 'out_of_range_day']
+again(Fault(22, 0)) -> ['Fault', (22, 0), 'out_of_range_day', 22, 'day value is outside expected range', 0, 'out_of_range_day in text 0']
 pickle.loads(pickle.dumps(Unrepresentable("year_zero"))).name -> 'year_zero'
 Fault(43) -> Fault: value_out_of_range
+Fault(2**31) -> ValueError: code has to be from 0 to 2147483647
+Fault(-1) -> ValueError: code has to be from 0 to 2147483647
+Fault(1, -1) -> ValueError: index has to be from 0 to 9223372036854775807
 text(datetime.datetime.max) -> '9999-12-31T23:59:59.999999'
 text(datetime.datetime(2020, 10, 25, 2, tzinfo=Zone())) -> '2020-10-25T02:00:00+02:00'
 text(datetime.datetime(2020, 10, 25, 2, tzinfo=Zone(), fold=1)) -> '2020-10-25T02:00:00+01:00'
@@ -105,6 +142,7 @@ text(datetime.time(12, tzinfo=offset(hours=-23, minutes=-59))) -> '12:00:00-23:5
 text(datetime.timedelta.min) -> '-P2739726Y9D'
 text(datetime.timedelta.max) -> 'P2739726Y9DT23H59M59.999999S'
 text(subclass(datetime.datetime)(2020, 10, 25, 2, tzinfo=Zone(), fold=1)) -> '2020-10-25T02:00:00+01:00'
+text(types.SimpleNamespace(NaT=5)) -> TypeError: value has to be datetime or date or time or timedelta, not SimpleNamespace
 text(subclass(datetime.datetime, __eq__=lambda *_: False)(2020, 2, 29)) -> ValueError: the Other is not equal to datetime.datetime(2020, 2, 29, 0, 0): it may have nanoseconds
 __version__ == importlib.metadata.version("speedate") -> True
 """
@@ -125,11 +163,41 @@ def offset(**size):
 
 
 def faulty(texts):
-    """The name and the index of the fault of a column, and its index after pickling."""
+    """The name, the index and the arguments of the fault of a column."""
     try:
         speedate.date_time_column(texts)
     except speedate.Fault as fault:
-        return fault.name, fault.index, pickle.loads(pickle.dumps(fault)).index
+        assert again(fault) == told(fault)
+        return fault.name, fault.index, fault.args
+
+
+def faulted(texts):
+    """How many texts a column has, and the faults of them, whose places are NaT."""
+    faults = []
+    column = speedate.date_time_column(texts, faults=faults)
+    assert all(type(it) is speedate.Fault and again(it) == told(it) and column[it.index] == -(2**63) for it in faults)
+    return len(column), [str(it) for it in faults]
+
+
+def told(fault):
+    return [type(fault).__name__, fault.args, fault.name, fault.code, fault.documentation, fault.index, str(fault)]
+
+
+def again(fault):
+    """What a fault tells that is made of another's arguments, as after pickling."""
+    copies = [type(fault)(*fault.args), copy.copy(fault), pickle.loads(pickle.dumps(fault))]
+    assert all(told(it) == told(fault) for it in copies)
+    return told(copies[0])
+
+
+class numbers:
+    """A number that is no `int`, as those of NumPy."""
+
+    def __init__(self, number):
+        self.number = number
+
+    def __index__(self):
+        return self.number
 
 
 def subclass(kind, **members):
@@ -143,7 +211,8 @@ ARGUMENTS = {
     "text": ("2020-02-29", str, bytes), "config": (None, type(None), speedate.Config), "timestamps": FLAG, "exact": FLAG,
     "timestamp": NUMBER, "second": NUMBER, "microsecond": NUMBER, "code": NUMBER, "value": (None, datetime.date),
     "timestamp_unit": NAME, "timestamp_offset": (0, int, type(None)), "overflow_behavior": NAME, "iso_order": NAME,
-    "texts": ([], bytes, list, dict), "strict": FLAG, "naive": ("utc", str), "faults": ("nat", str),
+    "texts": ([], bytes, list), "strict": FLAG, "naive": ("utc", str), "faults": ("nat", str, list), "newline": ("\n", str),
+    "index": (None, int, type(None)),
 }
 WRONG = [None, True, 0, 1.0, 3j, "1", b"1", [], {}, object(), speedate.text, array.array("d", [1]), memoryview(b"12345678").cast("d"),
          datetime.date(2020, 2, 29), speedate.Config, speedate.Config()]
@@ -160,7 +229,7 @@ def drawn(draw):
     return text[:place] + draw.choice("0123456789-:.,+TZ") + text[place + 1:] if place < len(text) else text
 
 
-DIFF = pathlib.Path(__file__).resolve().parents[2] / "diff"
+ROOT = pathlib.Path(__file__).resolve().parents[2]
 READERS = {
     "date": lambda text: speedate.date(text, timestamps=True), "datetime": lambda text: speedate.date_time(text, timestamps=True),
     "time": speedate.time, "duration": speedate.duration,
@@ -187,11 +256,85 @@ def represented(answer):
     return answer.replace("-PT0S", "PT0S")
 
 
+def parameters(function):
+    """The parameters of a function of a stub: names, kinds and defaults."""
+    it = function.args
+    positional = [*zip(it.args, [None] * (len(it.args) - len(it.defaults)) + it.defaults)]
+    rows = [("", *row) for row in positional] + [("*", *row) for row in zip(it.kwonlyargs, it.kw_defaults)]
+    return [(kind + name.arg, repr(ast.literal_eval(default)) if default else None) for kind, name, default in rows]
+
+
+def shown(signature):
+    """The same of a function."""
+    stars = {inspect.Parameter.POSITIONAL_OR_KEYWORD: "", inspect.Parameter.KEYWORD_ONLY: "*"}
+    return [(stars.get(it.kind, it.kind) + it.name, None if it.default is it.empty else repr(it.default)) for it in signature.parameters.values()]
+
+
 def answer(call):
     try:
         return repr(call())
     except Exception as error:
         return f"{type(error).__name__}: {error}"
+
+
+def named_fault(code):
+    try:
+        return [speedate.Fault(code).name]
+    except speedate.Fault:
+        return []
+
+
+# The names of all codes; the readers of C by their names, and the fields of a configuration that they read.
+FAULTS = [it for code in range(1, 256) for it in named_fault(code)]
+READ = {"date_parse": ("timestamp_unit",), "datetime_parse": ("timestamp_unit", "timestamp_offset", "overflow_behavior"), "duration_parse": ("overflow_behavior", "iso_order")}
+FIELDS = "timestamp_offset", "has_timestamp_offset", "timestamp_unit", "overflow_behavior", "iso_order"
+CHOICES = {"timestamp_unit": ("infer", "s", "ms", "us"), "overflow_behavior": ("error", "truncate"), "iso_order": ("lax", "strict")}
+
+
+def value_of(field):
+    """The value of the numbers that C has of it: a date, a time, a date-time or a duration."""
+    numbers = list(map(int, field.split(" ")))
+    if len(numbers) == 4:
+        negative, *sizes = numbers
+        if not all(it < end for it, end in zip(sizes, (10**9, 86_400, 10**6))):
+            raise ValueError(field)
+        return datetime.timedelta(*sizes) * (1, -1)[negative]
+    if len(numbers) == 3:
+        return datetime.date(*numbers)
+    *clock, has_offset, microsecond, seconds = numbers
+    zone = (None, offset(seconds=seconds))[has_offset]
+    return (datetime.datetime if len(numbers) == 9 else datetime.time)(*clock, microsecond, zone)
+
+
+def config_of(field, *names):
+    """The configuration of C's numbers, as far as a call reads it. It fails if a number has no meaning."""
+    numbers = dict(zip(FIELDS, map(int, "0 0 0 0 0".split() if field == "default" else field.split(" "))))
+    fields = {name: choices[numbers[name]] for name, choices in CHOICES.items()}
+    fields["timestamp_offset"] = (None, numbers["timestamp_offset"])[numbers["has_timestamp_offset"]]
+    speedate.Config(**fields)
+    return speedate.Config(**{name: fields[name] for name in names})
+
+
+def call_of(name, fields):
+    """The call here that is one of C, with its arguments, or nothing."""
+    kind, _, form = name.replace("datetime", "date_time").rpartition("_parse")
+    if kind in ("date", "time", "date_time", "duration") and form in ("", "_rfc3339", "_front", "_strict"):
+        call = getattr(speedate, kind + form.replace("_rfc3339", ""))
+        config = {"config": config_of(fields[0], *READ.get(name, ("overflow_behavior",)))} if fields[1:] else {}
+        timestamps = {"timestamps": True} if name in ("date_parse", "datetime_parse") else {}
+        return lambda: call(fields[-1].encode(), **config, **timestamps)
+    if name == "time_from_timestamp":
+        return lambda: speedate.time_from_timestamp(*map(int, fields[:2]), config_of(fields[2], "timestamp_offset"))
+    config = "timestamp_unit", "timestamp_offset"
+    if name == "date_from_timestamp":
+        return lambda: speedate.date_from_timestamp(int(fields[0]), config_of(fields[2], *config), exact=(False, True)[int(fields[1])])
+    if name == "datetime_from_timestamp":
+        return lambda: speedate.date_time_from_timestamp(*map(int, fields[:2]), config_of(fields[2], *config))
+    if name.endswith("_to_text"):
+        value = value_of(fields[0])
+        return lambda: speedate.text(value)
+    if name in ("code_name", "code_documentation"):
+        return lambda: getattr(speedate.Fault(int(fields[0])), name[5:])
 
 
 class Speedate(unittest.TestCase):
@@ -204,7 +347,7 @@ class Speedate(unittest.TestCase):
 
     def test_recorded_lines(self):
         for name in ("answers.txt", "known_differences.txt"):
-            rows = [row.split("\t") for row in (DIFF / name).read_text("utf-8").split("\n") if row and not row.startswith("#")]
+            rows = [row.split("\t") for row in (ROOT / "diff" / name).read_text("utf-8").split("\n") if row and not row.startswith("#")]
             self.assertTrue(rows, name)
             for line, *_, wanted in rows:
                 with self.subTest(line):
@@ -219,24 +362,96 @@ class Speedate(unittest.TestCase):
                     with self.subTest(f"{call.__name__}({name}={wrong!r})"), self.assertRaisesRegex(TypeError, type(wrong).__name__):
                         call(**{**needed, name: wrong})
 
+    def test_rows_of_c(self):
+        ran, left = collections.Counter(), collections.Counter()
+        for row in (ROOT / "c/tests/rows.txt").read_text("utf-8").split("\n"):
+            name, *fields = row.split("|")
+            codes = [place for place, it in enumerate(fields) if it == "ok" or it in FAULTS]
+            if not name or name[0] == "#" or not codes:
+                continue
+            (place, *_), wanted = codes, fields[codes[0]]
+            try:
+                call = call_of(name, fields[:place])
+            except (IndexError, OverflowError, ValueError):
+                call = None  # no value, and no configuration, has such numbers
+            if call is None:
+                left[name] += 1
+                continue
+            with self.subTest(row):
+                self.check_row(name, call, wanted, *fields[place + 1:])
+                ran[name] += 1
+        self.assertGreater(sum(ran.values()), 130, (ran, left))
+
+    def check_row(self, name, call, wanted, written=None, size=None):
+        try:
+            told = call()
+        except speedate.Fault as fault:
+            return self.assertEqual(fault.name, wanted)
+        except speedate.Unrepresentable as reason:
+            return self.assertRegex(f"{reason.name} {written}", "year_zero 0 |duration_too_small 1 999999999 ")
+        except (IndexError, TypeError, ValueError) as error:
+            # A configuration or a number that has no meaning, or an offset that has no text.
+            return self.assertRegex(f"{wanted} {error!r}", "config_out_of_range|value_out_of_range|whole minutes")
+        self.assertEqual(wanted, "ok")
+        if name.startswith("code_") or name.endswith("_to_text"):
+            self.assertEqual(told, written)
+        else:
+            self.assertEqual(repr(told), repr((value_of(written), int(size)) if size else value_of(written)))
+
     def test_docstrings(self):
         self.assertEqual([it.__name__ for it in CALLS if ">>> " not in it.__doc__], [])
         self.assertEqual(doctest.testmod(speedate).failed, 0)
 
-    @unittest.skipUnless(numpy, "NumPy is not installed")
-    def test_numpy(self):
-        column = speedate.date_time_column(["2020-02-29T12:13:14.5Z", "never", "0000-01-01T00:00Z", "9999-12-31T23:59:59.999999Z"], faults="nat")
-        moments = numpy.frombuffer(column, "datetime64[us]")
-        self.assertEqual(moments.astype(str).tolist(), ["2020-02-29T12:13:14.500000", "NaT", "0000-01-01T00:00:00.000000", "9999-12-31T23:59:59.999999"])
+    def test_names(self):
+        functions = [name for name, it in vars(_speedate).items() if inspect.isbuiltin(it) and not name.startswith("_")]
+        self.assertEqual(sorted(speedate.__all__), sorted([*functions, "Config", "Fault", "Unrepresentable", "__version__"]))
+        self.assertEqual([name for name in speedate.__all__ if not hasattr(speedate, name)], [])
 
-    @unittest.skipUnless(pandas, "pandas is not installed")
-    def test_pandas(self):
-        texts = ["1677-09-22T00:00Z", "2020-02-29T12:13:14.5+01:00", "2262-04-11T23:47:16Z"]
-        series = pandas.Series(numpy.frombuffer(speedate.date_time_column(texts), "datetime64[us]"))
-        self.assertEqual(series.tolist(), [pandas.Timestamp(it).tz_convert(None) for it in texts])
-        if int(pandas.__version__.partition(".")[0]) < 2:
-            with self.assertRaises(ValueError):
-                pandas.Series(numpy.frombuffer(speedate.date_time_column(["2262-04-12T00:00Z"]), "datetime64[us]"))
+    def test_types(self):
+        package = pathlib.Path(speedate.__file__).parent
+        for name, module in (("_speedate", _speedate), ("_types", sys.modules["speedate._types"])):
+            stub = ast.parse((package / f"{name}.pyi").read_text("utf-8"))
+            public = [it for it in vars(module) if not it.startswith("__") and getattr(vars(module)[it], "__module__", None) in ("speedate", f"speedate.{name}")]
+            classes = {it.name: it for it in stub.body if isinstance(it, ast.ClassDef)}
+            functions = {it.name: it for it in stub.body if isinstance(it, ast.FunctionDef)}
+            imported = {it.asname for node in stub.body if isinstance(node, ast.ImportFrom) for it in node.names if it.asname}
+            helpers = {it for it in public if it.startswith("_") and name == "_types"}
+            self.assertEqual({*classes, *functions, *imported}, {*public} - helpers)
+            for word, it in functions.items():
+                self.assertEqual(parameters(it), shown(inspect.signature(getattr(module, word))), word)
+            for word, it in classes.items():
+                made = next(member for member in it.body if isinstance(member, ast.FunctionDef) and member.name in ("__init__", "__new__"))
+                self.assertEqual(parameters(made)[1:], shown(inspect.signature(getattr(module, word))), word)
+        fields = {it.target.id: ast.unparse(it.annotation) if hasattr(ast, "unparse") else None for it in classes["Fault"].body if isinstance(it, ast.AnnAssign)}
+        self.assertEqual(set(fields), {*vars(speedate.Fault(1)), "index"})
+        for name, kind in speedate.Fault.__annotations__.items():
+            self.assertIs(type(getattr(speedate.Fault(1), name)), kind)
+            self.assertIn(fields[name], (kind.__name__, None))
+        self.assertEqual([it.name for it in classes["Config"].body if isinstance(it, ast.FunctionDef)][1:], list(speedate.Config.__match_args__))
+        self.assertIn("code", inspect.getdoc(speedate.Fault))
+
+    def test_loaded_again(self):
+        before = {name: getattr(speedate, name) for name in speedate.__all__}
+        kept = dict(sys.modules)
+        types_of = sys.modules["speedate._types"]
+        try:
+            for again in (
+                    lambda: importlib.reload(speedate), lambda: importlib.reload(types_of), lambda: importlib.reload(_speedate),
+                    lambda: sys.modules.pop("speedate._types"), lambda: sys.modules.pop("speedate")):
+                again()
+                package = importlib.import_module("speedate")
+                self.assertEqual([name for name, it in before.items() if getattr(package, name) is not it], [])
+                with self.assertRaises(before["Fault"]):
+                    package.time("24:00", before["Config"](overflow_behavior="truncate"))
+                self.assertEqual(package.Fault(1).name, "too_short")
+                self.assertEqual(pickle.loads(pickle.dumps(package.Config("s"))), before["Config"]("s"))
+        finally:
+            sys.modules.update(kept)
+
+    def test_import(self):
+        call = "import sys; before = set(sys.modules); import speedate; print(*sorted({it.split('.')[0] for it in set(sys.modules) - before}))"
+        run = subprocess.run([sys.executable, "-I", "-S", "-c", f"import sys; sys.path[:0] = {sys.path!r}; {call}"], stdout=subprocess.PIPE, check=True, universal_newlines=True)
+        self.assertEqual(set(run.stdout.split()) & {"dataclasses", "enum", "functools", "inspect", "re", "typing"}, set())
 
     def test_beside_datetime(self):
         draw, config, both = random.Random(1), speedate.Config(overflow_behavior="truncate"), 0

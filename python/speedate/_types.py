@@ -1,0 +1,173 @@
+"""The configuration and the errors of speedate, and what is rare in its calls.
+
+They stand apart from the package, so that a package that is loaded once more has the classes that the extension raises and takes.
+"""
+import datetime
+import operator
+import struct
+import sys
+
+
+class Fault(ValueError):
+    """Why the library refuses a text, or a number: the `name` of the fault, its `code` in C, and its `documentation`.
+
+    Its `index` is the place of the text in a column, which `str` tells too, and `None` in any other call.
+
+    >>> try:
+    ...     time("24:00")
+    ... except Fault as fault:
+    ...     fault.name, fault.code, fault.documentation
+    ('out_of_range_hour', 23, 'hour value is outside expected range of 0-23')
+    >>> Fault(23), Fault(23, 1000)
+    (<Fault out_of_range_hour>, <Fault out_of_range_hour in text 1000>)
+    """
+
+    __module__ = "speedate"
+    code: int
+    name: str
+    documentation: str
+    index = None
+
+    def __init__(self, code, index=None):
+        from ._speedate import _words
+
+        self.code = _integer("code", code, 0, 2**31 - 1)
+        if index is not None:
+            self.index = _integer("index", index, 0, sys.maxsize)
+        self.name, self.documentation = _words(self.code)
+        super().__init__(*(it for it in (self.code, self.index) if it is not None))
+
+    def __str__(self):
+        return self.name if self.index is None else f"{self.name} in text {self.index}"
+
+    def __repr__(self):
+        return f"<{type(self).__name__} {self}>"
+
+
+class Unrepresentable(ValueError):
+    """A value that the library has and Python has not: its `name` is `year_zero` or `duration_too_small`.
+
+    >>> date("0000-01-01")
+    Traceback (most recent call last):
+    speedate.Unrepresentable: year_zero
+    >>> duration("-P999999999DT1S")
+    Traceback (most recent call last):
+    speedate.Unrepresentable: duration_too_small
+    """
+
+    __module__ = "speedate"
+    name: str
+
+    def __init__(self, name):
+        super().__init__(name)
+        self.name = name
+
+
+def _wrong(name, value, *kinds):
+    return TypeError(f"{name} has to be {' or '.join(kind.__name__ for kind in kinds)}, not {type(value).__name__}")
+
+
+def _integer(name, value, low, high):
+    if isinstance(value, bool) or not hasattr(value, "__index__"):
+        raise _wrong(name, value, int)
+    number = operator.index(value)
+    if not low <= number <= high:
+        raise ValueError(f"{name} has to be from {low} to {high}")
+    return number
+
+
+def _choice(name, value, *choices):
+    """The number of a choice."""
+    if not isinstance(value, str):
+        raise _wrong(name, value, str)
+    if value not in choices:
+        raise ValueError(f"{name} has to be {' or '.join(it if it.isprintable() else repr(it) for it in choices)}")
+    return choices.index(value)
+
+
+class Config:
+    """How texts and timestamps are parsed. It cannot be changed.
+
+    - `timestamp_unit`: the unit of timestamps, `s`, `ms` or `us`. With `infer`, the default, they are seconds up to
+      20,000,000,000 in absolute value, and milliseconds above.
+    - `timestamp_offset`: the offset that the value of a timestamp gets, in seconds, less than 24 hours either way. It
+      is attached, and shifts nothing: for Unix time it is 0. With `None`, the default, a timestamp's value is naive.
+    - `overflow_behavior`: digits past the microsecond are refused with `error`, the default. With `truncate` they are
+      dropped, and a decimal timestamp is rounded to the nearest microsecond.
+    - `iso_order`: the components of an ISO 8601 duration come in any order with `lax`, the default. With `strict` they
+      come in the order of the standard, each at most once.
+
+    >>> time("12:13:14.123456789", Config(overflow_behavior="truncate"))
+    datetime.time(12, 13, 14, 123456)
+    """
+
+    __module__ = "speedate"
+    __slots__ = __match_args__ = "timestamp_unit", "timestamp_offset", "overflow_behavior", "iso_order"
+    __slots__ += ("_numbers",)
+
+    def __new__(cls, timestamp_unit="infer", timestamp_offset=None, overflow_behavior="error", iso_order="lax"):
+        config = super().__new__(cls)
+        offset = None if timestamp_offset is None else _integer("timestamp_offset", timestamp_offset, -86_399, 86_399)
+        numbers = struct.pack(
+            "=iBBBB",  # a SpeedateConfig
+            offset or 0,
+            offset is not None,
+            _choice("timestamp_unit", timestamp_unit, "infer", "s", "ms", "us"),
+            _choice("overflow_behavior", overflow_behavior, "error", "truncate"),
+            _choice("iso_order", iso_order, "lax", "strict"))
+        for name, value in zip(Config.__slots__, (timestamp_unit, offset, overflow_behavior, iso_order, numbers)):
+            object.__setattr__(config, name, value)
+        return config
+
+    def __setattr__(self, name, value=None):
+        raise AttributeError(f"{name} cannot be changed: a Config stays as it was made")
+
+    __delattr__ = __setattr__
+
+    def __eq__(self, other):
+        return self._numbers == other._numbers if type(other) is type(self) else NotImplemented
+
+    def __hash__(self):
+        return hash(self._numbers)
+
+    def __repr__(self):
+        fields = (f"{name}={getattr(self, name)!r}" for name in self.__match_args__)
+        return f"{type(self).__name__}({', '.join(fields)})"
+
+    def __reduce__(self):
+        return type(self), tuple(getattr(self, name) for name in self.__match_args__)
+
+
+_DAY, _CLOCK = ("year", "month", "day"), ("hour", "minute", "second", "microsecond", "tzinfo", "fold")
+_FIELDS = {datetime.datetime: _DAY + _CLOCK, datetime.date: _DAY, datetime.time: _CLOCK,
+           datetime.timedelta: ("days", "seconds", "microseconds")}
+
+
+def _plain(value):
+    """The value of the base class that a value of a subclass is equal to."""
+    if value is not None and any(value is it for it in _missing()):
+        raise TypeError(f"{value} has no text")
+    for kind, names in _FIELDS.items():
+        if issubclass(type(value), kind):
+            plain = kind(**{name: getattr(value, name) for name in names})
+            if not plain == value:
+                raise ValueError(f"the {type(value).__name__} is not equal to {plain!r}: it may have nanoseconds")
+            return plain
+    raise _wrong("value", value, *_FIELDS)
+
+
+def _missing():
+    """What stands for a missing value in pandas, if that is loaded."""
+    pandas = sys.modules.get("pandas")
+    return getattr(pandas, "NA", None), getattr(pandas, "NaT", None)
+
+
+def _by_lines(texts):
+    """Whether the items of what is no bytes are lines of a file. It refuses what has other items than texts."""
+    from collections.abc import Mapping
+
+    if isinstance(texts, str):
+        raise TypeError(f"texts has to be an iterable of texts, a file, or bytes, not {type(texts).__name__}")
+    if isinstance(texts, Mapping) or hasattr(texts, "columns"):
+        raise TypeError(f"texts has to be one column, not {type(texts).__name__}: pass its values, or one of its columns")
+    return hasattr(texts, "readline")

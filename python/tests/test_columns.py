@@ -1,0 +1,377 @@
+"""Tests of columns: whatever has lines or texts, what is missing, which texts are refused, blocks, interrupts, threads and memory."""
+import array
+import ctypes
+import functools
+import gzip
+import importlib
+import io
+import itertools
+import mmap
+import os
+import pathlib
+import signal
+import subprocess
+import sys
+import tempfile
+import threading
+import time
+import unittest
+
+import speedate
+
+NAT = -(2**63)
+LINES, NUMBERS = b"1970-01-01T00:00:01Z\nnever\r\n1970-01-01T00:00:02.5Z\r\n", [1_000_000, NAT, 2_500_000]
+SECOND = "1970-01-01T00:00:01Z"
+# A line without offset, with nine digits, a date alone, and what is no UTF-8.
+MIXED = b"2020-02-29T12:13\n2020-02-29T12:13:14.123456789Z\n2020-02-29\n\xff\n1970-01-01T00:00:00,5+00:00"
+
+
+def installed(name):
+    try:
+        return importlib.import_module(name)
+    except ImportError:
+        return None
+
+
+numpy, pandas, pyarrow = map(installed, ("numpy", "pandas", "pyarrow"))
+
+
+def column(texts, **options):
+    return speedate.date_time_column(texts, **{"faults": "nat", **options}).tolist()
+
+
+def spread(data):
+    """The bytes in memory with gaps."""
+    return memoryview(b"".join(bytes([it, 0]) for it in data))[::2]
+
+
+class Exporter:
+    """What has bytes in Python 3.12 and later."""
+
+    def __buffer__(self, flags):
+        return memoryview(LINES)
+
+
+class Liar(bytes):
+    def __buffer__(self, flags):
+        return memoryview(b"24:00")
+
+    def __iter__(self):
+        raise AssertionError
+
+    __len__ = __getitem__ = __bytes__ = decode = __iter__
+
+
+class LiarToo(bytearray):
+    __buffer__, __iter__ = Liar.__buffer__, Liar.__iter__
+    __len__ = __getitem__ = __iter__
+
+
+class Reads:
+    """A file, as far as it has lines."""
+
+    def __init__(self, *lines):
+        self.lines = lines
+
+    def __iter__(self):
+        return iter(self.lines)
+
+    def __enter__(self):
+        return self
+
+    def __exit__(self, *_):
+        pass
+
+    readline = None
+
+
+class Sources(unittest.TestCase):
+    def test_bytes(self):
+        mapped = mmap.mmap(-1, len(LINES))
+        mapped.write(LINES)
+        sources = [
+            LINES, bytearray(LINES), memoryview(LINES), memoryview(bytearray(LINES)), memoryview(bytearray(LINES)).toreadonly(), mapped, spread(LINES),
+            memoryview(LINES).cast("c"), memoryview(LINES).cast("b"), memoryview(LINES + b"\n" * (-len(LINES) % 2)).cast("B", [2, (len(LINES) + 1) // 2]),
+            array.array("B", LINES), array.array("b", LINES), (ctypes.c_char * len(LINES))(*LINES), (ctypes.c_ubyte * len(LINES))(*LINES),
+            (ctypes.c_byte * len(LINES))(*LINES), io.BytesIO(LINES).getbuffer()]
+        sources += [Exporter()] if sys.version_info >= (3, 12) else []
+        sources += [pyarrow.py_buffer(LINES)] if pyarrow else []
+        if numpy:
+            whole = numpy.frombuffer(LINES, "u1")
+            sources += [whole, whole.astype("i1"), whole.copy(), numpy.repeat(whole, 2)[::2], numpy.asfortranarray(whole.copy())]
+        for it in sources:
+            with self.subTest(type(it), it=it):
+                self.assertEqual(column(it)[:3], NUMBERS)
+        for kind in (Liar, LiarToo):
+            self.assertEqual(column(kind(LINES)), NUMBERS)
+            self.assertEqual(speedate.time(kind(b"12:13")).hour, 12)
+            self.assertEqual(column([kind(b"1970-01-01T00:00Z")]), [0])
+        mapped.close()
+        with self.assertRaises(ValueError):
+            column(mapped)
+
+    def test_files(self):
+        with tempfile.TemporaryDirectory() as folder:
+            path = pathlib.Path(folder, "moments.txt")
+            path.write_bytes(LINES)
+            makers = [
+                lambda: open(path), lambda: open(path, newline=""), lambda: open(path, newline="\n"), lambda: open(path, "rb"), lambda: open(path, "rb", 0),
+                lambda: io.BytesIO(LINES), lambda: io.StringIO(LINES.decode(), newline=""), lambda: gzip.open(io.BytesIO(gzip.compress(LINES))),
+                lambda: Reads(*LINES.splitlines(True)), lambda: Reads(*map(bytearray, LINES.splitlines(True)))]
+            for number, make in enumerate(makers):
+                with self.subTest(number), make() as file:
+                    self.assertEqual(column(file), NUMBERS)
+            with open(path, "rb") as file, mmap.mmap(file.fileno(), 0, access=mmap.ACCESS_READ) as mapped:
+                self.assertEqual(column(mapped), NUMBERS)
+                self.assertEqual(column(memoryview(mapped)), NUMBERS)
+            with open(path) as file:
+                self.assertEqual(file.readline(), f"{SECOND}\n")
+                self.assertEqual(column(file), NUMBERS[1:])
+            faults = []
+            with open(path, "rb") as file:
+                self.assertEqual(column(file, newline="\n", faults=faults), [1_000_000, NAT, NAT])
+            self.assertEqual(list(map(str, faults)), ["too_short in text 1", "extra_characters in text 2"])
+        self.assertEqual(column(Reads(f"{SECOND}\n", None, f"{SECOND}\n\n", f"{SECOND}\r")), [1_000_000, NAT, NAT, NAT])
+        with self.assertRaisesRegex(TypeError, "^text 1 has to be str or bytes or bytearray or memoryview, not list$"):
+            column(Reads(SECOND, []))
+
+    def test_mixed(self):
+        faults = []
+        self.assertEqual(column(MIXED, faults=faults), [NAT] * 4 + [500_000])
+        self.assertEqual([(it.name, it.index) for it in faults], [("tz_required", 0), ("second_fraction_too_long", 1), ("invalid_char_date_time_sep", 2), ("too_short", 3)])
+        cut = speedate.Config(overflow_behavior="truncate")
+        self.assertEqual(column(MIXED, naive="utc", config=cut), [1_582_978_380_000_000, 1_582_978_394_123_456, NAT, NAT, 500_000])
+
+    def test_texts_of_other_types(self):
+        texts = [SECOND, SECOND.encode(), bytearray(SECOND, "utf-8"), memoryview(SECOND.encode()), spread(SECOND.encode()), type("Text", (str,), {})(SECOND), SECOND.replace("Z", "\u221200:00")]
+        for kind in (list, tuple, iter, lambda it: (one for one in it), lambda it: dict(enumerate(it)).values()):
+            self.assertEqual(column(kind(texts)), [1_000_000] * len(texts))
+        self.assertEqual(column({SECOND}), [1_000_000])
+
+    @unittest.skipUnless(numpy, "NumPy is not installed")
+    def test_numpy(self):
+        moments = numpy.frombuffer(speedate.date_time_column(
+            ["2020-02-29T12:13:14.5Z", "never", "0000-01-01T00:00Z", "9999-12-31T23:59:59.999999Z"], faults="nat"), "datetime64[us]")
+        self.assertEqual(moments.astype(str).tolist(), ["2020-02-29T12:13:14.500000", "NaT", "0000-01-01T00:00:00.000000", "9999-12-31T23:59:59.999999"])
+        for kind in ("U", "S", "U40", "S40", object):
+            self.assertEqual(column(numpy.array([SECOND, "", SECOND], dtype=kind)), [1_000_000, NAT, 1_000_000])
+        self.assertEqual(column(numpy.array(["\u2212" * 3, SECOND.replace("Z", "\u221200:00")])), [NAT, 1_000_000])
+        self.assertEqual(column(numpy.array([SECOND, None, numpy.nan, numpy.float64("nan")], dtype=object)), [1_000_000, NAT, NAT, NAT])
+        for wrong, kind in ((numpy.zeros(2), "float64"), (moments, "datetime64"), (numpy.zeros((2, 2), "U1"), "ndarray")):
+            with self.assertRaisesRegex(TypeError, f"^text 0 has to be .*, not {kind}$"):
+                column(wrong)
+
+    @unittest.skipUnless(pandas, "pandas is not installed")
+    def test_pandas(self):
+        texts = ["1677-09-22T00:00Z", "2020-02-29T12:13:14.5+01:00", "2262-04-11T23:47:16Z"]
+        series = pandas.Series(numpy.frombuffer(speedate.date_time_column(texts), "datetime64[us]"))
+        self.assertEqual(series.tolist(), [pandas.Timestamp(it).tz_convert(None) for it in texts])
+        self.assertEqual(series.dt.tz_localize("UTC").tolist(), [pandas.Timestamp(it).tz_convert("UTC") for it in texts])
+        if int(pandas.__version__.partition(".")[0]) < 2:
+            with self.assertRaises(ValueError):
+                pandas.Series(numpy.frombuffer(speedate.date_time_column(["2262-04-12T00:00Z"]), "datetime64[us]"))
+        for missing in (None, float("nan"), pandas.NA, pandas.NaT):
+            texts = pandas.Series([SECOND, missing, SECOND], dtype=object)
+            for options in ({"faults": "raise"}, {"faults": "nat"}, {"strict": True}, {"naive": "utc"}, {"timestamps": True}):
+                self.assertEqual(column(texts, **options), [1_000_000, NAT, 1_000_000])
+            faults = []
+            self.assertEqual(column(texts, faults=faults), [1_000_000, NAT, 1_000_000])
+            self.assertEqual(faults, [])
+        self.assertEqual(column(pandas.Series([SECOND, None, SECOND], dtype="string")), [1_000_000, NAT, 1_000_000])
+        self.assertEqual(column(pandas.Index([SECOND])), [1_000_000])
+        frame = pandas.read_csv(io.StringIO(f"name,moment\na,{SECOND}\nb,\n"))
+        self.assertEqual(column(frame["moment"]), [1_000_000, NAT])
+        self.assertEqual(column(frame["moment"].astype("category")), [1_000_000, NAT])
+        with self.assertRaisesRegex(TypeError, "^texts has to be one column, not DataFrame: pass its values, or one of its columns$"):
+            column(frame)
+        with self.assertRaisesRegex(TypeError, "^NaT has no text$"):
+            speedate.text(pandas.NaT)
+        with self.assertRaisesRegex(TypeError, "^text 1 has to be .*, not Timestamp$"):
+            column(pandas.Series([SECOND, pandas.Timestamp(0)], dtype=object))
+
+
+class Blocks(unittest.TestCase):
+    """Columns of more lines than are read at a time, and of longer ones."""
+
+    def forms(self, texts, end):
+        whole = end.join([*texts, ""])
+        data = whole.encode()
+        yield from (data, data[:-len(end)], bytearray(data), memoryview(bytearray(data)), spread(data), io.BytesIO(data), io.StringIO(whole, newline=""))
+
+    def test_many(self):
+        texts = [f"1970-01-01T{it // 3600 % 24:02}:{it // 60 % 60:02}:{it % 60:02}Z" for it in range(70_000)]
+        wanted = [it % 86_400 * 1_000_000 for it in range(70_000)]
+        for it in (texts, tuple(texts), iter(texts), *self.forms(texts, "\n"), *self.forms(texts, "\r\n")):
+            self.assertTrue(column(it, faults="raise") == wanted, type(it))
+        for index in (0, 255, 1_000, 32_767, 32_768, 65_536, 69_999):
+            wrong = [*texts[:index], "24:00", *texts[index + 1:]]
+            for it in (wrong, iter(wrong), *self.forms(wrong, "\n")):
+                with self.assertRaisesRegex(speedate.Fault, f"^too_short in text {index}$") as caught:
+                    column(it, faults="raise")
+                self.assertEqual(caught.exception.index, index)
+        bad = {32_767, 32_768, 69_998, 5}
+        wrong = ["" if it in bad else text for it, text in enumerate(texts)]
+        for it in (wrong, iter(wrong), *self.forms(wrong, "\r\n")):
+            faults = []
+            told = column(it, faults=faults)
+            self.assertEqual([it.index for it in faults], sorted(bad))
+            self.assertTrue(told == [NAT if it in bad else number for it, number in enumerate(wanted)])
+
+    def test_all_refused(self):
+        for lines in (b"x\n" * 70_000, ["x"] * 70_000):
+            faults = []
+            self.assertEqual(column(lines, faults=faults), [NAT] * 70_000)
+            self.assertEqual([it.index for it in faults], list(range(70_000)))
+
+    def test_long_lines(self):
+        for size in (1, 262_142, 262_143, 262_144, 262_145, 600_000):
+            texts = [SECOND, "x" * size, SECOND, "", "y" * size]
+            for it in (texts, *self.forms(texts, "\n")):
+                self.assertEqual(column(it), [1_000_000, NAT, 1_000_000, NAT, NAT])
+        text = SECOND[:-1] + "." + "1" * 600_000 + "Z"
+        for it in self.forms([SECOND, text], "\r\n"):
+            self.assertEqual(column(it, config=speedate.Config(overflow_behavior="truncate")), [1_000_000, 1_111_111])
+
+    def test_odd_iterables(self):
+        class Grows(list):
+            def __iter__(self):
+                yield SECOND
+                raise OSError("cut off")
+
+        with self.assertRaisesRegex(OSError, "^cut off$"):
+            column(Grows())
+        texts = [SECOND]
+        texts.append(type("Text", (str,), {"__del__": lambda self: texts.extend([SECOND] * 3)})(SECOND))
+        self.assertEqual(column(texts), [1_000_000] * 2)
+        faults = [5]
+        with self.assertRaisesRegex(TypeError, "^text 2 has to be .*, not Fault$"):
+            together = ["x", SECOND]
+            column(together, faults=together)
+        self.assertEqual(column(["x"], faults=faults), [NAT])
+        self.assertEqual((faults[0], faults[1].name), (5, "too_short"))
+
+
+class Interpreter(unittest.TestCase):
+    def sources(self, count):
+        yield f"{SECOND}\n".encode() * count
+        yield bytearray(f"{SECOND}\n".encode() * count)
+        yield [SECOND] * count
+        yield itertools.repeat(SECOND, count)
+
+    def test_interrupt(self):
+        class Interrupt(Exception):
+            pass
+
+        def interrupt(*_):
+            raise Interrupt
+
+        before = signal.signal(signal.SIGALRM, interrupt)
+        try:
+            for it in self.sources(2_000_000):
+                told = []
+                with self.assertRaises(Interrupt):
+                    signal.setitimer(signal.ITIMER_REAL, 0.005)
+                    # A column that has heard nothing is in the list before the interpreter hears it.
+                    told.extend(map(speedate.date_time_column, [it]))
+                    time.sleep(1)
+                self.assertEqual(len(told), 0, type(it))
+        finally:
+            signal.setitimer(signal.ITIMER_REAL, 0)
+            signal.signal(signal.SIGALRM, before)
+
+    def test_other_threads(self):
+        for it in self.sources(2_000_000):
+            state, told = [], []
+
+            def run():
+                state.append("begun")
+                told.append(speedate.date_time_column(it, faults="nat"))
+                state.append("done")
+
+            thread, count = threading.Thread(target=run), 0
+            before = sys.getswitchinterval()
+            sys.setswitchinterval(1e-5)
+            try:
+                thread.start()
+                while len(state) < 2:
+                    count += len(state)
+                    time.sleep(0)
+                thread.join()
+            finally:
+                sys.setswitchinterval(before)
+            self.assertEqual(len(told[0]), 2_000_000)
+            self.assertGreater(count, 20, type(it))
+
+    def test_two_columns(self):
+        lines = b"".join(b"1970-01-01T00:00:%02dZ\n" % (it % 60) for it in range(100_000))
+        data, told = bytearray(lines), [None] * 4
+
+        def run(place):
+            told[place] = speedate.date_time_column(lines if place % 2 else data)
+
+        threads = [threading.Thread(target=run, args=[it]) for it in range(4)]
+        for it in threads:
+            it.start()
+        for it in threads:
+            it.join()
+        wanted = [it % 60 * 1_000_000 for it in range(100_000)]
+        self.assertTrue(all(it.tolist() == wanted for it in told))
+        data.clear()  # no call has kept its memory
+
+    def test_locked_memory(self):
+        data = bytearray(LINES)
+
+        class Clears:
+            def __iter__(self):
+                data.clear()
+                yield SECOND
+
+        self.assertEqual(column(Clears()), [1_000_000])
+        self.assertEqual(column(data), [])
+
+    @unittest.skipUnless(sys.platform == "linux", "it reads the peak of Linux")
+    def test_memory(self):
+        call = f"""
+import resource, speedate, sys
+texts = [b"{SECOND}\\n" * 4_000_000, bytearray(b"{SECOND}\\n" * 4_000_000), ["{SECOND}"] * 4_000_000][int(sys.argv[1])]
+speedate.date_time_column(b"{SECOND}\\n" * 100_000)
+before = resource.getrusage(resource.RUSAGE_SELF).ru_maxrss
+column = speedate.date_time_column(texts)
+print((resource.getrusage(resource.RUSAGE_SELF).ru_maxrss - before) * 1024 / 32_000_000)
+"""
+        if os.environ.get("LD_PRELOAD"):
+            self.skipTest("the address sanitizer keeps what is freed")
+        for kind in range(3):
+            run = subprocess.run([sys.executable, "-c", call, str(kind)], stdout=subprocess.PIPE, check=True, universal_newlines=True)
+            self.assertLess(float(run.stdout), 1.3)
+
+    def test_no_memory(self):
+        testcapi = installed("_testcapi")
+        if not hasattr(testcapi, "set_nomemory"):
+            self.skipTest("this Python has no _testcapi")
+        texts = [SECOND, bytearray(SECOND, "utf-8"), SECOND.replace("Z", "\u221200:00"), "\ud800", None, "x"]
+        read, listed = speedate.date_time_column, lambda make: lambda: functools.partial(speedate.date_time_column, make(), faults=[])
+        makers = [
+            *map(listed, [lambda: texts, lambda: iter(texts), lambda: LINES, lambda: bytearray(LINES * 3), lambda: spread(LINES), lambda: io.BytesIO(LINES)]),
+            lambda: functools.partial(read, LINES), lambda: functools.partial(read, [5], faults="nat"), lambda: functools.partial(speedate.Config, "s", 0),
+            lambda: functools.partial(speedate.time, "24:00"), lambda: functools.partial(speedate.time, type("Text", (str,), {})("12:13"))]
+        for make in makers:
+            failed = 0
+            for at in range(-1, 150):
+                call = make()
+                if at >= 0:
+                    testcapi.set_nomemory(at, at + 1)
+                # A partial object calls without a frame, of which Python may lose the error.
+                try:
+                    call()
+                except MemoryError:
+                    failed += 1
+                except (TypeError, ValueError):
+                    pass
+                finally:
+                    testcapi.remove_mem_hooks()
+            self.assertGreater(failed, 0)
+
+
+if __name__ == "__main__":
+    unittest.main()
