@@ -2,12 +2,13 @@
 
     >>> Payment(day="2020-02-29", wait="PT90M")
     Payment(day=datetime.date(2020, 2, 29), wait=datetime.timedelta(seconds=5400))
-    >>> for day, wait in ("2021-02-29", "1 day, 24:00"), (20200229, "P1D"):
+    >>> for day, wait in ("2021-02-29", "1 day, 24:00"), ("0000-01-01", "-P999999999DT1S"), (20200229, "P1D"):
     ...     try:
     ...         Payment(day=day, wait=wait)
     ...     except ValidationError as error:
     ...         [(it["loc"][0], it["type"]) for it in error.errors()]
     [('day', 'out_of_range_day'), ('wait', 'duration_hour_value_too_large')]
+    [('day', 'year_zero'), ('wait', 'duration_too_small')]
     [('day', 'date_type')]
 """
 import datetime
@@ -27,6 +28,8 @@ def read_by(call):
             return call(value)
         except speedate.Fault as fault:
             raise PydanticCustomError(fault.name, fault.documentation) from fault
+        except speedate.Unrepresentable as reason:
+            raise PydanticCustomError(reason.name, "Python has no such value") from reason
     return BeforeValidator(read)
 
 
