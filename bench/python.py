@@ -1,19 +1,24 @@
-"""The time of a call of the module beside others: python3 bench/python.py, where the wheel of bin/build_python is installed.
+"""usage: python.py [ROUNDS]
+
+The time of a call of the module beside others: python3 bench/python.py, where the wheel of bin/build_python is installed.
 
 Each row has 1,024 drawn texts, or their values. All calls of a row take turns, and of each the lowest of 300 rounds counts, or
-of as many as the argument says, in nanoseconds for each text. Behind the others stands the ratio to them: below 1 this module
-took less. `ciso8601`, `pydantic` and `pandas` are there where they are installed. Run it on a quiet machine, more than once,
-and compare ratios.
+of as many as ROUNDS says, in nanoseconds for each text. After the others stands the ratio to them: below 1 this module
+took less. Columns have a million texts, and a CSV 300,000 rows. `ciso8601`, `pydantic`, `numpy` and `pandas` are there where
+they are installed; of pydantic it is the call that a field makes. Run it on a quiet machine, more than once, and compare ratios.
 """
+import csv
 import datetime
 import itertools
+import pathlib
 import random
 import sys
+import tempfile
 import time
 
 import speedate
 
-ROUNDS, COUNT = int(sys.argv[1]) if sys.argv[1:] else 300, 1024
+COUNT = 1024
 draw = random.Random(1)
 
 
@@ -24,13 +29,13 @@ def installed(name):
         return None
 
 
-ciso8601, pandas, pydantic = map(installed, ("ciso8601", "pandas", "pydantic"))
+ciso8601, numpy, pandas, pydantic = map(installed, ("ciso8601", "numpy", "pandas", "pydantic"))
 
 
 def validator(kind):
-    """What pydantic takes a text by: a method of 2, and a field of 1."""
+    """What a field of pydantic takes a text by, in 2 and in 1."""
     if hasattr(pydantic, "TypeAdapter"):
-        return pydantic.TypeAdapter(kind).validate_python
+        return pydantic.TypeAdapter(kind).validator.validate_python
     fields = {datetime.datetime: "parse_datetime", datetime.date: "parse_date", datetime.time: "parse_time", datetime.timedelta: "parse_duration"}
     return getattr(__import__("pydantic.datetime_parse", fromlist=["*"]), fields[kind]) if pydantic else None
 
@@ -121,26 +126,76 @@ def show(name, numbers):
     print(f"{name:32}{numbers[0]:7.0f}{''.join(cells)}", flush=True)
 
 
+def head(first, *others):
+    print(f"\n{'':32}{first:>7}{''.join(f'{it:>9}' + ' ' * 7 for it in others)}")
+
+
+def instant(zone):
+    """A date-time of the years that pandas holds."""
+    return f"{draw.randrange(1700, 2200)}{date()[4:]}T{clock()}{zone()}"
+
+
+def milliseconds_of(calls, rounds):
+    return [it / 1e6 for it in times(calls, [None], rounds)]
+
+
 def column_rows():
-    """A million texts in milliseconds: beside pandas the years that it holds."""
-    def instant(zone):
-        return f"{draw.randrange(1700, 2200)}{date()[4:]}T{clock()}{zone()}"
-    for name, zone in {"Z": lambda: "Z", "mixed": lambda: draw.choice(["Z", "+01:00", "-05:30"])}.items():
+    """A million texts. NumPy has no offsets."""
+    read = speedate.date_time_column
+    zones = {"Z": lambda: "Z", "no offset": lambda: "", "mixed": lambda: draw.choice(["Z", "+01:00", "-05:30"])}
+    for name, zone in zones.items():
         texts = [instant(zone) for _ in range(1_000_000)]
         lines = "\n".join(texts).encode()
-        calls = [lambda _: speedate.date_time_column(lines), lambda _: speedate.date_time_column(texts),
-                 pandas and (lambda _: pandas.to_datetime(texts, utc=True))]
-        yield f"a million texts, {name}", [it / 1e6 for it in times(calls, [None], 5)]
+        calls = [lambda _: read(lines, naive="utc"), lambda _: read(texts, naive="utc"), pandas and (lambda _: pandas.to_datetime(texts, utc=True)),
+                 (lambda _: numpy.array(texts, "datetime64[us]")) if numpy and name == "no offset" else None]
+        yield f"a million texts, {name}", milliseconds_of(calls, 5)
 
 
-def main():
-    print(f"{'':32}{'here':>7}{'datetime':>10}{'ciso8601':>16}{'pydantic':>16}")
+def csv_rows(folder):
+    """A CSV of 300,000 rows, whose second column has date-times with `Z`."""
+    path = pathlib.Path(folder, "rows.csv")
+    path.write_text("".join(["number,moment,amount\n", *(f"{it},{instant(lambda: 'Z')},{draw.random():.3f}\n" for it in range(300_000))]))
+
+    def texts(file):
+        return (row[1] for row in itertools.islice(csv.reader(file), 1, None))
+
+    def here(_):
+        with open(path, newline="") as file:
+            return speedate.date_time_column(texts(file))
+
+    def by_datetime(_):
+        with open(path, newline="") as file:
+            return [datetime.datetime.fromisoformat(it) for it in texts(file)]
+
+    def frame(_):
+        moments = numpy.frombuffer(speedate.date_time_column(pandas.read_csv(path)["moment"]), "datetime64[us]")
+        return pandas.Series(moments).dt.tz_localize("UTC")
+
+    def to_datetime(_):
+        return pandas.to_datetime(pandas.read_csv(path)["moment"], utc=True)
+
+    def parse_dates(_):
+        return pandas.read_csv(path, parse_dates=["moment"])
+    yield "csv.reader", milliseconds_of([here, by_datetime], 5)
+    if pandas:
+        yield "pandas.read_csv", milliseconds_of([frame, None, to_datetime, parse_dates], 3)
+
+
+def main(rounds=300):
+    head("here", "datetime", "ciso8601", "pydantic")
     for name, inputs, calls in itertools.chain(read_rows(), text_rows()):
-        show(name, times(calls, inputs, ROUNDS))
-    print(f"\n{'milliseconds':32}{'lines':>7}{'list':>10}{'pandas':>16}")
+        show(name, times(calls, inputs, int(rounds)))
+    head("lines", "list", "pandas", "NumPy")
     for name, numbers in column_rows():
-        show(name, numbers)
+        show(f"{name}, ms", numbers)
+    head("here", "datetime", "to_datetime", "parse_dates")
+    with tempfile.TemporaryDirectory() as folder:
+        for name, numbers in csv_rows(folder):
+            show(f"a CSV by {name}, ms", numbers)
 
 
 if __name__ == "__main__":
-    main()
+    if sys.argv[1:] == ["--help"]:
+        print(__doc__, end="")
+    else:
+        main(*sys.argv[1:])
