@@ -1,12 +1,13 @@
 import array
+import ctypes
 import datetime
-from typing import IO, Iterable, List, Literal, Optional, Tuple, Union
-
-from typing_extensions import Buffer
+import mmap
+from typing import Any, Iterable, List, Literal, Optional, Tuple, Union
 
 from ._types import Config as Config, Fault as Fault, Unrepresentable as Unrepresentable
 
 _Text = Union[str, bytes, bytearray, memoryview]
+_Bytes = Union[bytes, bytearray, memoryview, mmap.mmap, array.array[int], ctypes.Array[Any]]
 
 def date(text: _Text, config: Optional[Config] = None, *, timestamps: bool = False) -> datetime.date: ...
 def time(text: _Text, config: Optional[Config] = None) -> datetime.time: ...
@@ -23,8 +24,8 @@ def date_time_from_timestamp(
     timestamp: int, microsecond: int = 0, config: Optional[Config] = None
 ) -> datetime.datetime: ...
 def date_time_column(
-    texts: Union[Iterable[Union[_Text, float, None]], IO[str], IO[bytes], Buffer], config: Optional[Config] = None, *,
-    strict: bool = False, timestamps: bool = False, naive: Literal["error", "utc"] = "error",
+    texts: Union[Iterable[Union[_Text, float, None]], _Bytes], config: Optional[Config] = None, *, strict: bool = False,
+    timestamps: bool = False, naive: Literal["error", "utc"] = "error",
     faults: Union[Literal["raise", "nat"], List[Fault]] = "raise", newline: Literal["\r\n", "\n"] = "\r\n"
 ) -> array.array[int]: ...
 def text(value: Union[datetime.date, datetime.time, datetime.timedelta]) -> str: ...

@@ -119,10 +119,11 @@ class Config:
             object.__setattr__(config, name, value)
         return config
 
-    def __setattr__(self, name, value=None):
+    def __setattr__(self, name, value):
         raise AttributeError(f"{name} cannot be changed: a Config stays as it was made")
 
-    __delattr__ = __setattr__
+    def __delattr__(self, name):
+        self.__setattr__(name, None)
 
     def __eq__(self, other):
         return self._numbers == other._numbers if type(other) is type(self) else NotImplemented
