@@ -222,8 +222,9 @@ class Blocks(unittest.TestCase):
     def test_all_refused(self):
         for lines in (b"x\n" * 70_000, ["x"] * 70_000):
             faults = []
-            self.assertEqual(column(lines, faults=faults), [NAT] * 70_000)
-            self.assertEqual([it.index for it in faults], list(range(70_000)))
+            # The difference of such lists would take minutes.
+            self.assertTrue(column(lines, faults=faults) == [NAT] * 70_000)
+            self.assertTrue([it.index for it in faults] == list(range(70_000)))
 
     def test_long_lines(self):
         for size in (1, 262_142, 262_143, 262_144, 262_145, 600_000):
