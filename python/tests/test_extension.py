@@ -384,6 +384,12 @@ class Extension(unittest.TestCase):
                     self.assertNotEqual(fault.name, "ok")
                 except TypeError as error:
                     self.assertIn("which is not read here", str(error))
+            if name == "date_time_column":
+                object.__setattr__(config, "_numbers", bytes([0] * 6 + [0xFF, 0]))
+                for faults in ("nat", []):
+                    for texts in (["1970-01-01T00:00Z"], b"1970-01-01T00:00Z"):
+                        with self.assertRaisesRegex(speedate.Fault, "^config_out_of_range in text 0$"):
+                            speedate.date_time_column(texts, config, faults=faults)
             object.__delattr__(config, "_numbers")
             with self.assertRaises(AttributeError):
                 getattr(speedate, name)(right, config=config)
