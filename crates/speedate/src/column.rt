@@ -11,7 +11,8 @@ pub use duration::DurationReader;
 pub use read::{read_column, read_column_with_errors};
 use speedate_base::faults::ParseError;
 
-/// How a text is cut into lines.
+/// How a text is cut into lines: `LineConfig { at_end: true, drops_returns: false }` takes all lines of a
+/// file that has no carriage returns.
 #[derive(Clone, Copy, Debug)]
 pub struct LineConfig {
     /// Whether the end of the text ends its last line. Otherwise that line is left, since it may go on.
@@ -20,17 +21,17 @@ pub struct LineConfig {
     pub drops_returns: bool,
 }
 
-/// Why a line has no number.
+/// Why a line has no number: `LineError::Parse(ParseError::TooShort)` for an empty one.
 #[derive(Clone, Copy, Debug, PartialEq, Eq)]
 pub enum LineError {
-    /// The text is refused.
+    /// The text is refused, or has no offset, which the reader needs: then with `TzRequired`.
     Parse(ParseError),
-    /// The number of the value does not fit.
+    /// The number of the value does not fit, as that of `P999999999D` in microseconds.
     NumberTooLarge,
 }
 
 impl LineError {
-    ghost use Rattle.std.specs.Prelude.{◌≡◌, ◌≤◌};
+    ghost use Rattle.std.specs.Prelude.{◌≡◌};
     ghost use Rattle.speedate.specs.Column.{error_number};
 
     /// The number of the error: of a refused text [`ParseError::number`], 1 to 42, and 97 for
@@ -46,7 +47,7 @@ impl LineError {
     }
 }
 
-/// How far a column has come.
+/// How far a column has come: two lines and 22 bytes, and no error, for two dates that line feeds end.
 #[derive(Clone, Copy, Debug)]
 pub struct Progress {
     /// How many lines have a number in the column.
@@ -57,7 +58,7 @@ pub struct Progress {
     pub error: Option<LineError>,
 }
 
-/// Reads a line as a number.
+/// Reads a line as a number, as [`DateReader`] reads `1970-01-02` as 1.
 pub trait LineReader {
     ghost use Rattle.std.specs.Prelude.{◌≡◌, ℕ, IfSome, List, Result};
     ghost use Rattle.speedate.specs.declared.column.LineError.{LineError};
@@ -69,12 +70,17 @@ pub trait LineReader {
     // The number of a line, or its error.
     ghost answer: { Self → List ℕ → Result Self.Number LineError };
 
-    /// The number of a line, which is given without its end.
+    /// The number of a line, which is given without its end: 1 for `b"1970-01-02"`.
+    ///
+    /// # Errors
+    ///
+    /// Those of the texts that the reader takes, and `NumberTooLarge` if the number does not fit.
     fn number(&self, line: &[u8]) -> Result<Self::Number, LineError>
         ensures answer { result ≡ answer self.now line.now };
 
     /// The number of the bytes at the front of a text, and how many they are, if they have that number
-    /// as a line and no line feed is among them. `None` tells nothing.
+    /// as a line, no line feed is among them, and no carriage return is the last: 1 and 10 for
+    /// `b"1970-01-02\n1970-01-03"`. `None` tells nothing.
     fn front(&self, text: &[u8]) -> Option<(Self::Number, usize)>
         ensures front { IfSome result (λ front. IsFront (answer self.now) text.now front.0 front.1) };
 }

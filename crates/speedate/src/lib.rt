@@ -20,6 +20,8 @@
 //! - [`Duration`]: days, seconds and microseconds with a sign, the duration between two values, and the
 //!   value a duration after another.
 //! - [`Decimal`], [`IntFloat`], [`int_parse_bytes`] and [`float_parse_bytes`]: numbers as texts.
+//! - [`read_column`] and [`read_column_with_errors`]: the lines of a text as numbers, by a
+//!   [`DateReader`], a [`DateTimeReader`] or a [`DurationReader`]; [`line_end`] finds the end of a line.
 //! - [`DateConfig`], [`TimeConfig`], [`DateTimeConfig`] and their builders: how texts are parsed.
 //! - [`ParseError`], [`ConfigError`]: the errors. A text that is refused has exactly one, and each has
 //!   a name, such as `out_of_range_day`.

@@ -10,10 +10,10 @@ ghost use Rattle.speedate.specs.Duration.{duration_numbers};
 ghost use Rattle.speedate.specs.Time.{time_of_day};
 
 use speedate::{
-    ConfigError, Date, DateConfig, DateConfigBuilder, DateTime, DateTimeConfig,
-    DateTimeConfigBuilder, Decimal, Duration, IntFloat, IsoOrder,
-    MicrosecondsPrecisionOverflowBehavior, Moment, ParseError, Time, TimeConfig, TimeConfigBuilder,
-    TimestampUnit,
+    ConfigError, Date, DateConfig, DateConfigBuilder, DateReader, DateTime, DateTimeConfig,
+    DateTimeConfigBuilder, DateTimeReader, Decimal, Duration, DurationReader, IntFloat, IsoOrder,
+    LineConfig, LineError, MicrosecondsPrecisionOverflowBehavior, Moment, ParseError, Progress,
+    Time, TimeConfig, TimeConfigBuilder, TimestampUnit,
 };
 use speedate_base::numbers::{DigitRun, Fraction};
 use speedate_base::util::{UnixTime, UnixUnit};
@@ -37,6 +37,10 @@ pub struct Each<'a> {
     pub builders: (DateConfigBuilder, TimeConfigBuilder, DateTimeConfigBuilder),
     /// What is parsed and computed.
     pub values: (Date, Time, DateTime, Moment, Duration),
+    /// How columns are read.
+    pub readers: (LineConfig, DateReader, DateTimeReader, DurationReader),
+    /// How far they come.
+    pub columns: (Progress, LineError),
     /// What is parsed as a number.
     pub numbers: (Decimal<'a>, IntFloat<'a>),
     /// What the lower crates parse and compute.
@@ -65,6 +69,13 @@ pub fn same_choices(first: &Each<'_>, second: &Each<'_>) -> (bool, bool, bool, b
         first.choices.1 == second.choices.1,
         first.choices.2 == second.choices.2,
     )
+}
+
+/// Whether two errors of lines are equal: false if one is that of a text, and the other is not.
+pub fn same_line_error(first: &LineError, second: &LineError) -> bool
+    ensures same { IsTrue result ↔ (first.now ≡ second.now) }
+{
+    first == second
 }
 
 /// Whether two configurations of dates are equal: false if their units differ.

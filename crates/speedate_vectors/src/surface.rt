@@ -1,16 +1,18 @@
 //! The traits of each type that `speedate` gives out.
 
 use speedate::{
-    ConfigError, Date, DateConfig, DateConfigBuilder, DateTime, DateTimeConfig,
-    DateTimeConfigBuilder, Decimal, Duration, IntFloat, IsoOrder,
-    MicrosecondsPrecisionOverflowBehavior, Moment, ParseError, Time, TimeConfig, TimeConfigBuilder,
-    TimestampUnit,
+    ConfigError, Date, DateConfig, DateConfigBuilder, DateReader, DateTime, DateTimeConfig,
+    DateTimeConfigBuilder, DateTimeParser, DateTimeReader, Decimal, Duration, DurationReader,
+    IntFloat, IsoOrder, LineConfig, LineError, LineReader, MicrosecondsPrecisionOverflowBehavior,
+    Moment, ParseError, Progress, Time, TimeConfig, TimeConfigBuilder, TimestampUnit,
 };
 use std::error::Error;
 use std::fmt::{Debug, Display};
 use std::str::FromStr;
 
 fn is_copied<T: Copy + Debug>() {}
+
+fn is_reader<T: Copy + Debug + LineReader>() {}
 
 fn is_value<T: Copy + Debug + Eq>() {}
 
@@ -27,6 +29,11 @@ fn is_error<T: Error + Copy + Eq>() {}
 #[test]
 fn each_type_has_its_traits() {
     is_copied::<(Decimal<'_>, IntFloat<'_>)>();
+    is_copied::<(LineConfig, Progress, DateTimeParser)>();
+    is_reader::<DateReader>();
+    is_reader::<DateTimeReader>();
+    is_reader::<DurationReader>();
+    is_value::<LineError>();
     is_value::<(Date, Time, DateTime, Duration, Moment)>();
     is_choice::<TimestampUnit>();
     is_choice::<MicrosecondsPrecisionOverflowBehavior>();

@@ -5,7 +5,8 @@ use speedate_base::config::{DateTimeConfig, MicrosecondsPrecisionOverflowBehavio
 use speedate_base::faults::ParseError;
 use speedate_civil::datetime::DateTime;
 
-/// How a column parses its date-times.
+/// How a column parses its date-times: `DateTimeParser::Rfc3339(TimeConfig::default())` takes
+/// `1970-01-01T00:00Z`, and refuses `0`.
 #[derive(Clone, Copy, Debug)]
 pub enum DateTimeParser {
     /// No timestamps, as [`DateTime::parse_bytes_rfc3339_with_config`].
