@@ -12,11 +12,39 @@ use Rattle.speedate_base.specs.Ascii.{colon}
 use Rattle.speedate_base.specs.Digits.{run_length, digits_value, two_digits_at}
 use Rattle.speedate_base.proofs.DigitRunLemmas.{run_length-ended, run-whole}
 use Rattle.speedate_base.proofs.NumberLemmas.{run-digits}
-use Rattle.speedate.specs.ClockForm.{hours, colon_place, has_hours, after_hours, from_minute, hours_table, hours_range, clock_numbers, clock_form}
+use Rattle.speedate.specs.ClockForm.{
+  hours,
+  colon_place,
+  has_hours,
+  after_hours,
+  from_minute,
+  hours_table,
+  hours_range,
+  clock_numbers,
+  clock_form,
+}
 use Rattle.std.proofs.lemmas.List.Folds.{list_any-append}
-use Rattle.speedate_base.specs.Requirement.{◌else_fault◌, ◌implies◌, first_fault_or, result_and_then}
-use Rattle.speedate_base.proofs.RequirementLemmas.{and_then-ok, first_fault_or-ok, first_fault_or-value}
-use Rattle.speedate_civil.specs.Time.{Clock, has_decimal_mark, has_second, minute_clock, minute_digits, minute_table, minute_front, clock_answer}
+use Rattle.speedate_base.specs.Requirement.{
+  ◌else_fault◌,
+  ◌implies◌,
+  first_fault_or,
+  result_and_then,
+}
+use Rattle.speedate_base.proofs.RequirementLemmas.{
+  and_then-ok,
+  first_fault_or-ok,
+  first_fault_or-value,
+}
+use Rattle.speedate_civil.specs.Time.{
+  Clock,
+  has_decimal_mark,
+  has_second,
+  minute_clock,
+  minute_digits,
+  minute_table,
+  minute_front,
+  clock_answer,
+}
 use Rattle.speedate.specs.DayForm.{is_day_letter}
 use Rattle.speedate.specs.Duration.{has_days}
 use Rattle.speedate.specs.DurationNumbers.{UnsignedDuration}

@@ -9,7 +9,16 @@ use Rattle.speedate_base.specs.Requirement.{first_fault_or, result_and_then}
 use Rattle.speedate_base.proofs.RequirementLemmas.{first_fault_or-all, first_fault_or-and_then}
 use Rattle.speedate.specs.Duration.{iso_after, iso_from, iso_form, unsigned_answer, duration_answer}
 use Rattle.speedate.specs.DurationNumbers.{signed_form}
-use Rattle.speedate.specs.IsoForm.{Item, TimeDesignator, item_text, IsoSums, item_at, item_table, with_item, sums_amount}
+use Rattle.speedate.specs.IsoForm.{
+  Item,
+  TimeDesignator,
+  item_text,
+  IsoSums,
+  item_at,
+  item_table,
+  with_item,
+  sums_amount,
+}
 use Rattle.speedate.specs.IsoParts.{item_front}
 
 -- the answer after the bytes of an item

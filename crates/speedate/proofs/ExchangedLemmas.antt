@@ -10,7 +10,21 @@ use Rattle.speedate.specs.Duration.{iso_from, duration_answer}
 use Rattle.speedate.proofs.DurationAnswerLemmas.{iso_from-item, duration_answer-iso}
 use Rattle.speedate.specs.DurationNumbers.{DurationNumbers, UnsignedDuration, signed_form}
 use Rattle.speedate.specs.IsoOrder.{IsWhole, AreWhole, IsPlain, AreExchanged}
-use Rattle.speedate.specs.IsoForm.{IsoUnit, units, ComponentText, Item, Component, item_text, item_at, item_table, IsoSums, no_sums, with_component, with_item, with_items}
+use Rattle.speedate.specs.IsoForm.{
+  IsoUnit,
+  units,
+  ComponentText,
+  Item,
+  Component,
+  item_text,
+  item_at,
+  item_table,
+  IsoSums,
+  no_sums,
+  with_component,
+  with_item,
+  with_items,
+}
 use Rattle.speedate.proofs.IsoItemLemmas.{item_at-component}
 
 -- what is one item by its bytes is read as it, whatever follows
@@ -104,7 +118,8 @@ pair-exchanged sums first second rest free one two =
     search (rules, pair-answer, fits-exchanged, sums-exchanged)
 
 -- nor where they stand after items, whether these are refused or not
-after-exchanged : (sums : IsoSums) (items : List Item) (first second : ComponentText) (rest : List ℕ)
+after-exchanged : (sums : IsoSums) (items : List Item) (first second : ComponentText)
+    (rest : List ℕ)
     → IsFree sums → AreWhole sums items
     → IsPlain (with_items items sums) first → IsPlain (with_items items sums) second
     → iso_from sums (flat_map item_text items ++ (item_text (Component first)

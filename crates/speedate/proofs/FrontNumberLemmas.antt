@@ -7,11 +7,26 @@ use Rattle.speedate_base.specs.Numbers.{number_answer, whole_number}
 use Rattle.speedate_base.specs.Requirement.{or_number, result_and_then}
 use Rattle.speedate_civil.specs.Calendar.{Ymd, days_between}
 use Rattle.speedate_civil.specs.Date.{date_answer, date_timestamp_answer}
-use Rattle.speedate_civil.specs.DateTime.{DateAndTime, date_time_answer, date_time_by_config, date_time_number_answer, utc_microsecond}
+use Rattle.speedate_civil.specs.DateTime.{
+  DateAndTime,
+  date_time_answer,
+  date_time_by_config,
+  date_time_number_answer,
+  utc_microsecond,
+}
 use Rattle.speedate.specs.declared.column.date.DateReader.{DateReader}
 use Rattle.speedate.specs.declared.column.date_time.DateTimeParser.{DateTimeParser}
 use Rattle.speedate.specs.declared.column.date_time.DateTimeReader.{DateTimeReader}
-use Rattle.speedate.specs.Column.{IsFront, LineError, as_number, date_number, date_time_number, date_time_of_line, epoch, with_offset}
+use Rattle.speedate.specs.Column.{
+  IsFront,
+  LineError,
+  as_number,
+  date_number,
+  date_time_number,
+  date_time_of_line,
+  epoch,
+  with_offset,
+}
 use Rattle.speedate.proofs.LineLemmas.{IsOneLine-printed, no_return-printed}
 
 -- a reader that refuses an empty line reads no number of no bytes

@@ -11,10 +11,37 @@ use Rattle.speedate_base.proofs.NumberLemmas.{sign-of_text}
 use Rattle.speedate_base.specs.Requirement.{first_fault_or, AllHold, result_and_then}
 use Rattle.speedate_base.proofs.RequirementLemmas.{first_fault_or-all}
 use Rattle.speedate.specs.DurationNumbers.{DurationNumbers, signed_form}
-use Rattle.speedate.specs.Duration.{form_answer, iso_after, iso_from, iso_form, unsigned_answer, duration_answer}
+use Rattle.speedate.specs.Duration.{
+  form_answer,
+  iso_after,
+  iso_from,
+  iso_form,
+  unsigned_answer,
+  duration_answer,
+}
 use Rattle.speedate.proofs.DurationAnswerLemmas.{iso_from-item, duration_answer-iso}
 use Rattle.speedate.specs.IsoOrder.{IsLaxOrRefused, IsAnswerInOrder, are_in_order, IsMadeOf, is_iso}
-use Rattle.speedate.specs.IsoForm.{IsoUnit, units, unit_in, ComponentText, Item, TimeDesignator, Component, item_text, item_at, item_table, units_after, IsoSums, no_sums, with_component, with_item, with_items, AreGood, sums_amount, Ends}
+use Rattle.speedate.specs.IsoForm.{
+  IsoUnit,
+  units,
+  unit_in,
+  ComponentText,
+  Item,
+  TimeDesignator,
+  Component,
+  item_text,
+  item_at,
+  item_table,
+  units_after,
+  IsoSums,
+  no_sums,
+  with_component,
+  with_item,
+  with_items,
+  AreGood,
+  sums_amount,
+  Ends,
+}
 use Rattle.speedate.proofs.IsoFormLemmas.{Answer, answer-only, iso_after-is}
 use Rattle.speedate.proofs.IsoItemLemmas.{item_at-text}
 
@@ -30,7 +57,8 @@ component-lax : (unit : Option IsoUnit) (component : ComponentText) (sums : IsoS
     → as_lax (with_component unit component sums) ≡ with_component unit component (as_lax sums)
 component-lax unit component sums = search (rules)
 
-item-lax : (item : Item) (sums : IsoSums) → as_lax (with_item item sums) ≡ with_item item (as_lax sums)
+item-lax : (item : Item) (sums : IsoSums)
+    → as_lax (with_item item sums) ≡ with_item item (as_lax sums)
 item-lax item sums = search (rules, component-lax)
 
 -- a row that both tables have

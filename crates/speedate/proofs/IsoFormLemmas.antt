@@ -8,10 +8,36 @@ use Rattle.std.proofs.Math.Seq.{drop-nil}
 use Rattle.speedate_base.specs.Ascii.{capital_p}
 use Rattle.speedate_base.specs.Numbers.{has_minus, sign_size}
 use Rattle.speedate_base.specs.Requirement.{first_fault_or, AllHold, result_and_then}
-use Rattle.speedate_base.proofs.RequirementLemmas.{first_fault_or-all, first_fault_or-next, first_fault_or-value}
-use Rattle.speedate.specs.Duration.{iso_after, iso_form, form_answer, unsigned_answer, duration_answer, IsGrammarAnswer}
+use Rattle.speedate_base.proofs.RequirementLemmas.{
+  first_fault_or-all,
+  first_fault_or-next,
+  first_fault_or-value,
+}
+use Rattle.speedate.specs.Duration.{
+  iso_after,
+  iso_form,
+  form_answer,
+  unsigned_answer,
+  duration_answer,
+  IsGrammarAnswer,
+}
 use Rattle.speedate.specs.DurationNumbers.{DurationNumbers, UnsignedDuration, signed_form}
-use Rattle.speedate.specs.IsoForm.{Item, item_text, IsItem, item_at, IsoSums, no_sums, with_item, with_items, item_table, AreGood, sums_amount, Ends, IsEndedFront, IsAnswerFrom}
+use Rattle.speedate.specs.IsoForm.{
+  Item,
+  item_text,
+  IsItem,
+  item_at,
+  IsoSums,
+  no_sums,
+  with_item,
+  with_items,
+  item_table,
+  AreGood,
+  sums_amount,
+  Ends,
+  IsEndedFront,
+  IsAnswerFrom,
+}
 use Rattle.speedate.proofs.IsoItemLemmas.{item_at-text, item-front}
 
 -- the amount that a text says without its sign, or its fault
@@ -37,7 +63,8 @@ end-no_front sums text answer item items rest ends same good =
     search (rules, append_assoc, item_at-text, ends-no_item)
 
 -- a text has one front of good items that an end follows
-front-same : (sums : IsoSums) (items others : List Item) (rest other : List ℕ) (first second : Answer)
+front-same : (sums : IsoSums) (items others : List Item) (rest other : List ℕ)
+    (first second : Answer)
     → flat_map item_text items ++ rest ≡ flat_map item_text others ++ other → AreGood sums items
     → AreGood sums others
     → Ends (with_items items sums) rest first → Ends (with_items others sums) other second

@@ -13,7 +13,23 @@ use Rattle.speedate_base.specs.Digits.{run_length, is_decimal_mark}
 use Rattle.speedate_base.proofs.DigitRunLemmas.{run_length-append}
 use Rattle.speedate_base.proofs.NumberLemmas.{run-digits}
 use Rattle.speedate_base.specs.Requirement.{AllHold}
-use Rattle.speedate.specs.IsoForm.{IsoUnit, units, unit_in, ComponentText, Item, TimeDesignator, Component, item_text, IsFraction, IsItem, fraction_size, component_at, item_at, IsoSums, item_table}
+use Rattle.speedate.specs.IsoForm.{
+  IsoUnit,
+  units,
+  unit_in,
+  ComponentText,
+  Item,
+  TimeDesignator,
+  Component,
+  item_text,
+  IsFraction,
+  IsItem,
+  fraction_size,
+  component_at,
+  item_at,
+  IsoSums,
+  item_table,
+}
 use Rattle.speedate.specs.IsoParts.{unit_place}
 
 -- the designator of a unit is no digit and no decimal mark
@@ -129,7 +145,8 @@ IsFront sums byte rest item =
     AllHold (item_table sums item)
     → IsItem item × (byte ∷ rest ≡ item_text item ++ drop (length (item_text item) - 1) rest)
 
-front-of : (sums : IsoSums) (byte : ℕ) (rest : List ℕ) (is_time : Bool) → (byte == capital_t) ≡ is_time
+front-of : (sums : IsoSums) (byte : ℕ) (rest : List ℕ) (is_time : Bool)
+    → (byte == capital_t) ≡ is_time
     → IsFront sums byte rest (if is_time then TimeDesignator
     else Component (component_at (byte ∷ rest)))
 front-of sums byte rest true same hold =

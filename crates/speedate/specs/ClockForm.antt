@@ -7,7 +7,13 @@ use Rattle.speedate_civil.specs.Base.{Behavior, ParseError}
 use Rattle.speedate_base.specs.Ascii.{colon}
 use Rattle.speedate_base.specs.Digits.{digits_value}
 use Rattle.speedate_base.specs.Config.{refuses_digits}
-use Rattle.speedate_base.specs.Requirement.{Requirement, ◌else_fault◌, ◌implies◌, first_fault_or, result_and_then}
+use Rattle.speedate_base.specs.Requirement.{
+  Requirement,
+  ◌else_fault◌,
+  ◌implies◌,
+  first_fault_or,
+  result_and_then,
+}
 use Rattle.speedate_civil.specs.Time.{Clock, minute_front}
 use Rattle.speedate.specs.DurationNumbers.{UnsignedDuration}
 

@@ -5,7 +5,13 @@ use Rattle.speedate_civil.specs.Base.{Behavior, ParseError}
 use Rattle.std.specs.List.{list_any, starts_with}
 use Rattle.speedate_base.specs.Ascii.{capital_d, small_d}
 use Rattle.speedate_base.specs.Digits.{run_length, run_value}
-use Rattle.speedate_base.specs.Requirement.{Requirement, ◌else_fault◌, first_fault_or, result_and_then, ◌>>=◌}
+use Rattle.speedate_base.specs.Requirement.{
+  Requirement,
+  ◌else_fault◌,
+  first_fault_or,
+  result_and_then,
+  ◌>>=◌,
+}
 use Rattle.speedate.specs.ClockForm.{clock_form}
 use Rattle.speedate.specs.DurationNumbers.{UnsignedDuration}
 

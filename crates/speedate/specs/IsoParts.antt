@@ -4,7 +4,16 @@ use Rattle.speedate_base.specs.Requirement.{first_fault_or}
 use Rattle.speedate.specs.declared.duration.iso.DurationUnit.{DurationUnit}
 use Rattle.speedate.specs.declared.duration.iso.Sums.{Sums}
 use Rattle.speedate_civil.specs.Base.{ParseError}
-use Rattle.speedate.specs.IsoForm.{IsoUnit, units, unit_in, Item, item_text, IsoSums, with_item, item_table}
+use Rattle.speedate.specs.IsoForm.{
+  IsoUnit,
+  units,
+  unit_in,
+  Item,
+  item_text,
+  IsoSums,
+  with_item,
+  item_table,
+}
 
 -- a unit by its designator and its worth
 abbrev pub unit_parts : DurationUnit → IsoUnit

@@ -1,7 +1,14 @@
 -- How tables chain.
 use Rattle.std.proofs.Common.{◌≡◌, ◌↔◌, ℕ, List, [], ◌∷◌, length, Result, Ok, Err, refl, rules}
 use Rattle.std.specs.Result.{result_and}
-use Rattle.speedate_base.specs.Requirement.{Requirement, first_fault_or, AllHold, whole_or_fault, result_and_then, ParseError}
+use Rattle.speedate_base.specs.Requirement.{
+  Requirement,
+  first_fault_or,
+  AllHold,
+  whole_or_fault,
+  result_and_then,
+  ParseError,
+}
 
 -- what a table refuses or lets through does not depend on what comes next
 pub first_fault_or-chain : {A B : Type 0} (rows : List Requirement) (value : A)

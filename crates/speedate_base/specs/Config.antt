@@ -3,7 +3,9 @@ use Rattle.std.specs.Prelude.{Bool, true, false, ℤ, Option, None, ℕ, List, [
 use Rattle.std.specs.Option.{ok_or}
 use Rattle.std.specs.Str.{str_eq_ignore_ascii_case}
 pub use Rattle.speedate_base.specs.declared.config.IsoOrder.{IsoOrder}
-pub use Rattle.speedate_base.specs.declared.config.MicrosecondsPrecisionOverflowBehavior.{MicrosecondsPrecisionOverflowBehavior as Behavior}
+pub use Rattle.speedate_base.specs.declared.config.MicrosecondsPrecisionOverflowBehavior.{
+  MicrosecondsPrecisionOverflowBehavior as Behavior,
+}
 use Rattle.speedate_base.specs.declared.config.TimeConfig.{TimeConfig}
 pub use Rattle.speedate_base.specs.declared.config.TimestampUnit.{TimestampUnit}
 use Rattle.speedate_base.specs.declared.config.date_time.DateTimeConfig.{DateTimeConfig}

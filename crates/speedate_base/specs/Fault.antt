@@ -14,7 +14,8 @@ pub record FaultRow : Type 0 where
 
 -- a row of the table of faults
 abbrev pub row : ParseError → String → String → FaultRow
-row fault name documentation = record { fault = fault; name = codes name; documentation = codes documentation }
+row fault name documentation =
+    record { fault = fault; name = codes name; documentation = codes documentation }
 
 -- the faults, in the order in which the enum has them
 abbrev pub fault_rows : List FaultRow

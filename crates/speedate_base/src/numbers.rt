@@ -1,7 +1,18 @@
 //! Whole numbers and decimals, and the digits that they are made of.
 
 ghost use Rattle.std.specs.Prelude.{◌≡◌, ◌^◌, ◌<◌, ◌≤◌, length, Some, None};
-ghost use Rattle.speedate_base.specs.Numbers.{has_minus, sign_size, with_sign, signed_answer, whole_number, point_place, decimal_answer, number_answer, number_value, JoinsToFloat};
+ghost use Rattle.speedate_base.specs.Numbers.{
+  has_minus,
+  sign_size,
+  with_sign,
+  signed_answer,
+  whole_number,
+  point_place,
+  decimal_answer,
+  number_answer,
+  number_value,
+  JoinsToFloat,
+};
 
 pub(crate) mod digits;
 mod fraction;

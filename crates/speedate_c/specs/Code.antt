@@ -5,7 +5,13 @@ use Rattle.std.specs.Option.{option_map, option_or}
 use Rattle.std.specs.Ordering.{int_eq}
 use Rattle.std.specs.declared.cmp.Ordering.{Ordering, Ordering as ordering}
 use Rattle.speedate.specs.Base.{ParseError}
-use Rattle.speedate.specs.Fault.{FaultRow, fault_rows, fault_number, fault_name, fault_documentation}
+use Rattle.speedate.specs.Fault.{
+  FaultRow,
+  fault_rows,
+  fault_number,
+  fault_name,
+  fault_documentation,
+}
 
 -- what was asked for is written
 abbrev pub success : ℤ

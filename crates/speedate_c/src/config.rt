@@ -3,7 +3,16 @@
 ghost use Rattle.std.specs.Option.{option_map};
 ghost use Rattle.std.specs.Prelude.{◌≡◌, slice_get};
 ghost use Rattle.speedate.specs.Config.{choices, time_choices};
-ghost use Rattle.speedate_c.specs.Config.{behaviors, choices_of, flags, offset_by_flag, one_choice_of_texts, orders, time_choices_of, units};
+ghost use Rattle.speedate_c.specs.Config.{
+  behaviors,
+  choices_of,
+  flags,
+  offset_by_flag,
+  one_choice_of_texts,
+  orders,
+  time_choices_of,
+  units,
+};
 
 use speedate::{
     DateConfig, DateTimeConfig, IsoOrder, MicrosecondsPrecisionOverflowBehavior, ParseError,

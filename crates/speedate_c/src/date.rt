@@ -2,11 +2,43 @@
 
 ghost use Rattle.std.specs.Option.{option_map};
 ghost use Rattle.std.specs.Prelude.{◌≡◌, ◌≢◌, ◌≤◌, length, slice_get};
-ghost use Rattle.speedate.specs.Date.{ymd, date_answer, date_front, date_text, date_or_timestamp, date_timestamp_answer, ◌gives◌};
-ghost use Rattle.speedate.specs.Calendar.{date_order, date_added, date_numbered, day_number, days_between, midnight_millisecond, midnight_second, ordinal_day};
+ghost use Rattle.speedate.specs.Date.{
+  ymd,
+  date_answer,
+  date_front,
+  date_text,
+  date_or_timestamp,
+  date_timestamp_answer,
+  ◌gives◌,
+};
+ghost use Rattle.speedate.specs.Calendar.{
+  date_order,
+  date_added,
+  date_numbered,
+  day_number,
+  days_between,
+  midnight_millisecond,
+  midnight_second,
+  ordinal_day,
+};
 ghost use Rattle.speedate.specs.Requirement.{result_map};
-ghost use Rattle.speedate_c.specs.Written.{written_answer, written_front, written_optional_date, written_text, written_value, with_option, with_value};
-ghost use Rattle.speedate_c.specs.Code.{answer_code, buffer_too_small, config_out_of_range, order_number, success, value_out_of_range};
+ghost use Rattle.speedate_c.specs.Written.{
+  written_answer,
+  written_front,
+  written_optional_date,
+  written_text,
+  written_value,
+  with_option,
+  with_value,
+};
+ghost use Rattle.speedate_c.specs.Code.{
+  answer_code,
+  buffer_too_small,
+  config_out_of_range,
+  order_number,
+  success,
+  value_out_of_range,
+};
 ghost use Rattle.speedate_c.specs.Config.{choices_of, flags};
 ghost use Rattle.speedate_c.specs.Date.{date_of, shown_date};
 

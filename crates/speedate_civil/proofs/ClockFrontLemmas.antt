@@ -5,11 +5,24 @@ use Rattle.std.proofs.lemmas.Bool.{and_from, lt-leb}
 use Rattle.std.proofs.lemmas.Grind.{common_steps}
 use Rattle.std.proofs.lemmas.List.{take_rest}
 use Rattle.speedate_base.specs.Ascii.{colon}
-use Rattle.speedate_base.specs.Digits.{two_digits_at, two_digit_value, eight_at, fit_length, fit_digits, neighbours}
+use Rattle.speedate_base.specs.Digits.{
+  two_digits_at,
+  two_digit_value,
+  eight_at,
+  fit_length,
+  fit_digits,
+  neighbours,
+}
 use Rattle.speedate_base.specs.Requirement.{first_fault_or, result_map}
 use Rattle.speedate_base.proofs.PatternLemmas.{fit_length-all}
 use Rattle.speedate_civil.specs.ParserParts.{second_of}
-use Rattle.speedate_civil.specs.Time.{at_hour, clock_front, minute_clock, minute_front, second_table}
+use Rattle.speedate_civil.specs.Time.{
+  at_hour,
+  clock_front,
+  minute_clock,
+  minute_front,
+  second_table,
+}
 
 -- a clock as it looks
 abbrev pub pattern : List ℕ

@@ -5,7 +5,16 @@ use Rattle.std.proofs.lemmas.Bool.{and_from}
 use Rattle.std.proofs.lemmas.Grind.{common_steps}
 use Rattle.std.specs.Int.{is_in_range, IsInRange}
 use Rattle.speedate_base.specs.Ascii.{hyphen}
-use Rattle.speedate_base.specs.Digits.{four_digits_at, four_digit_value, two_digits_at, two_digit_value, eight_at, fit_length, fit_digits, neighbours}
+use Rattle.speedate_base.specs.Digits.{
+  four_digits_at,
+  four_digit_value,
+  two_digits_at,
+  two_digit_value,
+  eight_at,
+  fit_length,
+  fit_digits,
+  neighbours,
+}
 use Rattle.speedate_base.proofs.PatternLemmas.{fit_length-all}
 use Rattle.speedate_civil.specs.Calendar.{month_length}
 use Rattle.speedate_civil.specs.Date.{date_front}

@@ -1,5 +1,5 @@
--- Laws of the order of dates: it is that of the day numbers, and that of the texts. Each date of the
--- years to 9999 is the date of its day number, and days are counted as the dates are in order.
+-- Laws of the order of dates: it is that of the day numbers, and that of the texts. Each date of
+-- the years to 9999 is the date of its day number, and days are counted as the dates are in order.
 use Rattle.std.proofs.Common.{◌≡◌, ℕ, ◌+◌, ◌-◌, ◌/◌, ◌%◌, ◌<◌, ◌≤◌, ℤ, pos, ◌+ℤ◌, ◌-ℤ◌, Option, Some, IfSome, int_cmp, List, [], ◌++◌, refl, nat_cmp, Ordering, Equal, rules, arith, ◌∙◌, ap}
 use Rattle.std.specs.Cmp.Lexicographic.{slice_cmp}
 use Rattle.std.specs.Ordering.{ordering_then}
@@ -7,8 +7,21 @@ use Rattle.std.proofs.lemmas.Bool.Decides.{nat_tests}
 use Rattle.speedate_base.specs.Digits.{digit}
 use Rattle.speedate_civil.specs.Calendar.{Ymd, IsDay, date_numbered, date_order, day_number}
 use Rattle.speedate_civil.specs.Date.{ymd, date_text, Date}
-unfoldable use Rattle.speedate_civil.specs.Calendar.{days_of_months, days_before_year, date_of_number}
-use Rattle.speedate_civil.proofs.DayNumberLemmas.{days_of_months-next, days_of_months-rises, days_before_year-next, days_before_year-rises, ordinal_day-small, day_number-small, date_of_number-IsDay, day_number-date_of_number}
+unfoldable use Rattle.speedate_civil.specs.Calendar.{
+  days_of_months,
+  days_before_year,
+  date_of_number,
+}
+use Rattle.speedate_civil.proofs.DayNumberLemmas.{
+  days_of_months-next,
+  days_of_months-rises,
+  days_before_year-next,
+  days_before_year-rises,
+  ordinal_day-small,
+  day_number-small,
+  date_of_number-IsDay,
+  day_number-date_of_number,
+}
 
 -- an earlier year has smaller day numbers
 earlier_year : (first second : Ymd) → IsDay first → IsDay second → first.year < second.year

@@ -4,7 +4,14 @@ use Rattle.std.proofs.Common.{◌≡◌, ℕ, ◌<◌, ◌≤◌, ℤ, unsigned_
 use Rattle.std.proofs.lemmas.Bool.Decides.{nat_tests}
 use Rattle.std.proofs.lemmas.Int.{ints}
 use Rattle.speedate_base.specs.Timestamp.{later_answer}
-use Rattle.speedate_civil.specs.DateTime.{DateAndTime, IsDateAndTime, local_second, date_time_at, instant_date_time, date_time_timestamp_answer}
+use Rattle.speedate_civil.specs.DateTime.{
+  DateAndTime,
+  IsDateAndTime,
+  local_second,
+  date_time_at,
+  instant_date_time,
+  date_time_timestamp_answer,
+}
 use Rattle.speedate_base.proofs.RequirementLemmas.{first_fault_or-all}
 use Rattle.speedate_base.proofs.TimestampLemmas.{instant_of_seconds}
 use Rattle.speedate_civil.specs.Base.{TimestampUnit}

@@ -5,9 +5,22 @@ use Rattle.std.specs.Int.{int_div_euclid, int_rem_euclid}
 use Rattle.std.proofs.lemmas.Bool.Decides.{nat_tests}
 use Rattle.std.proofs.lemmas.Int.{ints}
 use Rattle.speedate_base.specs.Requirement.{AllHold, result_and_then}
-use Rattle.speedate_base.specs.Timestamp.{Instant, first_second, last_second, seconds_per_day, range_answer, range_table}
+use Rattle.speedate_base.specs.Timestamp.{
+  Instant,
+  first_second,
+  last_second,
+  seconds_per_day,
+  range_answer,
+  range_table,
+}
 use Rattle.speedate_civil.specs.Calendar.{Ymd, epoch_day, date_of_number, date_numbered}
-use Rattle.speedate_civil.specs.Date.{date_timestamp_answer, day_at, day_number_at, instant_date, second_at}
+use Rattle.speedate_civil.specs.Date.{
+  date_timestamp_answer,
+  day_at,
+  day_number_at,
+  instant_date,
+  second_at,
+}
 use Rattle.speedate_base.proofs.RequirementLemmas.{first_fault_or-all}
 use Rattle.speedate_base.proofs.TimestampLemmas.{instant_of_seconds}
 

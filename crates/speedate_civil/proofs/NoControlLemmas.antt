@@ -13,7 +13,22 @@ use Rattle.speedate_base.proofs.RequirementLemmas.{first_fault_or-ok}
 use Rattle.speedate_civil.specs.Calendar.{Ymd}
 use Rattle.speedate_civil.specs.Date.{date_front, date_numbers, date_table}
 use Rattle.speedate_civil.specs.DateTime.{date_time_front, is_separator, separator_table}
-use Rattle.speedate_civil.specs.Time.{Clock, clock_front, has_decimal_mark, has_minus_sign, has_second, is_plus_or_minus, is_utc, minute_clock, offset_digits, offset_digits_size, offset_front, offset_ranges, signed_front, time_front}
+use Rattle.speedate_civil.specs.Time.{
+  Clock,
+  clock_front,
+  has_decimal_mark,
+  has_minus_sign,
+  has_second,
+  is_plus_or_minus,
+  is_utc,
+  minute_clock,
+  offset_digits,
+  offset_digits_size,
+  offset_front,
+  offset_ranges,
+  signed_front,
+  time_front,
+}
 use Rattle.speedate_civil.proofs.FrontLemmas.{clock-read, clock-size, minute_size}
 use Rattle.speedate_civil.proofs.OffsetLemmas.{offset-cases}
 use Rattle.speedate_civil.proofs.ReadLemmas.{read-rows, read-then, read-value}

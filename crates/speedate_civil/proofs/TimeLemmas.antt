@@ -7,7 +7,24 @@ use Rattle.speedate_base.specs.Ascii.{colon, full_stop}
 use Rattle.speedate_base.specs.Digits.{two_digit_text, six_digit_text, is_decimal_mark}
 use Rattle.speedate_base.specs.Offset.{IsWholeMinutes}
 use Rattle.speedate_base.specs.Requirement.{whole_or_fault, result_and_then}
-use Rattle.speedate_civil.specs.Time.{Clock, at_hour, clock_answer, clock_front, minute_text, end_fault, offset_front, offset_text, TimeOfDay, IsTime, time_front, time_answer, clock_with_offset, clock_text, time_text, is_after_time}
+use Rattle.speedate_civil.specs.Time.{
+  Clock,
+  at_hour,
+  clock_answer,
+  clock_front,
+  minute_text,
+  end_fault,
+  offset_front,
+  offset_text,
+  TimeOfDay,
+  IsTime,
+  time_front,
+  time_answer,
+  clock_with_offset,
+  clock_text,
+  time_text,
+  is_after_time,
+}
 use Rattle.speedate_base.proofs.RequirementLemmas.{whole_or_fault-whole}
 use Rattle.speedate_civil.proofs.ClockLemmas.{clock-whole, clock-fraction}
 use Rattle.speedate_civil.proofs.OffsetLemmas.{offset_text-first, offset_text-front}

@@ -1,4 +1,5 @@
--- What every `Date`, `Time` and `DateTime` is, and from where to where the seconds of a date-time go.
+-- What every `Date`, `Time` and `DateTime` is, and from where to where the seconds of a date-time
+-- go.
 use Rattle.std.proofs.Common.{rules, ◌<◌, arith, Option, ℤ, pos, ◌+ℤ◌, ◌-ℤ◌, ◌≤ℤ◌, unsigned_abs, unwrap_or}
 use Rattle.std.specs.Option.{ForSome}
 use Rattle.std.proofs.lemmas.Int.{ints}
@@ -7,7 +8,14 @@ use Rattle.speedate_base.specs.Timestamp.{seconds_per_day, first_second, last_se
 use Rattle.speedate_civil.specs.Calendar.{IsDate, IsDay}
 use Rattle.speedate_civil.specs.Date.{ymd, Date}
 use Rattle.speedate_civil.specs.Time.{IsTime, time_of_day, Time}
-use Rattle.speedate_civil.specs.DateTime.{DateAndTime, IsDateAndTime, local_second, utc_second, date_and_time, DateTime}
+use Rattle.speedate_civil.specs.DateTime.{
+  DateAndTime,
+  IsDateAndTime,
+  local_second,
+  utc_second,
+  date_and_time,
+  DateTime,
+}
 use Rattle.speedate_civil.proofs.DayNumberLemmas.{day_number-small}
 
 pub is_day : (date : Date) → IsDay (ymd date)

@@ -2,7 +2,9 @@
 -- above it take them from here.
 pub use Rattle.speedate_base.specs.declared.faults.ParseError.{ParseError}
 pub use Rattle.speedate_base.specs.declared.faults.config_error.ConfigError.{ConfigError}
-pub use Rattle.speedate_base.specs.declared.config.MicrosecondsPrecisionOverflowBehavior.{MicrosecondsPrecisionOverflowBehavior as Behavior}
+pub use Rattle.speedate_base.specs.declared.config.MicrosecondsPrecisionOverflowBehavior.{
+  MicrosecondsPrecisionOverflowBehavior as Behavior,
+}
 pub use Rattle.speedate_base.specs.declared.config.TimestampUnit.{TimestampUnit}
 pub use Rattle.speedate_base.specs.declared.config.IsoOrder.{IsoOrder}
 pub use Rattle.speedate_base.specs.declared.config.DateConfig.{DateConfig}

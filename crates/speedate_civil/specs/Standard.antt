@@ -5,7 +5,17 @@ use Rattle.speedate_civil.specs.Base.{Behavior, ParseError}
 use Rattle.std.specs.Char.{is_ascii_digit}
 use Rattle.std.specs.Int.{IsInRange}
 use Rattle.std.specs.List.{list_all}
-use Rattle.speedate_base.specs.Ascii.{plus_sign, hyphen, colon, full_stop, capital_t, capital_z, small_t, small_z, comma}
+use Rattle.speedate_base.specs.Ascii.{
+  plus_sign,
+  hyphen,
+  colon,
+  full_stop,
+  capital_t,
+  capital_z,
+  small_t,
+  small_z,
+  comma,
+}
 use Rattle.speedate_base.specs.Config.{refuses_digits}
 use Rattle.speedate_base.specs.Digits.{two_digit_text, four_digit_text, run_length}
 use Rattle.speedate_base.specs.Requirement.{Requirement, ◌else_fault◌, first_fault_or, ◌>>=◌}

@@ -7,11 +7,29 @@ use Rattle.std.specs.declared.cmp.Ordering.{Ordering}
 use Rattle.speedate_civil.specs.Base.{Behavior, ParseError}
 use Rattle.speedate_base.specs.Ascii.{colon, full_stop, plus_sign, hyphen, capital_z, small_z}
 use Rattle.speedate_base.specs.Config.{refuses_digits}
-use Rattle.speedate_base.specs.Digits.{run_length, run_digits, fraction_value, two_digits_at, two_digit_value, two_digit_text, six_digit_text, is_decimal_mark}
+use Rattle.speedate_base.specs.Digits.{
+  run_length,
+  run_digits,
+  fraction_value,
+  two_digits_at,
+  two_digit_value,
+  two_digit_text,
+  six_digit_text,
+  is_decimal_mark,
+}
 use Rattle.speedate_base.specs.Numbers.{with_sign}
 use Rattle.speedate_base.specs.Offset.{IsOffset, offset_table}
 use Rattle.speedate_base.specs.Timestamp.{Instant, seconds_per_day}
-use Rattle.speedate_base.specs.Requirement.{◌else_fault◌, first_fault_or, Requirement, ◌implies◌, result_map, whole_or_fault, with_size, ◌>>=◌}
+use Rattle.speedate_base.specs.Requirement.{
+  ◌else_fault◌,
+  first_fault_or,
+  Requirement,
+  ◌implies◌,
+  result_map,
+  whole_or_fault,
+  with_size,
+  ◌>>=◌,
+}
 pub use Rattle.speedate_civil.specs.declared.time.Time.{Time}
 use Rattle.speedate_civil.specs.declared.time.pure.PureTime.{PureTime}
 use Rattle.speedate_civil.specs.Instant.{by_instant, move_table}
@@ -374,8 +392,8 @@ time_in_timezone offset time =
     ++ (is_second_of_day else_fault ParseError.TimeTooLarge) ∷ [])
     (Ok (time_at (unsigned_abs second) time.microsecond (Some offset)))
 
--- The order of times by instant: in UTC if both have an offset, and otherwise as clocks show them. A
--- time is taken to be one of 1970-01-01.
+-- The order of times by instant: in UTC if both have an offset, and otherwise as clocks show them.
+-- A time is taken to be one of 1970-01-01.
 
 -- the instant of a time, in UTC or as a clock shows it
 abbrev pub time_instant : Bool → TimeOfDay → Instant

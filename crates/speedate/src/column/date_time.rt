@@ -32,7 +32,13 @@ pub struct DateTimeReader {
 impl DateTimeReader {
     ghost use Rattle.std.specs.Prelude.{◌≡◌, ℕ, IfSome, List, Ok};
     ghost use Rattle.speedate_base.specs.Config.{time_choices};
-    ghost use Rattle.speedate_civil.specs.DateTime.{DateAndTime, date_and_time, date_time_answer, utc_microsecond, ◌gives◌};
+    ghost use Rattle.speedate_civil.specs.DateTime.{
+      DateAndTime,
+      date_and_time,
+      date_time_answer,
+      utc_microsecond,
+      ◌gives◌,
+    };
     ghost use Rattle.speedate.specs.Column.{as_number, date_time_of_line, with_offset};
 
     /// The date-time of a line.

@@ -3,7 +3,13 @@
 ghost use Rattle.std.specs.Prelude.{◌≡◌, ◌≢◌, ◌-◌, ◌<◌, ◌≤◌, ◌++◌, [], IfSome, MatchOption, None, Some, drop, length, min, slice_index, slice_set, take};
 ghost use Rattle.speedate_base.specs.Ascii.{carriage_return};
 ghost use Rattle.speedate.specs.Lines.{IsOneLine, whole_lines};
-ghost use Rattle.speedate.specs.Column.{IsFirstLine, IsFirstLineOf, entry, overwritten, text_column};
+ghost use Rattle.speedate.specs.Column.{
+  IsFirstLine,
+  IsFirstLineOf,
+  entry,
+  overwritten,
+  text_column,
+};
 
 use super::{Line, LineConfig, LineError, LineReader, Progress};
 use crate::lines::{line_end, without_return};

@@ -4,7 +4,13 @@ ghost use Rattle.std.specs.Prelude.{◌≡◌, ◌+◌, ◌-◌, ◌^◌, ◌<�
 ghost use Rattle.speedate_base.specs.Ascii.{colon};
 ghost use Rattle.speedate_base.specs.Digits.{run_length, run_value};
 ghost use Rattle.speedate_base.specs.Requirement.{first_fault_or};
-ghost use Rattle.speedate.specs.ClockForm.{colon_place, has_hours, hours_table, after_hours, clock_form};
+ghost use Rattle.speedate.specs.ClockForm.{
+  colon_place,
+  has_hours,
+  hours_table,
+  after_hours,
+  clock_form,
+};
 
 use super::unsigned::UnsignedDuration;
 use speedate_base::config::MicrosecondsPrecisionOverflowBehavior as Behavior;

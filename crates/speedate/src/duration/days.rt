@@ -2,7 +2,16 @@
 
 ghost use Rattle.std.specs.Prelude.{◌≡◌, ◌-◌, ◌^◌, ◌≤◌, length, min, Some, None, IfSome, IfOk, if◌then◌else◌};
 ghost use Rattle.speedate_base.specs.Digits.{run_length, run_value};
-ghost use Rattle.speedate.specs.DayForm.{size_of_one, day_endings, gaps, has_whole_ending, is_day_letter, days_front, after_days, day_form};
+ghost use Rattle.speedate.specs.DayForm.{
+  size_of_one,
+  day_endings,
+  gaps,
+  has_whole_ending,
+  is_day_letter,
+  days_front,
+  after_days,
+  day_form,
+};
 
 use super::unsigned::UnsignedDuration;
 use speedate_base::config::MicrosecondsPrecisionOverflowBehavior as Behavior;

@@ -6,7 +6,23 @@ ghost use Rattle.std.specs.List.{list_all};
 ghost use Rattle.speedate_base.specs.Digits.{fraction_value, is_decimal_mark};
 ghost use Rattle.std.specs.Option.{option_map, is_some};
 ghost use Rattle.speedate_base.specs.Requirement.{result_map, with_size};
-ghost use Rattle.speedate.specs.IsoForm.{Component, TimeDesignator, units, unit_in, fraction_size, unit_seconds, next_units_after, fraction_seconds, fraction_microseconds, component_at, item_at, are_counted, with_number, with_item, sums_amount};
+ghost use Rattle.speedate.specs.IsoForm.{
+  Component,
+  TimeDesignator,
+  units,
+  unit_in,
+  fraction_size,
+  unit_seconds,
+  next_units_after,
+  fraction_seconds,
+  fraction_microseconds,
+  component_at,
+  item_at,
+  are_counted,
+  with_number,
+  with_item,
+  sums_amount,
+};
 
 use super::unsigned::UnsignedDuration;
 use speedate_base::config::IsoOrder;

@@ -3,7 +3,15 @@
 ghost use Rattle.std.specs.Prelude.{◌≡◌, ◌+◌, ◌-◌, ◌^◌, ◌<◌, ◌≤◌, length, min, nat_le, ◌==◌, slice_index, IsTrue, IfSome, Some, None, Ok, Err, if◌then◌else◌};
 ghost use Rattle.std.specs.Char.{is_ascii_digit};
 ghost use Rattle.std.specs.List.{list_all};
-ghost use Rattle.speedate_base.specs.Digits.{is_decimal_mark, one_digit_value, two_digits_at, two_digit_value, run_length, run_value, digits_value};
+ghost use Rattle.speedate_base.specs.Digits.{
+  is_decimal_mark,
+  one_digit_value,
+  two_digits_at,
+  two_digit_value,
+  run_length,
+  run_value,
+  digits_value,
+};
 
 use super::lanes::{LANES, digits_in_front, eight_digits};
 use std::simd::prelude::*;

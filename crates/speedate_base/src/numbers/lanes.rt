@@ -3,7 +3,13 @@
 ghost use Rattle.std.specs.Prelude.{◌≡◌, ℕ, ◌+◌, ◌-◌, ◌*◌, ◌^◌, ◌<◌, ◌≤◌, IsTrue, length, drop, slice_index};
 ghost use Rattle.std.specs.Char.{is_ascii_digit};
 ghost use Rattle.std.specs.List.{list_all, prefix_len};
-ghost use Rattle.speedate_base.specs.Digits.{digits_value, eight_at, fit_length, fit_digits, neighbours};
+ghost use Rattle.speedate_base.specs.Digits.{
+  digits_value,
+  eight_at,
+  fit_length,
+  fit_digits,
+  neighbours,
+};
 
 use super::digits::byte_at;
 use std::simd::prelude::*;

@@ -5,7 +5,14 @@ ghost use Rattle.speedate_civil.specs.Base.{TimestampUnit};
 ghost use Rattle.speedate_base.specs.Ascii.{HasNoControl};
 ghost use Rattle.speedate_base.specs.Numbers.{NoNumber, number_answer};
 ghost use Rattle.speedate_civil.specs.Calendar.{Ymd};
-ghost use Rattle.speedate_civil.specs.Date.{ymd, date_front, date_answer, date_or_timestamp, ◌gives◌, ◌gives_front◌};
+ghost use Rattle.speedate_civil.specs.Date.{
+  ymd,
+  date_front,
+  date_answer,
+  date_or_timestamp,
+  ◌gives◌,
+  ◌gives_front◌,
+};
 ghost use Rattle.speedate_civil.specs.ParserParts.{may_be_number};
 
 use super::{Date, TEXT_LENGTH, is_day};

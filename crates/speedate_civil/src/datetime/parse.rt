@@ -8,8 +8,24 @@ ghost use Rattle.speedate_base.specs.Numbers.{NoNumber, decimal_value, number_an
 ghost use Rattle.speedate_base.specs.Offset.{IsWholeMinutes};
 ghost use Rattle.speedate_base.specs.Requirement.{first_fault_or, result_map, with_size};
 ghost use Rattle.speedate_civil.specs.Base.{Behavior, TimestampUnit};
-ghost use Rattle.speedate_civil.specs.DateTime.{DateAndTime, date_and_time, date_time_answer, date_time_by_config, date_time_decimal_text, date_time_front, date_time_or_timestamp, is_separator, separator_table, ◌gives◌, ◌gives_front◌};
-ghost use Rattle.speedate_civil.specs.Standard.{IsDateTime, standard_date_time, strict_date_time_answer};
+ghost use Rattle.speedate_civil.specs.DateTime.{
+  DateAndTime,
+  date_and_time,
+  date_time_answer,
+  date_time_by_config,
+  date_time_decimal_text,
+  date_time_front,
+  date_time_or_timestamp,
+  is_separator,
+  separator_table,
+  ◌gives◌,
+  ◌gives_front◌,
+};
+ghost use Rattle.speedate_civil.specs.Standard.{
+  IsDateTime,
+  standard_date_time,
+  strict_date_time_answer,
+};
 ghost use Rattle.speedate_civil.specs.Time.{time_front, time_of_day};
 
 use super::DateTime;

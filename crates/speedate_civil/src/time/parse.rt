@@ -6,8 +6,20 @@ ghost use Rattle.speedate_base.specs.Config.{time_choices};
 ghost use Rattle.speedate_base.specs.Offset.{IsWholeMinutes};
 ghost use Rattle.speedate_base.specs.Requirement.{first_fault_or};
 ghost use Rattle.speedate_civil.specs.Base.{Behavior};
-ghost use Rattle.speedate_civil.specs.Standard.{standard_offset, standard_time, strict_time_answer, IsFullTime};
-ghost use Rattle.speedate_civil.specs.Time.{time_of_day, TimeOfDay, time_front, time_answer, ◌gives◌, ◌gives_front◌};
+ghost use Rattle.speedate_civil.specs.Standard.{
+  standard_offset,
+  standard_time,
+  strict_time_answer,
+  IsFullTime,
+};
+ghost use Rattle.speedate_civil.specs.Time.{
+  time_of_day,
+  TimeOfDay,
+  time_front,
+  time_answer,
+  ◌gives◌,
+  ◌gives_front◌,
+};
 
 use super::offset::{end_fault, has_minus_sign, is_utc, parse_offset};
 use super::{PureTime, Time};

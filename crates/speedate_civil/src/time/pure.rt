@@ -1,7 +1,13 @@
 //! Times of day without their offsets, at the front of a text.
 
 ghost use Rattle.std.specs.Prelude.{◌≡◌, ◌+◌, ◌≤◌, ◌==◌, ◌||◌, IfOk, IsTrue, Ok, length, drop, codes};
-ghost use Rattle.speedate_base.specs.Digits.{run_length, run_digits, fraction_value, two_digit_value, fit_length};
+ghost use Rattle.speedate_base.specs.Digits.{
+  run_length,
+  run_digits,
+  fraction_value,
+  two_digit_value,
+  fit_length,
+};
 
 use super::Time;
 use speedate_base::config::MicrosecondsPrecisionOverflowBehavior as Behavior;
@@ -58,7 +64,16 @@ impl PureTime {
     ghost use Rattle.speedate_base.specs.Offset.{IsOffset, IsWholeMinutes};
     ghost use Rattle.speedate_base.specs.Requirement.{first_fault_or, result_map};
     ghost use Rattle.speedate_civil.specs.ParserParts.{clock_after, second_of};
-    ghost use Rattle.speedate_civil.specs.Time.{clock_front, minute_clock, minute_front, second_table, clock_parts, has_decimal_mark, time_of_day, clock_with_offset};
+    ghost use Rattle.speedate_civil.specs.Time.{
+      clock_front,
+      minute_clock,
+      minute_front,
+      second_table,
+      clock_parts,
+      has_decimal_mark,
+      time_of_day,
+      clock_with_offset,
+    };
 
     /// Parses the clock that begins at `place`, whatever follows it: 12:13:14 and a half, in ten bytes,
     /// from `b"P12:13:14.5Z"` at place 1.

@@ -1,6 +1,11 @@
 use Rattle.std.proofs.Common.{◌<◌, ℕ, List, length, take, arith, sym}
 use Rattle.std.proofs.lemmas.Bool.Decides.{nat_tests}
-use Rattle.speedate.proofs.WholeLineLemmas.{whole_lines-from, whole_lines-last, whole_lines-none, whole_lines-empty}
+use Rattle.speedate.proofs.WholeLineLemmas.{
+  whole_lines-from,
+  whole_lines-last,
+  whole_lines-none,
+  whole_lines-empty,
+}
 use Rattle.speedate.proofs.column.read.first_text.Goals as goal
 use Rattle.speedate.proofs.column.read.first_text.Goals.{then-config+else-not-is_empty, else-config}
 

@@ -1,6 +1,20 @@
 use Rattle.std.proofs.Common.{◌≡◌, ◌∙◌, ap₂, sym, subst, ℕ, ◌+◌, ◌*◌, ◌≤◌, true, arith, rules}
 use Rattle.speedate_base.specs.Digits.{two_digits_at}
-use Rattle.speedate_civil.proofs.DateFrontLemmas.{Read, front-read, day-none, day-there, no-year, no-separator, no-month-digits, no-day, no-month, late-day, date-there, in-range, out-of-range}
+use Rattle.speedate_civil.proofs.DateFrontLemmas.{
+  Read,
+  front-read,
+  day-none,
+  day-there,
+  no-year,
+  no-separator,
+  no-month-digits,
+  no-day,
+  no-month,
+  late-day,
+  date-there,
+  in-range,
+  out-of-range,
+}
 use Rattle.speedate_civil.proofs.date.Date.front.Goals as goal
 
 pub returns-in-0-to-3 : goal.returns-in-0-to-3

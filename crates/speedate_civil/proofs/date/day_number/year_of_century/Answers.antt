@@ -1,6 +1,11 @@
 use Rattle.std.proofs.Common.{◌+◌, ◌*◌, ◌/◌, ℕ, arith}
 use Rattle.std.proofs.lemmas.Grind.{common_steps}
-use Rattle.speedate_civil.proofs.YearLemmas.{days_before_century, days_before_year-later, first_day-left, later_day-left}
+use Rattle.speedate_civil.proofs.YearLemmas.{
+  days_before_century,
+  days_before_year-later,
+  first_day-left,
+  later_day-left,
+}
 use Rattle.speedate_civil.proofs.date.day_number.year_of_century.Goals as goal
 
 pub returns-then-year-eq0-clause-within : goal.returns-then-year-eq0-clause-within

@@ -5,7 +5,13 @@ use Rattle.std.proofs.lemmas.Result.{err_from_is_err_and}
 use Rattle.speedate_civil.specs.Base.{ParseError}
 use Rattle.speedate_base.specs.Requirement.{AllHold}
 use Rattle.speedate_base.specs.Timestamp.{Instant}
-use Rattle.speedate_civil.specs.DateTime.{DateAndTime, utc_second, IsShownAt, date_and_time, DateTime}
+use Rattle.speedate_civil.specs.DateTime.{
+  DateAndTime,
+  utc_second,
+  IsShownAt,
+  date_and_time,
+  DateTime,
+}
 use Rattle.speedate_civil.specs.Instant.{move_table}
 use Rattle.speedate_base.proofs.RequirementLemmas.{first_fault_or-all, first_fault_or-next}
 use Rattle.speedate_civil.proofs.OffsetMoveLemmas.{second-moved, instant-kept}

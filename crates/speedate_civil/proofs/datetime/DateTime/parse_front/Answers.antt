@@ -1,7 +1,13 @@
 use Rattle.std.proofs.Common.{◌≡◌, sym, ℕ, ◌≤◌, IfOk, List, length, take, Result, Ok, Err}
 use Rattle.speedate_civil.specs.Base.{Behavior, ParseError}
 use Rattle.speedate_base.specs.Requirement.{result_map, with_size}
-use Rattle.speedate_civil.specs.DateTime.{DateAndTime, date_time_front, date_time_answer, date_and_time, DateTime}
+use Rattle.speedate_civil.specs.DateTime.{
+  DateAndTime,
+  date_time_front,
+  date_time_answer,
+  date_and_time,
+  DateTime,
+}
 use Rattle.speedate_civil.specs.Time.{end_fault}
 use Rattle.speedate_base.proofs.RequirementLemmas.{whole_or_fault-iff}
 use Rattle.speedate_base.specs.Ascii.{HasNoControl}

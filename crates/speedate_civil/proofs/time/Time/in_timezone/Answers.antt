@@ -4,9 +4,19 @@ use Rattle.std.proofs.lemmas.Result.{err_from_is_err_and}
 use Rattle.speedate_base.proofs.RequirementLemmas.{first_fault_or-next}
 use Rattle.speedate_civil.specs.Instant.{move_table}
 use Rattle.speedate_civil.specs.Time.{time_of_day}
-use Rattle.speedate_civil.proofs.OffsetMoveLemmas.{clock-moved, sum-in-bits, time-after, time-before, time-moved, second_of_day-kept}
+use Rattle.speedate_civil.proofs.OffsetMoveLemmas.{
+  clock-moved,
+  sum-in-bits,
+  time-after,
+  time-before,
+  time-moved,
+  second_of_day-kept,
+}
 use Rattle.speedate_civil.proofs.time.Time.in_timezone.Goals as goal
-use Rattle.speedate_civil.proofs.time.Time.in_timezone.Goals.{then-second-lt0-via-then-second-lt0, then-second-lt0-via-else-second-lt0+then-second}
+use Rattle.speedate_civil.proofs.time.Time.in_timezone.Goals.{
+  then-second-lt0-via-then-second-lt0,
+  then-second-lt0-via-else-second-lt0+then-second,
+}
 
 pub returns-in_err-shift-clause-answer : goal.returns-in_err-shift-clause-answer
 returns-in_err-shift-clause-answer c =

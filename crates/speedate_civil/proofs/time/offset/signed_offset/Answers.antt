@@ -8,8 +8,19 @@ use Rattle.speedate_base.specs.Digits.{two_digit_value, eight_at}
 use Rattle.speedate_base.specs.Numbers.{with_sign}
 use Rattle.speedate_base.specs.Timestamp.{seconds_per_day}
 use Rattle.speedate_base.specs.Requirement.{◌else_fault◌, first_fault_or}
-use Rattle.speedate_civil.specs.Time.{offset_digits, offset_ranges, signed_front, offset_minute, offset_digits_size, offset_size}
-use Rattle.speedate_base.proofs.RequirementLemmas.{first_fault_or-all, first_fault_or-next, first_fault_or-value}
+use Rattle.speedate_civil.specs.Time.{
+  offset_digits,
+  offset_ranges,
+  signed_front,
+  offset_minute,
+  offset_digits_size,
+  offset_size,
+}
+use Rattle.speedate_base.proofs.RequirementLemmas.{
+  first_fault_or-all,
+  first_fault_or-next,
+  first_fault_or-value,
+}
 use Rattle.speedate_base.proofs.PatternLemmas.{eight_at-drop}
 use Rattle.speedate_civil.proofs.time.offset.signed_offset.Goals as goal
 

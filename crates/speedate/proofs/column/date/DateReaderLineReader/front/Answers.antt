@@ -2,7 +2,11 @@ use Rattle.std.proofs.Common.{rules, ◌≡◌, ◌∙◌, ap, sym, Ok, take}
 use Rattle.speedate_civil.specs.Base.{ParseError}
 use Rattle.speedate_civil.specs.Date.{ymd}
 use Rattle.speedate.specs.Column.{IsFront, LineError, date_number}
-use Rattle.speedate.proofs.FrontNumberLemmas.{IsFront-printed, date_number-empty, date_number-of_date}
+use Rattle.speedate.proofs.FrontNumberLemmas.{
+  IsFront-printed,
+  date_number-empty,
+  date_number-of_date,
+}
 use Rattle.speedate.proofs.column.date.DateReaderLineReader.front.Goals as goal
 
 pub returns-in-Ok : goal.returns-in-Ok

@@ -2,7 +2,11 @@ use Rattle.std.proofs.Common.{rules, ◌≡◌, Ok, take}
 use Rattle.speedate_civil.specs.Base.{ParseError}
 use Rattle.speedate_civil.specs.DateTime.{date_and_time}
 use Rattle.speedate.specs.Column.{IsFront, LineError, date_time_number}
-use Rattle.speedate.proofs.FrontNumberLemmas.{IsFront-printed, date_time_number-empty, date_time_number-of_date_time}
+use Rattle.speedate.proofs.FrontNumberLemmas.{
+  IsFront-printed,
+  date_time_number-empty,
+  date_time_number-of_date_time,
+}
 use Rattle.speedate.proofs.column.date_time.DateTimeReaderLineReader.front.Goals as goal
 
 pub returns-in-Ok-microsecond : goal.returns-in-Ok-microsecond

@@ -5,7 +5,14 @@ use Rattle.std.proofs.lemmas.Result.{err_from_is_err_and}
 use Rattle.std.proofs.lemmas.List.{take_rest}
 use Rattle.speedate_base.specs.Digits.{digits_value}
 use Rattle.speedate_base.proofs.RequirementLemmas.{first_fault_or-next, first_fault_or-value}
-use Rattle.speedate.specs.ClockForm.{hours, clock_form, hours_table, colon_place, after_hours, from_minute}
+use Rattle.speedate.specs.ClockForm.{
+  hours,
+  clock_form,
+  hours_table,
+  colon_place,
+  after_hours,
+  from_minute,
+}
 use Rattle.speedate.proofs.ClockFormLemmas.{hours-run, after_hours-saturated}
 use Rattle.speedate.proofs.duration.unsigned.UnsignedDuration.from_clock.Goals as goal
 

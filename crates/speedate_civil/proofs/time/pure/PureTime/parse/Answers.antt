@@ -5,7 +5,15 @@ use Rattle.std.proofs.lemmas.Result.{err_from_is_err_and}
 use Rattle.speedate_base.specs.Requirement.{result_map}
 use Rattle.speedate_civil.specs.ParserParts.{clock_after}
 use Rattle.speedate_civil.specs.Time.{at_hour, clock_front}
-use Rattle.speedate_civil.proofs.ClockFrontLemmas.{front-read, decided, late-hour, late-minute, no-clock, second-read, within-rest}
+use Rattle.speedate_civil.proofs.ClockFrontLemmas.{
+  front-read,
+  decided,
+  late-hour,
+  late-minute,
+  no-clock,
+  second-read,
+  within-rest,
+}
 use Rattle.speedate_civil.proofs.time.pure.PureTime.parse.Goals as goal
 
 pub returns-then-text-lt5-clause-answer : goal.returns-then-text-lt5-clause-answer

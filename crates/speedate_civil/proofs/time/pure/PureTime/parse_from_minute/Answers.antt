@@ -4,7 +4,13 @@ use Rattle.std.proofs.lemmas.List.{take_rest}
 use Rattle.std.proofs.lemmas.Result.{err_from_is_err_and}
 use Rattle.speedate_civil.specs.ParserParts.{clock_after, second_of}
 use Rattle.speedate_civil.specs.Time.{minute_front}
-use Rattle.speedate_civil.proofs.ClockFrontLemmas.{minute-decided, minute-late, minute-none, minute-read, within-rest}
+use Rattle.speedate_civil.proofs.ClockFrontLemmas.{
+  minute-decided,
+  minute-late,
+  minute-none,
+  minute-read,
+  within-rest,
+}
 use Rattle.speedate_civil.proofs.time.pure.PureTime.parse_from_minute.Goals as goal
 
 pub returns-then-fits-lt2-clause-answer : goal.returns-then-fits-lt2-clause-answer

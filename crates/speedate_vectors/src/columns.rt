@@ -1,0 +1,262 @@
+//! Columns of numbers from the lines of a text.
+
+use crate::rows::{date_time_config, quoted, same, time_config, value, words};
+use speedate::{
+    DateConfig, DateReader, DateTimeParser, DateTimeReader, DurationReader, LineConfig, LineError,
+    LineReader, MicrosecondsPrecisionOverflowBehavior, Progress, TimeConfig, read_column,
+    read_column_with_errors,
+};
+use std::fmt::Debug;
+use std::process::Abort;
+use std::str::FromStr;
+
+/// How many numbers there is room for.
+const ROOM: usize = 3;
+
+/// How many bytes a text of a row has at most.
+const TEXT_MAX: usize = 120;
+
+/// The bytes of a text, in which `|` stands for a line feed and `~` for a carriage return, and how many
+/// they are.
+fn spelled(text: &str) -> ([u8; TEXT_MAX], usize) {
+    let mut bytes = [0; TEXT_MAX];
+    let mut size = 0;
+    for byte in text.as_bytes() {
+        if size < bytes.len() {
+            bytes[size] = match *byte {
+                b'|' => b'\n',
+                b'~' => b'\r',
+                other => other,
+            };
+            size += 1;
+        }
+    }
+    (bytes, size)
+}
+
+/// How the words of a row cut its text into lines.
+fn line_config(words: &str) -> LineConfig {
+    LineConfig {
+        at_end: words.contains("end"),
+        drops_returns: words.contains("return"),
+    }
+}
+
+/// The name of an error, and `-` for none.
+fn error_name(error: Option<LineError>) -> &'static str {
+    match error {
+        None => "-",
+        Some(LineError::Parse(fault)) => fault.name(),
+        Some(LineError::NumberTooLarge) => "number_too_large",
+    }
+}
+
+/// The column of a text, and its first numbers.
+fn column<L: LineReader>(
+    text: &str,
+    config: LineConfig,
+    reader: &L,
+    skipped: Option<L::Number>,
+    out: &mut [L::Number],
+) -> Progress {
+    let (bytes, size) = spelled(text);
+    match bytes.get(..size) {
+        Some(lines) => read_column(lines, config, reader, skipped, out),
+        None => Progress {
+            lines: 0,
+            bytes: 0,
+            error: None,
+        },
+    }
+}
+
+/// The column of a row's text is to have so many lines, so many bytes, that error and these numbers.
+fn expect_column<L: LineReader, R: AllocGlobal + Abort>(
+    rt: &R,
+    reader: &L,
+    refused: L::Number,
+    out: &mut [L::Number],
+    row: &str,
+)
+where
+    L::Number: PartialEq + Debug + FromStr,
+    <L::Number as FromStr>::Err: Drop,
+{
+    let (cut, text, want) = quoted(rt, row);
+    let skipped = if cut.contains("skip") {
+        Some(refused)
+    } else {
+        None
+    };
+    let progress = column(&text, line_config(cut), reader, skipped, out);
+    let [lines, taken, error, first, second, third] = words(want);
+    let numbers = [first, second, third];
+    same(rt, progress.lines, value(rt, lines), row);
+    same(rt, progress.bytes, value(rt, taken), row);
+    same(rt, error_name(progress.error), error, row);
+    for place in 0..ROOM {
+        if place < progress.lines {
+            let number = out.get(place).copied();
+            same(rt, number, Some(value(rt, numbers[place])), row);
+        }
+    }
+}
+
+/// The days of four of five lines, and the numbers of their errors.
+fn days_and_errors(text: &str) -> (Progress, [i32; 5], [u8; 4]) {
+    let mut days = [5; 5];
+    let mut errors = [9; 4];
+    let reader = DateReader::OrTimestamp(DateConfig::default());
+    let progress = with_errors(text, &reader, &mut days, &mut errors);
+    (progress, days, errors)
+}
+
+/// The column of a text with its errors.
+fn with_errors(text: &str, reader: &DateReader, days: &mut [i32], errors: &mut [u8]) -> Progress {
+    let (bytes, size) = spelled(text);
+    match bytes.get(..size) {
+        Some(lines) => {
+            read_column_with_errors(lines, line_config("end"), reader, -7, days, errors)
+        }
+        None => Progress {
+            lines: 0,
+            bytes: 0,
+            error: None,
+        },
+    }
+}
+
+/// Each row of dates and their days: how the text is cut, and whether a refused line is skipped; the
+/// text; how many lines and bytes it takes, the error, and the numbers, -7 for a refused line.
+const DATES: &str = "
+    '' 0 0 -
+    '1970-01-01' 0 0 -
+    end '1970-01-01' 1 10 - 0
+    '1970-01-02|1969-12-31|' 2 22 - 1 -1
+    '1970-01-02|1969-12-31' 1 11 - 1
+    end '0000-01-01|9999-12-31' 2 21 - -719528 2932896
+    end '1970-01-01|1970-01-02|1970-01-03|1970-01-04' 3 33 - 0 1 2
+    end '1970-01-02|2021-02-29|1970-01-03' 1 11 out_of_range_day 1
+    skip '1970-01-02|2021-02-29|1970-01-03|' 3 33 - 1 -7 2
+    skip end '|x' 2 2 - -7 -7
+    end '|' 0 0 too_short
+    end '1970-01-02~|1970-01-03' 0 0 extra_characters
+    return '1970-01-02~|1970-01-03~|' 2 24 - 1 2
+    return '1970-01-02~' 0 0 -
+    return end '1970-01-02~|1970-01-03~' 2 23 - 1 2
+    return end '1970-01-02~~|1970-01-03' 0 0 extra_characters
+    end '1970-01-02 |1970-01-03' 0 0 extra_characters
+    end '1970-01|-02' 0 0 too_short
+    end '86400' 0 0 too_short
+";
+
+/// The same with timestamps in seconds.
+const DATES_OR_TIMESTAMPS: &str = "
+    end '86400|1970-01-01|172800' 3 23 - 1 0 2
+    skip '86400|1970-01-01|1|' 3 19 - 1 0 -7
+    end '1' 0 0 date_not_exact
+";
+
+/// Each row of date-times and their microseconds, with digits past the sixth dropped.
+const DATE_TIMES: &str = "
+    end '1970-01-01T00:00:01Z|1970-01-01T01:00+01:00' 2 43 - 1000000 0
+    end '1970-01-01 00:00:00.000001-00:01|1969-12-31T23:59:59.9999999z' 2 61 - 60000001 -1
+    end '1970-01-01T00:00Z|1970-01-01T00:00' 1 18 tz_required 0
+    skip end '1970-01-01T00:00|1970-01-01T00:00+00:60|1970-01-01' 3 50 - -7 -7 -7
+    return '1970-01-01t00:00Z~|1970-01-01_00:00:02,5-0000~|1970' 2 47 - 0 2500000
+    '1970-01-01T00:00Z|1970-01-01T00:00:01Z' 1 18 - 0
+    end '0000-01-01T00:00Z|9999-12-31T23:59:59.999999Z' 2 45 - -62167219200000000 253402300799999999
+    end '1970-01-01T00:00Z |' 0 0 extra_characters
+    end '1' 0 0 too_short
+";
+
+/// The same where a date-time without an offset is taken to be in UTC, and timestamps are parsed, in
+/// milliseconds.
+const NAIVE_DATE_TIMES: &str = "
+    end '1970-01-01T00:00:01|1|-1.5' 3 26 - 1000000 1000 -1500
+    end '1970-01-01T00:00:01|1970-01-01T00:00:01+00:01|x' 2 46 too_short 1000000 -59000000
+";
+
+/// Each row of date-times of RFC 3339 alone.
+const STRICT_DATE_TIMES: &str = "
+    end '1970-01-01T00:00:01Z|1970-01-01 00:00:01Z' 1 21 invalid_char_date_time_sep 1000000
+    end '1970-01-01T00:00:00.1234567Z' 0 0 second_fraction_too_long
+";
+
+/// Each row of durations and their microseconds.
+const DURATIONS: &str = "
+    end 'PT1S|-1 day|-PT1.5S' 3 19 - 1000000 -86400000000 -1500000
+    end '106751991 days 04:00:54.775807|-106751991 days 04:00:54.775807' 2 62 - 9223372036854775807 -9223372036854775807
+    end '106751991 days 04:00:54.775808' 0 0 number_too_large
+    skip end '-106751991 days 04:00:54.775808|x|P999999999D' 3 45 - -7 -7 -7
+";
+
+#[test]
+fn dates_are_days(rt: HostRuntime) {
+    for row in DATES.lines().skip(1) {
+        expect_column(&rt, &DateReader::Rfc3339, -7, &mut [-7; ROOM], row);
+    }
+    let config = DateConfig::builder()
+        .timestamp_unit(value(&rt, "s"))
+        .build();
+    for row in DATES_OR_TIMESTAMPS.lines().skip(1) {
+        expect_column(
+            &rt,
+            &DateReader::OrTimestamp(config),
+            -7,
+            &mut [-7; ROOM],
+            row,
+        );
+    }
+}
+
+#[test]
+fn date_times_are_microseconds(rt: HostRuntime) {
+    let reader = DateTimeReader {
+        parser: DateTimeParser::Rfc3339(time_config(&rt, "truncate")),
+        assumes_utc: false,
+    };
+    for row in DATE_TIMES.lines().skip(1) {
+        expect_column(&rt, &reader, -7, &mut [-7; ROOM], row);
+    }
+}
+
+#[test]
+fn date_times_without_an_offset_are_in_utc(rt: HostRuntime) {
+    let reader = DateTimeReader {
+        parser: DateTimeParser::OrTimestamp(date_time_config(&rt, "ms error")),
+        assumes_utc: true,
+    };
+    for row in NAIVE_DATE_TIMES.lines().skip(1) {
+        expect_column(&rt, &reader, -7, &mut [-7; ROOM], row);
+    }
+}
+
+#[test]
+fn strict_date_times_are_microseconds(rt: HostRuntime) {
+    let reader = DateTimeReader {
+        parser: DateTimeParser::Strict(MicrosecondsPrecisionOverflowBehavior::Error),
+        assumes_utc: false,
+    };
+    for row in STRICT_DATE_TIMES.lines().skip(1) {
+        expect_column(&rt, &reader, -7, &mut [-7; ROOM], row);
+    }
+}
+
+#[test]
+fn durations_are_microseconds(rt: HostRuntime) {
+    let reader = DurationReader {
+        config: TimeConfig::default(),
+    };
+    for row in DURATIONS.lines().skip(1) {
+        expect_column(&rt, &reader, -7, &mut [-7; ROOM], row);
+    }
+}
+
+#[test]
+fn errors_are_numbered(rt: HostRuntime) {
+    let (progress, days, errors) = days_and_errors("1970-01-02||1|2021-02-29|1970-01-01");
+    same(&rt, (progress.lines, progress.bytes), (4, 25), "progress");
+    same(&rt, days, [1, -7, -7, -7, 5], "days");
+    same(&rt, errors, [0, 1, 5, 22], "errors");
+}
