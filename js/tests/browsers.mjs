@@ -192,7 +192,7 @@ if (!spawnSync("cc", ["--version"]).error) {
   const { status, stderr } = spawnSync("cc", ["-Wall", "-Wextra", "-Werror", "-fsyntax-only", "calls.c"], { encoding: "utf8" });
   assert.equal(status, 0, stderr);
 }
-const inPython = source("python/speedate/_speedate.pyi") + source("python/speedate/__init__.py");
+const inPython = source("python/speedate/_speedate.pyi") + source("python/speedate/_types.pyi");
 for (const [code] of of("Python"))
   for (const [, called, named] of code.matchAll(/speedate\.(\w+)\(|(\w+)=/g))
     assert.match(inPython, new RegExp(called ? `\\b(def|class) ${called}\\b` : `\\b${named}: `), code);
