@@ -20,8 +20,8 @@
 enum {
     /* what is imported */
     DATETIME, ARRAY, CONFIG, FAULT, UNREPRESENTABLE, INTEGER, CHOICE, PLAIN, MISSING, BY_LINES,
-    NUMBERS, INDEX, UTCOFFSET, FROMBYTES,    /* names of attributes */
-    ARGUMENTS,                               /* of the fault of each code */
+    NUMBERS, INDEX, UTCOFFSET, FROMBYTES,             /* names of attributes */
+    ARGUMENTS,                                        /* of the fault of each code */
     ATTRIBUTES = ARGUMENTS + SPEEDATE_LAST_FAULT + 1, /* the same */
     ZONES = ATTRIBUTES + SPEEDATE_LAST_FAULT + 1,     /* of each offset of quarter hours */
     ALL = ZONES + 2 * QUARTERS + 1
