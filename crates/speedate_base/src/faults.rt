@@ -107,57 +107,24 @@ pub enum ParseError {
     MicrosecondFractionTooLong,
 }
 
-/// The name and the documentation text of an error.
-macro_rules! rows {
-    ($fault:expr; $($variant:ident $name:literal $documentation:literal)*) => {
+/// The match by which a column of the table is read: `name` or `documentation`.
+macro_rules! column {
+    ($fault:expr, name; $($variant:ident $name:literal $documentation:literal)*) => {
         match $fault {
-            $(ParseError::$variant => ($name, $documentation),)*
+            $(ParseError::$variant => $name,)*
+        }
+    };
+    ($fault:expr, documentation; $($variant:ident $name:literal $documentation:literal)*) => {
+        match $fault {
+            $(ParseError::$variant => $documentation,)*
         }
     };
 }
 
-impl ParseError {
-    ghost use Rattle.std.specs.Prelude.{◌≤◌, IfSome, length, Some};
-    ghost use Rattle.std.specs.Option.{option_map};
-    ghost use Rattle.speedate_base.specs.Fault.{fault_documentation, fault_name, fault_number};
-
-    /// The snake-case name, of at most 29 bytes: `too_short` for `ParseError::TooShort`. No other error
-    /// has it.
-    pub fn name(&self) -> &'static str
-        ensures name { result.now ≡ fault_name self.now }
-        ensures short { length result.now ≤ 29 }
-        ensures distinct { (other : ParseError) → result.now ≡ fault_name other → self.now ≡ other }
-    {
-        let (name, _) = self.row();
-        name
-    }
-
-    /// The documentation text, of at most 63 bytes, which every error has: `input is too short` for
-    /// `ParseError::TooShort`. It needs no trait in scope.
-    pub fn get_documentation(&self) -> Option<&'static str>
-        ensures text { option_map (λ text. text.now) result ≡ Some (fault_documentation self.now) }
-        ensures short { IfSome result (λ text. length text.now ≤ 63) }
-    {
-        let (_, documentation) = self.row();
-        Some(documentation)
-    }
-
-    /// The number, by which C and columns name the error: 1 for `ParseError::TooShort`, the first, and
-    /// 42 for `ParseError::MicrosecondFractionTooLong`, the last.
-    #[inline]
-    pub fn number(&self) -> u8
-        ensures number { result ≡ fault_number self.now }
-        ensures small { result ≤ 42 }
-    {
-        *self as u8 + 1
-    }
-
-    /// The name and the documentation text.
-    fn row(&self) -> (&'static str, &'static str)
-        ensures name { result.0.now ≡ fault_name self.now }
-        ensures documentation { result.1.now ≡ fault_documentation self.now }
-    {
-        rows! { self;
+/// The text of an error in a column of the table.
+macro_rules! text {
+    ($fault:expr, $column:ident) => {
+        column! { $fault, $column;
             TooShort                    "too_short"                      "input is too short"
             ExtraCharacters             "extra_characters"               "unexpected extra characters at the end of the input"
             InvalidCharDateTimeSep      "invalid_char_date_time_sep"     "invalid datetime separator, expected `T`, `t`, `_` or space"
@@ -201,6 +168,55 @@ impl ParseError {
             DurationUnitOrder           "duration_unit_order"            "quantities out of order or repeated in duration"
             MicrosecondFractionTooLong  "microsecond_fraction_too_long"  "microsecond timestamps may not have fraction digits"
         }
+    };
+}
+
+impl ParseError {
+    ghost use Rattle.std.specs.Prelude.{◌≤◌, IfSome, length, Some};
+    ghost use Rattle.std.specs.Option.{option_map};
+    ghost use Rattle.speedate_base.specs.Fault.{fault_documentation, fault_name, fault_number};
+
+    /// The snake-case name, of at most 29 bytes: `too_short` for `ParseError::TooShort`. No other error
+    /// has it.
+    pub fn name(&self) -> &'static str
+        ensures name { result.now ≡ fault_name self.now }
+        ensures short { length result.now ≤ 29 }
+        ensures distinct { (other : ParseError) → result.now ≡ fault_name other → self.now ≡ other }
+    {
+        self.name_text()
+    }
+
+    /// The documentation text, of at most 63 bytes, which every error has: `input is too short` for
+    /// `ParseError::TooShort`. It needs no trait in scope.
+    pub fn get_documentation(&self) -> Option<&'static str>
+        ensures text { option_map (λ text. text.now) result ≡ Some (fault_documentation self.now) }
+        ensures short { IfSome result (λ text. length text.now ≤ 63) }
+    {
+        Some(self.documentation_text())
+    }
+
+    /// The number, by which C and columns name the error: 1 for `ParseError::TooShort`, the first, and
+    /// 42 for `ParseError::MicrosecondFractionTooLong`, the last.
+    #[inline]
+    pub fn number(&self) -> u8
+        ensures number { result ≡ fault_number self.now }
+        ensures small { result ≤ 42 }
+    {
+        *self as u8 + 1
+    }
+
+    /// The name in the table.
+    fn name_text(&self) -> &'static str
+        ensures name { result.now ≡ fault_name self.now }
+    {
+        text!(self, name)
+    }
+
+    /// The documentation text in the table.
+    fn documentation_text(&self) -> &'static str
+        ensures documentation { result.now ≡ fault_documentation self.now }
+    {
+        text!(self, documentation)
     }
 }
 
