@@ -128,78 +128,72 @@ fn with_errors(text: &str, reader: &DateReader, days: &mut [i32], errors: &mut [
 
 /// Each row of dates and their days: how the text is cut, and whether a refused line is skipped; the
 /// text; how many lines and bytes it takes, the error, and the numbers, -7 for a refused line.
-const DATES: &str = "
-    '' 0 0 -
-    '1970-01-01' 0 0 -
-    end '1970-01-01' 1 10 - 0
-    '1970-01-02|1969-12-31|' 2 22 - 1 -1
-    '1970-01-02|1969-12-31' 1 11 - 1
-    end '0000-01-01|9999-12-31' 2 21 - -719528 2932896
-    end '1970-01-01|1970-01-02|1970-01-03|1970-01-04' 3 33 - 0 1 2
-    end '1970-01-02|2021-02-29|1970-01-03' 1 11 out_of_range_day 1
-    skip '1970-01-02|2021-02-29|1970-01-03|' 3 33 - 1 -7 2
-    skip end '|x' 2 2 - -7 -7
-    end '|' 0 0 too_short
-    end '1970-01-02~|1970-01-03' 0 0 extra_characters
-    return '1970-01-02~|1970-01-03~|' 2 24 - 1 2
-    return '1970-01-02~' 0 0 -
-    return end '1970-01-02~|1970-01-03~' 2 23 - 1 2
-    return end '1970-01-02~~|1970-01-03' 0 0 extra_characters
-    end '1970-01-02 |1970-01-03' 0 0 extra_characters
-    end '1970-01|-02' 0 0 too_short
-    end '86400' 0 0 too_short
-";
+const DATES: &str = "\
+'' 0 0 -
+'1970-01-01' 0 0 -
+end '1970-01-01' 1 10 - 0
+'1970-01-02|1969-12-31|' 2 22 - 1 -1
+'1970-01-02|1969-12-31' 1 11 - 1
+end '0000-01-01|9999-12-31' 2 21 - -719528 2932896
+end '1970-01-01|1970-01-02|1970-01-03|1970-01-04' 3 33 - 0 1 2
+end '1970-01-02|2021-02-29|1970-01-03' 1 11 out_of_range_day 1
+skip '1970-01-02|2021-02-29|1970-01-03|' 3 33 - 1 -7 2
+skip end '|x' 2 2 - -7 -7
+end '|' 0 0 too_short
+end '1970-01-02~|1970-01-03' 0 0 extra_characters
+return '1970-01-02~|1970-01-03~|' 2 24 - 1 2
+return '1970-01-02~' 0 0 -
+return end '1970-01-02~|1970-01-03~' 2 23 - 1 2
+return end '1970-01-02~~|1970-01-03' 0 0 extra_characters
+end '1970-01-02 |1970-01-03' 0 0 extra_characters
+end '1970-01|-02' 0 0 too_short
+end '86400' 0 0 too_short";
 
 /// The same with timestamps in seconds.
-const DATES_OR_TIMESTAMPS: &str = "
-    end '86400|1970-01-01|172800' 3 23 - 1 0 2
-    skip '86400|1970-01-01|1|' 3 19 - 1 0 -7
-    end '1' 0 0 date_not_exact
-";
+const DATES_OR_TIMESTAMPS: &str = "\
+end '86400|1970-01-01|172800' 3 23 - 1 0 2
+skip '86400|1970-01-01|1|' 3 19 - 1 0 -7
+end '1' 0 0 date_not_exact";
 
 /// Each row of date-times and their microseconds, with digits past the sixth dropped.
-const DATE_TIMES: &str = "
-    end '1970-01-01T00:00:01Z|1970-01-01T01:00+01:00' 2 43 - 1000000 0
-    end '1970-01-01 00:00:00.000001-00:01|1969-12-31T23:59:59.9999999z' 2 61 - 60000001 -1
-    end '1970-01-01T00:00Z|1970-01-01T00:00' 1 18 tz_required 0
-    skip end '1970-01-01T00:00|1970-01-01T00:00+00:60|1970-01-01' 3 50 - -7 -7 -7
-    return '1970-01-01t00:00Z~|1970-01-01_00:00:02,5-0000~|1970' 2 47 - 0 2500000
-    '1970-01-01T00:00Z|1970-01-01T00:00:01Z' 1 18 - 0
-    end '0000-01-01T00:00Z|9999-12-31T23:59:59.999999Z' 2 45 - -62167219200000000 253402300799999999
-    end '1970-01-01T00:00Z |' 0 0 extra_characters
-    end '1' 0 0 too_short
-";
+const DATE_TIMES: &str = "\
+end '1970-01-01T00:00:01Z|1970-01-01T01:00+01:00' 2 43 - 1000000 0
+end '1970-01-01 00:00:00.000001-00:01|1969-12-31T23:59:59.9999999z' 2 61 - 60000001 -1
+end '1970-01-01T00:00Z|1970-01-01T00:00' 1 18 tz_required 0
+skip end '1970-01-01T00:00|1970-01-01T00:00+00:60|1970-01-01' 3 50 - -7 -7 -7
+return '1970-01-01t00:00Z~|1970-01-01_00:00:02,5-0000~|1970' 2 47 - 0 2500000
+'1970-01-01T00:00Z|1970-01-01T00:00:01Z' 1 18 - 0
+end '0000-01-01T00:00Z|9999-12-31T23:59:59.999999Z' 2 45 - -62167219200000000 253402300799999999
+end '1970-01-01T00:00Z |' 0 0 extra_characters
+end '1' 0 0 too_short";
 
 /// The same where a date-time without an offset is taken to be in UTC, and timestamps are parsed, in
 /// milliseconds.
-const NAIVE_DATE_TIMES: &str = "
-    end '1970-01-01T00:00:01|1|-1.5' 3 26 - 1000000 1000 -1500
-    end '1970-01-01T00:00:01|1970-01-01T00:00:01+00:01|x' 2 46 too_short 1000000 -59000000
-";
+const NAIVE_DATE_TIMES: &str = "\
+end '1970-01-01T00:00:01|1|-1.5' 3 26 - 1000000 1000 -1500
+end '1970-01-01T00:00:01|1970-01-01T00:00:01+00:01|x' 2 46 too_short 1000000 -59000000";
 
 /// Each row of date-times of RFC 3339 alone.
-const STRICT_DATE_TIMES: &str = "
-    end '1970-01-01T00:00:01Z|1970-01-01 00:00:01Z' 1 21 invalid_char_date_time_sep 1000000
-    end '1970-01-01T00:00:00.1234567Z' 0 0 second_fraction_too_long
-";
+const STRICT_DATE_TIMES: &str = "\
+end '1970-01-01T00:00:01Z|1970-01-01 00:00:01Z' 1 21 invalid_char_date_time_sep 1000000
+end '1970-01-01T00:00:00.1234567Z' 0 0 second_fraction_too_long";
 
 /// Each row of durations and their microseconds.
-const DURATIONS: &str = "
-    end 'PT1S|-1 day|-PT1.5S' 3 19 - 1000000 -86400000000 -1500000
-    end '106751991 days 04:00:54.775807|-106751991 days 04:00:54.775807' 2 62 - 9223372036854775807 -9223372036854775807
-    end '106751991 days 04:00:54.775808' 0 0 number_too_large
-    skip end '-106751991 days 04:00:54.775808|x|P999999999D' 3 45 - -7 -7 -7
-";
+const DURATIONS: &str = "\
+end 'PT1S|-1 day|-PT1.5S' 3 19 - 1000000 -86400000000 -1500000
+end '106751991 days 04:00:54.775807|-106751991 days 04:00:54.775807' 2 62 - 9223372036854775807 -9223372036854775807
+end '106751991 days 04:00:54.775808' 0 0 number_too_large
+skip end '-106751991 days 04:00:54.775808|x|P999999999D' 3 45 - -7 -7 -7";
 
 #[test]
 fn dates_are_days(rt: HostRuntime) {
-    for row in DATES.lines().skip(1) {
+    for row in DATES.lines() {
         expect_column(&rt, &DateReader::Rfc3339, -7, &mut [-7; ROOM], row);
     }
     let config = DateConfig::builder()
         .timestamp_unit(value(&rt, "s"))
         .build();
-    for row in DATES_OR_TIMESTAMPS.lines().skip(1) {
+    for row in DATES_OR_TIMESTAMPS.lines() {
         expect_column(
             &rt,
             &DateReader::OrTimestamp(config),
@@ -216,7 +210,7 @@ fn date_times_are_microseconds(rt: HostRuntime) {
         parser: DateTimeParser::Rfc3339(time_config(&rt, "truncate")),
         assumes_utc: false,
     };
-    for row in DATE_TIMES.lines().skip(1) {
+    for row in DATE_TIMES.lines() {
         expect_column(&rt, &reader, -7, &mut [-7; ROOM], row);
     }
 }
@@ -227,7 +221,7 @@ fn date_times_without_an_offset_are_in_utc(rt: HostRuntime) {
         parser: DateTimeParser::OrTimestamp(date_time_config(&rt, "ms error")),
         assumes_utc: true,
     };
-    for row in NAIVE_DATE_TIMES.lines().skip(1) {
+    for row in NAIVE_DATE_TIMES.lines() {
         expect_column(&rt, &reader, -7, &mut [-7; ROOM], row);
     }
 }
@@ -238,7 +232,7 @@ fn strict_date_times_are_microseconds(rt: HostRuntime) {
         parser: DateTimeParser::Strict(MicrosecondsPrecisionOverflowBehavior::Error),
         assumes_utc: false,
     };
-    for row in STRICT_DATE_TIMES.lines().skip(1) {
+    for row in STRICT_DATE_TIMES.lines() {
         expect_column(&rt, &reader, -7, &mut [-7; ROOM], row);
     }
 }
@@ -248,7 +242,7 @@ fn durations_are_microseconds(rt: HostRuntime) {
     let reader = DurationReader {
         config: TimeConfig::default(),
     };
-    for row in DURATIONS.lines().skip(1) {
+    for row in DURATIONS.lines() {
         expect_column(&rt, &reader, -7, &mut [-7; ROOM], row);
     }
 }
