@@ -220,7 +220,7 @@ SPEEDATE_NODISCARD int speedate_code_documentation(int code, char *buffer, size_
 /* How texts and timestamps are parsed. In each field 0 is the default. A field that a call does not use has to be in
  * range too. The struct fits a register and gets no further field: what a later minor version adds is a further value
  * of a field, or a bit of one. A library fails with SPEEDATE_CONFIG_OUT_OF_RANGE if it does not know a value, and takes
- * all others as the versions before it do. */
+ * all other values as earlier versions do. */
 typedef struct SpeedateConfig {
     /* The offset from UTC, in seconds, that the value of a timestamp gets: less than 24 hours in either direction. For
      * Unix time set has_timestamp_offset to 1 and this to 0. Any other offset is attached and shifts nothing, so the

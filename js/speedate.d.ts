@@ -4,10 +4,10 @@
 // such as 1.5 days.
 
 /** A day of the Gregorian calendar, carried back to the year 0: `year` 0 to 9999, `month` 1 to 12, `day` 1 to the length of
- * the month. A date-time is none. */
+ * the month. A date-time is not one. */
 export type SpeedateDate = { readonly year: number; readonly month: number; readonly day: number; readonly hour?: never };
 /** A time of day: `hour` 0 to 23, `minute` and `second` 0 to 59, `millisecond` and `microsecond` 0 to 999 each, and
- * `offsetSeconds`, the offset from UTC, -86399 to 86399, positive east of it, or null. A date-time is none. */
+ * `offsetSeconds`, the offset from UTC, -86399 to 86399, positive east of it, or null. A date-time is not one. */
 export type SpeedateTime = {
   readonly hour: number; readonly minute: number; readonly second: number;
   readonly millisecond: number; readonly microsecond: number; readonly offsetSeconds: number | null;

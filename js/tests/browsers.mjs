@@ -109,8 +109,8 @@ async function visit(SAID) {
 const SAID = {
   "0000-01-01": "Saturday, 1 January 0000", "1969-12-31": "Wednesday, 31 December 1969",
   "12:13:14Z": "12:13:14 UTC", "12:13:14.000001": "12:13:14.000001, no offset or 12 hours 13 minutes 14.000001 seconds",
-  "23:30-01:00": "23:30, 1:00 west of UTC: 00:30 UTC of the day after",
-  "00:10:05.000001+0130": "00:10:05.000001, 1:30 east of UTC: 22:40:05.000001 UTC of the day before",
+  "23:30-01:00": "23:30, 1:00 west of UTC: 00:30 UTC on the day after",
+  "00:10:05.000001+0130": "00:10:05.000001, 1:30 east of UTC: 22:40:05.000001 UTC on the day before",
   "9999-12-31T23:30-01:00": "Friday, 31 December 9999, 23:30, 1:00 west of UTC: in UTC outside the years 0 to 9999",
   "-P1DT1H1M1.5S": "minus 1 day 1 hour 1 minute 1.5 seconds", "P1Y2M": "425 days", PT0S: "0 seconds", "-PT0.01S": "minus 0.01 seconds", PT1S: "1 second",
 };
