@@ -8,13 +8,15 @@
  * - If several things are wrong, SPEEDATE_CONFIG_OUT_OF_RANGE comes first, then SPEEDATE_VALUE_OUT_OF_RANGE.
  * - A text is passed as an address and a size in bytes. It may hold any bytes, and needs no zero byte at its end. If
  *   the size is 0, the address may be NULL.
+ * - A column is written to places of yours, which are passed as an address and their number. If that is 0, the address
+ *   may be NULL.
  * - A text is printed into a buffer of yours, with a zero byte after it, and its length without that byte is written to
  *   *length. A buffer of the size that is named beside the type is always large enough; no call tells the size that a
  *   text needs. Bytes after the zero byte keep their values. If the size is 0, the buffer may be NULL.
  * - Values and configurations are passed by value. So `out` may point to the variable that is passed:
  *   speedate_date_add_days(date, 1, &date).
- * - `out`, `taken` and `length` point to variables of their types. They are not NULL, and do not overlap a text, a
- *   buffer or one another.
+ * - `out`, `taken`, `length` and `progress` point to variables of their types. They are not NULL, and do not overlap a
+ *   text, a buffer or one another.
  * - No call allocates memory or keeps anything for the next one. Any thread may make any call at any time.
  *
  * GRAMMAR.md, which is installed in share/doc/speedate, lists the texts and their faults. Of the repository's documents
@@ -154,8 +156,10 @@ enum SpeedateCode {
     /* A timestamp in microseconds has a digit after its point, which the configuration refuses. */
     SPEEDATE_MICROSECOND_FRACTION_TOO_LONG = 42,
 
-    /* The library has no error for the next two. */
+    /* The library has no error of a text for the next three. */
 
+    /* From the calls on columns, of a line: its duration is 2^63 microseconds or more. No call returns it. */
+    SPEEDATE_NUMBER_TOO_LARGE = 97,
     /* From speedate_int_parse: the text is no whole number, or one that does not fit 64 bits. */
     SPEEDATE_INVALID_INTEGER = 98,
     /* No date from 0000-01-01 to 9999-12-31 has that day number, or is that many days away. Other calls return
@@ -193,12 +197,12 @@ static inline const char *speedate_code_string(int code) {
         "duration_invalid_date_unit", "duration_invalid_days", "duration_value_too_large",
         "duration_hour_value_too_large", "duration_days_too_large", "date_too_small", "date_too_large",
         "time_too_large", "duration_unit_order", "microsecond_fraction_too_long"};
-    static const char *const others[] = {"invalid_integer", "no_such_date"};
+    static const char *const others[] = {"number_too_large", "invalid_integer", "no_such_date"};
     static const char *const mistakes[] = {"value_out_of_range", "config_out_of_range", "buffer_too_small"};
     if (code >= SPEEDATE_OK && code <= SPEEDATE_LAST_FAULT)
         return faults[code];
-    if (code >= SPEEDATE_INVALID_INTEGER && code <= SPEEDATE_NO_SUCH_DATE)
-        return others[code - SPEEDATE_INVALID_INTEGER];
+    if (code >= SPEEDATE_NUMBER_TOO_LARGE && code <= SPEEDATE_NO_SUCH_DATE)
+        return others[code - SPEEDATE_NUMBER_TOO_LARGE];
     if (code >= SPEEDATE_VALUE_OUT_OF_RANGE && code <= SPEEDATE_BUFFER_TOO_SMALL)
         return mistakes[code - SPEEDATE_VALUE_OUT_OF_RANGE];
     return "unknown code";
@@ -260,7 +264,7 @@ typedef struct SpeedateConfig {
 
 /* ---- Values ---- */
 
-/* No struct below has padding, and a call writes 0 into a field without a meaning. So two values that calls have
+/* No struct of a value has padding, and a call writes 0 into a field without a meaning. So two values that calls have
  * written are equal if and only if memcmp finds their bytes equal. A struct that you fill in may differ: an offset
  * without its flag is ignored. */
 
@@ -513,6 +517,85 @@ SPEEDATE_NODISCARD int speedate_duration_between_dates(SpeedateDate earlier, Spe
  * days, and SPEEDATE_DATE_TOO_SMALL or SPEEDATE_DATE_TOO_LARGE if the date is outside the years 0000 to 9999. */
 SPEEDATE_NODISCARD int speedate_duration_after_date(SpeedateDuration duration, SpeedateDate start, SpeedateDate *out);
 SPEEDATE_NODISCARD int speedate_duration_before_date(SpeedateDuration duration, SpeedateDate start, SpeedateDate *out);
+
+/* ---- Columns ---- */
+
+/* A column is the numbers of the lines of a text, one for each. A line is ended by a line feed, or by the end of the
+ * text. An empty line is a line. "Columns" in GRAMMAR.md has the rules. */
+
+/* How a column is read. In each field 0 is the default. A field that a call does not use has to be in range too. What
+ * is said of later versions at SpeedateConfig holds here too. */
+typedef struct SpeedateColumnConfig {
+    /* 0 if the end of the text ends its last line. 1 if more text may follow: what stands after the last line feed is
+     * then left for a further call. */
+    uint8_t more_follows;
+    /* 1 if a carriage return at the end of a line is dropped, as files of Windows have it; 0 if it is part of the line,
+     * which is then refused. */
+    uint8_t drops_returns;
+    /* What a line of dates or date-times may be: SPEEDATE_FORM_TEXT, _TIMESTAMP or _STRICT. */
+    uint8_t form;
+    /* 1 if a date-time without an offset is taken to be in UTC; 0 if it is refused, with SPEEDATE_TZ_REQUIRED. */
+    uint8_t assumes_utc;
+    /* 0 if a line that is refused ends the column; 1 if it gets the smallest number, INT64_MIN or INT32_MIN, and the
+     * column goes on. That is the number of no other line, and NaT in NumPy. */
+    uint8_t goes_on;
+} SpeedateColumnConfig;
+
+/* The default: SpeedateColumnConfig column = SPEEDATE_COLUMN_CONFIG_DEFAULT; */
+#define SPEEDATE_COLUMN_CONFIG_DEFAULT {0, 0, 0, 0, 0}
+
+/* No timestamps, as speedate_date_parse_rfc3339 and speedate_datetime_parse_rfc3339 parse. */
+#define SPEEDATE_FORM_TEXT 0
+/* Timestamps too, as speedate_date_parse and speedate_datetime_parse parse. */
+#define SPEEDATE_FORM_TIMESTAMP 1
+/* As speedate_datetime_parse_strict parses: for date-times alone. */
+#define SPEEDATE_FORM_STRICT 2
+
+/* How far a column has come. */
+typedef struct SpeedateProgress {
+    size_t lines; /* how many lines have a number in the column */
+    size_t bytes; /* how many bytes of the text these lines take, with their ends */
+    int32_t error; /* the code of the next line, if it is refused and ends the column; otherwise SPEEDATE_OK */
+} SpeedateProgress;
+
+/* Each call below reads the lines of a text in order, as many as there is room for, writes the number of each to its
+ * place in `out`, and writes to *progress how far it came. Places without a line stay as they are. It returns
+ * SPEEDATE_CONFIG_OUT_OF_RANGE if a field of either configuration is out of range, and otherwise SPEEDATE_OK: a line
+ * that is refused does not make a call fail. What follows progress->bytes is left for a further call. If
+ * progress->error is SPEEDATE_OK and there is room left, it has no whole line. */
+
+/* The microseconds of date-times since 1970-01-01T00:00:00 in UTC, as speedate_datetime_timestamp_tz_us gives them:
+ * 1000000 and 0 from "1970-01-01T00:00:01Z\n1970-01-01T01:00+01:00\n". */
+SPEEDATE_NODISCARD int speedate_datetime_column(const char *text, size_t size, SpeedateConfig config,
+                                                SpeedateColumnConfig column, int64_t *out, size_t room,
+                                                SpeedateProgress *progress);
+
+/* The days of dates since 1970-01-01: 1 and -1 from "1970-01-02\n1969-12-31\n". SPEEDATE_FORM_STRICT is out of range. */
+SPEEDATE_NODISCARD int speedate_date_column(const char *text, size_t size, SpeedateConfig config,
+                                            SpeedateColumnConfig column, int32_t *out, size_t room,
+                                            SpeedateProgress *progress);
+
+/* The microseconds of durations, with their signs: 1500000 and -60000000 from "PT1.5S\n-00:01:00\n". A duration of 2^63
+ * microseconds or more, which are over 106,751,991 days, is refused with SPEEDATE_NUMBER_TOO_LARGE. */
+SPEEDATE_NODISCARD int speedate_duration_column(const char *text, size_t size, SpeedateConfig config,
+                                                SpeedateColumnConfig column, int64_t *out, size_t room,
+                                                SpeedateProgress *progress);
+
+/* The same, and to the same place in `errors` the code of each line, 0 if it is not refused. No line ends the column:
+ * one that is refused gets the smallest number, whatever goes_on says. As many lines are read as there is room for in
+ * both. */
+SPEEDATE_NODISCARD int speedate_datetime_column_with_errors(const char *text, size_t size, SpeedateConfig config,
+                                                            SpeedateColumnConfig column, int64_t *out, size_t room,
+                                                            uint8_t *errors, size_t error_room,
+                                                            SpeedateProgress *progress);
+SPEEDATE_NODISCARD int speedate_date_column_with_errors(const char *text, size_t size, SpeedateConfig config,
+                                                        SpeedateColumnConfig column, int32_t *out, size_t room,
+                                                        uint8_t *errors, size_t error_room,
+                                                        SpeedateProgress *progress);
+SPEEDATE_NODISCARD int speedate_duration_column_with_errors(const char *text, size_t size, SpeedateConfig config,
+                                                            SpeedateColumnConfig column, int64_t *out, size_t room,
+                                                            uint8_t *errors, size_t error_room,
+                                                            SpeedateProgress *progress);
 
 /* ---- Numbers ---- */
 

@@ -4,6 +4,10 @@
  * numbers in the order of its fields, a configuration `default` or its numbers, and a text stands as it is, which
  * for a row of an empty one is an empty field.
  *
+ * In the text of a column `\n` stands for a line feed, and `\r` for a carriage return. Its row has the configurations,
+ * the room for numbers and for errors, and the text; then the numbers, the errors, how many lines and bytes they are,
+ * and the name of the error that ends it.
+ *
  * Each text is read from three places: a block of the heap of its very size, the end of a page after which none
  * can be read, and the beginning of one before which none can be; an empty one also from NULL. Each text is
  * printed into a buffer of its very size, at the end of such a page, and is refused by one that is a byte too small,
@@ -19,7 +23,9 @@
 #include <unistd.h>
 
 #define UNTOUCHED 0xA5
-#define FIELDS 8
+#define FIELDS 9
+/* How many places a column has, most of which no call may touch. */
+#define PLACES 12
 
 /* No struct of a value has padding. */
 typedef char date_has_no_padding[sizeof(SpeedateDate) == 4 ? 1 : -1];
@@ -64,6 +70,22 @@ static SpeedateConfig config(void) {
     it.timestamp_unit = (uint8_t)n[2];
     it.overflow_behavior = (uint8_t)n[3];
     it.iso_order = (uint8_t)n[4];
+    return it;
+}
+
+static SpeedateColumnConfig column_config(void) {
+    SpeedateColumnConfig it = SPEEDATE_COLUMN_CONFIG_DEFAULT;
+    long long n[5];
+    if (field < FIELDS && fields[field] && strcmp(fields[field], "default") == 0) {
+        field++;
+        return it;
+    }
+    numbers(n, 5);
+    it.more_follows = (uint8_t)n[0];
+    it.drops_returns = (uint8_t)n[1];
+    it.form = (uint8_t)n[2];
+    it.assumes_utc = (uint8_t)n[3];
+    it.goes_on = (uint8_t)n[4];
     return it;
 }
 
@@ -169,6 +191,12 @@ static void say_number(long long it) {
     say("%lld", it);
 }
 
+static void say_progress(SpeedateProgress it) {
+    say("%lld ", (long long)it.lines);
+    say("%lld ", (long long)it.bytes);
+    strcat(answer, speedate_code_string(it.error));
+}
+
 /* ---- The calls ---- */
 
 /* A place for an output, before bytes that no call may touch. */
@@ -200,6 +228,55 @@ static void say_number(long long it) {
             say("|%lld", (long long)*taken);                                                                           \
         }                                                                                                              \
         return 1;                                                                                                      \
+    }
+
+/* Calls that read a column, without errors and with them. Without room there is no address either. */
+#define COLUMN(TYPE, NAME)                                                                                             \
+    if (is_call(#NAME)) {                                                                                              \
+        SpeedateConfig it = config();                                                                                  \
+        SpeedateColumnConfig by = column_config();                                                                     \
+        size_t room = (size_t)number();                                                                                \
+        TYPE out[PLACES];                                                                                              \
+        OUTPUT(SpeedateProgress, progress)                                                                             \
+        memset(out, UNTOUCHED, sizeof out);                                                                            \
+        int code = speedate_##NAME(text, size, it, by, room ? out : NULL, room, progress);                             \
+        size_t lines = code == SPEEDATE_OK ? progress->lines : 0;                                                      \
+        int kept = lines <= room && is_untouched(out + lines, sizeof out - lines * sizeof *out);                       \
+        if (said(code, kept && IS_KEPT(code, progress))) {                                                             \
+            LIST(out, lines)                                                                                           \
+            say_progress(*progress);                                                                                   \
+        }                                                                                                              \
+        return 1;                                                                                                      \
+    }                                                                                                                  \
+    if (is_call(#NAME "_with_errors")) {                                                                               \
+        SpeedateConfig it = config();                                                                                  \
+        SpeedateColumnConfig by = column_config();                                                                     \
+        long long rooms[2];                                                                                            \
+        numbers(rooms, 2);                                                                                             \
+        size_t room = (size_t)rooms[0], error_room = (size_t)rooms[1];                                                 \
+        TYPE out[PLACES];                                                                                              \
+        uint8_t errors[PLACES];                                                                                        \
+        OUTPUT(SpeedateProgress, progress)                                                                             \
+        memset(out, UNTOUCHED, sizeof out);                                                                            \
+        memset(errors, UNTOUCHED, sizeof errors);                                                                      \
+        int code = speedate_##NAME##_with_errors(text, size, it, by, room ? out : NULL, room,                          \
+                                                 error_room ? errors : NULL, error_room, progress);                    \
+        size_t lines = code == SPEEDATE_OK ? progress->lines : 0;                                                      \
+        int kept = lines <= room && is_untouched(out + lines, sizeof out - lines * sizeof *out);                       \
+        kept = kept && lines <= error_room && is_untouched(errors + lines, sizeof errors - lines);                     \
+        if (said(code, kept && IS_KEPT(code, progress))) {                                                             \
+            LIST(out, lines)                                                                                           \
+            LIST(errors, lines)                                                                                        \
+            say_progress(*progress);                                                                                   \
+        }                                                                                                              \
+        return 1;                                                                                                      \
+    }
+
+#define LIST(NUMBERS, COUNT)                                                                                           \
+    {                                                                                                                  \
+        for (size_t i = 0; i < COUNT; i++)                                                                             \
+            say(i ? " %lld" : "%lld", (long long)NUMBERS[i]);                                                          \
+        strcat(answer, "|");                                                                                           \
     }
 
 /* A call that prints: with room for all, for just the text, and for a byte less. */
@@ -302,6 +379,9 @@ static int run_text(const char *text, size_t size) {
     PARSE(SpeedateDateTime, say_datetime, datetime_parse_strict)
     FRONT(SpeedateDateTime, say_datetime, datetime_parse_front)
     PARSE(SpeedateDuration, say_duration, duration_parse)
+    COLUMN(int64_t, datetime_column)
+    COLUMN(int32_t, date_column)
+    COLUMN(int64_t, duration_column)
     return 0;
 }
 
@@ -403,7 +483,7 @@ static void try_code(int code) {
     char name[SPEEDATE_CODE_TEXT_SIZE], text[SPEEDATE_CODE_TEXT_SIZE];
     size_t length = 0;
     int is_one = (code >= SPEEDATE_TOO_SHORT && code <= SPEEDATE_LAST_FAULT) ||
-                 (code >= SPEEDATE_INVALID_INTEGER && code <= SPEEDATE_NO_SUCH_DATE) ||
+                 (code >= SPEEDATE_NUMBER_TOO_LARGE && code <= SPEEDATE_NO_SUCH_DATE) ||
                  (code >= SPEEDATE_VALUE_OUT_OF_RANGE && code <= SPEEDATE_BUFFER_TOO_SMALL);
     int wanted = is_one ? SPEEDATE_OK : SPEEDATE_VALUE_OUT_OF_RANGE;
     const char *string = speedate_code_string(code);
@@ -423,6 +503,17 @@ static int is_code(const char *it) {
     return 0;
 }
 
+/* Puts the bytes of line ends into the text of a column, where they are written as two letters each. */
+static void put_line_ends(char *text) {
+    char *to = text;
+    for (char *from = text; *from; from++) {
+        int is_one = from[0] == '\\' && (from[1] == 'n' || from[1] == 'r');
+        *to++ = !is_one ? *from : from[1] == 'n' ? '\n' : '\r';
+        from += is_one;
+    }
+    *to = 0;
+}
+
 static void run(const char *row) {
     char copy[256], wanted[256] = "";
     int arguments = 1;
@@ -434,7 +525,9 @@ static void run(const char *row) {
         strcat(wanted, i > arguments ? "|" : "");
         strcat(wanted, fields[i]);
     }
-    const char *text = fields[arguments - 1];
+    char *text = fields[arguments - 1];
+    if (strstr(fields[0], "_column"))
+        put_line_ends(text);
     size_t size = strlen(text);
     char *block = malloc(size ? size : 1);
     char *places[] = {block, first_page, first_page + page - size, NULL};

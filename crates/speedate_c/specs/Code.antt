@@ -1,10 +1,11 @@
--- The codes that calls answer: 0, the numbers of the faults and of two further answers, and those
+-- The codes that calls answer: 0, the numbers of the faults and of three further answers, and those
 -- of what a caller got wrong.
 use Rattle.std.specs.Prelude.{ℕ, ◌+◌, ◌-◌, ℤ, pos, negsuc, unsigned_abs, int_le, List, map, codes, slice_get, Option, Some, None, Result, Ok, Err, if◌then◌else◌}
 use Rattle.std.specs.Option.{option_map, option_or}
 use Rattle.std.specs.Ordering.{int_eq}
 use Rattle.std.specs.declared.cmp.Ordering.{Ordering, Ordering as ordering}
 use Rattle.speedate.specs.Base.{ParseError}
+use Rattle.speedate.specs.declared.LineError.{LineError}
 use Rattle.speedate.specs.Fault.{
   FaultRow,
   fault_rows,
@@ -16,6 +17,10 @@ use Rattle.speedate.specs.Fault.{
 -- what was asked for is written
 abbrev pub success : ℤ
 success = pos 0
+
+-- the number of a line does not fit 64 bits
+abbrev pub number_too_large : ℤ
+number_too_large = pos 97
 
 -- a text is no whole number, or one that does not fit 64 bits
 abbrev pub invalid_integer : ℤ
@@ -41,6 +46,11 @@ buffer_too_small = pos 103
 abbrev pub fault_code : ParseError → ℤ
 fault_code fault = pos (fault_number fault)
 
+-- the code of an error of a line
+abbrev pub line_error_code : LineError → ℤ
+line_error_code (LineError.Parse fault) = fault_code fault
+line_error_code LineError.NumberTooLarge = number_too_large
+
 -- the faults in the order of their codes
 abbrev pub faults : List ParseError
 faults = map (λ (row : FaultRow). row.fault) fault_rows
@@ -52,7 +62,9 @@ fault_of code = if int_le (pos 1) code then slice_get faults (unsigned_abs code 
 -- the name and the documentation text of a code that is no fault
 abbrev pub refusal_row : ℤ → Option (List ℕ × List ℕ)
 refusal_row code =
-    if int_eq code invalid_integer
+    if int_eq code number_too_large
+    then Some (codes "number_too_large", codes "the number of a line does not fit 64 bits")
+    else (if int_eq code invalid_integer
     then Some (codes "invalid_integer", codes "no whole number, or one that does not fit 64 bits")
     else (if int_eq code no_such_date
     then Some (codes "no_such_date", codes "the years 0000 to 9999 have no such date")
@@ -65,7 +77,7 @@ refusal_row code =
     )
     else (if int_eq code buffer_too_small
     then Some (codes "buffer_too_small", codes "the buffer is too small for the text")
-    else None))))
+    else None)))))
 
 -- the name and the documentation text of a code
 abbrev pub code_row : ℤ → Option (List ℕ × List ℕ)

@@ -5,3 +5,4 @@ pub mod Date
 pub mod Time
 pub mod DateTime
 pub mod Duration
+pub mod Column

@@ -2,13 +2,23 @@
 
 ghost use Rattle.std.specs.Option.{option_map};
 ghost use Rattle.std.specs.Prelude.{◌≡◌, ◌≤◌, IfSome, Some, length, slice_get};
-ghost use Rattle.speedate_c.specs.Code.{code_row, fault_code, fault_of, order_number, refusal_row};
+ghost use Rattle.speedate_c.specs.Code.{
+  code_row,
+  fault_code,
+  fault_of,
+  line_error_code,
+  order_number,
+  refusal_row,
+};
 
-use speedate::ParseError;
+use speedate::{LineError, ParseError};
 use std::cmp::Ordering;
 
 /// What was asked for is written.
 pub(crate) const SUCCESS: i32 = 0;
+
+/// The number of a line does not fit 64 bits.
+pub(crate) const NUMBER_TOO_LARGE: i32 = 97;
 
 /// A text is no whole number, or one that does not fit 64 bits.
 pub(crate) const INVALID_INTEGER: i32 = 98;
@@ -55,6 +65,16 @@ pub(crate) fn fault_code(fault: ParseError) -> i32
     i32::from(fault.number())
 }
 
+/// The code of an error of a line: 97 for `NumberTooLarge`.
+pub(crate) fn line_error_code(error: LineError) -> i32
+    ensures code { result ≡ line_error_code error }
+{
+    match error {
+        LineError::Parse(fault) => fault_code(fault),
+        LineError::NumberTooLarge => NUMBER_TOO_LARGE,
+    }
+}
+
 /// The error of a code.
 fn fault_of(code: i32) -> Option<ParseError>
     ensures fault { result ≡ fault_of code }
@@ -89,6 +109,10 @@ fn refusal_row(code: i32) -> Option<(&'static str, &'static str)>
     ensures short { IfSome result (λ row. (length row.0.now ≤ 63) × (length row.1.now ≤ 63)) }
 {
     Some(match code {
+        NUMBER_TOO_LARGE => (
+            "number_too_large",
+            "the number of a line does not fit 64 bits",
+        ),
         INVALID_INTEGER => (
             "invalid_integer",
             "no whole number, or one that does not fit 64 bits",

@@ -64,6 +64,7 @@ macro_rules! print_by_parts {
 
 mod arithmetic;
 mod code;
+mod column;
 mod config;
 mod date;
 mod datetime;

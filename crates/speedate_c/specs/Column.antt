@@ -1,0 +1,159 @@
+-- Columns from outside: what their configuration says, which number a line has, and what a call
+-- leaves.
+use Rattle.std.specs.Prelude.{◌≡◌, ℕ, ◌≤◌, ◌++◌, ℤ, negsuc, Bool, not, List, [], ◌∷◌, length, min, drop, slice_get, Option, Some, None, Result, if◌then◌else◌}
+use Rattle.std.specs.Option.{option_and_then, option_map}
+use Rattle.speedate.specs.Base.{ParseError, TimestampUnit}
+use Rattle.speedate.specs.Calendar.{days_between}
+use Rattle.speedate.specs.Config.{Choices}
+use Rattle.speedate.specs.Date.{date_answer, date_or_timestamp}
+use Rattle.speedate.specs.DateTime.{
+  DateAndTime,
+  date_time_answer,
+  date_time_or_timestamp,
+  utc_microsecond,
+}
+use Rattle.speedate.specs.Standard.{strict_date_time_answer}
+use Rattle.speedate.specs.Requirement.{result_and_then}
+use Rattle.speedate.specs.Duration.{duration_answer}
+use Rattle.speedate.specs.Column.{as_number, epoch, number_of_duration, text_column, with_offset}
+use Rattle.speedate.specs.declared.LineConfig.{LineConfig}
+use Rattle.speedate.specs.declared.LineError.{LineError}
+use Rattle.speedate.specs.Lines.{whole_lines}
+use Rattle.speedate_c.specs.Code.{line_error_code, success}
+use Rattle.speedate_c.specs.Config.{choices_of, flags}
+use Rattle.speedate_c.specs.declared.config.SpeedateConfig.{SpeedateConfig}
+use Rattle.speedate_c.specs.declared.column.LineForm.{LineForm}
+use Rattle.speedate_c.specs.declared.column.ColumnChoices.{ColumnChoices}
+use Rattle.speedate_c.specs.declared.column.SpeedateColumnConfig.{SpeedateColumnConfig}
+use Rattle.speedate_c.specs.declared.column.SpeedateProgress.{SpeedateProgress}
+
+-- the forms in the order of their numbers, the default first
+abbrev pub forms : List LineForm
+forms = LineForm.Text ∷ LineForm.Timestamp ∷ LineForm.Strict ∷ []
+
+-- what a configuration of columns from outside chooses, where each of its numbers has a value
+abbrev pub column_choices_of : SpeedateColumnConfig → Option ColumnChoices
+column_choices_of config =
+    option_and_then (λ more_follows.
+    option_and_then (λ drops_returns.
+    option_and_then (λ form.
+    option_and_then (λ assumes_utc.
+    option_map (λ goes_on. record {
+      lines = record { at_end = not more_follows; drops_returns = drops_returns };
+      form = form;
+      assumes_utc = assumes_utc;
+      goes_on = goes_on;
+    })
+    (slice_get flags config.goes_on))
+    (slice_get flags config.assumes_utc))
+    (slice_get forms config.form))
+    (slice_get flags config.drops_returns))
+    (slice_get flags config.more_follows)
+
+-- the number of a line that is refused, where the column goes on after it
+abbrev pub on_refusal : {N : Type 0} → Bool → N → Option N
+on_refusal goes_on least = if goes_on then Some least else None
+
+-- the smallest number of 32 bits
+abbrev pub least_of_32_bits : ℤ
+least_of_32_bits = negsuc 2147483647
+
+-- the smallest number of 64 bits
+abbrev pub least_of_64_bits : ℤ
+least_of_64_bits = negsuc 9223372036854775807
+
+-- the date-time of a line, or the error
+abbrev pub date_time_of_form : LineForm → Choices → List ℕ → Result DateAndTime ParseError
+date_time_of_form LineForm.Text chosen line = date_time_answer chosen.behavior line
+date_time_of_form LineForm.Timestamp chosen line =
+    date_time_or_timestamp chosen.unit chosen.behavior chosen.offset line
+date_time_of_form LineForm.Strict chosen line = strict_date_time_answer chosen.behavior line
+
+-- the number of a line in a column of date-times: the microseconds since 1970-01-01T00:00:00 in UTC
+abbrev pub date_time_of_column : Choices → ColumnChoices → List ℕ → Result ℤ LineError
+date_time_of_column chosen column line =
+    as_number utc_microsecond
+    (result_and_then (with_offset column.assumes_utc) (date_time_of_form column.form chosen line))
+
+-- the number of a line in a column of dates, where the form is one of dates: the days since
+-- 1970-01-01
+abbrev pub date_of_column : TimestampUnit → LineForm → Option (List ℕ → Result ℤ LineError)
+date_of_column unit LineForm.Text =
+    Some (λ line. as_number (days_between epoch) (date_answer line))
+date_of_column unit LineForm.Timestamp =
+    Some (λ line. as_number (days_between epoch) (date_or_timestamp unit line))
+date_of_column unit LineForm.Strict = None
+
+-- the number of a line in a column of durations: its microseconds, with the sign
+abbrev pub duration_of_column : Choices → List ℕ → Result ℤ LineError
+duration_of_column chosen line =
+    number_of_duration (duration_answer chosen.order chosen.behavior line)
+
+-- what both configurations choose for a column of date-times, where each of their numbers has a
+-- value: how it is read, and the number of a line
+abbrev pub date_time_numbers : SpeedateConfig → SpeedateColumnConfig
+    → Option (ColumnChoices × (List ℕ → Result ℤ LineError))
+date_time_numbers config column =
+    option_and_then (λ chosen.
+    option_map (λ column. (column, date_time_of_column chosen column)) (column_choices_of column))
+    (choices_of config)
+
+-- the same for a column of dates
+abbrev pub date_numbers : SpeedateConfig → SpeedateColumnConfig
+    → Option (ColumnChoices × (List ℕ → Result ℤ LineError))
+date_numbers config column =
+    option_and_then (λ chosen.
+    option_and_then (λ column.
+    option_map (λ number. (column, number)) (date_of_column chosen.unit column.form))
+    (column_choices_of column))
+    (choices_of config)
+
+-- the same for a column of durations
+abbrev pub duration_numbers : SpeedateConfig → SpeedateColumnConfig
+    → Option (ColumnChoices × (List ℕ → Result ℤ LineError))
+duration_numbers config column =
+    option_and_then (λ chosen.
+    option_map (λ column. (column, duration_of_column chosen)) (column_choices_of column))
+    (choices_of config)
+
+-- the code of the error that ends a column, if one does
+abbrev pub ended_code : Option LineError → ℤ
+ended_code None = success
+ended_code (Some error) = line_error_code error
+
+-- how far a column has come, by the numbers of its lines and the code of the error that ends it;
+-- the lines after these bytes are those that have no number yet
+pub record IsProgress {N : Type 0} (config : LineConfig) (text : List ℕ) (entries : List N)
+    (code : ℤ) (progress : SpeedateProgress) : Type 0 where
+  pub lines : progress.lines ≡ length entries
+  pub error : progress.error ≡ code
+  pub within : progress.bytes ≤ length text
+  pub rest : whole_lines config.at_end (drop progress.bytes text)
+      ≡ drop progress.lines (whole_lines config.at_end text)
+
+-- what a call leaves: the numbers of the first lines, of as many as there is room for, before what
+-- stood after them, and how far the column has come
+pub record IsColumn {N : Type 0} (answer : List ℕ → Result N LineError) (config : LineConfig)
+    (refused : Option N) (text : List ℕ) (before after : List N) (progress : SpeedateProgress)
+    : Type 0 where
+  pub numbers : after
+      ≡ (text_column answer config refused (length before) text).numbers
+      ++ drop progress.lines before
+  pub reached : IsProgress config text
+      (text_column answer config refused (length before) text).numbers
+      (ended_code (text_column answer config refused (length before) text).fault) progress
+
+-- what a call leaves that writes errors too, and ends at none: as many lines are read as there is
+-- room for in both
+pub record IsColumnWithErrors {N : Type 0} (answer : List ℕ → Result N LineError)
+    (config : LineConfig) (least : N) (text : List ℕ) (before after : List N)
+    (errors_before errors_after : List ℕ) (progress : SpeedateProgress) : Type 0 where
+  pub numbers : after
+      ≡ (text_column answer config (Some least) (min (length before) (length errors_before))
+      text).numbers ++ drop progress.lines before
+  pub errors : errors_after
+      ≡ (text_column answer config (Some least) (min (length before) (length errors_before))
+      text).errors ++ drop progress.lines errors_before
+  pub reached : IsProgress config text
+      (text_column answer config (Some least) (min (length before) (length errors_before))
+      text).numbers success progress
