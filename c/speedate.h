@@ -9,7 +9,7 @@
  * - A text is passed as an address and a size in bytes. It may hold any bytes, and needs no zero byte at its end. If
  *   the size is 0, the address may be NULL.
  * - A column is written to places of yours, which are passed as an address and their number. If that is 0, the address
- *   may be NULL.
+ *   may be NULL. They do not overlap the text, one another or *progress.
  * - A text is printed into a buffer of yours, with a zero byte after it, and its length without that byte is written to
  *   *length. A buffer of the size that is named beside the type is always large enough; no call tells the size that a
  *   text needs. Bytes after the zero byte keep their values. If the size is 0, the buffer may be NULL.
@@ -103,7 +103,8 @@ enum SpeedateCode {
     SPEEDATE_OUT_OF_RANGE_TZ_MINUTE = 17,
     /* An offset is 24 hours or more. */
     SPEEDATE_OUT_OF_RANGE_TZ = 18,
-    /* A value without an offset cannot be moved to another offset, or, in a strict call, the text has no offset. */
+    /* A value without an offset cannot be moved to another offset, or, in a strict call or a column, the text has no
+     * offset. */
     SPEEDATE_TZ_REQUIRED = 19,
     /* No call of this header returns it. In the library it means that a clock shows a time before 1970. */
     SPEEDATE_SYSTEM_TIME_ERROR = 20,
@@ -553,8 +554,8 @@ typedef struct SpeedateColumnConfig {
 
 /* How far a column has come. */
 typedef struct SpeedateProgress {
-    size_t lines; /* how many lines have a number in the column */
-    size_t bytes; /* how many bytes of the text these lines take, with their ends */
+    size_t lines;  /* how many lines have a number in the column */
+    size_t bytes;  /* how many bytes of the text these lines take, with their ends */
     int32_t error; /* the code of the next line, if it is refused and ends the column; otherwise SPEEDATE_OK */
 } SpeedateProgress;
 
@@ -570,7 +571,8 @@ SPEEDATE_NODISCARD int speedate_datetime_column(const char *text, size_t size, S
                                                 SpeedateColumnConfig column, int64_t *out, size_t room,
                                                 SpeedateProgress *progress);
 
-/* The days of dates since 1970-01-01: 1 and -1 from "1970-01-02\n1969-12-31\n". SPEEDATE_FORM_STRICT is out of range. */
+/* The days of dates since 1970-01-01: 1 and -1 from "1970-01-02\n1969-12-31\n". Here SPEEDATE_FORM_STRICT is out of
+ * range. */
 SPEEDATE_NODISCARD int speedate_date_column(const char *text, size_t size, SpeedateConfig config,
                                             SpeedateColumnConfig column, int32_t *out, size_t room,
                                             SpeedateProgress *progress);

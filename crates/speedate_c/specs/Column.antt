@@ -70,50 +70,50 @@ date_time_of_form LineForm.Timestamp chosen line =
 date_time_of_form LineForm.Strict chosen line = strict_date_time_answer chosen.behavior line
 
 -- the number of a line in a column of date-times: the microseconds since 1970-01-01T00:00:00 in UTC
-abbrev pub date_time_of_column : Choices → ColumnChoices → List ℕ → Result ℤ LineError
-date_time_of_column chosen column line =
+abbrev pub date_time_number_by : Choices → ColumnChoices → List ℕ → Result ℤ LineError
+date_time_number_by chosen column line =
     as_number utc_microsecond
     (result_and_then (with_offset column.assumes_utc) (date_time_of_form column.form chosen line))
 
 -- the number of a line in a column of dates, where the form is one of dates: the days since
 -- 1970-01-01
-abbrev pub date_of_column : TimestampUnit → LineForm → Option (List ℕ → Result ℤ LineError)
-date_of_column unit LineForm.Text =
+abbrev pub date_number_by : TimestampUnit → LineForm → Option (List ℕ → Result ℤ LineError)
+date_number_by unit LineForm.Text =
     Some (λ line. as_number (days_between epoch) (date_answer line))
-date_of_column unit LineForm.Timestamp =
+date_number_by unit LineForm.Timestamp =
     Some (λ line. as_number (days_between epoch) (date_or_timestamp unit line))
-date_of_column unit LineForm.Strict = None
+date_number_by unit LineForm.Strict = None
 
 -- the number of a line in a column of durations: its microseconds, with the sign
-abbrev pub duration_of_column : Choices → List ℕ → Result ℤ LineError
-duration_of_column chosen line =
+abbrev pub duration_number_by : Choices → List ℕ → Result ℤ LineError
+duration_number_by chosen line =
     number_of_duration (duration_answer chosen.order chosen.behavior line)
 
 -- what both configurations choose for a column of date-times, where each of their numbers has a
 -- value: how it is read, and the number of a line
-abbrev pub date_time_numbers : SpeedateConfig → SpeedateColumnConfig
+abbrev pub chosen_for_date_times : SpeedateConfig → SpeedateColumnConfig
     → Option (ColumnChoices × (List ℕ → Result ℤ LineError))
-date_time_numbers config column =
+chosen_for_date_times config column =
     option_and_then (λ chosen.
-    option_map (λ column. (column, date_time_of_column chosen column)) (column_choices_of column))
+    option_map (λ column. (column, date_time_number_by chosen column)) (column_choices_of column))
     (choices_of config)
 
 -- the same for a column of dates
-abbrev pub date_numbers : SpeedateConfig → SpeedateColumnConfig
+abbrev pub chosen_for_dates : SpeedateConfig → SpeedateColumnConfig
     → Option (ColumnChoices × (List ℕ → Result ℤ LineError))
-date_numbers config column =
+chosen_for_dates config column =
     option_and_then (λ chosen.
     option_and_then (λ column.
-    option_map (λ number. (column, number)) (date_of_column chosen.unit column.form))
+    option_map (λ number. (column, number)) (date_number_by chosen.unit column.form))
     (column_choices_of column))
     (choices_of config)
 
 -- the same for a column of durations
-abbrev pub duration_numbers : SpeedateConfig → SpeedateColumnConfig
+abbrev pub chosen_for_durations : SpeedateConfig → SpeedateColumnConfig
     → Option (ColumnChoices × (List ℕ → Result ℤ LineError))
-duration_numbers config column =
+chosen_for_durations config column =
     option_and_then (λ chosen.
-    option_map (λ column. (column, duration_of_column chosen)) (column_choices_of column))
+    option_map (λ column. (column, duration_number_by chosen)) (column_choices_of column))
     (choices_of config)
 
 -- the code of the error that ends a column, if one does

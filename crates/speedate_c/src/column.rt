@@ -2,20 +2,19 @@
 
 ghost use Rattle.std.specs.Option.{option_map};
 ghost use Rattle.std.specs.Prelude.{◌≡◌, MatchOption, slice_get};
+ghost use Rattle.speedate.specs.Config.{choices};
 ghost use Rattle.speedate.specs.Column.{date_number, date_time_number, duration_number};
 ghost use Rattle.speedate_c.specs.Code.{config_out_of_range, success};
-ghost use Rattle.speedate.specs.Config.{choices};
-ghost use Rattle.speedate_c.specs.Config.{choices_of};
 ghost use Rattle.speedate_c.specs.Column.{
   IsColumn,
   IsColumnWithErrors,
+  chosen_for_date_times,
+  chosen_for_dates,
+  chosen_for_durations,
   column_choices_of,
-  date_numbers,
-  date_of_column,
-  date_time_numbers,
-  date_time_of_column,
-  duration_numbers,
-  duration_of_column,
+  date_number_by,
+  date_time_number_by,
+  duration_number_by,
   ended_code,
   forms,
   least_of_32_bits,
@@ -119,7 +118,7 @@ impl ColumnChoices {
     /// The reader of date-times.
     #[inline(always)]
     fn date_time_reader(&self, config: &DateTimeConfig) -> DateTimeReader
-        ensures reads { date_time_number result ≡ date_time_of_column (choices config.now) self.now }
+        ensures reads { date_time_number result ≡ date_time_number_by (choices config.now) self.now }
     {
         let parser = match self.form {
             LineForm::Text => DateTimeParser::Rfc3339(config.time_config),
@@ -139,7 +138,7 @@ impl ColumnChoices {
     #[inline(always)]
     fn date_reader(&self, config: DateConfig) -> Option<DateReader>
         ensures reads { option_map date_number result
-            ≡ date_of_column config.timestamp_unit self.now.form }
+            ≡ date_number_by config.timestamp_unit self.now.form }
     {
         match self.form {
             LineForm::Text => Some(DateReader::Rfc3339),
@@ -152,7 +151,7 @@ impl ColumnChoices {
 /// The reader of durations.
 #[inline(always)]
 fn duration_reader(config: &DateTimeConfig) -> DurationReader
-    ensures reads { duration_number result ≡ duration_of_column (choices config.now) }
+    ensures reads { duration_number result ≡ duration_number_by (choices config.now) }
 {
     DurationReader {
         config: config.time_config,
@@ -232,7 +231,7 @@ pub extern "C" fn speedate_datetime_column(
     out: &mut [i64],
     progress: &mut SpeedateProgress,
 ) -> i32
-    ensures answer { MatchOption (date_time_numbers config column)
+    ensures answer { MatchOption (chosen_for_date_times config column)
         ((result ≡ config_out_of_range) × (out.new ≡ out.old) × (progress.new ≡ progress.old))
         (λ chosen. (result ≡ success) × IsColumn chosen.1 chosen.0.lines
         (on_refusal chosen.0.goes_on least_of_64_bits) text.now out.old out.new progress.new) }
@@ -255,7 +254,7 @@ pub extern "C" fn speedate_datetime_column_with_errors(
     errors: &mut [u8],
     progress: &mut SpeedateProgress,
 ) -> i32
-    ensures answer { MatchOption (date_time_numbers config column)
+    ensures answer { MatchOption (chosen_for_date_times config column)
         ((result ≡ config_out_of_range) × (out.new ≡ out.old) × (errors.new ≡ errors.old)
         × (progress.new ≡ progress.old))
         (λ chosen. (result ≡ success) × IsColumnWithErrors chosen.1 chosen.0.lines
@@ -280,7 +279,7 @@ pub extern "C" fn speedate_date_column(
     out: &mut [i32],
     progress: &mut SpeedateProgress,
 ) -> i32
-    ensures answer { MatchOption (date_numbers config column)
+    ensures answer { MatchOption (chosen_for_dates config column)
         ((result ≡ config_out_of_range) × (out.new ≡ out.old) × (progress.new ≡ progress.old))
         (λ chosen. (result ≡ success) × IsColumn chosen.1 chosen.0.lines
         (on_refusal chosen.0.goes_on least_of_32_bits) text.now out.old out.new progress.new) }
@@ -303,7 +302,7 @@ pub extern "C" fn speedate_date_column_with_errors(
     errors: &mut [u8],
     progress: &mut SpeedateProgress,
 ) -> i32
-    ensures answer { MatchOption (date_numbers config column)
+    ensures answer { MatchOption (chosen_for_dates config column)
         ((result ≡ config_out_of_range) × (out.new ≡ out.old) × (errors.new ≡ errors.old)
         × (progress.new ≡ progress.old))
         (λ chosen. (result ≡ success) × IsColumnWithErrors chosen.1 chosen.0.lines
@@ -327,7 +326,7 @@ pub extern "C" fn speedate_duration_column(
     out: &mut [i64],
     progress: &mut SpeedateProgress,
 ) -> i32
-    ensures answer { MatchOption (duration_numbers config column)
+    ensures answer { MatchOption (chosen_for_durations config column)
         ((result ≡ config_out_of_range) × (out.new ≡ out.old) × (progress.new ≡ progress.old))
         (λ chosen. (result ≡ success) × IsColumn chosen.1 chosen.0.lines
         (on_refusal chosen.0.goes_on least_of_64_bits) text.now out.old out.new progress.new) }
@@ -350,7 +349,7 @@ pub extern "C" fn speedate_duration_column_with_errors(
     errors: &mut [u8],
     progress: &mut SpeedateProgress,
 ) -> i32
-    ensures answer { MatchOption (duration_numbers config column)
+    ensures answer { MatchOption (chosen_for_durations config column)
         ((result ≡ config_out_of_range) × (out.new ≡ out.old) × (errors.new ≡ errors.old)
         × (progress.new ≡ progress.old))
         (λ chosen. (result ≡ success) × IsColumnWithErrors chosen.1 chosen.0.lines
