@@ -149,6 +149,11 @@ def column_rows():
         calls = [lambda _: read(lines, naive="utc"), lambda _: read(texts, naive="utc"), pandas and (lambda _: pandas.to_datetime(texts, utc=True)),
                  (lambda _: numpy.array(texts, "datetime64[us]")) if numpy and name == "no offset" else None]
         yield f"a million texts, {name}", milliseconds_of(calls, 5)
+    days, sizes = [date() for _ in range(1_000_000)], [duration() for _ in range(1_000_000)]
+    for name, read, texts in (("dates", speedate.date_column, days), ("durations", speedate.duration_column, sizes)):
+        lines = "\n".join(texts).encode()
+        calls = [lambda _: read(lines), lambda _: read(texts), None, (lambda _: numpy.array(texts, "datetime64[D]")) if numpy and texts is days else None]
+        yield f"a million {name}", milliseconds_of(calls, 5)
 
 
 def csv_rows(folder):

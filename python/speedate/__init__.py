@@ -15,20 +15,21 @@ and `datetime` refuses to compare the two.
 
 A refusal is a `ValueError`: a `Fault` from the library, an `Unrepresentable` where Python has no such value, a plain
 one for an argument that is out of range. An argument of a wrong type is a `TypeError`. So is a `Config` with a unit or
-an offset of timestamps in a call that parses none: `date`, `date_time` and `date_time_column` parse timestamps only with
+an offset of timestamps in a call that parses none: `date`, `date_time` and their columns parse timestamps only with
 `timestamps=True`.
 """
 import datetime
 
 from ._version import __version__
 from ._speedate import (
-    Config, Fault, Unrepresentable, date, date_from_timestamp, date_front, date_time, date_time_column,
-    date_time_from_timestamp, date_time_front, date_time_strict, duration, text, time, time_from_timestamp, time_front, time_strict)
+    Config, Fault, Unrepresentable, date, date_column, date_from_timestamp, date_front, date_time, date_time_column,
+    date_time_from_timestamp, date_time_front, date_time_strict, duration, duration_column, text, time, time_from_timestamp,
+    time_front, time_strict)
 
 __all__ = [
-    "Config", "Fault", "Unrepresentable", "__version__", "date", "date_from_timestamp", "date_front", "date_time",
-    "date_time_column", "date_time_from_timestamp", "date_time_front", "date_time_strict", "duration", "text", "time",
-    "time_from_timestamp", "time_front", "time_strict"]
+    "Config", "Fault", "Unrepresentable", "__version__", "date", "date_column", "date_from_timestamp", "date_front",
+    "date_time", "date_time_column", "date_time_from_timestamp", "date_time_front", "date_time_strict", "duration",
+    "duration_column", "text", "time", "time_from_timestamp", "time_front", "time_strict"]
 
 for _call in map(globals().get, __all__):
     if isinstance(_call, type(text)):

@@ -542,21 +542,74 @@ static PyObject *call_date_time_from_timestamp(GIVEN) {
 #define BLOCK_BYTES 262144 /* of memory that may change, at a time */
 #define LONG_BYTES 65536   /* of lines, from which on other threads run meanwhile */
 
-/* How the texts of a column become numbers. */
-typedef struct {
+/* How the library reads lines into numbers, and into their codes, if there is a place for them. */
+typedef int ReadLines(const Text *text, SpeedateConfig config, SpeedateColumnConfig column, int64_t *numbers,
+                      uint8_t *codes, size_t room, SpeedateProgress *progress);
+
+#define READ_LINES(name, call, number) \
+    static int name(const Text *text, SpeedateConfig config, SpeedateColumnConfig column, number *numbers, \
+                    uint8_t *codes, size_t room, SpeedateProgress *progress) { \
+        return codes ? call##_with_errors(BYTES, config, column, numbers, room, codes, room, progress) \
+                     : call(BYTES, config, column, numbers, room, progress); \
+    }
+READ_LINES(read_date_times, speedate_datetime_column, int64_t)
+READ_LINES(read_durations, speedate_duration_column, int64_t)
+READ_LINES(read_days, speedate_date_column, int32_t)
+
+/* Days have 32 bits in C, and 64 in NumPy. They are written to the later half of their places, and move forward. */
+static int read_dates(const Text *text, SpeedateConfig config, SpeedateColumnConfig column, int64_t *numbers,
+                      uint8_t *codes, size_t room, SpeedateProgress *progress) {
+    int32_t *days = (int32_t *)numbers + room, day;
+    int code = read_days(text, config, column, days, codes, room, progress);
+    for (size_t i = 0; code == SPEEDATE_OK && i < progress->lines; i++) {
+        memcpy(&day, (char *)days + i * sizeof day, sizeof day);
+        numbers[i] = day == INT32_MIN ? NOT_A_TIME : day;
+    }
+    return code;
+}
+
+/* How the texts of a column become numbers: lines at once, and a text of a list by its value. */
+typedef struct ColumnReader ColumnReader;
+typedef int NumberOf(const ColumnReader *reader, const Text *text, const Value *value, int64_t *number);
+struct ColumnReader {
+    ReadLines *read;
     Parse *parse;
+    NumberOf *number_of;
     SpeedateConfig config;
-    bool naive_is_utc, goes_on, return_is_text;
-} ColumnReader;
+    SpeedateColumnConfig lines;
+};
+
+static int number_of_date_time(const ColumnReader *reader, const Text *text, const Value *value, int64_t *number) {
+    (void)text;
+    if (!value->date_time.time.has_offset && !reader->lines.assumes_utc)
+        return SPEEDATE_TZ_REQUIRED;
+    return speedate_datetime_timestamp_tz_us(value->date_time, number);
+}
+
+static int number_of_date(const ColumnReader *reader, const Text *text, const Value *value, int64_t *number) {
+    (void)reader, (void)text;
+    int32_t days;
+    int code = speedate_date_days_since(value->date, (SpeedateDate){1970, 1, 1}, &days);
+    if (code == SPEEDATE_OK)
+        *number = days;
+    return code;
+}
+
+/* The microseconds, which only a column has: of one line, since no call accepts a line feed. */
+static int number_of_duration(const ColumnReader *reader, const Text *text, const Value *value, int64_t *number) {
+    static const SpeedateColumnConfig one = SPEEDATE_COLUMN_CONFIG_DEFAULT;
+    (void)value;
+    SpeedateProgress progress;
+    int code = speedate_duration_column(BYTES, reader->config, one, number, 1, &progress);
+    return code == SPEEDATE_OK ? progress.error : code;
+}
 
 /* The number of a text, or its code, with NOT_A_TIME. */
 static inline int read_number(const ColumnReader *reader, const Text *text, int64_t *number) {
     Value value;
     int code = reader->parse(text, reader->config, &value, NULL);
-    if (code == SPEEDATE_OK && !value.date_time.time.has_offset && !reader->naive_is_utc)
-        code = SPEEDATE_TZ_REQUIRED;
     if (code == SPEEDATE_OK)
-        code = speedate_datetime_timestamp_tz_us(value.date_time, number);
+        code = reader->number_of(reader, text, &value, number);
     if (code != SPEEDATE_OK)
         *number = NOT_A_TIME;
     return code;
@@ -564,47 +617,16 @@ static inline int read_number(const ColumnReader *reader, const Text *text, int6
 
 /* Whether a text is read, or is one after which the column goes on. */
 static inline bool goes_on(const ColumnReader *reader, int code) {
-    return code == SPEEDATE_OK || (reader->goes_on && code <= LAST_OF_TEXTS);
+    return code == SPEEDATE_OK || (reader->lines.goes_on && code <= LAST_OF_TEXTS);
 }
 
-/* Cuts off what ends a line: a line feed, and a carriage return before it. */
+/* Cuts off what ends a line of a file: a line feed, and a carriage return before it. */
 static inline void cut_line_end(const ColumnReader *reader, Text *line) {
     if (line->size == 0 || line->bytes[line->size - 1] != '\n')
         return;
     line->size--;
-    if (!reader->return_is_text && line->size > 0 && line->bytes[line->size - 1] == '\r')
+    if (reader->lines.drops_returns && line->size > 0 && line->bytes[line->size - 1] == '\r')
         line->size--;
-}
-
-typedef struct {
-    size_t lines, bytes;
-} Progress;
-
-/* Reads the numbers of lines, at most as many as there is room for, without the interpreter. A line that does not end
- * is left, unless it is at the end. It stops before a line that is refused, and returns its code, unless the reader goes
- * on. Then the codes of all lines are written, if there is a place for them. */
-static int read_lines(const ColumnReader *reader, const char *text, size_t size, bool at_end, int64_t *numbers,
-                      unsigned char *codes, size_t room, Progress *progress) {
-    size_t count = 0, at = 0;
-    int code = SPEEDATE_OK;
-    while (count < room && at < size) {
-        const char *begin = text + at, *feed = memchr(begin, '\n', size - at);
-        if (!feed && !at_end)
-            break;
-        Text line = {begin, feed ? (size_t)(feed - begin) + 1 : size - at, NULL};
-        size_t next = at + line.size;
-        cut_line_end(reader, &line);
-        code = read_number(reader, &line, numbers + count);
-        if (!goes_on(reader, code))
-            break;
-        if (codes)
-            codes[count] = (unsigned char)code;
-        code = SPEEDATE_OK;
-        count++;
-        at = next;
-    }
-    *progress = (Progress){count, at};
-    return code;
 }
 
 /* A column: the numbers so far, in an array and in the block that is being filled. */
@@ -615,9 +637,9 @@ typedef struct {
     PyObject *missing; /* what pandas has for a missing text, once that was asked for */
     PyObject *array;
     int64_t *numbers;
-    unsigned char *codes; /* if there is a list of faults */
-    size_t room, count;   /* of the block */
-    Py_ssize_t before;    /* how many numbers the array has */
+    uint8_t *codes;     /* if there is a list of faults */
+    size_t room, count; /* of the block */
+    Py_ssize_t before;  /* how many numbers the array has */
 } Column;
 
 static Py_ssize_t next_index(const Column *column) {
@@ -670,56 +692,67 @@ static int add_faults(Column *column, size_t lines) {
     return 0;
 }
 
-/* Reads lines into the block, and tells how many bytes of them. What has the bytes keeps them as they are. */
-static int add_some_lines(Column *column, const char *text, size_t size, bool at_end, size_t *bytes) {
-    Progress progress;
-    PyThreadState *thread = size >= LONG_BYTES ? PyEval_SaveThread() : NULL;
-    unsigned char *codes = column->codes ? column->codes + column->count : NULL;
-    int code = read_lines(&column->reader, text, size, at_end, column->numbers + column->count, codes,
-                          column->room - column->count, &progress);
+/* Reads lines into the block, and tells how many bytes of them: lines that end, or a last one that does not, and of which
+ * a carriage return is part. What has the bytes keeps them as they are. */
+static int add_some_lines(Column *column, const Text *text, bool is_last, size_t *bytes) {
+    const ColumnReader *reader = &column->reader;
+    SpeedateColumnConfig lines = reader->lines;
+    SpeedateProgress progress = {0, 0, SPEEDATE_OK};
+    lines.more_follows = !is_last;
+    lines.drops_returns = lines.drops_returns && !is_last;
+    uint8_t *codes = column->codes ? column->codes + column->count : NULL;
+    PyThreadState *thread = text->size >= LONG_BYTES ? PyEval_SaveThread() : NULL;
+    int code = reader->read(text, reader->config, lines, column->numbers + column->count, codes,
+                            column->room - column->count, &progress);
     if (thread)
         PyEval_RestoreThread(thread);
     if (column->faults && add_faults(column, progress.lines) < 0)
         return -1;
     column->count += progress.lines;
     *bytes = progress.bytes;
+    if (code == SPEEDATE_OK)
+        code = progress.error;
     if (code != SPEEDATE_OK)
         return raise_error(new_fault_at(column->state, code, next_index(column))), -1;
     return column->count < column->room ? 0 : end_block(column);
 }
 
-static int add_fixed_lines(Column *column, const char *text, size_t size) {
-    size_t bytes;
-    for (size_t at = 0; at < size; at += bytes)
-        if (add_some_lines(column, text + at, size - at, true, &bytes) < 0)
+/* Adds the lines that end, and leaves in the text what follows them. */
+static int add_ended_lines(Column *column, Text *text) {
+    for (size_t bytes = 1; text->size > 0 && bytes > 0; text->bytes += bytes, text->size -= bytes)
+        if (add_some_lines(column, text, false, &bytes) < 0)
             return -1;
     return 0;
 }
 
-/* Adds the lines that end in a copy, and tells how many bytes they have. */
-static int add_ended_lines(Column *column, const char *copy, size_t size, bool at_end, size_t *taken) {
-    size_t bytes = 1;
-    for (*taken = 0; *taken < size && bytes > 0; *taken += bytes)
-        if (add_some_lines(column, copy + *taken, size - *taken, at_end, &bytes) < 0)
-            return -1;
-    return 0;
+static int add_fixed_lines(Column *column, const char *bytes, size_t size) {
+    Text text = {bytes, size, NULL};
+    if (add_ended_lines(column, &text) < 0)
+        return -1;
+    return text.size == 0 ? 0 : add_some_lines(column, &text, true, &size);
 }
 
 /* Lines in memory that may be written while they are read: a part is copied, and its lines are read there. */
-static int add_changing_lines(Column *column, const char *text, size_t size) {
-    size_t room = size < BLOCK_BYTES ? size : BLOCK_BYTES, taken = 0;
+static int add_changing_lines(Column *column, const char *bytes, size_t size) {
+    size_t room = size < BLOCK_BYTES ? size : BLOCK_BYTES;
     char *copy = PyMem_Malloc(room);
     int status = copy ? 0 : (PyErr_NoMemory(), -1);
-    for (size_t at = 0; at < size && status == 0; at += taken) {
-        size_t part = size - at < room ? size - at : room;
-        memcpy(copy, text + at, part);
-        status = add_ended_lines(column, copy, part, at + part == size, &taken);
-        if (status == 0 && taken == 0) {
+    while (status == 0 && size > room) {
+        Text text = {copy, room, NULL};
+        memcpy(copy, bytes, room);
+        status = add_ended_lines(column, &text);
+        bytes += room - text.size;
+        size -= room - text.size;
+        if (status == 0 && text.size == room) {
             /* The line is longer than the copy. */
             char *larger = PyMem_Realloc(copy, room *= 2);
             copy = larger ? larger : copy;
             status = larger ? 0 : (PyErr_NoMemory(), -1);
         }
+    }
+    if (status == 0 && size > 0) {
+        memcpy(copy, bytes, size);
+        status = add_fixed_lines(column, copy, size);
     }
     PyMem_Free(copy);
     return status;
@@ -845,38 +878,72 @@ static PyObject *column_of(Column *column, PyObject *texts) {
 
 /* Takes what becomes of texts that are refused: the first one ends the column, or all are NOT_A_TIME, with their faults
  * in a list or without. */
-static int take_faults(Column *column, PyObject *value) {
+static int take_faults(Column *column, PyObject *value, bool *nat) {
     if (value && PyList_Check(value)) {
         column->faults = value;
-        column->reader.goes_on = true;
+        *nat = true;
         return 0;
     }
     if (value && !PyUnicode_Check(value))
         return wrong_type("faults", "str or list", value);
-    return take_choice(column->state, "faults", value, "raise", "nat", &column->reader.goes_on);
+    return take_choice(column->state, "faults", value, "raise", "nat", nat);
 }
 
-static PyObject *call_date_time_column(GIVEN) {
-    static const Signature signature = {
-        "date_time_column", {"texts", "config", "strict", "timestamps", "naive", "faults", "newline"}, 2};
+/* A call on columns. Its parameters stand in the order in which all have them, and its functions in that of the forms. */
+enum { TEXTS, CONFIGURATION, FAULTS, NEWLINE, TIMESTAMPS, STRICT, NAIVE, COLUMN_PARAMETERS };
+typedef struct {
+    Signature signature;
+    ReadLines *read;
+    NumberOf *number_of;
+    Parse *parse[SPEEDATE_FORM_STRICT + 1];
+} ColumnCall;
+
+static PyObject *read_column(const ColumnCall *call, GIVEN) {
     Column column = {.state = PyModule_GetState(module)};
     ColumnReader *reader = &column.reader;
-    PyObject *bound[7];
-    bool strict = false, timestamps = false;
-    if (bind(&signature, arguments, count, keywords, bound) < 0 || take_flag("strict", bound[2], &strict) < 0 ||
-        take_flag("timestamps", bound[3], &timestamps) < 0 ||
-        take_choice(column.state, "naive", bound[4], "error", "utc", &reader->naive_is_utc) < 0 ||
-        take_faults(&column, bound[5]) < 0 ||
-        take_choice(column.state, "newline", bound[6], "\r\n", "\n", &reader->return_is_text) < 0 ||
-        take_config(column.state, bound[1], timestamps ? READS_ALL : READS_NONE, &reader->config) < 0)
+    PyObject *bound[COLUMN_PARAMETERS] = {NULL};
+    bool strict = false, timestamps = false, naive_is_utc = false, nat = false, return_is_text = false;
+    if (bind(&call->signature, arguments, count, keywords, bound) < 0 ||
+        take_flag("strict", bound[STRICT], &strict) < 0 ||
+        take_flag("timestamps", bound[TIMESTAMPS], &timestamps) < 0 ||
+        take_choice(column.state, "naive", bound[NAIVE], "error", "utc", &naive_is_utc) < 0 ||
+        take_faults(&column, bound[FAULTS], &nat) < 0 ||
+        take_choice(column.state, "newline", bound[NEWLINE], "\r\n", "\n", &return_is_text) < 0 ||
+        take_config(column.state, bound[CONFIGURATION], timestamps ? READS_ALL : READS_NONE, &reader->config) < 0)
         return NULL;
     if (strict && timestamps) {
         PyErr_SetString(PyExc_ValueError, "strict and timestamps exclude each other");
         return NULL;
     }
-    reader->parse = strict ? parse_date_time_strict : timestamps ? parse_date_time_or_timestamp : parse_date_time;
-    return column_of(&column, bound[0]);
+    reader->lines.form = strict ? SPEEDATE_FORM_STRICT : timestamps ? SPEEDATE_FORM_TIMESTAMP : SPEEDATE_FORM_TEXT;
+    reader->lines.assumes_utc = naive_is_utc;
+    reader->lines.drops_returns = !return_is_text;
+    reader->lines.goes_on = nat;
+    reader->read = call->read;
+    reader->parse = call->parse[reader->lines.form];
+    reader->number_of = call->number_of;
+    return column_of(&column, bound[TEXTS]);
 }
+
+static const ColumnCall date_time_column_reader = {
+    {"date_time_column", {"texts", "config", "faults", "newline", "timestamps", "strict", "naive"}, 2},
+    read_date_times,
+    number_of_date_time,
+    {parse_date_time, parse_date_time_or_timestamp, parse_date_time_strict}};
+static const ColumnCall date_column_reader = {
+    {"date_column", {"texts", "config", "faults", "newline", "timestamps"}, 2},
+    read_dates,
+    number_of_date,
+    {parse_date, parse_date_or_timestamp, NULL}};
+static const ColumnCall duration_column_reader = {
+    {"duration_column", {"texts", "config", "faults", "newline"}, 2},
+    read_durations,
+    number_of_duration,
+    {parse_duration, NULL, NULL}};
+
+CALL(date_time_column, read_column)
+CALL(date_column, read_column)
+CALL(duration_column, read_column)
 
 /* ---- Printing ---- */
 
@@ -1193,6 +1260,25 @@ static PyMethodDef methods[] = {
            "[<Fault too_short in text 1>]\n\n"
            "NumPy takes a column as it is, by `numpy.frombuffer(column, \"datetime64[us]\")`. pandas before 2 holds only the\n"
            "years 1677 to 2262.\n"),
+    METHOD(date_column, "(texts, config=None, *, timestamps=False, faults='raise', newline='\\r\\n')",
+           "The days from 1970-01-01 to each date, as an `array.array(\"q\")`.\n\n"
+           "The arguments are those of `date_time_column`. Each text is taken as by `date`: with `timestamps=True` it may be a\n"
+           "timestamp, if it is a midnight.\n\n"
+           ">>> date_column(b\"1970-01-02\\n1969-12-31\\n\")\n"
+           "array('q', [1, -1])\n"
+           ">>> date_column([\"1970-01-02\", None, \"1970-01-02T00:00\"], faults=\"nat\")\n"
+           "array('q', [1, -9223372036854775808, -9223372036854775808])\n\n"
+           "NumPy takes a column as it is, by `numpy.frombuffer(column, \"datetime64[D]\")`.\n"),
+    METHOD(duration_column, "(texts, config=None, *, faults='raise', newline='\\r\\n')",
+           "The microseconds of each duration, with its sign, as an `array.array(\"q\")`.\n\n"
+           "The arguments are those of `date_time_column`. Each text is taken as by `duration`. One of 2**63 microseconds or\n"
+           "more, which are over 106,751,991 days, is refused with `number_too_large`.\n\n"
+           ">>> duration_column(b\"PT1.5S\\n-00:01:00\\n\")\n"
+           "array('q', [1500000, -60000000])\n"
+           ">>> duration_column([\"P106751992D\"])\n"
+           "Traceback (most recent call last):\n"
+           "speedate.Fault: number_too_large in text 0\n\n"
+           "NumPy takes a column as it is, by `numpy.frombuffer(column, \"timedelta64[us]\")`.\n"),
     METHOD(text, "(value)",
            "The one text of a value.\n\n"
            "It refuses with a `ValueError` an offset that is not whole minutes, a time in a zone whose offset depends on the\n"

@@ -8,6 +8,9 @@ from ._types import Config as Config, Fault as Fault, Unrepresentable as Unrepre
 
 _Text = Union[str, bytes, bytearray, memoryview]
 _Bytes = Union[bytes, bytearray, memoryview, mmap.mmap, array.array[int], ctypes.Array[Any]]
+_Texts = Union[Iterable[Union[_Text, float, None]], _Bytes]
+_Faults = Union[Literal["raise", "nat"], List[Fault]]
+_Newline = Literal["\r\n", "\n"]
 
 def date(text: _Text, config: Optional[Config] = None, *, timestamps: bool = False) -> datetime.date: ...
 def time(text: _Text, config: Optional[Config] = None) -> datetime.time: ...
@@ -24,9 +27,17 @@ def date_time_from_timestamp(
     timestamp: int, microsecond: int = 0, config: Optional[Config] = None
 ) -> datetime.datetime: ...
 def date_time_column(
-    texts: Union[Iterable[Union[_Text, float, None]], _Bytes], config: Optional[Config] = None, *, strict: bool = False,
+    texts: _Texts, config: Optional[Config] = None, *, strict: bool = False,
     timestamps: bool = False, naive: Literal["error", "utc"] = "error",
-    faults: Union[Literal["raise", "nat"], List[Fault]] = "raise", newline: Literal["\r\n", "\n"] = "\r\n"
+    faults: _Faults = "raise", newline: _Newline = "\r\n"
+) -> array.array[int]: ...
+def date_column(
+    texts: _Texts, config: Optional[Config] = None, *, timestamps: bool = False,
+    faults: _Faults = "raise", newline: _Newline = "\r\n"
+) -> array.array[int]: ...
+def duration_column(
+    texts: _Texts, config: Optional[Config] = None, *,
+    faults: _Faults = "raise", newline: _Newline = "\r\n"
 ) -> array.array[int]: ...
 def text(value: Union[datetime.date, datetime.time, datetime.timedelta]) -> str: ...
 def _words(code: int) -> Tuple[str, str]: ...

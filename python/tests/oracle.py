@@ -104,6 +104,7 @@ _CALLS = {
     "date_parse": [*_TEXT, _Config, _TO_DATE],
     "date_parse_rfc3339": [*_TEXT, _TO_DATE],
     "date_parse_front": [*_TEXT, _TO_DATE, _SIZE],
+    "date_day_number": [_Date, ctypes.POINTER(ctypes.c_uint32)],
     "date_from_timestamp": [ctypes.c_int64, ctypes.c_uint8, _Config, _TO_DATE],
     "date_to_text": [_Date, *_PRINTED],
     "time_parse": [*_TEXT, _Config, _TO_TIME],
@@ -320,37 +321,87 @@ def _is_missing(text):
     return text is None or isinstance(text, float) and text != text or any(text is it for it in _missing())
 
 
-def date_time_column(texts, config=None, *, strict=False, timestamps=False, naive="error", faults="raise", newline="\r\n"):
-    _flag("strict", strict), _flag("timestamps", timestamps)
-    _choice("naive", naive, "error", "utc")
-    if not isinstance(faults, (str, list)):
-        raise _wrong("faults", faults, str, list)
-    if isinstance(faults, str):
-        _choice("faults", faults, "raise", "nat")
-    _choice("newline", newline, "\r\n", "\n")
-    numbers = _configured(config, _OF_TIMESTAMPS if timestamps else ())
-    if strict and timestamps:
-        raise ValueError("strict and timestamps exclude each other")
-    name = "datetime_parse_strict" if strict else "datetime_parse" if timestamps else "datetime_parse_rfc3339"
+def _column(read, texts, faults, newline):
+    """The numbers of texts, each by a call that gives it of the bytes, or raises a Fault."""
     column = array.array("q")
     for index, text in enumerate(_lines(texts, [b"\r\n", b"\n"] if newline == "\r\n" else [b"\n"])):
         if _is_missing(text):
             column.append(-(2**63))
             continue
-        whole, out, second = _bytes(text, f"text {index}"), _DateTime(), ctypes.c_int64()
-        code = getattr(_library, f"speedate_{name}")(whole, len(whole), numbers, out)
-        if not code and not out.has_offset and naive == "error":
-            code = 19  # tz_required
-        if not code:
-            _library.speedate_datetime_timestamp_tz(out, second)
-            column.append(second.value * 1_000_000 + out.microsecond)
-            continue
-        if faults == "raise":
-            raise Fault(code, index)
-        column.append(-(2**63))
-        if isinstance(faults, list):
-            faults.append(Fault(code, index))
+        try:
+            column.append(read(_bytes(text, f"text {index}")))
+        except Fault as fault:
+            if faults == "raise":
+                raise Fault(fault.code, index) from None
+            column.append(-(2**63))
+            if isinstance(faults, list):
+                faults.append(Fault(fault.code, index))
     return column
+
+
+def _check_choices(faults, newline):
+    if not isinstance(faults, (str, list)):
+        raise _wrong("faults", faults, str, list)
+    if isinstance(faults, str):
+        _choice("faults", faults, "raise", "nat")
+    _choice("newline", newline, "\r\n", "\n")
+
+
+def _check(code):
+    if code:
+        raise Fault(code)
+
+
+def date_time_column(texts, config=None, *, strict=False, timestamps=False, naive="error", faults="raise", newline="\r\n"):
+    _flag("strict", strict), _flag("timestamps", timestamps)
+    _choice("naive", naive, "error", "utc")
+    _check_choices(faults, newline)
+    numbers = _configured(config, _OF_TIMESTAMPS if timestamps else ())
+    if strict and timestamps:
+        raise ValueError("strict and timestamps exclude each other")
+    name = "datetime_parse_strict" if strict else "datetime_parse" if timestamps else "datetime_parse_rfc3339"
+
+    def read(text):
+        out, second = _DateTime(), ctypes.c_int64()
+        _check(getattr(_library, f"speedate_{name}")(text, len(text), numbers, out))
+        if not out.has_offset and naive == "error":
+            raise Fault(19)  # tz_required
+        _check(_library.speedate_datetime_timestamp_tz(out, second))
+        return second.value * 1_000_000 + out.microsecond
+
+    return _column(read, texts, faults, newline)
+
+
+def date_column(texts, config=None, *, timestamps=False, faults="raise", newline="\r\n"):
+    _flag("timestamps", timestamps)
+    _check_choices(faults, newline)
+    numbers = _configured(config, _OF_TIMESTAMPS if timestamps else ())
+
+    def read(text):
+        out, day = _Date(), ctypes.c_uint32()
+        if timestamps:
+            _check(_library.speedate_date_parse(text, len(text), numbers, out))
+        else:
+            _check(_library.speedate_date_parse_rfc3339(text, len(text), out))
+        _check(_library.speedate_date_day_number(out, day))
+        return day.value - 719_528  # from 0000-01-01 to 1970-01-01
+
+    return _column(read, texts, faults, newline)
+
+
+def duration_column(texts, config=None, *, faults="raise", newline="\r\n"):
+    _check_choices(faults, newline)
+    numbers = _configured(config)
+
+    def read(text):
+        out = _Duration()
+        _check(_library.speedate_duration_parse(text, len(text), numbers, out))
+        size = (out.day * 86_400 + out.second) * 1_000_000 + out.microsecond
+        if size >= 2**63:
+            raise Fault(97)  # number_too_large
+        return -size if out.negative else size
+
+    return _column(read, texts, faults, newline)
 
 
 def _clock(value):

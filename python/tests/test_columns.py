@@ -1,6 +1,7 @@
 """Tests of columns: whatever has lines or texts, what is missing, which texts are refused, blocks, interrupts, threads and memory."""
 import array
 import ctypes
+import datetime
 import functools
 import gzip
 import importlib
@@ -254,6 +255,54 @@ class Blocks(unittest.TestCase):
         self.assertEqual((faults[0], faults[1].name), (5, "too_short"))
 
 
+class Others(unittest.TestCase):
+    """Columns of dates and of durations."""
+
+    def test_sources(self):
+        for read, texts, wanted in (
+                (speedate.date_column, ["1970-01-02", "never", "1969-12-31"], [1, NAT, -1]),
+                (speedate.duration_column, ["PT1.5S", "never", "-00:01:00"], [1_500_000, NAT, -60_000_000])):
+            for end in ("\n", "\r\n"):
+                whole = end.join([*texts, ""])
+                data = whole.encode()
+                for it in (texts, iter(texts), data, data[:-len(end)], bytearray(data), spread(data), array.array("b", data), io.BytesIO(data), io.StringIO(whole, newline="")):
+                    with self.subTest(read, it=it):
+                        faults = []
+                        self.assertEqual(read(it, faults=faults).tolist(), wanted)
+                        self.assertEqual([it.index for it in faults], [1])
+            with self.assertRaisesRegex(TypeError, "^text 1 has to be str or bytes or bytearray or memoryview, not int$"):
+                read([texts[0], 5])
+            with self.assertRaisesRegex(TypeError, "^texts has to be one column, not dict"):
+                read({"column": texts})
+
+    def test_many(self):
+        days = [f"{year:04}-{month:02}-{day:02}" for year in range(1970, 2170) for month in range(1, 13) for day in range(1, 29)]
+        first = datetime.date(1970, 1, 1).toordinal()
+        moments = [datetime.date(*map(int, it.split("-"))).toordinal() - first for it in days]
+        sizes = [f"PT{it}.{it % 10}S" for it in range(70_000)]
+        for read, texts, numbers in (
+                (speedate.date_column, days, moments), (speedate.duration_column, sizes, [it * 1_000_000 + it % 10 * 100_000 for it in range(70_000)])):
+            for bad in (set(), {0, 5, 32_767, 32_768, len(texts) - 1}):
+                wrong = ["" if it in bad else text for it, text in enumerate(texts)]
+                wanted = [NAT if it in bad else number for it, number in enumerate(numbers)]
+                data = "\n".join([*wrong, ""]).encode()
+                for it in (wrong, data, bytearray(data)):
+                    faults = []
+                    self.assertTrue(read(it, faults=faults).tolist() == wanted, (read, type(it)))
+                    self.assertEqual([it.index for it in faults], sorted(bad))
+                    self.assertTrue(read(it, faults="nat").tolist() == wanted, (read, type(it)))
+                    if bad:
+                        with self.assertRaisesRegex(speedate.Fault, "^too_short in text 0$"):
+                            read(it)
+
+    @unittest.skipUnless(numpy, "NumPy is not installed")
+    def test_numpy(self):
+        days = numpy.frombuffer(speedate.date_column(b"2020-02-29\nnever\n0000-01-01\n9999-12-31", faults="nat"), "datetime64[D]")
+        self.assertEqual(days.astype(str).tolist(), ["2020-02-29", "NaT", "0000-01-01", "9999-12-31"])
+        sizes = numpy.frombuffer(speedate.duration_column(["PT1.5S", None, "-P1D"]), "timedelta64[us]")
+        self.assertEqual(sizes.tolist(), [datetime.timedelta(seconds=1.5), None, datetime.timedelta(-1)])
+
+
 class Interpreter(unittest.TestCase):
     def sources(self, count):
         yield f"{SECOND}\n".encode() * count
@@ -270,12 +319,13 @@ class Interpreter(unittest.TestCase):
 
         before = signal.signal(signal.SIGALRM, interrupt)
         try:
-            for it in self.sources(2_000_000):
+            moments = [(speedate.date_time_column, it) for it in self.sources(2_000_000)]
+            for read, it in (*moments, (speedate.date_column, b"1970-01-02\n" * 6_000_000), (speedate.duration_column, b"PT1S\n" * 6_000_000)):
                 told = []
                 with self.assertRaises(Interrupt):
                     signal.setitimer(signal.ITIMER_REAL, 0.005)
                     # A column that has heard nothing is in the list before the interpreter hears it.
-                    told.extend(map(speedate.date_time_column, [it]))
+                    told.extend(map(read, [it]))
                     time.sleep(1)
                 self.assertEqual(len(told), 0, type(it))
         finally:
@@ -356,7 +406,9 @@ print((resource.getrusage(resource.RUSAGE_SELF).ru_maxrss - before) * 1024 / 32_
             self.skipTest("this Python has no _testcapi")
         texts = [SECOND, bytearray(SECOND, "utf-8"), SECOND.replace("Z", "\u221200:00"), "\ud800", None, "x"]
         read, listed = speedate.date_time_column, lambda make: lambda: functools.partial(speedate.date_time_column, make(), faults=[])
+        others = [functools.partial(call, lines, faults="nat") for call, lines in ((speedate.date_column, b"1970-01-01\nx"), (speedate.duration_column, b"PT0S\nx"))]
         makers = [
+            *(lambda it=it: it for it in others),
             *map(listed, [lambda: texts, lambda: iter(texts), lambda: LINES, lambda: bytearray(LINES * 3), lambda: spread(LINES), lambda: io.BytesIO(LINES)]),
             lambda: functools.partial(read, LINES), lambda: functools.partial(read, [5], faults="nat"), lambda: functools.partial(speedate.Config, "s", 0),
             lambda: functools.partial(speedate.time, "24:00"), lambda: functools.partial(speedate.time, type("Text", (str,), {})("12:13"))]

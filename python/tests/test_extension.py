@@ -24,6 +24,8 @@ COUNT = 100_000
 SIDES = (speedate, oracle)
 CALLS = [name for name in speedate.__all__ if inspect.isbuiltin(getattr(speedate, name))]
 DAY = datetime.date(2020, 2, 29)
+# A good text of each call on columns.
+COLUMNS = {"date_time_column": "1970-01-01T00:00Z", "date_column": "1970-01-01", "duration_column": "PT0S"}
 
 
 # ---- Drawn arguments: each of them as a function of a side, since each side has its own Config ----
@@ -125,11 +127,16 @@ def drawn_integer(draw, name):
     return draw.choice([0, 1, -1, 86_400, 2**32 - 1, 2**32, 2**63 - 1, 2**63, -(2**63), -(2**63) - 1, 10**30, draw.randrange(-(10**12), 10**12), draw.randrange(10**5)])
 
 
+def joined(texts, end):
+    """The lines that texts are."""
+    return end.join(bytes(it) if not isinstance(it, str) else str.encode(it, "utf-8", "surrogatepass") for it in texts)
+
+
 def drawn_column(draw, name):
     """A function that makes a column: an iterator would be used up by the first side."""
     texts = [drawn_text(draw, name) for _ in range(draw.randrange(4))]
     end = draw.choice([b"\n", b"\n", b"\r\n", b"\r"])
-    lines = end.join(bytes(it) if not isinstance(it, str) else str.encode(it, "utf-8", "surrogatepass") for it in texts)
+    lines = joined(texts, end)
     items = [draw.choice([it] * 9 + [None, float("nan")]) for it in texts]
     return draw.choice([
         lambda: items, lambda: tuple(items), lambda: iter(items), lambda: lines, lambda: bytearray(lines), lambda: memoryview(lines + end),
@@ -220,10 +227,10 @@ def released():
 ODD = list(map(same, [
     None, True, False, 0, 1, -1, 2**31, 2**64, -(2**70), 1.5, float("nan"), 3j, "", "1", "utc", "nat", "\ud800", b"", b"1", bytearray(b"1"), [], {}, (), set(),
     object(), object, int, str, type, len, DAY, datetime.date, datetime.time(1), datetime.timedelta(1), datetime.timezone.utc, array.array("d", [1]),
-    array.array("B", [50]), array.array("b", [10, 13, 10]), array.array("h", [1]), [5], ["1", None, 5], io.BytesIO(b"\n"), memoryview(b"12345678").cast("d"), memoryview(b"12345678").cast("B", [2, 2, 2]), memoryview(b"12345678").cast("c"), memoryview(b""),
+    array.array("B", [50]), array.array("b", [10, 13, 10]), array.array("h", [1]), [5], ["1", None, 5], memoryview(b"12345678").cast("d"), memoryview(b"12345678").cast("B", [2, 2, 2]), memoryview(b"12345678").cast("c"), memoryview(b""),
     Index(5), Index(2**70), Index(None), Iterates("2020-02-29T00:00Z"), Iterates(5), Iterates("2020-02-29T00:00Z", "2020-02-29T00:00Z"), Nameless("N", (), {})(),
     Other("2020-02-29"), type("Bytes", (bytes,), {})(b"12:13"), collections.UserString("1"), Ellipsis, NotImplemented, ValueError("x"), types,
-])) + [lambda side: released(), lambda side: side.Config, lambda side: side.Config("ms", 0), lambda side: side, lambda side: side.Fault]
+])) + [lambda side: released(), lambda side: side.Config, lambda side: side.Config("ms", 0), lambda side: side, lambda side: side.Fault, lambda side: io.BytesIO(b"\n")]
 RIGHT = {"text": "12:13", "value": DAY, "timestamp": 0, "second": 1, "texts": []}
 
 
@@ -349,6 +356,23 @@ class Extension(unittest.TestCase):
             kinds[wanted[0]] += 1
         print(dict(kinds.most_common()))
 
+    def test_drawn_columns(self):
+        """Columns of many texts and lines, beside as many calls of one text."""
+        draw, numbers = random.Random(COUNT), collections.Counter()
+        for name in [*COLUMNS] * 8:
+            texts = [drawn_text(draw, name) for _ in range(min(COUNT // 10, 2_000))]
+            options = {it.name: same(DRAWN[it.name](draw, name)) for it in PARAMETERS[name] if it.name in DRAWN and it.name != "strict"}
+            if draw.random() < 0.5:
+                options["config"] = configured("infer", None, draw.choice(["error", "truncate"]), draw.choice(["lax", "strict"]))
+            lines = joined(texts, draw.choice([b"\n", b"\r\n"]))
+            for make in (lambda: texts, lambda: lines, lambda: bytearray(lines), lambda: io.BytesIO(lines)):
+                for faults in (lambda: "nat", list):
+                    call = name, [anew(make)], {**options, "faults": anew(faults)}
+                    self.assertTrue(outcome(speedate, *call) == outcome(oracle, *call), (name, type(make())))
+            numbers[name] += sum(it != -(2**63) for it in getattr(speedate, name)(texts, faults="nat"))
+        for name in COLUMNS:
+            self.assertGreater(numbers[name], 8 * min(COUNT // 10, 2_000) // 20, name)
+
     def test_wrong_types(self):
         for name, positional, named in wrong_calls():
             wanted, told = (outcome(side, name, positional, named) for side in (oracle, speedate))
@@ -384,12 +408,13 @@ class Extension(unittest.TestCase):
                     self.assertNotEqual(fault.name, "ok")
                 except TypeError as error:
                     self.assertIn("which is not read here", str(error))
-            if name == "date_time_column":
+            if name in COLUMNS:
+                options = {"timestamps": True} if name == "date_column" else {}
                 object.__setattr__(config, "_numbers", bytes([0] * 6 + [0xFF, 0]))
                 for faults in ("nat", []):
-                    for texts in (["1970-01-01T00:00Z"], b"1970-01-01T00:00Z"):
+                    for texts in ([COLUMNS[name]], COLUMNS[name].encode(), b"\n"):
                         with self.assertRaisesRegex(speedate.Fault, "^config_out_of_range in text 0$"):
-                            speedate.date_time_column(texts, config, faults=faults)
+                            getattr(speedate, name)(texts, config, faults=faults, **options)
             object.__delattr__(config, "_numbers")
             with self.assertRaises(AttributeError):
                 getattr(speedate, name)(right, config=config)
@@ -434,13 +459,17 @@ class Extension(unittest.TestCase):
 
     def test_references_of_columns(self):
         # Python keeps the small integers, so an index has to be a large one.
-        texts = ["1970-01-01T00:00Z"] * 1_000 + [""] * 3
-        lines, long = "\n".join(texts).encode(), b"1970-01-01T00:00Z\n" * 40_000 + b"\n\n"
+        for name, text in COLUMNS.items():
+            self.check_references_of_column(name, text)
+
+    def check_references_of_column(self, name, text):
+        texts = [text] * 1_000 + [""] * 3
+        lines, long = "\n".join(texts).encode(), f"{text}\n".encode() * (40_000 if name == "date_time_column" else 10_000) + b"\n\n"
         sources = [lambda: texts, lambda: iter(texts), lambda: lines, lambda: bytearray(lines), lambda: memoryview(lines), lambda: array.array("B", lines),
                    lambda: io.BytesIO(lines), lambda: memoryview(lines)[::2], lambda: [*texts, 5], lambda: {}, lambda: long, lambda: [None] * 1_000]
         for make in sources:
             for faults in (lambda: "raise", lambda: "nat", list):
-                once = lambda: outcome(speedate, "date_time_column", [anew(make)], {"faults": anew(faults)})
+                once = lambda: outcome(speedate, name, [anew(make)], {"faults": anew(faults)})
                 self.assertLess(growth(once, 20), 0.5, (make(), faults))
 
     def test_imports(self):

@@ -96,6 +96,33 @@ date_time_column(["1"], Config(timestamp_offset=0)) -> TypeError: config has a t
 date_time_column([], strict=True, timestamps=True) -> ValueError: strict and timestamps exclude each other
 date_time_column([], naive="local") -> ValueError: naive has to be error or utc
 date_time_column([], faults="coerce") -> ValueError: faults has to be raise or nat
+date_column([]), duration_column(b"") -> (array('q'), array('q'))
+date_column(["1970-01-02", b"0000-01-01", None, "9999-12-31"]) -> array('q', [1, -719528, -9223372036854775808, 2932896])
+date_column(b"1970-01-02\r\n1969-12-31\n1970-01-01") -> array('q', [1, -1, 0])
+date_column(b"1970-01-02\n1970-01-01\r") -> Fault: extra_characters in text 1
+date_column(b"1970-01-02\r\n", newline="\n") -> Fault: extra_characters in text 0
+date_column(["1970-01-02\n"]) -> Fault: extra_characters in text 0
+date_column([""], faults="nat"), date_column(b"\n", faults="nat") -> (array('q', [-9223372036854775808]), array('q', [-9223372036854775808]))
+date_column(["1970-01-02T00:00Z"]) -> Fault: extra_characters in text 0
+date_column(["86400"]) -> Fault: too_short in text 0
+date_column(["86400", "1970-01-03"], timestamps=True), date_column(b"86400\n1970-01-03", timestamps=True) -> (array('q', [1, 2]), array('q', [1, 2]))
+date_column(["86400000"], Config("ms"), timestamps=True), date_column(b"86400000", Config("ms"), timestamps=True) -> (array('q', [1]), array('q', [1]))
+date_column(b"1", timestamps=True) -> Fault: date_not_exact in text 0
+date_column([], Config("ms")) -> TypeError: config has a timestamp_unit, which is not read here: date and date_time do with timestamps=True
+date_column([], strict=True) -> TypeError: date_column() got an unexpected keyword argument 'strict'
+date_column("1970-01-02") -> TypeError: texts has to be an iterable of texts, a file, or bytes, not str
+duration_column(["PT1.5S", "-00:01:00", "1 day", "-PT0S"]) -> array('q', [1500000, -60000000, 86400000000, 0])
+duration_column(b"PT1.5S\r\n-00:01:00\n1 day") -> array('q', [1500000, -60000000, 86400000000])
+duration_column(["P106751991DT4H54.775807S"]) -> array('q', [9223372036854775807])
+duration_column(["-P106751991DT4H54.775808S"]) -> Fault: number_too_large in text 0
+duration_column(b"PT0S\nP106751992D") -> Fault: number_too_large in text 1
+duration_column(["PT0S\n"]) -> Fault: duration_invalid_number in text 0
+duration_column(b"P1D1Y\nPT1S", Config(iso_order="strict"), faults="nat") -> array('q', [-9223372036854775808, 1000000])
+duration_column(["PT0.1234567S", "00:00:00.1234567"], Config(overflow_behavior="truncate")) -> array('q', [123457, 123456])
+duration_column([], timestamps=True) -> TypeError: duration_column() got an unexpected keyword argument 'timestamps'
+faulted(["PT1S", None, "P106751992D", "x"], duration_column) -> (4, ['number_too_large in text 2', 'duration_invalid_number in text 3'])
+faulted(b"PT1S\n\nP106751992D\nx", duration_column) -> (4, ['too_short in text 1', 'number_too_large in text 2', 'duration_invalid_number in text 3'])
+faulted(b"1970-01-01\nx\n2021-02-29", date_column) -> (3, ['too_short in text 1', 'out_of_range_day in text 2'])
 faulty(["1970-01-01T00:00Z", "1970-01-01T00:00"]) -> ('tz_required', 1, (19, 1))
 Fault(1).index -> None
 [Fault(1), Fault(1, 1000)] -> [<Fault too_short>, <Fault too_short in text 1000>]
@@ -171,10 +198,10 @@ def faulty(texts):
         return fault.name, fault.index, fault.args
 
 
-def faulted(texts):
+def faulted(texts, read=speedate.date_time_column):
     """How many texts a column has, and the faults of them, whose places are NaT."""
     faults = []
-    column = speedate.date_time_column(texts, faults=faults)
+    column = read(texts, faults=faults)
     assert all(type(it) is speedate.Fault and again(it) == told(it) and column[it.index] == -(2**63) for it in faults)
     return len(column), [str(it) for it in faults]
 
