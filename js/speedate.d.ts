@@ -34,6 +34,7 @@ export class SpeedateError extends RangeError {
   private constructor();
   readonly fault: Fault;
   /** The number of the fault in C. */ readonly code: number;
+  /** Of a line of a column its index, from 0. */ readonly index?: number;
 }
 /** The result of a `safe` call, which returns a refusal where another throws it. */
 export type Answer<Value> = { readonly ok: true; readonly value: Value } | Refusal;
@@ -89,6 +90,31 @@ export function safeParseDuration(text: Text, options?: DurationOptions): Answer
 export function safeParseDateFront<It extends Text>(text: It, options?: NoOptions): Answer<Front<SpeedateDate, It>>;
 export function safeParseTimeFront<It extends Text>(text: It, options?: OverflowOptions): Answer<Front<SpeedateTime, It>>;
 export function safeParseDateTimeFront<It extends Text>(text: It, options?: OverflowOptions): Answer<Front<SpeedateDateTime, It>>;
+
+/** A line of a column that is refused: its index, from 0, and why. */
+export type LineRefusal = { readonly index: number; readonly fault: Fault; readonly code: number; readonly message: string };
+/** What happens to lines that are refused. Without a list the first one is thrown, as a SpeedateError with its index. With one each
+ * is appended to it, and has in the column the number that is no other line's. */
+export type ColumnOptions = { refusals?: LineRefusal[] };
+export type DateColumnOptions = TimestampOptions & ColumnOptions;
+/** A date-time without an offset is refused with `tz_required` (`error`, the default), or taken to be in UTC (`utc`). */
+export type DateTimeColumnOptions = DateTimeOptions & ColumnOptions & { missingOffset?: "error" | "utc" };
+/** Reads a column in pieces, which may end anywhere: `read` gives the numbers of the lines that end in a piece, and keeps the line
+ * that does not. `end` gives those of what is left, of a last piece too. Indices count from the first piece on. Once a call has
+ * thrown for a line, or `end` was called, each further call is a TypeError. */
+export type ColumnReader<Column> = { read(text: Text): Column; end(text?: Text): Column };
+/** The days from 1970-01-01 to the date of each line: 1 of `1970-01-02`, and -2147483648 of a line that is refused. A line is ended
+ * by a line feed, with a carriage return before it or without, or by the end of the text. */
+export function dateColumn(text: Text, options?: DateColumnOptions): Int32Array;
+/** The milliseconds of Unix time of the date-time of each line, with a fraction for microseconds, and NaN of a line that is refused:
+ * 1000.5 of `1970-01-01T00:00:01.0005Z`. If `unit` is `us`, the microseconds, and -(2n ** 63n) of a line that is refused. */
+export function dateTimeColumn(text: Text, options?: DateTimeColumnOptions & { unit?: "ms" }): Float64Array;
+export function dateTimeColumn(text: Text, options: DateTimeColumnOptions & { unit: "us" }): BigInt64Array;
+/** Reads a column of dates in pieces. */
+export function dateColumnReader(options?: DateColumnOptions): ColumnReader<Int32Array>;
+/** Reads a column of date-times in pieces. */
+export function dateTimeColumnReader(options?: DateTimeColumnOptions & { unit?: "ms" }): ColumnReader<Float64Array>;
+export function dateTimeColumnReader(options: DateTimeColumnOptions & { unit: "us" }): ColumnReader<BigInt64Array>;
 
 /** The date of a timestamp: 1970-01-02 of 86400 seconds. `date_not_exact` where that is no midnight, unless `exact` is false;
  * `date_too_small` or `date_too_large` outside the years 0 to 9999. */

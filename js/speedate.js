@@ -11,6 +11,14 @@ const BUFFER_SIZE = BigInt(PLACE.text - PLACE.buffer);
 const PAGE_SIZE = 2 ** 16;
 /** A text of more bytes gets a library of its own, whose memory goes with it. */
 const MOST_KEPT = 2 ** 24;
+/** The lines, and the bytes, of a column that a call gets at once. It gets a longer line whole. */
+const LINES_AT_ONCE = 2 ** 12;
+const BLOCK_SIZE = 2 ** 16;
+const LINE_FEED = 10;
+/** Where a column stands in the memory while it is read, in the place of another text. */
+const COLUMN = { config: PLACE.text, progress: PLACE.text + 8, numbers: PLACE.text + 32 };
+COLUMN.errors = COLUMN.numbers + 8 * LINES_AT_ONCE;
+COLUMN.text = COLUMN.errors + LINES_AT_ONCE;
 /** The sizes of the strings that are copied unit by unit. */
 const SHORT_SIZES = Array.from({ length: 65 }, (_, size) => BigInt(size));
 const SECONDS_IN_DAY = 86400;
@@ -129,6 +137,14 @@ const encoder = new TextEncoder();
 const getterOf = (name) => Object.getOwnPropertyDescriptor(Object.getPrototypeOf(Uint8Array.prototype), name).get;
 const typeName = getterOf(Symbol.toStringTag);
 const byteCount = getterOf("length");
+const byteOffset = getterOf("byteOffset");
+const bufferOf = getterOf("buffer");
+
+function bytesOf(text) {
+  const bytes = typeof text === "string" ? encoder.encode(text) : text;
+  if (typeName.call(bytes) !== "Uint8Array") throw new TypeError("text has to be a string or a Uint8Array");
+  return bytes;
+}
 
 /** Puts a short string of ASCII alone into the kept memory, and gives its size; nothing for another text, or before the start. */
 function putShort(text) {
@@ -157,8 +173,7 @@ function read(text, isFront, numbers, call) {
   start();
   const short = putShort(text);
   if (short !== undefined) return call(kept, short, numbers);
-  const bytes = typeof text === "string" ? encoder.encode(text) : text;
-  if (typeName.call(bytes) !== "Uint8Array") throw new TypeError("text has to be a string or a Uint8Array");
+  const bytes = bytesOf(text);
   const whole = byteCount.call(bytes);
   const size = isFront ? frontSize(bytes, whole, byteAt) : whole;
   const library = size > MOST_KEPT ? new Library(size) : kept;
@@ -190,10 +205,14 @@ function integer64(value, name) {
 const UNITS = ["infer", "s", "ms", "us"];
 const FLAG = [false, true];
 /** What an option may be. The place of a choice is its number in C. */
-const CHOICES = { timestamps: UNITS, overflow: ["error", "truncate"], isoOrder: ["lax", "strict"], strict: FLAG, exact: FLAG };
+const CHOICES = {
+  timestamps: UNITS, overflow: ["error", "truncate"], isoOrder: ["lax", "strict"], strict: FLAG, exact: FLAG,
+  missingOffset: ["error", "utc"], unit: ["ms", "us"],
+};
 /** No options as numbers. All names are its own: a prototype may have them too. */
 const noNumbers = () => ({
   timestamps: undefined, timestampOffset: undefined, overflow: undefined, isoOrder: undefined, strict: undefined, exact: undefined,
+  missingOffset: undefined, unit: undefined, refusals: undefined,
 });
 const NO_OPTIONS = noNumbers();
 
@@ -208,12 +227,23 @@ function offsetOption(value) {
   throw new TypeError("timestampOffset has to be an integer, less than 86400 either way");
 }
 
+function listOption(value) {
+  if (Array.isArray(value)) return value;
+  throw new TypeError("refusals has to be an array");
+}
+
 function isPlain(it) {
   const parent = Object(it) === it && Object.getPrototypeOf(it);
   return parent === null || (parent !== false && Object.getPrototypeOf(parent) === null);
 }
 
-/** The options of a call as numbers, of which it has those of these names. */
+function optionOf(value, name) {
+  if (name === "timestampOffset") return offsetOption(value);
+  if (name === "refusals") return listOption(value);
+  return choiceOf(value, CHOICES[name], name);
+}
+
+/** The options of a call as numbers, and a list as itself. The call has those of these names. */
 function numbersOf(options, names) {
   if (options === undefined) return NO_OPTIONS;
   if (!isPlain(options)) throw new TypeError("options has to be a plain object");
@@ -222,7 +252,7 @@ function numbersOf(options, names) {
     const value = options[name];
     if (value === undefined) continue;
     if (!names.includes(name)) throw new TypeError(`${name} is no option of this call`);
-    numbers[name] = name === "timestampOffset" ? offsetOption(value) : choiceOf(value, CHOICES[name], name);
+    numbers[name] = optionOf(value, name);
   }
   if (Object.getOwnPropertySymbols(options).length > 0) throw new TypeError("a symbol is no option");
   const { timestamps, timestampOffset, strict } = numbers;
@@ -421,7 +451,8 @@ function check(it, place) {
 
 const OPTIONS_OF = {
   date: ["timestamps"], time: ["strict", "overflow"], dateTime: ["strict", "timestamps", "timestampOffset", "overflow"],
-  duration: ["overflow", "isoOrder"], dateFront: [], front: ["overflow"],
+  duration: ["overflow", "isoOrder"], dateFront: [], front: ["overflow"], dateColumn: ["timestamps", "refusals"],
+  dateTimeColumn: ["strict", "timestamps", "timestampOffset", "overflow", "missingOffset", "unit", "refusals"],
 };
 
 function callDate(library, size, it) {
@@ -538,6 +569,149 @@ export function safeParseTimeFront(text, options) {
 export function safeParseDateTimeFront(text, options) {
   const code = codeOfDateTimeFront(text, options);
   return code === 0 ? { ok: true, value: frontAnswer(DATE_TIME.read(kept), text) } : refusal(code);
+}
+
+// ---- Columns ----
+
+/** The milliseconds of the microseconds at this place: the nearest double, or NaN of a line that is refused. */
+function millisecondsAt(view, at) {
+  const microseconds = view.getInt32(at + 4, true) * 2 ** 32 + view.getUint32(at, true);
+  if (Number.isSafeInteger(microseconds)) return microseconds / 1000;
+  if (microseconds === -(2 ** 63)) return NaN;
+  const exact = view.getBigInt64(at, true);
+  return Number(exact / 1000n) + Number(exact % 1000n) / 1000;
+}
+
+/** How the numbers of a column are handed out. One takes as many bytes as in C. */
+const DAYS = { Numbers: Int32Array, numberAt: (view, at) => view.getInt32(at, true) };
+const MILLISECONDS = { Numbers: Float64Array, numberAt: millisecondsAt };
+const MICROSECONDS = { Numbers: BigInt64Array, numberAt: (view, at) => view.getBigInt64(at, true) };
+
+/** A column of which pieces come: how it is read, how many lines it had, and what it has of an unfinished one. */
+const columnOf = (name, handedOut, numbers) => ({ name, ...handedOut, numbers, lines: 0, unfinished: [], hasEnded: false });
+
+/** Writes how a column is read into the memory of a library, and gives its address: returns are dropped, and a refused line ends it. */
+function putColumnConfig({ start, view }, { timestamps, strict, missingOffset = 0 }, isEnd) {
+  view.setUint8(COLUMN.config, isEnd ? 0 : 1);
+  view.setUint8(COLUMN.config + 1, 1);
+  view.setUint8(COLUMN.config + 2, timestamps !== undefined ? 1 : strict === 1 ? 2 : 0);
+  view.setUint8(COLUMN.config + 3, missingOffset);
+  view.setUint8(COLUMN.config + 4, 0);
+  return BigInt(start + COLUMN.config);
+}
+
+/** Puts what is unfinished into the memory of a library, and gives that library, and the place where the text ends. */
+function putUnfinished({ unfinished }) {
+  const size = unfinished.reduce((sum, it) => sum + it.length, 0);
+  const needed = COLUMN.text - PLACE.text + size;
+  const library = size > MOST_KEPT ? new Library(needed) : kept;
+  library.reserve(needed);
+  let end = COLUMN.text;
+  for (const it of unfinished) {
+    library.bytes.set(it, end);
+    end += it.length;
+  }
+  return { library, end };
+}
+
+/** Has the library read what is unfinished, and keeps of it what follows its lines. Adds to the parts arrays of numbers, and to
+ * the refusals those of lines. */
+function readLines(column, isEnd, parts, refusals) {
+  const { name, numbers } = column;
+  const { library, end } = putUnfinished(column);
+  const { bytes, view, calls: inC } = library;
+  const addressOf = (place) => BigInt(library.start + place);
+  const hasErrors = numbers.refusals !== undefined;
+  const call = inC[`speedate_${name}_column${hasErrors ? "_with_errors" : ""}`];
+  const configs = [putConfig(library, numbers), putColumnConfig(library, numbers, isEnd)];
+  const room = BigInt(LINES_AT_ONCE);
+  const errors = hasErrors ? [addressOf(COLUMN.errors), room] : [];
+  const out = [addressOf(COLUMN.numbers), room, ...errors, addressOf(COLUMN.progress)];
+  let at = COLUMN.text;
+  let lines;
+  do {
+    accept(call(addressOf(at), BigInt(end - at), ...configs, ...out));
+    lines = view.getUint32(COLUMN.progress, true);
+    at += view.getUint32(COLUMN.progress + 8, true);
+    const error = view.getInt32(COLUMN.progress + 16, true);
+    if (error !== 0) throw Object.assign(new SpeedateError(refusal(error)), { index: column.lines + lines });
+    parts.push(numbersIn(view, lines, column));
+    if (hasErrors) addRefusals(refusals, bytes.subarray(COLUMN.errors, COLUMN.errors + lines), column.lines);
+    column.lines += lines;
+  } while (lines === LINES_AT_ONCE);
+  column.unfinished = [bytes.slice(at, end)];
+}
+
+function numbersIn(view, lines, { Numbers, numberAt }) {
+  const numbers = new Numbers(lines);
+  for (let i = 0; i < lines; i++) numbers[i] = numberAt(view, COLUMN.numbers + i * Numbers.BYTES_PER_ELEMENT);
+  return numbers;
+}
+
+/** Adds the refusals among lines, of which the first has this index. */
+function addRefusals(refusals, errors, first) {
+  for (let i = 0; i < errors.length; i++) {
+    if (errors[i] === 0) continue;
+    const { fault, code, message } = refusal(errors[i]);
+    refusals.push({ index: first + i, fault, code, message });
+  }
+}
+
+/** The numbers of the lines that a piece ends. A column whose piece was refused has ended. */
+function readPiece(column, text, isEnd) {
+  const it = bytesOf(text);
+  const bytes = new Uint8Array(bufferOf.call(it), byteOffset.call(it), byteCount.call(it));
+  if (column.hasEnded) throw new TypeError("the column has ended");
+  column.hasEnded = true;
+  const [parts, refusals] = [[], []];
+  for (let from = 0; from < bytes.length; from += BLOCK_SIZE) {
+    const block = bytes.slice(from, from + BLOCK_SIZE);
+    column.unfinished.push(block);
+    // A line may be as long as it likes: what cannot end one is not read, again and again, with all that came before.
+    if (block.includes(LINE_FEED)) readLines(column, false, parts, refusals);
+  }
+  if (isEnd) readLines(column, true, parts, refusals);
+  for (const it of refusals) column.numbers.refusals.push(it);
+  column.hasEnded = isEnd;
+  return concatenated(parts, column.Numbers);
+}
+
+function concatenated(parts, Numbers) {
+  const all = new Numbers(parts.reduce((sum, it) => sum + it.length, 0));
+  let at = 0;
+  for (const it of parts) {
+    all.set(it, at);
+    at += it.length;
+  }
+  return all;
+}
+
+function newDateColumn(options) {
+  const numbers = numbersOf(options, OPTIONS_OF.dateColumn);
+  start();
+  return columnOf("date", DAYS, numbers);
+}
+function newDateTimeColumn(options) {
+  const numbers = numbersOf(options, OPTIONS_OF.dateTimeColumn);
+  start();
+  return columnOf("datetime", numbers.unit === 1 ? MICROSECONDS : MILLISECONDS, numbers);
+}
+const readerOf = (column) => ({
+  read: (text) => readPiece(column, text, false),
+  end: (text = "") => readPiece(column, text, true),
+});
+
+export function dateColumn(text, options) {
+  return readPiece(newDateColumn(options), text, true);
+}
+export function dateTimeColumn(text, options) {
+  return readPiece(newDateTimeColumn(options), text, true);
+}
+export function dateColumnReader(options) {
+  return readerOf(newDateColumn(options));
+}
+export function dateTimeColumnReader(options) {
+  return readerOf(newDateTimeColumn(options));
 }
 
 // ---- Timestamps ----

@@ -32,6 +32,7 @@ const ofDate = [date, [...noValue, time, dateTime, duration]];
 const ofDuration = [duration, [...noValue, date, time, dateTime]];
 const ofDateTime = [dateTime, [...noValue, date, time, duration]];
 const ofMove = [[dateTime, [...noValue, time, duration]], ofDuration];
+const ofColumn = [["", noText], [undefined, noOptions]];
 const CALLS = {
   ...Object.fromEntries(readers.map((it) => [it, [["x", noText], [undefined, noOptions]]])),
   dateFromTimestamp: ofTimestamp, timeFromTimestamp: ofTimestamp, dateTimeFromTimestamp: ofTimestamp,
@@ -39,6 +40,7 @@ const CALLS = {
   format: [[time, noValue]], compare: [ofDate, ofDate], between: [ofDate, ofDate], daysSince: [ofDate, ofDate],
   addDays: [ofDate, [1, noNumber]], dayOfYear: [ofDate], negate: [ofDuration], totalSeconds: [ofDuration],
   after: ofMove, before: ofMove, inTimezone: [[time, [...noValue, date, duration]], [0, noNumber]],
+  dateColumn: ofColumn, dateTimeColumn: ofColumn, dateColumnReader: ofColumn.slice(1), dateTimeColumnReader: ofColumn.slice(1),
   init: [[wasm, [undefined, ...noObject, {}, new WebAssembly.Module(new Uint8Array([0, 97, 115, 109, 1, 0, 0, 0]))]]],
 };
 assert.deepEqual([...Object.keys(CALLS), "SpeedateError"].sort(), Object.keys(speedate).sort());
@@ -96,6 +98,20 @@ for (const name of readers) {
 }
 assert.throws(() => parseDateTime("x", { strict: true, timestamps: "s" }), /strict and timestamps/);
 assert.throws(() => parseDateTime("x", { timestampOffset: 0 }), /timestampOffset/);
+const OF_COLUMNS = { missingOffset: ["", "UTC", 0, true, null], unit: ["", "s", "MS", 0, null], refusals: [true, null, 0, "", {}, { length: 0 }, new Set()] };
+const columnOptions = { dateColumn: ["timestamps", "refusals"], dateTimeColumn: ["timestamps", "overflow", "strict", "timestampOffset", ...Object.keys(OF_COLUMNS)] };
+for (const [name, has] of Object.entries(columnOptions)) {
+  for (const option of Object.keys({ ...OPTIONS, ...OF_COLUMNS, exact: [] })) {
+    const isNamed = (error) => error instanceof TypeError && error.message.includes(option);
+    const besides = option === "timestampOffset" && has.includes(option) ? { timestamps: "s" } : {};
+    const wrong = has.includes(option) ? (OF_COLUMNS[option] ?? OPTIONS[option][1]) : [true, "s", "error", 0];
+    for (const it of wrong) for (const call of [speedate[name], (_, options) => speedate[`${name}Reader`](options)])
+      assert.throws(() => call("", { ...besides, [option]: it }), isNamed);
+    assert.equal(speedate[name]("", { [option]: undefined }).length, 0);
+  }
+}
+assert.throws(() => speedate.dateTimeColumn("", { strict: true, timestamps: "s" }), /strict and timestamps/);
+assert.throws(() => speedate.dateTimeColumn("", { timestampOffset: 0 }), /timestampOffset/);
 
 // ---- Errors, and what is handed out ----
 
@@ -127,10 +143,11 @@ assert.equal(format(fromDate(elsewhere("new Date(0)"))), "1970-01-01T00:00:00Z")
 assert.deepEqual(parseTime(elsewhere("new Uint8Array([49, 50, 58, 49, 51])")), parseTime("12:13"));
 assert.equal(format(elsewhere("({ year: 2020, month: 2, day: 29 })")), "2020-02-29");
 
-const polluted = { timestamps: "s", timestampOffset: 0, overflow: "truncate", isoOrder: "strict", strict: true, exact: false, offsetSeconds: 90, year: -1, hour: 1, kind: 1 };
+const polluted = { timestamps: "s", timestampOffset: 0, overflow: "truncate", isoOrder: "strict", strict: true, exact: false, missingOffset: "utc", unit: "us", refusals: [], index: 5, offsetSeconds: 90, year: -1, hour: 1, kind: 1 };
 const unchanged = () => [safeParseDate("86400"), safeParseDate("86400", {}), speedate.safeParseTime("12:13:14.1234567", {}), speedate.safeParseDateTime("2020-02-29 12:13"),
   speedate.safeParseDateTime("1.5", { overflow: "truncate" }), speedate.safeParseDuration("P1D1Y"), thrown(() => dateFromTimestamp(1, "s")).fault,
-  thrown(() => inTimezone(parseTime("12:13"), 0)).fault,
+  thrown(() => inTimezone(parseTime("12:13"), 0)).fault, thrown(() => speedate.dateTimeColumn("2020-02-29T12:13", {})).fault,
+  speedate.dateTimeColumn("2020-02-29T12:13Z", {}), speedate.dateTimeColumn("2020-02-29T12:13Z"), speedate.dateColumn("2020-02-29", {}), thrown(() => speedate.dateColumn("86400")).fault,
   speedate.dateTimeFromTimestamp(1, "s"), speedate.dateTimeFromTimestamp(1, "s", {}), format(date), format(duration), speedate.dayOfYear(date)];
 const before = unchanged();
 for (const [name, value] of Object.entries(polluted)) Object.prototype[name] = value;

@@ -1,7 +1,7 @@
 // What the types allow, and what they refuse.
 import assert from "node:assert/strict";
 import * as speedate from "speedate";
-import type { Answer, Fault, Front, Refusal, SpeedateDate, SpeedateDateTime, SpeedateDuration, SpeedateTime, SpeedateValue } from "speedate";
+import type { Answer, Fault, Front, LineRefusal, Refusal, SpeedateDate, SpeedateDateTime, SpeedateDuration, SpeedateTime, SpeedateValue } from "speedate";
 
 // Whether two types are the same one, not only whether one fits the other.
 type Same<One, Other> = (<It>() => It extends One ? 1 : 2) extends <It>() => It extends Other ? 1 : 2 ? true : false;
@@ -20,6 +20,7 @@ export const shapes = [
   same<SpeedateDuration["sign"], 1 | -1>(true, second.sign), same<SpeedateDuration[keyof SpeedateDuration], number>(true, second.days),
 ];
 const bytes = new Uint8Array([49, 50, 58, 49, 51]);
+const refusals: LineRefusal[] = [];
 const uses: Record<keyof typeof speedate, unknown> = {
   parseDate: same<SpeedateDate, ReturnType<typeof speedate.parseDate>>(true, speedate.parseDate("86400", { timestamps: "s" })),
   parseTime: same<SpeedateTime, ReturnType<typeof speedate.parseTime>>(true, speedate.parseTime(bytes, { strict: false, overflow: "error" })),
@@ -35,6 +36,17 @@ const uses: Record<keyof typeof speedate, unknown> = {
   safeParseDateFront: ((it: Answer<Front<SpeedateDate, "x">>): Fault | number => (it.ok ? it.value.length : it.fault))(speedate.safeParseDateFront("x")),
   safeParseTimeFront: ((it: Answer<Front<SpeedateTime, "x">>): string | number => (it.ok ? it.value.value.hour : it.message))(speedate.safeParseTimeFront("x", { overflow: "truncate" })),
   safeParseDateTimeFront: ((it: Answer<Front<SpeedateDateTime, "x">>): number => (it.ok ? it.value.value.hour : it.code))(speedate.safeParseDateTimeFront("x", { overflow: "error" })),
+  dateColumn: same<Int32Array, ReturnType<typeof speedate.dateColumn>>(true, speedate.dateColumn("86400", { timestamps: "s", refusals: [] })),
+  dateTimeColumn: [
+    ((it: Float64Array): number => it[0])(speedate.dateTimeColumn("1", { timestamps: "s", missingOffset: "utc", unit: "ms" })),
+    ((it: Float64Array): number => it.length)(speedate.dateTimeColumn(new Uint8Array(0))),
+    same<BigInt64Array, ReturnType<typeof speedate.dateTimeColumn>>(true, speedate.dateTimeColumn("1970-01-01T00:00Z", { strict: true, unit: "us", refusals })),
+  ],
+  dateColumnReader: ((it: Int32Array): number => it[0])(speedate.dateColumnReader({ refusals }).end("1970-01-02")),
+  dateTimeColumnReader: [
+    ((it: Float64Array): number => it.length)(speedate.dateTimeColumnReader().read(new Uint8Array(0))),
+    ((it: BigInt64Array): bigint => it[0])(speedate.dateTimeColumnReader({ unit: "us", overflow: "truncate" }).end("1970-01-01T00:00Z")),
+  ],
   dateFromTimestamp: same<SpeedateDate, ReturnType<typeof speedate.dateFromTimestamp>>(true, speedate.dateFromTimestamp(1n, "s", { exact: false })),
   timeFromTimestamp: same<SpeedateTime, ReturnType<typeof speedate.timeFromTimestamp>>(true, speedate.timeFromTimestamp(1, "us", { timestampOffset: 0 })),
   dateTimeFromTimestamp: same<SpeedateDateTime, ReturnType<typeof speedate.dateTimeFromTimestamp>>(true, speedate.dateTimeFromTimestamp(1n, "infer", { timestampOffset: 0 })),
@@ -56,7 +68,7 @@ const uses: Record<keyof typeof speedate, unknown> = {
   totalSeconds: same<number, ReturnType<typeof speedate.totalSeconds>>(true, speedate.totalSeconds(second)),
   inTimezone: [((it: SpeedateTime) => it.hour)(speedate.inTimezone(time, 0)), same<SpeedateDateTime, ReturnType<typeof speedate.inTimezone>>(true, speedate.inTimezone(moment, 3600))],
   init: ((call: (module: object) => void): string => call.name)(speedate.init),
-  SpeedateError: ((it: speedate.SpeedateError): [Fault, number, string] => [it.fault, it.code, it.message]).length,
+  SpeedateError: ((it: speedate.SpeedateError): [Fault, number, string, number | undefined] => [it.fault, it.code, it.message, it.index]).length,
 };
 // An import of CommonJS has a default too.
 assert.deepEqual(Object.keys(uses).sort(), Object.keys(speedate).filter((it) => it !== "default").sort());
@@ -69,6 +81,14 @@ const refused = [
   () => speedate.parseDateFront("", { overflow: "truncate" }),
   // @ts-expect-error
   () => speedate.parseDateTime("", { strict: true, timestamps: "s" }),
+  // @ts-expect-error
+  () => speedate.dateColumn("", { missingOffset: "utc" }),
+  // @ts-expect-error
+  () => speedate.dateTimeColumn("", { strict: true, timestamps: "s" }),
+  // @ts-expect-error
+  () => speedate.dateTimeColumn(["2020-02-29T12:13Z"]),
+  // @ts-expect-error
+  () => speedate.dateTimeColumnReader({ refusals: true }),
   // @ts-expect-error
   () => speedate.dateFromTimestamp(0),
   // @ts-expect-error

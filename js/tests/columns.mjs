@@ -1,0 +1,216 @@
+// Columns beside calls of one line each: drawn lines with all options, pieces cut at every byte, lines and columns of many sizes,
+// what is refused, and what a reader keeps: node columns.mjs.
+import assert from "node:assert/strict";
+import { setFlagsFromString } from "node:v8";
+import { runInNewContext } from "node:vm";
+import { dateColumn, dateColumnReader, dateTimeColumn, dateTimeColumnReader, daysSince, epochMilliseconds, parseDate, safeParseDate, safeParseDateTime, SpeedateError } from "speedate";
+
+let drawn = 1;
+const below = (most) => (drawn = (drawn * 48271) % 2147483647) % most;
+const one = (all) => all[below(all.length)];
+const digits = (form) => form.replace(/#/g, () => below(10));
+
+// ---- A column by calls of one line each ----
+
+const EPOCH = parseDate("1970-01-01");
+const TOO_FEW_DAYS = -(2 ** 31);
+const TOO_FEW_MICROSECONDS = -(2n ** 63n);
+/** The lines of a text, without the carriage returns before their ends. */
+function linesOf(text) {
+  const lines = text.split("\n");
+  if (lines.at(-1) === "") lines.pop();
+  return lines.map((it) => it.replace(/\r$/, ""));
+}
+
+/** What a line has in a column of dates. */
+function day(line, { timestamps }) {
+  const { ok, value, ...refusal } = safeParseDate(line, { timestamps });
+  return ok ? { number: daysSince(value, EPOCH) } : { number: TOO_FEW_DAYS, refusal };
+}
+
+/** Of a decimal text JavaScript makes the nearest double. */
+const inUnit = (microseconds, unit) => (unit === "us" ? microseconds : Number(`${microseconds}e-3`));
+const TZ_REQUIRED = safeParseDateTime("2020-02-29T12:13:14", { strict: true });
+
+/** What a line has in a column of date-times. */
+function moment(line, { missingOffset, unit, refusals, ...options }) {
+  const { ok, value, ...refusal } = safeParseDateTime(line, options);
+  const refused = { number: unit === "us" ? TOO_FEW_MICROSECONDS : NaN };
+  if (!ok) return { ...refused, refusal };
+  if (value.offsetSeconds === null && missingOffset !== "utc") {
+    const { ok, ...refusal } = TZ_REQUIRED;
+    return { ...refused, refusal };
+  }
+  const milliseconds = epochMilliseconds({ ...value, offsetSeconds: value.offsetSeconds ?? 0 });
+  return { number: inUnit(BigInt(milliseconds) * 1000n + BigInt(value.microsecond), unit) };
+}
+
+const KINDS = [
+  { column: dateColumn, newReader: dateColumnReader, of: day, Numbers: () => Int32Array },
+  { column: dateTimeColumn, newReader: dateTimeColumnReader, of: moment, Numbers: ({ unit }) => (unit === "us" ? BigInt64Array : Float64Array) },
+];
+
+/** What a column and its refusals have to be. */
+function expected({ of, Numbers }, text, options) {
+  const lines = linesOf(text).map((it) => of(it, options));
+  const refusals = lines.flatMap(({ refusal }, index) => (refusal ? [{ index, ...refusal }] : []));
+  return { numbers: Numbers(options).from(lines, (it) => it.number), refusals };
+}
+
+const thrown = (call) => {
+  try {
+    call();
+  } catch (error) {
+    return error;
+  }
+};
+
+/** Compares a column, by both ways of refusing, and gives the number of lines that are refused. */
+function compareColumn(kind, text, options) {
+  const { numbers, refusals } = expected(kind, text, options);
+  for (const it of [text, Buffer.from(text)]) {
+    const list = [];
+    assert.deepEqual(kind.column(it, { ...options, refusals: list }), numbers, text);
+    assert.deepEqual(list, refusals, text);
+    if (refusals.length === 0) assert.deepEqual(kind.column(it, options), numbers, text);
+    else {
+      const error = thrown(() => kind.column(it, options));
+      assert.ok(error instanceof SpeedateError, text);
+      assert.deepEqual({ ...error, message: error.message }, { name: "SpeedateError", ...refusals[0] }, text);
+    }
+  }
+  return refusals.length;
+}
+
+// ---- Drawn columns ----
+
+const DATES = ["####-0#-1#", "####-1#-2#", "2020-02-29", "2021-02-29", "86400", "-86400000", "20200229", "####-0#-1", "", " 2020-02-29", "\u{1f600}", "\ud83d", "2020-02-29T12:13Z"];
+const DATE_TIMES = [
+  "####-0#-1#T0#:1#:2#.######Z", "####-1#-2#T1#:2#:3#+0#:##", "####-0#-1# 1#:2#Z", "0000-01-01T00:00:00.000001+23:59", "9999-12-31T23:59:59.999999-23:59",
+  "2020-02-29T12:13:14.#######Z", "2020-02-29T12:13:14.5", "1.######", "-###########", "####-0#-1#T0#:1#:2#.######", "1#########",
+  "1969-12-31T23:59:59.####Z", "1970-01-01T00:00:00.00####Z", "2255-06-05T23:47:3#.######Z", "1684-07-28T00:12:2#.######Z", "", "x", "2020-02-29", "2020-02-29T12:13\u221201:00",
+];
+const LINE_ENDS = ["\n", "\n", "\n", "\r\n", "\r\r\n", "\n\n", "\r"];
+const anyOf = (choices) => Object.fromEntries(Object.entries(choices).map(([name, all]) => [name, one(all)]).filter(([, it]) => it !== undefined));
+function dateTimeOptions() {
+  const { timestamps, timestampOffset, strict, ...others } = anyOf({
+    timestamps: [undefined, undefined, "infer", "s", "ms", "us"], timestampOffset: [undefined, 0, 3600, -86399], strict: [undefined, false, true],
+    overflow: [undefined, "error", "truncate"], missingOffset: [undefined, "error", "utc"], unit: [undefined, "ms", "us"],
+  });
+  return timestamps === undefined ? { ...others, ...(strict === undefined ? {} : { strict }) } : { ...others, timestamps, ...(timestampOffset === undefined ? {} : { timestampOffset }) };
+}
+const [refusedOnes, acceptedOnes] = [[0, 0], [0, 0]];
+for (let i = 0; i < 4000; i++) {
+  for (const [at, kind] of KINDS.entries()) {
+    const options = at === 0 ? anyOf({ timestamps: [undefined, "infer", "s", "ms", "us"] }) : dateTimeOptions();
+    const forms = at === 0 ? DATES : DATE_TIMES;
+    const some = Array.from({ length: 1 + below(3) }, () => one(forms));
+    const text = Array.from({ length: below(8) }, () => digits(one(some)) + one(LINE_ENDS)).join("") + (below(2) ? digits(one(some)) : "");
+    const refused = compareColumn(kind, text, options);
+    refusedOnes[at] += refused;
+    acceptedOnes[at] += linesOf(text).length - refused;
+  }
+}
+for (const it of [...refusedOnes, ...acceptedOnes]) assert.ok(it > 2000, `lines of both sorts are drawn: ${refusedOnes}, ${acceptedOnes}`);
+const distinct = (year) => new Set(dateTimeColumn(Array.from({ length: 999 }, (_, i) => `${year}-06-29T12:13:14.5${String(i).padStart(5, "0")}Z`).join("\n"))).size;
+assert.deepEqual(["1691", "1692", "1970", "2247", "2248"].map(distinct), [999, 999, 999, 999, 999], "each microsecond has a number of its own");
+for (const year of ["1690", "2249"]) assert.ok(distinct(year) < 999);
+
+// ---- Pieces ----
+
+/** The column of these pieces, and its refusals. A piece is overwritten once it is read. */
+function byPieces({ newReader }, pieces, options) {
+  const refusals = [];
+  const reader = newReader({ ...options, refusals });
+  const parts = pieces.map((it) => {
+    const piece = typeof it === "string" ? it : Uint8Array.from(it);
+    const part = reader.read(piece);
+    if (typeof piece !== "string") piece.fill(120);
+    // What other calls leave in the memory is not read as a line.
+    safeParseDate("2020-02-29\n2020-02-29\n2020-02-29");
+    return part;
+  });
+  parts.push(reader.end());
+  const numbers = parts[0].constructor.from(parts.flatMap((it) => Array.from(it)));
+  return { numbers, refusals };
+}
+
+const TEXT = "2020-02-29T12:13:14.5Z\r\n\n2021-02-29T12:13Z\n2020-02-29T12:13\u221201:00\r\n\r\n1970-01-01T00:00:00.000001Z";
+const DAYS_TEXT = "2020-02-29\r\n\n2021-02-29\n1969-12-31\n\r\n0000-01-01\n";
+for (const [kind, text, options] of [[KINDS[0], DAYS_TEXT, {}], [KINDS[1], TEXT, {}], [KINDS[1], `${TEXT}\n`, { unit: "us" }], [KINDS[1], `${TEXT}\r\n`, { overflow: "truncate" }]]) {
+  const bytes = Buffer.from(text);
+  const whole = expected(kind, text, options);
+  for (let i = 0; i <= bytes.length; i++) {
+    assert.deepEqual(byPieces(kind, [bytes.subarray(0, i), bytes.subarray(i)], options), whole, `cut at ${i}`);
+    for (let j = i; j <= Math.min(i + 3, bytes.length); j++) assert.deepEqual(byPieces(kind, [bytes.subarray(0, i), bytes.subarray(i, j), bytes.subarray(j)], options), whole, `cut at ${i} and ${j}`);
+  }
+  assert.deepEqual(byPieces(kind, Array.from(bytes, (it) => [it]), options), whole);
+  assert.deepEqual(byPieces(kind, Array.from(text), options), whole);
+  assert.deepEqual(byPieces(kind, [], options), { numbers: kind.Numbers(options).of(), refusals: [] });
+}
+{
+  const reader = dateColumnReader();
+  assert.deepEqual(reader.read("1970-01-02\n1970-0"), Int32Array.of(1));
+  assert.deepEqual(reader.read("1-03"), Int32Array.of());
+  assert.deepEqual(reader.end("\n1970-01-04"), Int32Array.of(2, 3));
+  for (const call of [reader.read, reader.end]) assert.throws(() => call("1970-01-02\n"), { name: "TypeError", message: "the column has ended" });
+}
+{
+  const [reader, other] = [dateColumnReader(), dateColumnReader()];
+  assert.deepEqual(reader.read("1970-01-02\n1970-01-03\n19"), Int32Array.of(1, 2));
+  assert.deepEqual(other.read("1970-01-0"), Int32Array.of());
+  assert.throws(() => reader.read(5), TypeError);
+  const error = thrown(() => reader.read("70-01-04\n2021-02-29\n"));
+  assert.deepEqual([error.fault, error.index], ["out_of_range_day", 3]);
+  assert.throws(() => reader.end(), { message: "the column has ended" }, "a column that was refused has ended");
+  assert.deepEqual(other.end("9\n1970-01-01"), Int32Array.of(8, 0));
+}
+assert.throws(() => dateColumn("x\n", { refusals: Object.freeze([]) }), TypeError);
+assert.deepEqual(dateColumn("86400", runInNewContext("({ timestamps: 's', refusals: [] })")), Int32Array.of(1));
+class Odd extends Uint8Array {
+  get length() { return 5; }
+  get buffer() { return new ArrayBuffer(1); }
+  get byteOffset() { return 0; }
+  slice() { return 5; }
+}
+assert.deepEqual(dateColumn(Odd.from(Buffer.from("1970-01-02\n"))), Int32Array.of(1));
+assert.deepEqual(dateColumn(Buffer.from("x1970-01-02\nx").subarray(1, 12)), Int32Array.of(1));
+
+// ---- Sizes: of columns, of lines, and of blocks that hold a part of a line ----
+
+const FEW = [0, 1, 4095, 4096, 4097, 8191, 8192, 8193, 70000];
+for (const count of FEW) {
+  assert.deepEqual(dateColumn("1970-01-02\n".repeat(count)), new Int32Array(count).fill(1));
+  const refusals = [];
+  assert.deepEqual(dateTimeColumn("\n".repeat(count), { refusals }), new Float64Array(count).fill(NaN));
+  assert.deepEqual(refusals.map((it) => it.index), Array.from({ length: count }, (_, i) => i));
+  if (count > 0) assert.equal(thrown(() => dateColumn("1970-01-02\n".repeat(count) + "x\n1970-01-02")).index, count);
+}
+for (const size of [2 ** 16 - 22, 2 ** 16 - 21, 2 ** 16 - 20, 2 ** 17, 2 ** 24 - 20, 2 ** 24 + 1]) {
+  const line = `1970-01-01T00:00:01.${"0".repeat(size)}Z\n`;
+  const text = `1970-01-01T00:00:01Z\n${line}1970-01-01T00:00:02Z`;
+  assert.deepEqual(dateTimeColumn(text, { overflow: "truncate" }), Float64Array.of(1000, 1000, 2000));
+  assert.deepEqual(thrown(() => dateTimeColumn(Buffer.from(text))).index, 1);
+  assert.deepEqual(dateTimeColumn("1970-01-01T00:00:03Z"), Float64Array.of(3000));
+}
+setFlagsFromString("--expose-gc");
+const collect = runInNewContext("gc");
+const held = () => (collect(), process.memoryUsage().rss / 2 ** 20);
+{
+  const atFirst = held();
+  const reader = dateTimeColumnReader({ overflow: "truncate" });
+  reader.read("1970-01-01T00:00:01.");
+  const zeros = Buffer.alloc(1000, "0");
+  const start = performance.now();
+  for (let i = 0; i < 20000; i++) reader.read(zeros);
+  assert.deepEqual(reader.end("Z\n"), Float64Array.of(1000));
+  assert.ok(performance.now() - start < 20000, "a line that does not end is not read again for each piece");
+  const COUNT = 1000000;
+  const text = Array.from({ length: COUNT }, (_, i) => new Date(1577836800000 + i * 60000).toISOString()).join("\n");
+  const column = dateTimeColumn(Buffer.from(text));
+  assert.equal(column.length, COUNT);
+  for (let i = 0; i < COUNT; i++) if (column[i] !== 1577836800000 + i * 60000) assert.fail(`line ${i}`);
+  for (let i = 0; i < 3; i++) assert.equal(dateTimeColumn(text, { unit: "us" }).at(-1), BigInt(column.at(-1)) * 1000n);
+  assert.ok(held() < atFirst + 300, `${atFirst} megabytes at first, and ${held()} in the end`);
+}
+console.log(`columns: ${acceptedOnes[0] + acceptedOnes[1]} drawn lines that are accepted, and ${refusedOnes[0] + refusedOnes[1]} that are refused`);
