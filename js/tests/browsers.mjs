@@ -171,7 +171,7 @@ const told = async (seconds, what) => {
 };
 const visits = [await told(120, "the page, narrow"), await told(120, "the page, wide")];
 const all = await told(240, "the rows and the drawn texts");
-assert.deepEqual(all.drawn, readDrawn());
+assert.deepEqual(all.drawn, { ...readDrawn(), wrong: [] });
 for (const [i, width] of [360, 1280].entries()) {
   const { calls, least, ...others } = visits[i];
   assert.deepEqual(others, { width, steps: STEPS, wrong: [] });

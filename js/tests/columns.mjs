@@ -1,6 +1,7 @@
 // Columns beside calls of one line each: drawn lines with all options, pieces cut at every byte, lines and columns of many sizes,
 // what is refused, and what a reader keeps: node columns.mjs.
 import assert from "node:assert/strict";
+import { setTimeout as sleep } from "node:timers/promises";
 import { setFlagsFromString } from "node:v8";
 import { runInNewContext } from "node:vm";
 import { dateColumn, dateColumnReader, dateTimeColumn, dateTimeColumnReader, daysSince, epochMilliseconds, parseDate, safeParseDate, safeParseDateTime, SpeedateError } from "speedate";
@@ -165,6 +166,14 @@ for (const [kind, text, options] of [[KINDS[0], DAYS_TEXT, {}], [KINDS[1], TEXT,
   assert.throws(() => reader.end(), { message: "the column has ended" }, "a column that was refused has ended");
   assert.deepEqual(other.end("9\n1970-01-01"), Int32Array.of(8, 0));
 }
+{
+  const reader = dateTimeColumnReader({ refusals: [] });
+  const pieces = new Response(TEXT.repeat(10000)).body.getReader();
+  const numbers = [];
+  for (let it = await pieces.read(); !it.done; it = await pieces.read()) numbers.push(...reader.read(it.value));
+  numbers.push(...reader.end());
+  assert.deepEqual(Float64Array.from(numbers), dateTimeColumn(TEXT.repeat(10000), { refusals: [] }));
+}
 assert.throws(() => dateColumn("x\n", { refusals: Object.freeze([]) }), TypeError);
 assert.deepEqual(dateColumn("86400", runInNewContext("({ timestamps: 's', refusals: [] })")), Int32Array.of(1));
 class Odd extends Uint8Array {
@@ -178,6 +187,10 @@ assert.deepEqual(dateColumn(Buffer.from("x1970-01-02\nx").subarray(1, 12)), Int3
 
 // ---- Sizes: of columns, of lines, and of blocks that hold a part of a line ----
 
+setFlagsFromString("--expose-gc");
+const collect = runInNewContext("gc");
+const held = () => (collect(), process.memoryUsage().rss / 2 ** 20);
+const atFirst = held();
 const FEW = [0, 1, 4095, 4096, 4097, 8191, 8192, 8193, 70000];
 for (const count of FEW) {
   assert.deepEqual(dateColumn("1970-01-02\n".repeat(count)), new Int32Array(count).fill(1));
@@ -193,11 +206,7 @@ for (const size of [2 ** 16 - 22, 2 ** 16 - 21, 2 ** 16 - 20, 2 ** 17, 2 ** 24 -
   assert.deepEqual(thrown(() => dateTimeColumn(Buffer.from(text))).index, 1);
   assert.deepEqual(dateTimeColumn("1970-01-01T00:00:03Z"), Float64Array.of(3000));
 }
-setFlagsFromString("--expose-gc");
-const collect = runInNewContext("gc");
-const held = () => (collect(), process.memoryUsage().rss / 2 ** 20);
 {
-  const atFirst = held();
   const reader = dateTimeColumnReader({ overflow: "truncate" });
   reader.read("1970-01-01T00:00:01.");
   const zeros = Buffer.alloc(1000, "0");
@@ -211,6 +220,9 @@ const held = () => (collect(), process.memoryUsage().rss / 2 ** 20);
   assert.equal(column.length, COUNT);
   for (let i = 0; i < COUNT; i++) if (column[i] !== 1577836800000 + i * 60000) assert.fail(`line ${i}`);
   for (let i = 0; i < 3; i++) assert.equal(dateTimeColumn(text, { unit: "us" }).at(-1), BigInt(column.at(-1)) * 1000n);
-  assert.ok(held() < atFirst + 300, `${atFirst} megabytes at first, and ${held()} in the end`);
 }
+assert.equal(thrown(() => dateColumn(Buffer.alloc(2 ** 28, "0"))).index, 0);
+// What is collected is given back a little later.
+for (let i = 0; i < 100 && held() >= atFirst + 200; i++) await sleep(100);
+assert.ok(held() < atFirst + 200, `${atFirst} megabytes at first, and ${held()} in the end`);
 console.log(`columns: ${acceptedOnes[0] + acceptedOnes[1]} drawn lines that are accepted, and ${refusedOnes[0] + refusedOnes[1]} that are refused`);

@@ -1,4 +1,5 @@
-// Drawn texts and values, for Node and for the engines of browsers, which have to answer alike, and beside Temporal where it is.
+// Drawn texts, columns and values, for Node and for the engines of browsers, which have to answer alike, and beside Temporal where
+// it is.
 import * as speedate from "speedate";
 
 /** Forms of texts, by kind and by who reads them: `both` alike, or neither; one of the two alone; `different`: not alike. A `#` is
@@ -23,6 +24,26 @@ const IS_SO = {
   both: ({ here, there, alike }) => alike > 0 && here === alike && there === alike, different: ({ here, alike }) => here > alike,
   Temporal: ({ here, there }) => here === 0 && there > 0, speedate: ({ here, there }) => here > 0 && there === 0,
 };
+
+const EPOCH = speedate.parseDate("1970-01-01");
+const inMicroseconds = (it) => BigInt(speedate.epochMilliseconds({ ...it, offsetSeconds: it.offsetSeconds ?? 0 })) * 1000n + BigInt(it.microsecond);
+/** By kind what reads columns, what each has of a value, and what of a text that is refused. */
+const COLUMNS = {
+  date: [[speedate.dateColumn, {}, (it) => speedate.daysSince(it, EPOCH), -(2 ** 31)]],
+  "date-time": [
+    [speedate.dateTimeColumn, { missingOffset: "utc", unit: "us" }, inMicroseconds, -(2n ** 63n)],
+    [speedate.dateTimeColumn, { missingOffset: "utc" }, (it) => Number(`${inMicroseconds(it)}e-3`), NaN],
+  ],
+};
+
+/** Whether a column has what its lines have one by one. */
+function isAsItsLines([read, options, numberOf, refused], lines, answers) {
+  const refusals = [];
+  const column = read(lines.join("\n"), { ...options, refusals });
+  const codes = refusals.map(({ index, code }) => `${index} ${code}`).join();
+  return column.length === lines.length && answers.every((it, i) => Object.is(column[i], it.ok ? numberOf(it.value) : refused)) &&
+    codes === answers.flatMap((it, i) => (it.ok ? [] : [`${i} ${it.code}`])).join();
+}
 
 const isInstant = (text) => /(Z|[-+\u2212]\d\d(:?\d\d)?)(\[UTC\])?$/i.test(text.slice(10));
 const inDays = (it) => it.with({ years: 0, months: 0, weeks: 0, days: it.weeks * 7 + it.days }).round({ largestUnit: "days" });
@@ -53,7 +74,8 @@ function answers(value, other) {
   return [speedate.format(value), speedate.compare(value, other), more];
 }
 
-/** Reads 200 texts of each form. It gives the forms that are not as their group, and a number that stands for all answers. */
+/** Reads 200 texts of each form, also as columns. It gives the forms that are not as their group, or as a column not as one by one,
+ * and a number that stands for all answers. */
 export function readDrawn() {
   let [state, hash] = [1, 0];
   const below = (most) => (state = (state * 48271) % 2147483647) % most;
@@ -62,10 +84,13 @@ export function readDrawn() {
   for (const [kind, group, form] of FORMS.flatMap(([kind, group, ...all]) => all.map((it) => [kind, group, it]))) {
     const [read, from] = KINDS[kind];
     const counts = { here: 0, there: 0, alike: 0 };
+    const [texts, all] = [[], []];
     let last;
     for (let i = 0; i < 200; i++) {
       const text = form.replace(/[#%]/g, (it) => below(it === "#" ? 10 : 6));
       const it = read(text);
+      texts.push(text);
+      all.push(it);
       if (it.ok) last ??= it.value;
       for (const unit of JSON.stringify([it, it.ok && answers(it.value, last)])) hash = (hash * 31 + unit.charCodeAt(0)) | 0;
       const other = hasTemporal ? taken(from, text, text) : undefined;
@@ -74,6 +99,7 @@ export function readDrawn() {
       counts.alike += other !== undefined && it.ok && taken(from, it.value, text) === other;
     }
     if (hasTemporal && !IS_SO[group](counts)) wrong.push([kind, form, counts]);
+    if (!(COLUMNS[kind] ?? []).every((it) => isAsItsLines(it, texts, all))) wrong.push([kind, form, "column"]);
   }
   return { hash, wrong };
 }
