@@ -538,7 +538,7 @@ typedef struct SpeedateColumnConfig {
     /* 1 if a date-time without an offset is taken to be in UTC; 0 if it is refused, with SPEEDATE_TZ_REQUIRED. */
     uint8_t assumes_utc;
     /* 0 if a line that is refused ends the column; 1 if it gets the smallest number, INT64_MIN or INT32_MIN, and the
-     * column goes on. That is the number of no other line, and NaT in NumPy. */
+     * column goes on. That is the number of no other line, and INT64_MIN is NaT in NumPy. */
     uint8_t goes_on;
 } SpeedateColumnConfig;
 
