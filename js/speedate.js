@@ -446,8 +446,8 @@ function check(it, place) {
 
 // ---- Reading ----
 
-// Of each reader the code comes from a function of its own, which takes the short way for a short string without options: an
-// engine makes the fastest code of a function if no other shares what it has seen there.
+// Each reader has a function of its own, which takes the short way for a short string without options: an engine compiles a
+// function for what it has seen there, and here it sees one reader.
 
 const OPTIONS_OF = {
   date: ["timestamps"], time: ["strict", "overflow"], dateTime: ["strict", "timestamps", "timestampOffset", "overflow"],
