@@ -1,6 +1,6 @@
 -- A grammar as an ordered table: each row is a test of the text and the fault of a text that fails
--- it. A fault is an error of the code; definitions and local names call it so, since `error` is a
--- word of the behaviors.
+-- it. A fault is an error of the code; definitions and local names call it so, since `Error` is a
+-- behavior.
 use Rattle.std.specs.Prelude.{◌≡◌, ℕ, Bool, true, List, [], ◌∷◌, length, ◌==◌, Result, Ok, Err, if◌then◌else◌, Option, Some, None}
 use Rattle.std.specs.Result.{result_map_both, result_flatten}
 pub use Rattle.speedate_base.specs.declared.faults.ParseError.{ParseError}

@@ -1,5 +1,5 @@
 -- What is read at the front of a text is the same without the bytes after it.
-use Rattle.std.proofs.Common.{◌≡◌, ℕ, zero, suc, ◌+◌, ◌-◌, ◌≤◌, Bool, true, false, ◌&&◌, ◌==◌, List, [], ◌∷◌, length, take, drop, slice_index, if◌then◌else◌, Option, ℤ, IfOk, Result, Ok, refl, rules, arith, ap, ap₂, sym, ◌∙◌, le-leb, length-drop, length-take-le, get_or-take, take-take}
+use Rattle.std.proofs.Common.{◌≡◌, ℕ, zero, suc, ◌+◌, ◌-◌, ◌≤◌, Bool, true, false, ◌&&◌, ◌==◌, List, [], ◌∷◌, length, take, drop, slice_index, if◌then◌else◌, Option, None, ℤ, IfOk, Result, Ok, refl, rules, arith, ap, ap₂, sym, ◌∙◌, le-leb, length-drop, length-take-le, get_or-take, take-take}
 use Rattle.speedate_civil.specs.Base.{Behavior, ParseError}
 use Rattle.std.proofs.lemmas.Bool.{leb-true}
 use Rattle.std.proofs.lemmas.Bool.Decides.{nat_tests}
@@ -31,6 +31,11 @@ use Rattle.speedate_civil.specs.Time.{
   end_fault,
   offset_digits_size,
   offset_front,
+  offset_digits,
+  offset_ranges,
+  has_minus_sign,
+  is_plus_or_minus,
+  is_utc,
   signed_front,
   TimeOfDay,
   time_front,
@@ -113,39 +118,69 @@ clock-taken behavior text count within inside =
     grind (arith, le-leb, drop-take, length-take-le, minute-taken, minute_size-two)
 
 -- the digits of an offset
-digits-taken : (west : Bool) (sign : ℕ) (numbers : List ℕ) (there : Bool)
-    → (slice_index numbers 2 == colon) ≡ there
-    → signed_front west sign (take (offset_digits_size numbers) numbers)
-    ≡ signed_front west sign numbers
-digits-taken west sign numbers there is = grind (arith, nat_tests, bytes-taken, get_or-take)
+digits-taken : (west : Bool) (sign count : ℕ) (numbers : List ℕ) (there : Bool)
+    → (slice_index numbers 2 == colon) ≡ there → offset_digits_size numbers ≤ count
+    → signed_front west sign (take count numbers) ≡ signed_front west sign numbers
+digits-taken west sign count numbers there is within =
+    grind (arith, nat_tests, bytes-taken, get_or-take)
 
 -- the offset, by what it begins with
 abbrev OffsetTaken : List ℕ → Result (Option ℤ × ℕ) ParseError → Type 0
-OffsetTaken rest answer = IfOk answer (λ front. offset_front (take front.1 rest) ≡ Ok front)
+OffsetTaken rest answer = IfOk answer
+    (λ front. (count : ℕ) → front.1 ≤ count → offset_front (take count rest) ≡ Ok front)
 
 signed-taken : (west : Bool) (sign : ℕ) (rest : List ℕ)
-    → (offset_front (take (sign + offset_digits_size (drop sign rest)) rest)
-    ≡ signed_front west sign (drop sign (take (sign + offset_digits_size (drop sign rest)) rest)))
+    → ((count : ℕ) → sign + offset_digits_size (drop sign rest) ≤ count
+    → offset_front (take count rest) ≡ signed_front west sign (drop sign (take count rest)))
     → OffsetTaken rest (signed_front west sign (drop sign rest))
 signed-taken west sign rest is =
-    grind (arith, nat_tests, drop-take, first_fault_or-all, digits-taken)
+    let numbers : List ℕ = drop sign rest in
+    read-rows (λ (front : Option ℤ × ℕ). (count : ℕ) → front.1 ≤ count
+    → offset_front (take count rest) ≡ Ok front) (offset_digits numbers) _
+    (λ digits. read-rows (λ (front : Option ℤ × ℕ). (count : ℕ) → front.1 ≤ count
+    → offset_front (take count rest) ≡ Ok front) (offset_ranges numbers) _
+    (λ ranges count within.
+    let left : sign + (count - sign) ≡ count = omega (arith, within) in
+    let dropped = ap (λ (n : ℕ). drop sign (take n rest)) (sym left)
+    ∙ drop-take sign (count - sign) rest in
+    is count within
+    ∙ ap (signed_front west sign) dropped
+    ∙ digits-taken west sign (count - sign) numbers _ refl (omega (arith, within))
+    ∙ first_fault_or-all (offset_digits numbers) _ digits
+    ∙ first_fault_or-all (offset_ranges numbers) _ ranges))
+
+-- what begins no offset begins none in a front of it
+no_minus-taken : (rest : List ℕ) (count : ℕ) → has_minus_sign rest ≡ false
+    → has_minus_sign (take count rest) ≡ false
+no_minus-taken rest count none = grind (arith, common_steps)
+
+none-taken : (rest : List ℕ) (count : ℕ) → is_plus_or_minus (slice_index rest 0) ≡ false
+    → is_utc (slice_index rest 0) ≡ false → has_minus_sign rest ≡ false
+    → offset_front (take count rest) ≡ Ok (None, 0)
+none-taken rest count plus utc minus =
+    rw (
+      cut rest count 0 is_plus_or_minus refl plus,
+      cut rest count 0 is_utc refl utc,
+      no_minus-taken rest count minus,
+    ) refl
 
 offset-taken : (rest : List ℕ) → OffsetTaken rest (offset_front rest)
 offset-taken rest =
     offset-cases (OffsetTaken rest) rest
-    (λ some. signed-taken (slice_index rest 0 == hyphen) 1 rest (grind (arith, get_or-take)))
-    (λ none utc. grind (arith, get_or-take))
-    (λ none other there. signed-taken true 3 rest
-    (let count : ℕ = 3 + offset_digits_size (drop 3 rest) in
+    (λ some. signed-taken (slice_index rest 0 == hyphen) 1 rest
+    (λ count within. rw (get_or-take count rest 0 0 (omega (arith, within)), some) refl))
+    (λ none utc count within. rw (get_or-take count rest 0 0 (omega (arith, within)), none, utc)
+    refl)
+    (λ none other there. signed-taken true 3 rest (λ count within.
     rw (
-      get_or-take count rest 0 0 (omega arith),
-      get_or-take count rest 1 0 (omega arith),
-      get_or-take count rest 2 0 (omega arith),
+      get_or-take count rest 0 0 (omega (arith, within)),
+      get_or-take count rest 1 0 (omega (arith, within)),
+      get_or-take count rest 2 0 (omega (arith, within)),
       none,
       other,
       there,
     ) refl))
-    (λ none other nothing. refl)
+    (λ none other nothing count within. none-taken rest count none other nothing)
 
 -- a clock that was read: the rows of its tables hold, and it is the one of the text
 pub record ClockRead (behavior : Behavior) (text : List ℕ) (clock : Clock) : Type 0 where
@@ -189,20 +224,23 @@ pub time_front-is : (behavior : Behavior) (text : List ℕ) (clock : Clock) (off
     → time_front behavior text ≡ Ok (clock_with_offset clock offset.0, clock.size + offset.1)
 time_front-is behavior text clock offset read after = cc
 
--- a time at the front of a text is that of its bytes alone
+-- a time at the front of a text is that of its bytes alone, and of any more
 time_front-taken : (behavior : Behavior) (text : List ℕ)
-    → IfOk (time_front behavior text)
-    (λ front. front.1 ≤ length text → time_front behavior (take front.1 text) ≡ Ok front)
+    → IfOk (time_front behavior text) (λ front. (count : ℕ) → front.1 ≤ count → count ≤ length text
+    → time_front behavior (take count text) ≡ Ok front)
 time_front-taken behavior text =
     read-then _ _ (clock_front behavior text)
-    (λ clock read. read-then _ _ (offset_front (drop clock.size text)) (λ offset after inside.
-    let count : ℕ = clock.size + offset.1 in
-    let within : 3 + (minute_clock (drop 3 text)).size ≤ count =
-    omega (arith, clock-size behavior text clock read) in
+    (λ clock read. read-then _ _ (offset_front (drop clock.size text))
+    (λ offset after count within inside.
+    let left : clock.size + (count - clock.size) ≡ count = omega (arith, within) in
+    let minute : 3 + (minute_clock (drop 3 text)).size ≤ count =
+    omega (arith, within, clock-size behavior text clock read) in
     time_front-is behavior (take count text) clock offset
-    (clock-taken behavior text count within inside ∙ read)
-    (ap offset_front (drop-take clock.size offset.1 text)
-    ∙ read-value _ _ offset after (offset-taken (drop clock.size text)))))
+    (clock-taken behavior text count minute inside ∙ read)
+    (ap (λ (n : ℕ). offset_front (drop clock.size (take n text))) (sym left)
+    ∙ ap offset_front (drop-take clock.size (count - clock.size) text)
+    ∙ read-value _ _ offset after (offset-taken (drop clock.size text)) (count - clock.size)
+    (omega (arith, within)))))
 
 -- what is read of the bytes that it takes takes them all
 taken-alone : {A : Type 0} (fault : A → ParseError) (text : List ℕ)
@@ -217,10 +255,11 @@ pub time_front-alone : (behavior : Behavior) (text : List ℕ) (front : TimeOfDa
 time_front-alone behavior text front read inside =
     taken-alone (λ (time : TimeOfDay). end_fault time.offset) text
     (time_front behavior (take front.1 text)) front inside
-    (read-value _ (time_front behavior text) front read (time_front-taken behavior text) inside)
+    (read-value _ (time_front behavior text) front read (time_front-taken behavior text) front.1
+    (omega arith) inside)
 
 -- a date at the front of a text is that of its bytes alone, and of any more
-date-taken : (text : List ℕ) (count : ℕ) → 10 ≤ count → count ≤ length text
+pub date-taken : (text : List ℕ) (count : ℕ) → 10 ≤ count → count ≤ length text
     → date_front (take count text) ≡ date_front text
 date-taken text count ten inside = grind (arith, common_steps)
 
@@ -252,21 +291,23 @@ pub date_time_front-is : (behavior : Behavior) (text : List ℕ) (date : Ymd × 
 date_time_front-is behavior text date time dated parted timed = cc
 
 -- so is a date-time
-date_time_front-taken : (behavior : Behavior) (text : List ℕ)
+pub date_time_front-taken : (behavior : Behavior) (text : List ℕ)
     → IfOk (date_time_front behavior text)
-    (λ front. front.1 ≤ length text → date_time_front behavior (take front.1 text) ≡ Ok front)
+    (λ front. (count : ℕ) → front.1 ≤ count → count ≤ length text
+    → date_time_front behavior (take count text) ≡ Ok front)
 date_time_front-taken behavior text =
     read-then _ _ (date_front text)
     (λ date dated. read-then _ _ (first_fault_or (separator_table text)
-    (time_front behavior (drop 11 text))) (λ time read inside.
+    (time_front behavior (drop 11 text))) (λ time read count within inside.
     let after = first_fault_or-ok (separator_table text) _ time read in
-    let count : ℕ = 11 + time.1 in
+    let left : 11 + (count - 11) ≡ count = omega (arith, within) in
     date_time_front-is behavior (take count text) date time
-    (date-taken text count (omega arith) inside ∙ dated)
-    (rw (get_or-take count text 10 0 (omega arith)) after.0)
-    (ap (time_front behavior) (drop-take 11 time.1 text)
-    ∙ read-value _ _ time after.1 (time_front-taken behavior (drop 11 text))
-    (omega (arith, inside, length-drop 11 text)))))
+    (date-taken text count (omega (arith, within)) inside ∙ dated)
+    (rw (get_or-take count text 10 0 (omega (arith, within))) after.0)
+    (ap (λ (n : ℕ). time_front behavior (drop 11 (take n text))) (sym left)
+    ∙ ap (time_front behavior) (drop-take 11 (count - 11) text)
+    ∙ read-value _ _ time after.1 (time_front-taken behavior (drop 11 text)) (count - 11)
+    (omega (arith, within)) (omega (arith, inside, length-drop 11 text)))))
 
 pub date_time_front-alone : (behavior : Behavior) (text : List ℕ) (front : DateAndTime × ℕ)
     → date_time_front behavior text ≡ Ok front → front.1 ≤ length text
@@ -275,4 +316,4 @@ date_time_front-alone behavior text front read inside =
     taken-alone (λ (value : DateAndTime). end_fault value.time.offset) text
     (date_time_front behavior (take front.1 text)) front inside
     (read-value _ (date_time_front behavior text) front read (date_time_front-taken behavior text)
-    inside)
+    front.1 (omega arith) inside)

@@ -10,6 +10,7 @@ pub mod DateTimeTimestampLemmas
 pub mod DateTimestampLemmas
 mod DayNumberLemmas
 mod FrontLemmas
+pub mod LongerTextLemmas
 pub mod InstantOrderLemmas
 mod NoControlLemmas
 mod MomentLemmas

@@ -12,7 +12,7 @@ mod text;
 mod timestamp;
 mod timezone;
 
-pub(crate) use offset::end_fault;
+pub use offset::end_fault;
 pub use pure::PureTime;
 use speedate_base::faults::ParseError;
 pub(crate) use timezone::clock_shift;

@@ -58,9 +58,10 @@ pub(crate) fn parse_offset(bytes: &[u8], place: usize) -> Result<(Option<i32>, u
     Ok((None, 0))
 }
 
-/// The error of a text that goes on after a time with this offset, or after one without.
+/// The error of a text that goes on after a time with this offset, or after one without:
+/// `InvalidCharTzSign` for `None`.
 #[inline(always)]
-pub(crate) fn end_fault(offset: Option<i32>) -> ParseError
+pub fn end_fault(offset: Option<i32>) -> ParseError
     ensures fault { result ≡ end_fault offset }
 {
     if offset.is_some() {
