@@ -1,7 +1,7 @@
 -- The first whole line of a text, and what is left after it.
-use Rattle.std.proofs.Common.{rules, ◌≡◌, ◌≢◌, ◌∙◌, ap, sym, refl, ℕ, ◌+◌, ◌-◌, ◌<◌, Bool, true, false, List, [], ◌∷◌, ◌++◌, length, take, drop, get_or, if◌then◌else◌, arith}
+use Rattle.std.proofs.Common.{rules, ◌≡◌, ◌≢◌, ◌∙◌, ap, sym, subst, refl, ℕ, ◌+◌, ◌-◌, ◌<◌, ◌≤◌, Bool, true, false, ◌&&◌, ◌==◌, slice_index, List, [], ◌∷◌, ◌++◌, length, take, drop, get_or, if◌then◌else◌, arith}
 use Rattle.std.proofs.lemmas.Bool.{cases_lt, ne_eqb, false≢true}
-use Rattle.std.proofs.lemmas.List.{length-take, get_or-take, get_or_past, take-take, take_all, drop_all}
+use Rattle.std.proofs.lemmas.List.{length-take, length-take-le, get_or-take, get_or_past, take-take, take_all, drop_all}
 use Rattle.speedate_base.specs.Ascii.{carriage_return, line_feed}
 use Rattle.speedate.specs.Column.{IsFirstLineOf, LineConfig}
 use Rattle.speedate.specs.Lines.{
@@ -79,6 +79,42 @@ pub without_return-dropped : (drops : Bool) (line : List ℕ) (size : ℕ) → d
     → length line ≡ size + 1 → get_or line size 0 ≡ carriage_return
     → without_return drops line ≡ take size line
 without_return-dropped drops line size drop long last = search (rules)
+
+-- what is read of a line that begins a text begins the text too
+front-cut : (drops : Bool) (text : List ℕ) (size last : ℕ) → last ≤ size → size ≤ length text
+    → (take (length (if drops then take last (take size text) else take size text)) text
+    ≡ (if drops then take last (take size text) else take size text))
+    × (length (if drops then take last (take size text) else take size text) ≤ length text)
+front-cut true text size last before inside =
+    let is : take last (take size text) ≡ take last text = take-take last size text before in
+    let long : length (take last (take size text)) ≡ last =
+    ap length is ∙ length-take-le last text (omega (arith, before, inside)) in (
+      ap (λ (n : ℕ). take n text) long ∙ sym is,
+      omega (arith, long, before, inside),
+    )
+front-cut false text size last before inside =
+    let long : length (take size text) ≡ size = length-take-le size text inside in (
+      ap (λ (n : ℕ). take n text) long,
+      omega (arith, long, inside),
+    )
+
+pub without_return-front : (drops : Bool) (text : List ℕ) (size : ℕ) → size ≤ length text
+    → (take (length (without_return drops (take size text))) text
+    ≡ without_return drops (take size text))
+    × (length (without_return drops (take size text)) ≤ length text)
+without_return-front drops text size inside =
+    let last : ℕ = length (take size text) - 1 in
+    front-cut (drops && (slice_index (take size text) last == carriage_return)) text size last
+    (omega (arith, length-take size text)) inside
+
+pub without_return-whole : (drops : Bool) (text : List ℕ)
+    → (take (length (without_return drops text)) text ≡ without_return drops text)
+    × (length (without_return drops text) ≤ length text)
+without_return-whole drops text =
+    subst (λ (line : List ℕ). (take (length (without_return drops line)) text
+    ≡ without_return drops line) × (length (without_return drops line) ≤ length text))
+    (take_all (length text) text (omega arith))
+    (without_return-front drops text (length text) (omega arith))
 
 -- The first whole line of a text, whose bytes up to a place are no line feed and end with no
 -- carriage return.

@@ -1,6 +1,6 @@
 -- Columns: the lines of a text as numbers.
-use Rattle.std.specs.Prelude.{◌≡◌, ◌≢◌, ℕ, ◌-◌, ◌^◌, ◌<◌, ◌≤◌, Bool, ◌||◌, List, [], ◌∷◌, length, slice_index, take, drop, nat_lt, Option, Some, None, is_some, Result, Ok, Err, ℤ, unsigned_abs, if◌then◌else◌}
-use Rattle.speedate_civil.specs.Base.{ParseError}
+use Rattle.std.specs.Prelude.{◌≡◌, ◌≢◌, ℕ, ◌-◌, ◌^◌, ◌<◌, ◌≤◌, Bool, false, ◌||◌, List, [], ◌∷◌, length, slice_index, take, drop, nat_lt, Option, Some, None, is_some, Result, Ok, Err, IfOk, ℤ, unsigned_abs, if◌then◌else◌}
+use Rattle.speedate_civil.specs.Base.{Behavior, ParseError}
 use Rattle.speedate_base.specs.Ascii.{carriage_return}
 use Rattle.speedate_base.specs.Config.{time_choices}
 use Rattle.speedate_base.specs.Fault.{fault_number}
@@ -13,10 +13,12 @@ use Rattle.speedate_civil.specs.DateTime.{
   date_time_by_config,
   utc_microsecond,
 }
+use Rattle.speedate_civil.specs.ParserParts.{may_be_number}
 use Rattle.speedate_civil.specs.Standard.{strict_date_time_answer}
 pub use Rattle.speedate.specs.declared.column.LineConfig.{LineConfig}
 pub use Rattle.speedate.specs.declared.column.LineError.{LineError}
 use Rattle.speedate.specs.declared.column.Line.{Line}
+pub use Rattle.speedate.specs.declared.column.LineFront.{LineFront}
 use Rattle.speedate.specs.declared.column.date.DateReader.{DateReader}
 use Rattle.speedate.specs.declared.column.date_time.DateTimeParser.{DateTimeParser}
 use Rattle.speedate.specs.declared.column.date_time.DateTimeReader.{DateTimeReader}
@@ -71,15 +73,26 @@ unfoldable pub text_column : {N : Type 0} → (List ℕ → Result N LineError) 
 text_column answer config refused room text =
     column (line_answer answer config) refused (take room (whole_lines config.at_end text))
 
--- some bytes at the front of a text have this number as a line: no line feed is among them, and no
--- carriage return ends them
-pub record IsFront {N : Type 0} (answer : List ℕ → Result N LineError) (text : List ℕ)
-    (number : N) (size : ℕ) : Type 0 where
+-- there are bytes at the front of a text among which is no line feed, and which no carriage return
+-- ends
+pub record HasNoEnd (text : List ℕ) (size : ℕ) : Type 0 where
   pub there : 0 < size
-  pub within : size ≤ length text
   pub one_line : IsOneLine text 0 size
   pub no_return : slice_index text (size - 1) ≢ carriage_return
-  pub read : answer (take size text) ≡ Ok number
+
+-- what some bytes at the front of a text tell of a line: their own answer, and the error of each
+-- line that goes on after them; if they have a number, they do not hold the line's end
+pub record IsFront {N : Type 0} (answer : List ℕ → Result N LineError) (text : List ℕ)
+    (front : LineFront N) : Type 0 where
+  pub within : front.size ≤ length text
+  pub answered : answer (take front.size text) ≡ front.answer
+  pub goes_on : (size : ℕ) → front.size < size → size ≤ length text
+      → answer (take size text) ≡ Err front.longer
+  pub number : IfOk front.answer (λ number. HasNoEnd text front.size)
+
+-- what so many bytes tell with which each line has this error
+abbrev pub refused_front : {N : Type 0} → LineError → ℕ → LineFront N
+refused_front error size = record { answer = Err error; size = size; longer = error }
 
 -- the first whole line of a text takes so many bytes with its end, and this is what is read of it
 pub record IsFirstLineOf (config : LineConfig) (text read : List ℕ) (size : ℕ) : Type 0 where
@@ -112,6 +125,11 @@ as_number number (Err fault) = Err (LineError.Parse fault)
 abbrev pub epoch : Ymd
 epoch = record { year = 1970; month = 1; day = 1 }
 
+-- a text that is refused as a date by this fault may be a timestamp, if these are read
+abbrev pub may_be_date_timestamp : DateReader → ParseError → Bool
+may_be_date_timestamp DateReader.Rfc3339 fault = false
+may_be_date_timestamp (DateReader.OrTimestamp config) fault = may_be_number fault
+
 -- the date of a line, or the error
 abbrev pub date_of_line : DateReader → List ℕ → Result Ymd ParseError
 date_of_line DateReader.Rfc3339 line = date_answer line
@@ -120,6 +138,19 @@ date_of_line (DateReader.OrTimestamp config) line = date_or_timestamp config.tim
 -- the number of a line in a column of dates: the days since 1970-01-01
 abbrev pub date_number : DateReader → List ℕ → Result ℤ LineError
 date_number reader line = as_number (days_between epoch) (date_of_line reader line)
+
+-- the behavior for digits past the microsecond, if the texts are those of relaxed date-times
+abbrev pub relaxed_behavior : DateTimeParser → Option Behavior
+relaxed_behavior (DateTimeParser.Rfc3339 config) = Some (time_choices config).behavior
+relaxed_behavior (DateTimeParser.OrTimestamp config) =
+    Some (time_choices config.time_config).behavior
+relaxed_behavior (DateTimeParser.Strict behavior) = None
+
+-- a text that is refused as a date-time by this fault may be a timestamp, if these are read
+abbrev pub may_be_timestamp : DateTimeParser → ParseError → Bool
+may_be_timestamp (DateTimeParser.Rfc3339 config) fault = false
+may_be_timestamp (DateTimeParser.OrTimestamp config) fault = may_be_number fault
+may_be_timestamp (DateTimeParser.Strict behavior) fault = false
 
 -- the date-time of a line, or the error
 abbrev pub date_time_of_line : DateTimeParser → List ℕ → Result DateAndTime ParseError

@@ -17,14 +17,15 @@ use speedate_base::faults::ParseError;
 pub struct LineConfig {
     /// Whether the end of the text ends its last line. Otherwise that line is left, since it may go on.
     pub at_end: bool,
-    /// Whether a carriage return at the end of a line is dropped, as files of Windows have it.
+    /// Whether a carriage return at the end of a line is dropped, as files of Windows have one.
     pub drops_returns: bool,
 }
 
 /// Why a line has no number: `LineError::Parse(ParseError::TooShort)` for an empty one.
 #[derive(Clone, Copy, Debug, PartialEq, Eq)]
 pub enum LineError {
-    /// The text is refused, or has no offset, which the reader needs: then with `TzRequired`.
+    /// The text is refused with this error. `TzRequired` is also that of a text which is accepted but has
+    /// no offset, where the reader needs one.
     Parse(ParseError),
     /// The number of the value does not fit, as that of `P999999999D` in microseconds.
     NumberTooLarge,
@@ -78,11 +79,40 @@ pub trait LineReader {
     fn number(&self, line: &[u8]) -> Result<Self::Number, LineError>
         ensures answer { result ≡ answer self.now line.now };
 
-    /// The number of the bytes at the front of a text, and how many they are, if they have that number
-    /// as a line, no line feed is among them, and no carriage return is the last: 1 and 10 for
-    /// `b"1970-01-02\n1970-01-03"`. `None` tells nothing.
-    fn front(&self, text: &[u8]) -> Option<(Self::Number, usize)>
-        ensures front { IfSome result (λ front. IsFront (answer self.now) text.now front.0 front.1) };
+    /// What the first bytes of a text tell of the line that begins with them, as far as the reader knows
+    /// it without the line's end: 1, 10 bytes, and `ExtraCharacters`, for `b"1970-01-02\n1970-01-03"`.
+    /// `None` tells nothing.
+    fn front(&self, text: &[u8]) -> Option<LineFront<Self::Number>>
+        ensures front { IfSome result (IsFront (answer self.now) text.now) };
+}
+
+/// What the first bytes of a text tell of the line that begins with them. If they have a number, no line
+/// feed is among them, and no carriage return is the last.
+#[derive(Clone, Copy, Debug)]
+pub struct LineFront<N> {
+    /// The number that these bytes have as a line, or its error.
+    pub answer: Result<N, LineError>,
+    /// How many bytes they are.
+    pub size: usize,
+    /// The error of a line that goes on after them.
+    pub longer: LineError,
+}
+
+impl<N> LineFront<N> {
+    ghost use Rattle.std.specs.Prelude.{◌≡◌};
+    ghost use Rattle.speedate.specs.Column.{refused_front};
+
+    /// What so many bytes tell with which no line is accepted: each is refused with this error.
+    #[inline(always)]
+    fn refused(error: LineError, size: usize) -> Self
+        ensures front { result ≡ refused_front error size }
+    {
+        LineFront {
+            answer: Err(error),
+            size,
+            longer: error,
+        }
+    }
 }
 
 /// The answer to a line, and how many bytes it takes with its end.

@@ -57,8 +57,8 @@ mod duration;
 mod lines;
 
 pub use column::{
-    DateReader, DateTimeParser, DateTimeReader, DurationReader, LineConfig, LineError, LineReader,
-    Progress, read_column, read_column_with_errors,
+    DateReader, DateTimeParser, DateTimeReader, DurationReader, LineConfig, LineError, LineFront,
+    LineReader, Progress, read_column, read_column_with_errors,
 };
 pub use duration::{DAYS_MAX, Duration};
 pub use lines::line_end;

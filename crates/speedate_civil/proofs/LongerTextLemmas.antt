@@ -21,7 +21,13 @@ use Rattle.speedate_base.specs.Requirement.{
 }
 use Rattle.speedate_base.proofs.RequirementLemmas.{and_then-ok, whole_or_fault-longer}
 use Rattle.speedate_civil.specs.Calendar.{Ymd}
-use Rattle.speedate_civil.specs.Date.{date_answer, date_front, date_or_timestamp}
+use Rattle.speedate_civil.specs.Date.{
+  date_answer,
+  date_front,
+  date_numbers,
+  date_or_timestamp,
+  date_table,
+}
 use Rattle.speedate_civil.specs.DateTime.{
   DateAndTime,
   date_time_answer,
@@ -39,7 +45,7 @@ use Rattle.speedate_civil.proofs.NumberTextLemmas.{
   whole_number-refused,
 }
 use Rattle.speedate_civil.proofs.OffsetLemmas.{offset-cases}
-use Rattle.speedate_civil.proofs.ReadLemmas.{read-value}
+use Rattle.speedate_civil.proofs.ReadLemmas.{read-rows, read-value}
 
 -- An answer whose fault its first bytes show is the same as that of a longer text.
 
@@ -353,12 +359,24 @@ longer fault text count front answer read more inside =
     ∙ whole_or_fault-longer fault (take count text) front.0 front.1 (λ same.
     absurd (omega (arith, more, same, length-take-le count text inside)))
 
+-- a date at the front of a text is one of any front that is as long
+date_front-taken : (text : List ℕ) (count : ℕ) (front : Ymd × ℕ)
+    → date_front text ≡ Ok front → front.1 ≤ count → count ≤ length text
+    → date_front (take count text) ≡ Ok front
+date_front-taken text count front read long inside =
+    let ten : front.1 ≡ 10 =
+    read-value (λ (found : Ymd × ℕ). found.1 ≡ 10) (date_front text) front read
+    (read-rows (λ (found : Ymd × ℕ). found.1 ≡ 10) (date_table text) (Ok (date_numbers text, 10))
+    (λ rows. refl)) in
+    date-taken text count (omega (arith, ten, long)) inside ∙ read
+
 pub date_answer-longer : (text : List ℕ) (count : ℕ) (front : Ymd × ℕ)
-    → date_front text ≡ Ok front → 10 ≤ count → front.1 < count → count ≤ length text
+    → date_front text ≡ Ok front → front.1 < count → count ≤ length text
     → date_answer (take count text) ≡ Err ParseError.ExtraCharacters
-date_answer-longer text count front read long more inside =
+date_answer-longer text count front read more inside =
     longer (λ (date : Ymd). ParseError.ExtraCharacters) text count front
-    (date_front (take count text)) (date-taken text count long inside ∙ read) more inside
+    (date_front (take count text))
+    (date_front-taken text count front read (omega (arith, more)) inside) more inside
 
 pub date_time_answer-longer : (behavior : Behavior) (text : List ℕ) (count : ℕ)
     (front : DateAndTime × ℕ)
@@ -389,14 +407,14 @@ date_or_timestamp-refused unit text count fault read behind long inside =
 
 pub date_or_timestamp-longer : (unit : TimestampUnit) (text : List ℕ) (count : ℕ)
     (front : Ymd × ℕ)
-    → date_front text ≡ Ok front → 10 ≤ count → front.1 < count → count ≤ length text
+    → date_front text ≡ Ok front → front.1 < count → count ≤ length text
     → date_or_timestamp unit (take count text) ≡ Err ParseError.ExtraCharacters
-date_or_timestamp-longer unit text count front read long more inside =
+date_or_timestamp-longer unit text count front read more inside =
     let line : List ℕ = take count text in
     no_timestamp unit line ParseError.ExtraCharacters
-    (date_answer-longer text count front read long more inside)
-    (whole_number-none line
-    (number_answer-date line front (date-taken text count long inside ∙ read)))
+    (date_answer-longer text count front read more inside)
+    (whole_number-none line (number_answer-date line front
+    (date_front-taken text count front read (omega (arith, more)) inside)))
 
 no_number : (config : DateTimeConfig) (text : List ℕ) (fault : ParseError)
     → date_time_answer config.time_config.microseconds_precision_overflow_behavior text ≡ Err fault

@@ -147,12 +147,20 @@ return end '1970-01-02~|1970-01-03~' 2 23 - 1 2
 return end '1970-01-02~~|1970-01-03' 0 0 extra_characters
 end '1970-01-02 |1970-01-03' 0 0 extra_characters
 end '1970-01|-02' 0 0 too_short
+end '1970-x|1-02' 0 0 too_short
+end '1970-x1-02|' 0 0 invalid_char_month
+'1970-01-0~|' 0 0 invalid_char_day
+return '1970-01-0~|' 0 0 too_short
+skip '1970-13-01|1970-13-01x|1970-01-02|' 3 34 - -7 -7 1
 end '86400' 0 0 too_short";
 
 /// The same with timestamps in seconds.
 const DATES_OR_TIMESTAMPS: &str = "\
 end '86400|1970-01-01|172800' 3 23 - 1 0 2
 skip '86400|1970-01-01|1|' 3 19 - 1 0 -7
+skip end '1970-01-01x|1970-13-01|2592000' 3 30 - -7 -7 30
+end '1970-02-30|' 0 0 out_of_range_day
+end '1970-01-01 |' 0 0 extra_characters
 end '1' 0 0 date_not_exact";
 
 /// Each row of date-times and their microseconds, with digits past the sixth dropped.
@@ -165,13 +173,23 @@ return '1970-01-01t00:00Z~|1970-01-01_00:00:02,5-0000~|1970' 2 47 - 0 2500000
 '1970-01-01T00:00Z|1970-01-01T00:00:01Z' 1 18 - 0
 end '0000-01-01T00:00Z|9999-12-31T23:59:59.999999Z' 2 45 - -62167219200000000 253402300799999999
 end '1970-01-01T00:00Z |' 0 0 extra_characters
+end '1970-01-01T00:00 Z|' 0 0 invalid_char_tz_sign
+end '1970-01-01T00:00|Z' 0 0 tz_required
+end '1970-01-01T00:00:|0' 0 0 invalid_char_second
+end '1970-01-01T00:0|0Z..' 0 0 too_short
+end '1970-01-01T00:0x:00Z' 0 0 invalid_char_minute
+end '1970-01-01T00:00:00.|123456789Z' 0 0 second_fraction_missing
+skip '1970-13-01T00:00:00Z|1970-01-01T24:00:00Z|1970-01-01T00:00:00Z,|' 3 64 - -7 -7 -7
 end '1' 0 0 too_short";
 
 /// The same where a date-time without an offset is taken to be in UTC, and timestamps are parsed, in
 /// milliseconds.
 const NAIVE_DATE_TIMES: &str = "\
 end '1970-01-01T00:00:01|1|-1.5' 3 26 - 1000000 1000 -1500
-end '1970-01-01T00:00:01|1970-01-01T00:00:01+00:01|x' 2 46 too_short 1000000 -59000000";
+end '1970-01-01T00:00:01|1970-01-01T00:00:01+00:01|x' 2 46 too_short 1000000 -59000000
+end '1970-01-01T00:00:00.1234567|' 0 0 second_fraction_too_long
+end '1970-01-01T00:00:00.123|4567' 2 28 - 123000 4567000
+skip end '1970-13-01T00:00:00|1970-01-01T00:00:00x|1970-01-01_' 3 52 - -7 -7 -7";
 
 /// Each row of date-times of RFC 3339 alone.
 const STRICT_DATE_TIMES: &str = "\

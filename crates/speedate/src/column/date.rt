@@ -1,8 +1,9 @@
 //! Columns of dates.
 
-use super::{LineError, LineReader};
+use super::{LineError, LineFront, LineReader};
 use speedate_base::config::DateConfig;
-use speedate_civil::date::Date;
+use speedate_base::faults::ParseError;
+use speedate_civil::date::{Date, may_be_number};
 
 /// Reads a line as a date, and counts its days from 1970-01-01: 1 for `1970-01-02`, and -1 for
 /// `1969-12-31`.
@@ -20,6 +21,38 @@ const EPOCH: Date = Date {
     month: 1,
     day: 1,
 };
+
+/// How many bytes a date has.
+const DATE_SIZE: usize = 10;
+
+impl DateReader {
+    ghost use Rattle.std.specs.Prelude.{◌≡◌, Err, IfSome};
+    ghost use Rattle.speedate_civil.specs.Date.{date_front};
+    ghost use Rattle.speedate.specs.Column.{IsFront, date_number, may_be_date_timestamp};
+
+    /// What the first bytes of a text tell that have no date, by their error.
+    #[inline(always)]
+    fn refused_front(&self, text: &[u8], fault: ParseError) -> Option<LineFront<i32>>
+        requires refused { date_front text.now ≡ Err fault }
+        ensures front { IfSome result (IsFront (date_number self.now) text.now) }
+    {
+        if text.len() < DATE_SIZE || self.may_be_timestamp(fault) {
+            return None;
+        }
+        Some(LineFront::refused(LineError::Parse(fault), DATE_SIZE))
+    }
+
+    /// Whether a line that is refused as a date by this error may be a timestamp.
+    #[inline(always)]
+    fn may_be_timestamp(&self, fault: ParseError) -> bool
+        ensures value { result ≡ may_be_date_timestamp self.now fault }
+    {
+        match self {
+            DateReader::Rfc3339 => false,
+            DateReader::OrTimestamp(_) => may_be_number(fault),
+        }
+    }
+}
 
 impl LineReader for DateReader {
     ghost use Rattle.speedate.specs.Column.{date_number};
@@ -41,10 +74,14 @@ impl LineReader for DateReader {
     }
 
     #[inline(always)]
-    fn front(&self, text: &[u8]) -> Option<(i32, usize)> {
+    fn front(&self, text: &[u8]) -> Option<LineFront<i32>> {
         match Date::parse_front(text) {
-            Ok((date, size)) => Some((date.days_since(&EPOCH), size)),
-            Err(_) => None,
+            Ok((date, size)) => Some(LineFront {
+                answer: Ok(date.days_since(&EPOCH)),
+                size,
+                longer: LineError::Parse(ParseError::ExtraCharacters),
+            }),
+            Err(fault) => self.refused_front(text, fault),
         }
     }
 }

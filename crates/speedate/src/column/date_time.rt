@@ -1,9 +1,14 @@
 //! Columns of date-times.
 
-use super::{LineError, LineReader};
+ghost use Rattle.std.specs.Prelude.{◌≡◌};
+ghost use Rattle.speedate_civil.specs.ParserParts.{refusal_size};
+
+use super::{LineError, LineFront, LineReader};
 use speedate_base::config::{DateTimeConfig, MicrosecondsPrecisionOverflowBehavior, TimeConfig};
 use speedate_base::faults::ParseError;
+use speedate_civil::date::may_be_number;
 use speedate_civil::datetime::DateTime;
+use speedate_civil::time::end_fault;
 
 /// How a column parses its date-times: `DateTimeParser::Rfc3339(TimeConfig::default())` takes
 /// `1970-01-01T00:00Z`, and refuses `0`.
@@ -30,16 +35,23 @@ pub struct DateTimeReader {
 }
 
 impl DateTimeReader {
-    ghost use Rattle.std.specs.Prelude.{◌≡◌, ℕ, IfSome, List, Ok};
+    ghost use Rattle.std.specs.Prelude.{◌≡◌, Err, IfSome, MatchOption, Some};
     ghost use Rattle.speedate_base.specs.Config.{time_choices};
     ghost use Rattle.speedate_civil.specs.DateTime.{
-      DateAndTime,
       date_and_time,
-      date_time_answer,
+      date_time_front,
       utc_microsecond,
       ◌gives◌,
     };
-    ghost use Rattle.speedate.specs.Column.{as_number, date_time_of_line, with_offset};
+    ghost use Rattle.speedate.specs.Column.{
+      IsFront,
+      as_number,
+      date_time_number,
+      date_time_of_line,
+      may_be_timestamp,
+      relaxed_behavior,
+      with_offset,
+    };
 
     /// The date-time of a line.
     #[inline(always)]
@@ -58,14 +70,38 @@ impl DateTimeReader {
     /// The configuration of the texts of date-times, unless they are those of RFC 3339 alone.
     #[inline(always)]
     fn text_config(&self) -> Option<&TimeConfig>
-        ensures config { IfSome result (λ config. (line : List ℕ) (value : DateAndTime)
-            → date_time_answer (time_choices config.now).behavior line ≡ Ok value
-            → date_time_of_line self.now.parser line ≡ Ok value) }
+        ensures config { IfSome result (λ config.
+            relaxed_behavior self.now.parser ≡ Some (time_choices config.now).behavior) }
     {
         match &self.parser {
             DateTimeParser::Rfc3339(config) => Some(config),
             DateTimeParser::OrTimestamp(config) => Some(&config.time_config),
             DateTimeParser::Strict(_) => None,
+        }
+    }
+
+    /// What the first bytes of a text tell that have no date-time, by their error.
+    #[inline(always)]
+    fn refused_front(&self, text: &[u8], fault: ParseError) -> Option<LineFront<i64>>
+        requires refused { MatchOption (relaxed_behavior self.now.parser) ⊥
+            (λ behavior. date_time_front behavior text.now ≡ Err fault) }
+        ensures front { IfSome result (IsFront (date_time_number self.now) text.now) }
+    {
+        let size = refusal_size(fault)?;
+        if text.len() < size || self.may_be_timestamp(fault) {
+            return None;
+        }
+        Some(LineFront::refused(LineError::Parse(fault), size))
+    }
+
+    /// Whether a line that is refused as a date-time by this error may be a timestamp.
+    #[inline(always)]
+    fn may_be_timestamp(&self, fault: ParseError) -> bool
+        ensures value { result ≡ may_be_timestamp self.now.parser fault }
+    {
+        match &self.parser {
+            DateTimeParser::OrTimestamp(_) => may_be_number(fault),
+            _ => false,
         }
     }
 
@@ -98,14 +134,41 @@ impl LineReader for DateTimeReader {
     }
 
     #[inline(always)]
-    fn front(&self, text: &[u8]) -> Option<(i64, usize)> {
+    fn front(&self, text: &[u8]) -> Option<LineFront<i64>> {
         let config = self.text_config()?;
         match DateTime::parse_front(text, config) {
-            Ok((value, size)) => match self.microsecond(&value) {
-                Ok(number) => Some((number, size)),
-                Err(_) => None,
-            },
-            Err(_) => None,
+            Ok((value, size)) => Some(LineFront {
+                answer: self.microsecond(&value),
+                size,
+                longer: LineError::Parse(end_fault(value.time.tz_offset)),
+            }),
+            Err(fault) => self.refused_front(text, fault),
         }
+    }
+}
+
+/// How many bytes at the front of a text show that it is refused as a date-time by this error, whatever
+/// follows them, if that is known.
+#[inline(always)]
+fn refusal_size(fault: ParseError) -> Option<usize>
+    ensures size { result ≡ refusal_size fault }
+{
+    match fault {
+        ParseError::InvalidCharYear
+        | ParseError::InvalidCharDateSep
+        | ParseError::InvalidCharMonth
+        | ParseError::InvalidCharDay
+        | ParseError::OutOfRangeMonth
+        | ParseError::OutOfRangeDay
+        | ParseError::InvalidCharDateTimeSep
+        | ParseError::InvalidCharHour
+        | ParseError::InvalidCharTimeSep
+        | ParseError::InvalidCharMinute
+        | ParseError::OutOfRangeHour
+        | ParseError::OutOfRangeMinute
+        | ParseError::InvalidCharSecond
+        | ParseError::OutOfRangeSecond => Some(19),
+        ParseError::SecondFractionMissing | ParseError::SecondFractionTooLong => Some(27),
+        _ => None,
     }
 }

@@ -1,12 +1,12 @@
 //! Columns of durations.
 
-use super::{LineError, LineReader};
+use super::{LineError, LineFront, LineReader};
 use crate::duration::Duration;
 use speedate_base::config::TimeConfig;
 
 /// Reads a line as a duration, as [`Duration::parse_bytes_with_config`] does, and counts its
-/// microseconds, with the sign: -1,500,000 for `-PT1.5S`. One of 2^63 microseconds or more, which are
-/// over 106,751,991 days, is refused, with `NumberTooLarge`.
+/// microseconds, with the sign: -1,500,000 for `-PT1.5S`. One of 2^63 microseconds or more of either
+/// sign, which is over 106,751,991 days, is refused, with `NumberTooLarge`.
 #[derive(Clone, Copy, Debug)]
 pub struct DurationReader {
     /// How a line is parsed.
@@ -48,7 +48,7 @@ impl LineReader for DurationReader {
     }
 
     #[inline(always)]
-    fn front(&self, text: &[u8]) -> Option<(i64, usize)> {
+    fn front(&self, text: &[u8]) -> Option<LineFront<i64>> {
         None
     }
 }

@@ -4,14 +4,16 @@ ghost use Rattle.std.specs.Prelude.{◌≡◌, ◌≢◌, ◌-◌, ◌<◌, ◌�
 ghost use Rattle.speedate_base.specs.Ascii.{carriage_return};
 ghost use Rattle.speedate.specs.Lines.{IsOneLine, whole_lines};
 ghost use Rattle.speedate.specs.Column.{
+  HasNoEnd,
   IsFirstLine,
   IsFirstLineOf,
+  IsFront,
   entry,
   overwritten,
   text_column,
 };
 
-use super::{Line, LineConfig, LineError, LineReader, Progress};
+use super::{Line, LineConfig, LineError, LineFront, LineReader, Progress};
 use crate::lines::{line_end, without_return};
 use speedate_base::numbers::byte_at;
 
@@ -166,7 +168,15 @@ fn first_line<R: LineReader>(text: &[u8], config: LineConfig, reader: &R) -> Opt
     ensures line { MatchOption result (whole_lines config.at_end text.now ≡ [])
         (IsFirstLine (R.answer reader.now) config text.now) }
 {
-    if let Some((number, size)) = reader.front(text) {
+    let front = reader.front(text);
+    if let Some(
+        LineFront {
+            answer: Ok(number),
+            size,
+            ..
+        },
+    ) = front
+    {
         if let Some(size) = size_with_end(text, size, config) {
             return Some(Line {
                 answer: Ok(number),
@@ -174,50 +184,71 @@ fn first_line<R: LineReader>(text: &[u8], config: LineConfig, reader: &R) -> Opt
             });
         }
     }
-    searched_line(text, config, reader)
+    searched_line(text, config, reader, front)
 }
 
-/// The first whole line of a text, if it has one, by a search for its end.
+/// The first whole line of a text, if it has one, by a search for its end, and by what its front tells.
 #[inline(always)]
 fn searched_line<R: LineReader>(
     text: &[u8],
     config: LineConfig,
     reader: &R,
+    front: Option<LineFront<R::Number>>,
 ) -> Option<Line<R::Number>>
+    requires front { IfSome front (IsFront (R.answer reader.now) text.now) }
     ensures line { MatchOption result (whole_lines config.at_end text.now ≡ [])
         (IsFirstLine (R.answer reader.now) config text.now) }
 {
-    let (line, size) = first_text(text, config)?;
+    let (read, size) = first_size(text, config)?;
     Some(Line {
-        answer: reader.number(line),
+        answer: line_answer(text, read, reader, front),
         size,
     })
 }
 
-/// What is read of the first whole line of a text, if it has one, and how many bytes it takes with its
-/// end.
+/// The answer to the first `size` bytes of a text as a line, by what its front tells: they are parsed
+/// only if it does not tell the answer.
 #[inline(always)]
-fn first_text(text: &[u8], config: LineConfig) -> Option<(&[u8], usize)>
+fn line_answer<R: LineReader>(
+    text: &[u8],
+    size: usize,
+    reader: &R,
+    front: Option<LineFront<R::Number>>,
+) -> Result<R::Number, LineError>
+    requires within { size ≤ length text.now }
+    requires front { IfSome front (IsFront (R.answer reader.now) text.now) }
+    ensures answer { result ≡ R.answer reader.now (take size text.now) }
+{
+    match front {
+        Some(front) if front.size < size => Err(front.longer),
+        Some(front) if front.size == size => front.answer,
+        _ => reader.number(&text[..size]),
+    }
+}
+
+/// How many bytes are read of the first whole line of a text, if it has one, and how many it takes
+/// with its end.
+#[inline(always)]
+fn first_size(text: &[u8], config: LineConfig) -> Option<(usize, usize)>
     ensures line { MatchOption result (whole_lines config.at_end text.now ≡ [])
-        (λ line. IsFirstLineOf config text.now line.0.now line.1) }
+        (λ line. IsFirstLineOf config text.now (take line.0 text.now) line.1) }
+    ensures within { IfSome result (λ line. line.0 ≤ length text.now) }
 {
     let drops = config.drops_returns;
     match line_end(text, 0) {
-        Some(end) => Some((without_return(&text[..end], drops), end + 1)),
+        Some(end) => Some((without_return(&text[..end], drops).len(), end + 1)),
         None if config.at_end && !text.is_empty() => {
-            Some((without_return(text, drops), text.len()))
+            Some((without_return(text, drops).len(), text.len()))
         }
         None => None,
     }
 }
 
-/// How many bytes a line takes with its end whose text is the first `size` bytes, if it ends there.
+/// If the first line of a text ends after `size` bytes, how many it takes together with its end.
 #[inline(always)]
 fn size_with_end(text: &[u8], size: usize, config: LineConfig) -> Option<usize>
-    requires there { 0 < size }
     requires within { size ≤ length text.now }
-    requires one_line { IsOneLine text.now 0 size }
-    requires no_return { slice_index text.now (size - 1) ≢ carriage_return }
+    requires no_end { HasNoEnd text.now size }
     ensures line { IfSome result (IsFirstLineOf config text.now (take size text.now)) }
 {
     if size == text.len() {

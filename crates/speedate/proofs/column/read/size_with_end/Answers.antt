@@ -17,8 +17,8 @@ returns-in-10 c =
     omega (arith, c.requires.within, c.if-size-text.false) in
     record {
       line =
-          IsFirstLineOf-feed c.args.config c.args.text.now c.args.size inside c.requires.there
-          c.requires.one_line c.requires.no_return c.in-10.is;
+          IsFirstLineOf-feed c.args.config c.args.text.now c.args.size inside
+          c.requires.no_end.there c.requires.no_end.one_line c.requires.no_end.no_return c.in-10.is;
     }
 
 pub returns-in-13 : goal.returns-in-13
@@ -27,6 +27,6 @@ returns-in-13 c =
     let feed : slice_index text (c.args.size + 1) ≡ line_feed = grind (arith, nat_tests) in
     record {
       line =
-          IsFirstLineOf-return c.args.config text c.args.size c.if-config.true c.requires.one_line
+          IsFirstLineOf-return c.args.config text c.args.size c.if-config.true c.requires.no_end.one_line
           c.in-13.is feed;
     }

@@ -1,10 +1,10 @@
-use Rattle.std.proofs.Common.{rules, ◌≡◌, ◌∙◌, ap, sym, Ok, take}
+use Rattle.std.proofs.Common.{rules, ◌∙◌, ap, sym, refl, Ok}
 use Rattle.speedate_civil.specs.Base.{ParseError}
-use Rattle.speedate_civil.specs.Date.{ymd}
+use Rattle.speedate_civil.specs.Date.{date_answer, ymd}
 use Rattle.speedate.specs.Column.{IsFront, LineError, date_number}
 use Rattle.speedate.proofs.FrontNumberLemmas.{
-  IsFront-printed,
-  date_number-empty,
+  HasNoEnd-read,
+  date_number-longer,
   date_number-of_date,
 }
 use Rattle.speedate.proofs.column.date.DateReaderLineReader.front.Goals as goal
@@ -12,12 +12,20 @@ use Rattle.speedate.proofs.column.date.DateReaderLineReader.front.Goals as goal
 pub returns-in-Ok : goal.returns-in-Ok
 returns-in-Ok c =
     let reader = c.args.self.now in
+    let text = c.args.text.now in
+    let date = ymd c.in-Ok.date in
+    let size = c.in-Ok.size in
     let front = c.in-Ok.ensures in
-    let read : date_number reader (take c.in-Ok.size c.args.text.now) ≡ Ok c.days_since.result =
-    date_number-of_date reader _ (ymd c.in-Ok.date) front.alone
-    ∙ ap Ok (sym c.days_since.ensures.days) in
-    let is : IsFront (date_number reader) c.args.text.now c.days_since.result c.in-Ok.size =
-    IsFront-printed (date_number reader) c.args.text.now _ c.in-Ok.size
-    (LineError.Parse ParseError.TooShort) (date_number-empty reader)
-    front.within front.no_control read in
+    let is : IsFront (date_number reader) text (record {
+      answer = Ok c.days_since.result;
+      size = size;
+      longer = LineError.Parse ParseError.ExtraCharacters;
+    }) =
+    record {
+      within = front.within;
+      answered = date_number-of_date reader _ date front.alone
+          ∙ ap Ok (sym c.days_since.ensures.days);
+      goes_on = λ count. date_number-longer reader text count (date, size) (sym front.answer);
+      number = HasNoEnd-read date_answer text date size refl front.alone front.no_control;
+    } in
     search rules

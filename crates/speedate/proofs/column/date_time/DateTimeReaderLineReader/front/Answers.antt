@@ -1,25 +1,35 @@
-use Rattle.std.proofs.Common.{rules, ◌≡◌, Ok, take}
-use Rattle.speedate_civil.specs.Base.{ParseError}
-use Rattle.speedate_civil.specs.DateTime.{date_and_time}
-use Rattle.speedate.specs.Column.{IsFront, LineError, date_time_number}
+use Rattle.std.proofs.Common.{◌∙◌, ap, sym, refl, Err}
+use Rattle.speedate_base.specs.Config.{time_choices}
+use Rattle.speedate_civil.specs.DateTime.{date_and_time, date_time_answer}
+use Rattle.speedate.specs.Column.{HasNoEnd, LineError}
 use Rattle.speedate.proofs.FrontNumberLemmas.{
-  IsFront-printed,
-  date_time_number-empty,
+  HasNoEnd-read,
+  IfOk-any,
+  date_time_number-longer,
   date_time_number-of_date_time,
 }
 use Rattle.speedate.proofs.column.date_time.DateTimeReaderLineReader.front.Goals as goal
 
-pub returns-in-Ok-microsecond : goal.returns-in-Ok-microsecond
-returns-in-Ok-microsecond c =
+pub returns-in-Ok : goal.returns-in-Ok
+returns-in-Ok c =
     let reader = c.args.self.now in
-    let front = c.in-Ok.ensures in
+    let text = c.args.text.now in
+    let behavior = (time_choices c.in_ok-config.config.now).behavior in
     let value = date_and_time c.in-Ok.value in
-    let number = c.in-Ok-microsecond.number in
-    let parsed = c.in_ok-config.ensures.config _ value front.alone in
-    let read : date_time_number reader (take c.in-Ok.size c.args.text.now) ≡ Ok number =
-    date_time_number-of_date_time reader _ value number parsed c.in-Ok-microsecond.ensures.number in
-    let is : IsFront (date_time_number reader) c.args.text.now number c.in-Ok.size =
-    IsFront-printed (date_time_number reader) c.args.text.now _ c.in-Ok.size
-    (LineError.Parse ParseError.TooShort) (date_time_number-empty reader)
-    front.within front.no_control read in
-    search rules
+    let size = c.in-Ok.size in
+    let front = c.in-Ok.ensures in
+    let relaxed = c.in_ok-config.ensures.config in
+    let bare : HasNoEnd text size =
+    HasNoEnd-read (date_time_answer behavior) text value size refl front.alone front.no_control in
+    record {
+      front = record {
+        within = front.within;
+        answered = date_time_number-of_date_time reader behavior _ value _ relaxed front.alone
+            c.microsecond.ensures.number;
+        goes_on = λ count more inside.
+            date_time_number-longer reader behavior text count (value, size) relaxed
+            (sym front.answer) more inside
+            ∙ ap (λ fault. Err (LineError.Parse fault)) (sym c.end_fault.ensures.fault);
+        number = IfOk-any c.microsecond.result bare;
+      };
+    }
