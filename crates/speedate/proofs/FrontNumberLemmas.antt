@@ -1,19 +1,18 @@
 -- What the front of a text tells of the number of a line.
-use Rattle.std.proofs.Common.{◌≡◌, ◌∙◌, ap, sym, true, false, option_map, ℤ, ℕ, zero, suc, ◌<◌, ◌≤◌, List, [], length, take, Some, Result, Ok, Err, IfOk, MatchOption, arith}
+use Rattle.std.proofs.Common.{◌≡◌, ◌∙◌, ap, sym, true, option_map, ℤ, ℕ, zero, suc, ◌<◌, ◌≤◌, List, [], length, take, Some, Result, Ok, Err, IfOk, arith}
 use Rattle.speedate_civil.specs.Base.{Behavior, ParseError}
 use Rattle.speedate_base.specs.Ascii.{HasNoControl}
 use Rattle.speedate_base.specs.Numbers.{number_answer, whole_number}
-use Rattle.speedate_base.specs.Requirement.{or_number, result_and_then}
+use Rattle.speedate_base.specs.Requirement.{first_fault_or, or_number, result_and_then}
 use Rattle.speedate_civil.specs.Calendar.{Ymd, days_between}
 use Rattle.speedate_civil.specs.Date.{date_answer, date_front, date_timestamp_answer}
 use Rattle.speedate_civil.specs.DateTime.{DateAndTime, date_time_answer, date_time_front, date_time_number_answer, utc_microsecond}
 use Rattle.speedate_civil.specs.ParserParts.{refusal_size}
+use Rattle.speedate_civil.specs.Standard.{standard_date_time, strict_date_time_answer}
 use Rattle.speedate_civil.specs.Time.{end_fault}
 use Rattle.speedate_civil.proofs.LongerTextLemmas.{
   date_answer-longer,
-  date_answer-refused,
   date_or_timestamp-longer,
-  date_or_timestamp-refused,
   date_time_answer-longer,
   date_time_answer-refused,
   date_time_by_config-longer,
@@ -22,7 +21,7 @@ use Rattle.speedate_civil.proofs.LongerTextLemmas.{
 use Rattle.speedate.specs.declared.column.date.DateReader.{DateReader}
 use Rattle.speedate.specs.declared.column.date_time.DateTimeParser.{DateTimeParser}
 use Rattle.speedate.specs.declared.column.date_time.DateTimeReader.{DateTimeReader}
-use Rattle.speedate.specs.Column.{HasNoEnd, IsFront, LineError, as_number, date_number, date_of_line, date_time_number, date_time_of_line, epoch, may_be_date_timestamp, may_be_timestamp, refused_front, relaxed_behavior, with_offset}
+use Rattle.speedate.specs.Column.{HasNoEnd, IsFront, LineError, as_number, date_number, date_of_line, date_time_number, date_time_of_line, epoch, refused_front, text_behavior, text_table, with_offset}
 use Rattle.speedate.proofs.LineLemmas.{IsOneLine-printed, no_return-printed}
 
 -- nothing is read of no bytes
@@ -90,24 +89,6 @@ date_number-longer reader text count front read more inside =
     ap (as_number (days_between epoch))
     (date_of_line-longer reader text count front read more inside)
 
-date_of_line-refused : (reader : DateReader) (text : List ℕ) (count : ℕ) (fault : ParseError)
-    → date_front text ≡ Err fault → may_be_date_timestamp reader fault ≡ false → 10 ≤ count
-    → count ≤ length text
-    → date_of_line reader (take count text) ≡ Err fault
-date_of_line-refused DateReader.Rfc3339 text count fault read other long inside =
-    date_answer-refused text count fault read long inside
-date_of_line-refused (DateReader.OrTimestamp config) text count fault read other long inside =
-    date_or_timestamp-refused config.timestamp_unit text count fault read other long inside
-
--- so is one whose first ten bytes are refused
-pub date_number-refused : (reader : DateReader) (text : List ℕ) (count : ℕ) (fault : ParseError)
-    → date_front text ≡ Err fault → may_be_date_timestamp reader fault ≡ false → 10 ≤ count
-    → count ≤ length text
-    → date_number reader (take count text) ≡ Err (LineError.Parse fault)
-date_number-refused reader text count fault read other long inside =
-    ap (as_number (days_between epoch))
-    (date_of_line-refused reader text count fault read other long inside)
-
 -- Date-times.
 
 -- the number of a line by the answer to it as a date-time
@@ -115,85 +96,82 @@ abbrev number_of : DateTimeReader → Result DateAndTime ParseError → Result �
 number_of reader answer =
     as_number utc_microsecond (result_and_then (with_offset reader.assumes_utc) answer)
 
-same-behavior : (one other : Behavior) → Some one ≡ Some other → one ≡ other
-same-behavior one other same = cc
-
-date_time_of_line-read : (parser : DateTimeParser) (behavior : Behavior) (line : List ℕ)
-    (value : DateAndTime)
-    → relaxed_behavior parser ≡ Some behavior → date_time_answer behavior line ≡ Ok value
-    → date_time_of_line parser line ≡ Ok value
-date_time_of_line-read (DateTimeParser.Rfc3339 config) behavior line value is read =
-    ap (λ (by : Behavior). date_time_answer by line) (same-behavior _ _ is) ∙ read
-date_time_of_line-read (DateTimeParser.OrTimestamp config) behavior line value is read =
+date_time_of_line-read : (parser : DateTimeParser) (line : List ℕ) (value : DateAndTime)
+    → date_time_answer (text_behavior parser) line ≡ Ok value
+    → date_time_of_line parser line ≡ first_fault_or (text_table parser line) (Ok value)
+date_time_of_line-read (DateTimeParser.Rfc3339 config) line value read = read
+date_time_of_line-read (DateTimeParser.OrTimestamp config) line value read =
     let time = config.time_config in
     ap (or_number (date_time_number_answer config.timestamp_unit
     time.microseconds_precision_overflow_behavior time.unix_timestamp_offset
-    (number_answer line)))
-    (ap (λ (by : Behavior). date_time_answer by line) (same-behavior _ _ is) ∙ read)
-date_time_of_line-read (DateTimeParser.Strict strict) behavior line value is read = absurd (cc)
+    (number_answer line))) read
+date_time_of_line-read (DateTimeParser.Strict behavior) line value read =
+    ap (result_and_then (λ (found : DateAndTime).
+    first_fault_or (standard_date_time line) (Ok found))) read
 
--- a date-time that is read is counted, if it has an offset or needs none
-pub date_time_number-of_date_time : (reader : DateTimeReader) (behavior : Behavior)
-    (line : List ℕ) (value : DateAndTime) (answer : Result ℤ LineError)
-    → relaxed_behavior reader.parser ≡ Some behavior → date_time_answer behavior line ≡ Ok value
-    → answer ≡ as_number utc_microsecond (with_offset reader.assumes_utc value)
+-- a date-time that is read is counted, if the parser takes it, and it has an offset or needs none
+pub date_time_number-of_date_time : (reader : DateTimeReader) (line : List ℕ) (value : DateAndTime)
+    (answer : Result ℤ LineError)
+    → date_time_answer (text_behavior reader.parser) line ≡ Ok value
+    → answer ≡ number_of reader (first_fault_or (text_table reader.parser line) (Ok value))
     → date_time_number reader line ≡ answer
-date_time_number-of_date_time reader behavior line value answer is read counted =
-    ap (number_of reader) (date_time_of_line-read reader.parser behavior line value is read)
+date_time_number-of_date_time reader line value answer read counted =
+    ap (number_of reader) (date_time_of_line-read reader.parser line value read)
     ∙ sym counted
 
-date_time_of_line-longer : (parser : DateTimeParser) (behavior : Behavior) (text : List ℕ)
-    (count : ℕ) (front : DateAndTime × ℕ)
-    → relaxed_behavior parser ≡ Some behavior → date_time_front behavior text ≡ Ok front
-    → front.1 < count → count ≤ length text
+-- a text of RFC 3339 alone has the fault of the text
+strict-refused : (behavior : Behavior) (line : List ℕ) (fault : ParseError)
+    → date_time_answer behavior line ≡ Err fault
+    → strict_date_time_answer behavior line ≡ Err fault
+strict-refused behavior line fault read =
+    ap (result_and_then (λ (found : DateAndTime).
+    first_fault_or (standard_date_time line) (Ok found))) read
+
+date_time_of_line-longer : (parser : DateTimeParser) (text : List ℕ) (count : ℕ)
+    (front : DateAndTime × ℕ)
+    → date_time_front (text_behavior parser) text ≡ Ok front → front.1 < count
+    → count ≤ length text
     → date_time_of_line parser (take count text) ≡ Err (end_fault front.0.time.offset)
-date_time_of_line-longer (DateTimeParser.Rfc3339 config) behavior text count front is read more
-    inside =
-    date_time_answer-longer _ text count front
-    (ap (λ (by : Behavior). date_time_front by text) (same-behavior _ _ is) ∙ read) more inside
-date_time_of_line-longer (DateTimeParser.OrTimestamp config) behavior text count front is read more
-    inside =
-    date_time_by_config-longer config text count front
-    (ap (λ (by : Behavior). date_time_front by text) (same-behavior _ _ is) ∙ read) more inside
-date_time_of_line-longer (DateTimeParser.Strict strict) behavior text count front is read more
-    inside =
-    absurd (cc)
+date_time_of_line-longer (DateTimeParser.Rfc3339 config) text count front read more inside =
+    date_time_answer-longer _ text count front read more inside
+date_time_of_line-longer (DateTimeParser.OrTimestamp config) text count front read more inside =
+    date_time_by_config-longer config text count front read more inside
+date_time_of_line-longer (DateTimeParser.Strict behavior) text count front read more inside =
+    strict-refused behavior (take count text) _
+    (date_time_answer-longer behavior text count front read more inside)
 
 -- a line that goes on after a date-time is refused
-pub date_time_number-longer : (reader : DateTimeReader) (behavior : Behavior) (text : List ℕ)
-    (count : ℕ) (front : DateAndTime × ℕ)
-    → relaxed_behavior reader.parser ≡ Some behavior → date_time_front behavior text ≡ Ok front
-    → front.1 < count → count ≤ length text
+pub date_time_number-longer : (reader : DateTimeReader) (text : List ℕ) (count : ℕ)
+    (front : DateAndTime × ℕ)
+    → date_time_front (text_behavior reader.parser) text ≡ Ok front → front.1 < count
+    → count ≤ length text
     → date_time_number reader (take count text)
     ≡ Err (LineError.Parse (end_fault front.0.time.offset))
-date_time_number-longer reader behavior text count front is read more inside =
+date_time_number-longer reader text count front read more inside =
     ap (number_of reader)
-    (date_time_of_line-longer reader.parser behavior text count front is read more inside)
+    (date_time_of_line-longer reader.parser text count front read more inside)
 
 date_time_of_line-refused : (parser : DateTimeParser) (text : List ℕ) (count size : ℕ)
     (fault : ParseError)
-    → MatchOption (relaxed_behavior parser) ⊥ (λ behavior. date_time_front behavior text ≡ Err fault)
-    → refusal_size fault ≡ Some size → may_be_timestamp parser fault ≡ false → size ≤ count
+    → date_time_front (text_behavior parser) text ≡ Err fault
+    → refusal_size fault ≡ Some size → size ≤ count
     → count ≤ length text
     → date_time_of_line parser (take count text) ≡ Err fault
-date_time_of_line-refused (DateTimeParser.Rfc3339 config) text count size fault read takes other
-    long inside =
+date_time_of_line-refused (DateTimeParser.Rfc3339 config) text count size fault read takes long inside =
     date_time_answer-refused _ text count size fault read takes long inside
-date_time_of_line-refused (DateTimeParser.OrTimestamp config) text count size fault read takes other
-    long inside =
-    date_time_by_config-refused config text count size fault read takes other long inside
-date_time_of_line-refused (DateTimeParser.Strict strict) text count size fault read takes other long
-    inside =
-    absurd read
+date_time_of_line-refused (DateTimeParser.OrTimestamp config) text count size fault read takes long inside =
+    date_time_by_config-refused config text count size fault read takes long inside
+date_time_of_line-refused (DateTimeParser.Strict behavior) text count size fault read takes long inside =
+    strict-refused behavior (take count text) fault
+    (date_time_answer-refused behavior text count size fault read takes long inside)
 
 -- so is one whose first bytes are refused
 pub date_time_number-refused : (reader : DateTimeReader) (text : List ℕ) (count size : ℕ)
     (fault : ParseError)
-    → MatchOption (relaxed_behavior reader.parser) ⊥
-    (λ behavior. date_time_front behavior text ≡ Err fault)
-    → refusal_size fault ≡ Some size → may_be_timestamp reader.parser fault ≡ false → size ≤ count
+    → date_time_front (text_behavior reader.parser) text ≡ Err fault
+    → refusal_size fault ≡ Some size → size ≤ count
     → count ≤ length text
     → date_time_number reader (take count text) ≡ Err (LineError.Parse fault)
-date_time_number-refused reader text count size fault read takes other long inside =
+date_time_number-refused reader text count size fault read takes long inside =
     ap (number_of reader)
-    (date_time_of_line-refused reader.parser text count size fault read takes other long inside)
+    (date_time_of_line-refused reader.parser text count size fault read takes long inside)

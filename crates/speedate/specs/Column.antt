@@ -1,10 +1,15 @@
 -- Columns: the lines of a text as numbers.
-use Rattle.std.specs.Prelude.{◌≡◌, ◌≢◌, ℕ, ◌-◌, ◌^◌, ◌<◌, ◌≤◌, Bool, false, ◌||◌, List, [], ◌∷◌, length, slice_index, take, drop, nat_lt, Option, Some, None, is_some, Result, Ok, Err, IfOk, ℤ, unsigned_abs, if◌then◌else◌}
+use Rattle.std.specs.Prelude.{◌≡◌, ◌≢◌, ℕ, ◌-◌, ◌^◌, ◌<◌, ◌≤◌, Bool, ◌||◌, List, [], ◌∷◌, length, slice_index, take, drop, nat_lt, Option, Some, None, is_some, Result, Ok, Err, IfOk, ℤ, unsigned_abs, if◌then◌else◌}
 use Rattle.speedate_civil.specs.Base.{Behavior, ParseError}
 use Rattle.speedate_base.specs.Ascii.{carriage_return}
 use Rattle.speedate_base.specs.Config.{time_choices}
 use Rattle.speedate_base.specs.Fault.{fault_number}
-use Rattle.speedate_base.specs.Requirement.{◌else_fault◌, first_fault_or, result_and_then}
+use Rattle.speedate_base.specs.Requirement.{
+  Requirement,
+  ◌else_fault◌,
+  first_fault_or,
+  result_and_then,
+}
 use Rattle.speedate_civil.specs.Calendar.{Ymd, days_between}
 use Rattle.speedate_civil.specs.Date.{date_answer, date_or_timestamp}
 use Rattle.speedate_civil.specs.DateTime.{
@@ -13,8 +18,7 @@ use Rattle.speedate_civil.specs.DateTime.{
   date_time_by_config,
   utc_microsecond,
 }
-use Rattle.speedate_civil.specs.ParserParts.{may_be_number}
-use Rattle.speedate_civil.specs.Standard.{strict_date_time_answer}
+use Rattle.speedate_civil.specs.Standard.{standard_date_time, strict_date_time_answer}
 pub use Rattle.speedate.specs.declared.column.LineConfig.{LineConfig}
 pub use Rattle.speedate.specs.declared.column.LineError.{LineError}
 use Rattle.speedate.specs.declared.column.Line.{Line}
@@ -125,11 +129,6 @@ as_number number (Err fault) = Err (LineError.Parse fault)
 abbrev pub epoch : Ymd
 epoch = record { year = 1970; month = 1; day = 1 }
 
--- a text that is refused as a date by this fault may be a timestamp, if these are read
-abbrev pub may_be_date_timestamp : DateReader → ParseError → Bool
-may_be_date_timestamp DateReader.Rfc3339 fault = false
-may_be_date_timestamp (DateReader.OrTimestamp config) fault = may_be_number fault
-
 -- the date of a line, or the error
 abbrev pub date_of_line : DateReader → List ℕ → Result Ymd ParseError
 date_of_line DateReader.Rfc3339 line = date_answer line
@@ -139,18 +138,17 @@ date_of_line (DateReader.OrTimestamp config) line = date_or_timestamp config.tim
 abbrev pub date_number : DateReader → List ℕ → Result ℤ LineError
 date_number reader line = as_number (days_between epoch) (date_of_line reader line)
 
--- the behavior for digits past the microsecond, if the texts are those of relaxed date-times
-abbrev pub relaxed_behavior : DateTimeParser → Option Behavior
-relaxed_behavior (DateTimeParser.Rfc3339 config) = Some (time_choices config).behavior
-relaxed_behavior (DateTimeParser.OrTimestamp config) =
-    Some (time_choices config.time_config).behavior
-relaxed_behavior (DateTimeParser.Strict behavior) = None
+-- the behavior for digits past the microsecond of a text
+abbrev pub text_behavior : DateTimeParser → Behavior
+text_behavior (DateTimeParser.Rfc3339 config) = (time_choices config).behavior
+text_behavior (DateTimeParser.OrTimestamp config) = (time_choices config.time_config).behavior
+text_behavior (DateTimeParser.Strict behavior) = behavior
 
--- a text that is refused as a date-time by this fault may be a timestamp, if these are read
-abbrev pub may_be_timestamp : DateTimeParser → ParseError → Bool
-may_be_timestamp (DateTimeParser.Rfc3339 config) fault = false
-may_be_timestamp (DateTimeParser.OrTimestamp config) fault = may_be_number fault
-may_be_timestamp (DateTimeParser.Strict behavior) fault = false
+-- what a text of a date-time has to meet further to be taken
+abbrev pub text_table : DateTimeParser → List ℕ → List Requirement
+text_table (DateTimeParser.Rfc3339 config) text = []
+text_table (DateTimeParser.OrTimestamp config) text = []
+text_table (DateTimeParser.Strict behavior) text = standard_date_time text
 
 -- the date-time of a line, or the error
 abbrev pub date_time_of_line : DateTimeParser → List ℕ → Result DateAndTime ParseError

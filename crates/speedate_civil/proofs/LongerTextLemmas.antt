@@ -330,14 +330,6 @@ kept {A = A} count size answer other fault keeps is takes long =
     subst (λ (given : Result A ParseError). Keeps count given other) is keeps
     (subst (Shown count) (sym takes) long)
 
-pub date_answer-refused : (text : List ℕ) (count : ℕ) (fault : ParseError)
-    → date_front text ≡ Err fault → 10 ≤ count → count ≤ length text
-    → date_answer (take count text) ≡ Err fault
-date_answer-refused text count fault read long inside =
-    ap (result_and_then (whole_or_fault (λ (date : Ymd). ParseError.ExtraCharacters)
-    (take count text)))
-    (date-taken text count long inside ∙ read)
-
 pub date_time_answer-refused : (behavior : Behavior) (text : List ℕ) (count size : ℕ)
     (fault : ParseError)
     → date_time_front behavior text ≡ Err fault → refusal_size fault ≡ Some size → size ≤ count
@@ -395,16 +387,6 @@ no_timestamp : (unit : TimestampUnit) (text : List ℕ) (fault : ParseError)
     → date_or_timestamp unit text ≡ Err fault
 no_timestamp unit text fault read none = search rules
 
-pub date_or_timestamp-refused : (unit : TimestampUnit) (text : List ℕ) (count : ℕ)
-    (fault : ParseError)
-    → date_front text ≡ Err fault → may_be_number fault ≡ false → 10 ≤ count
-    → count ≤ length text
-    → date_or_timestamp unit (take count text) ≡ Err fault
-date_or_timestamp-refused unit text count fault read behind long inside =
-    let line : List ℕ = take count text in
-    let refused = date_answer-refused text count fault read long inside in
-    no_timestamp unit line fault refused (whole_number-refused line fault refused behind)
-
 pub date_or_timestamp-longer : (unit : TimestampUnit) (text : List ℕ) (count : ℕ)
     (front : Ymd × ℕ)
     → date_front text ≡ Ok front → front.1 < count → count ≤ length text
@@ -421,18 +403,22 @@ no_number : (config : DateTimeConfig) (text : List ℕ) (fault : ParseError)
     → number_answer text ≡ NoNumber → date_time_by_config config text ≡ Err fault
 no_number config text fault read none = search rules
 
+-- what the first bytes of a text show is no fault of a number
+no_number-shown : (fault : ParseError) (size : ℕ) → refusal_size fault ≡ Some size
+    → may_be_number fault ≡ false
+no_number-shown fault size takes = search rules
+
 pub date_time_by_config-refused : (config : DateTimeConfig) (text : List ℕ) (count size : ℕ)
     (fault : ParseError)
     → date_time_front config.time_config.microseconds_precision_overflow_behavior text ≡ Err fault
-    → refusal_size fault ≡ Some size → may_be_number fault ≡ false → size ≤ count
-    → count ≤ length text
+    → refusal_size fault ≡ Some size → size ≤ count → count ≤ length text
     → date_time_by_config config (take count text) ≡ Err fault
-date_time_by_config-refused config text count size fault read takes behind long inside =
+date_time_by_config-refused config text count size fault read takes long inside =
     let line : List ℕ = take count text in
     let behavior = config.time_config.microseconds_precision_overflow_behavior in
     let refused = date_time_answer-refused behavior text count size fault read takes long inside in
     no_number config line fault refused (number_answer-refused line (date_time_answer behavior line)
-    fault (λ other is. rw is refl) refused behind)
+    fault (λ other is. rw is refl) refused (no_number-shown fault size takes))
 
 pub date_time_by_config-longer : (config : DateTimeConfig) (text : List ℕ) (count : ℕ)
     (front : DateAndTime × ℕ)

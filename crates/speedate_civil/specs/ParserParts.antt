@@ -33,10 +33,8 @@ may_be_number other = false
 
 -- how many bytes at the front of a text show that it is refused as a date-time by this fault,
 -- whatever follows them, if that is known: a date, a separator, and a clock up to its second, or
--- up to the seventh digit of its fraction
+-- up to the seventh digit of its fraction; no fault that a number may have is among these
 abbrev pub refusal_size : ParseError → Option ℕ
-refusal_size ParseError.InvalidCharYear = Some 19
-refusal_size ParseError.InvalidCharDateSep = Some 19
 refusal_size ParseError.InvalidCharMonth = Some 19
 refusal_size ParseError.InvalidCharDay = Some 19
 refusal_size ParseError.OutOfRangeMonth = Some 19

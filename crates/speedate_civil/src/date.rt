@@ -10,7 +10,7 @@ mod parse;
 mod text;
 mod timestamp;
 
-pub use parse::may_be_number;
+pub(crate) use parse::may_be_number;
 use speedate_base::faults::ParseError;
 use text::TEXT_LENGTH;
 

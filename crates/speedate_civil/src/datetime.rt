@@ -10,6 +10,7 @@ mod timezone;
 use crate::date::Date;
 use crate::time::Time;
 pub use now::Moment;
+pub use parse::require_standard_date_time;
 
 /// A date and a time of day, with an offset from UTC or without one.
 ///

@@ -3,7 +3,7 @@
 use super::{LineError, LineFront, LineReader};
 use speedate_base::config::DateConfig;
 use speedate_base::faults::ParseError;
-use speedate_civil::date::{Date, may_be_number};
+use speedate_civil::date::Date;
 
 /// Reads a line as a date, and counts its days from 1970-01-01: 1 for `1970-01-02`, and -1 for
 /// `1969-12-31`.
@@ -21,38 +21,6 @@ const EPOCH: Date = Date {
     month: 1,
     day: 1,
 };
-
-/// How many bytes a date has.
-const DATE_SIZE: usize = 10;
-
-impl DateReader {
-    ghost use Rattle.std.specs.Prelude.{◌≡◌, Err, IfSome};
-    ghost use Rattle.speedate_civil.specs.Date.{date_front};
-    ghost use Rattle.speedate.specs.Column.{IsFront, date_number, may_be_date_timestamp};
-
-    /// What the first bytes of a text tell that have no date, by their error.
-    #[inline(always)]
-    fn refused_front(&self, text: &[u8], fault: ParseError) -> Option<LineFront<i32>>
-        requires refused { date_front text.now ≡ Err fault }
-        ensures front { IfSome result (IsFront (date_number self.now) text.now) }
-    {
-        if text.len() < DATE_SIZE || self.may_be_timestamp(fault) {
-            return None;
-        }
-        Some(LineFront::refused(LineError::Parse(fault), DATE_SIZE))
-    }
-
-    /// Whether a line that is refused as a date by this error may be a timestamp.
-    #[inline(always)]
-    fn may_be_timestamp(&self, fault: ParseError) -> bool
-        ensures value { result ≡ may_be_date_timestamp self.now fault }
-    {
-        match self {
-            DateReader::Rfc3339 => false,
-            DateReader::OrTimestamp(_) => may_be_number(fault),
-        }
-    }
-}
 
 impl LineReader for DateReader {
     ghost use Rattle.speedate.specs.Column.{date_number};
@@ -81,7 +49,7 @@ impl LineReader for DateReader {
                 size,
                 longer: LineError::Parse(ParseError::ExtraCharacters),
             }),
-            Err(fault) => self.refused_front(text, fault),
+            Err(_) => None,
         }
     }
 }

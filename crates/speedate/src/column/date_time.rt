@@ -6,8 +6,7 @@ ghost use Rattle.speedate_civil.specs.ParserParts.{refusal_size};
 use super::{LineError, LineFront, LineReader};
 use speedate_base::config::{DateTimeConfig, MicrosecondsPrecisionOverflowBehavior, TimeConfig};
 use speedate_base::faults::ParseError;
-use speedate_civil::date::may_be_number;
-use speedate_civil::datetime::DateTime;
+use speedate_civil::datetime::{DateTime, require_standard_date_time};
 use speedate_civil::time::end_fault;
 
 /// How a column parses its date-times: `DateTimeParser::Rfc3339(TimeConfig::default())` takes
@@ -35,8 +34,9 @@ pub struct DateTimeReader {
 }
 
 impl DateTimeReader {
-    ghost use Rattle.std.specs.Prelude.{◌≡◌, Err, IfSome, MatchOption, Some};
+    ghost use Rattle.std.specs.Prelude.{◌≡◌, Err, IfSome, Ok};
     ghost use Rattle.speedate_base.specs.Config.{time_choices};
+    ghost use Rattle.speedate_base.specs.Requirement.{first_fault_or, result_and_then};
     ghost use Rattle.speedate_civil.specs.DateTime.{
       date_and_time,
       date_time_front,
@@ -48,8 +48,8 @@ impl DateTimeReader {
       as_number,
       date_time_number,
       date_time_of_line,
-      may_be_timestamp,
-      relaxed_behavior,
+      text_behavior,
+      text_table,
       with_offset,
     };
 
@@ -67,42 +67,46 @@ impl DateTimeReader {
         }
     }
 
-    /// The configuration of the texts of date-times, unless they are those of RFC 3339 alone.
+    /// A configuration by which texts of date-times are parsed.
     #[inline(always)]
-    fn text_config(&self) -> Option<&TimeConfig>
-        ensures config { IfSome result (λ config.
-            relaxed_behavior self.now.parser ≡ Some (time_choices config.now).behavior) }
+    fn text_config(&self) -> TimeConfig
+        ensures behavior { (time_choices result).behavior ≡ text_behavior self.now.parser }
     {
         match &self.parser {
-            DateTimeParser::Rfc3339(config) => Some(config),
-            DateTimeParser::OrTimestamp(config) => Some(&config.time_config),
-            DateTimeParser::Strict(_) => None,
+            DateTimeParser::Rfc3339(config) => *config,
+            DateTimeParser::OrTimestamp(config) => config.time_config,
+            DateTimeParser::Strict(behavior) => TimeConfig::builder()
+                .microseconds_precision_overflow_behavior(*behavior)
+                .build(),
         }
+    }
+
+    /// The answer to a line that is the text of this date-time.
+    #[inline(always)]
+    fn text_answer(&self, line: &[u8], value: &DateTime) -> Result<i64, LineError>
+        ensures answer { result ≡ as_number utc_microsecond (result_and_then
+            (with_offset self.now.assumes_utc)
+            (first_fault_or (text_table self.now.parser line.now) (Ok (date_and_time value.now)))) }
+    {
+        if let DateTimeParser::Strict(_) = self.parser {
+            if let Err(fault) = require_standard_date_time(line) {
+                return Err(LineError::Parse(fault));
+            }
+        }
+        self.microsecond(value)
     }
 
     /// What the first bytes of a text tell that have no date-time, by their error.
     #[inline(always)]
     fn refused_front(&self, text: &[u8], fault: ParseError) -> Option<LineFront<i64>>
-        requires refused { MatchOption (relaxed_behavior self.now.parser) ⊥
-            (λ behavior. date_time_front behavior text.now ≡ Err fault) }
+        requires refused { date_time_front (text_behavior self.now.parser) text.now ≡ Err fault }
         ensures front { IfSome result (IsFront (date_time_number self.now) text.now) }
     {
         let size = refusal_size(fault)?;
-        if text.len() < size || self.may_be_timestamp(fault) {
+        if text.len() < size {
             return None;
         }
         Some(LineFront::refused(LineError::Parse(fault), size))
-    }
-
-    /// Whether a line that is refused as a date-time by this error may be a timestamp.
-    #[inline(always)]
-    fn may_be_timestamp(&self, fault: ParseError) -> bool
-        ensures value { result ≡ may_be_timestamp self.now.parser fault }
-    {
-        match &self.parser {
-            DateTimeParser::OrTimestamp(_) => may_be_number(fault),
-            _ => false,
-        }
     }
 
     /// The microseconds of a date-time, if it has an offset or needs none.
@@ -125,7 +129,6 @@ impl LineReader for DateTimeReader {
 
     ghost answer = { date_time_number };
 
-    #[inline(always)]
     fn number(&self, line: &[u8]) -> Result<i64, LineError> {
         match self.date_time(line) {
             Ok(value) => self.microsecond(&value),
@@ -135,10 +138,9 @@ impl LineReader for DateTimeReader {
 
     #[inline(always)]
     fn front(&self, text: &[u8]) -> Option<LineFront<i64>> {
-        let config = self.text_config()?;
-        match DateTime::parse_front(text, config) {
+        match DateTime::parse_front(text, &self.text_config()) {
             Ok((value, size)) => Some(LineFront {
-                answer: self.microsecond(&value),
+                answer: self.text_answer(&text[..size], &value),
                 size,
                 longer: LineError::Parse(end_fault(value.time.tz_offset)),
             }),
@@ -154,9 +156,7 @@ fn refusal_size(fault: ParseError) -> Option<usize>
     ensures size { result ≡ refusal_size fault }
 {
     match fault {
-        ParseError::InvalidCharYear
-        | ParseError::InvalidCharDateSep
-        | ParseError::InvalidCharMonth
+        ParseError::InvalidCharMonth
         | ParseError::InvalidCharDay
         | ParseError::OutOfRangeMonth
         | ParseError::OutOfRangeDay

@@ -88,7 +88,7 @@ pub fn read_column_with_errors<R: LineReader>(
 
 /// Reads the lines of a text as numbers, as many as there is room for, and the numbers of their errors,
 /// where there is a place for them.
-#[inline(always)]
+#[inline(never)]
 fn fill<R: LineReader>(
     text: &[u8],
     config: LineConfig,
@@ -168,62 +168,76 @@ fn first_line<R: LineReader>(text: &[u8], config: LineConfig, reader: &R) -> Opt
     ensures line { MatchOption result (whole_lines config.at_end text.now ≡ [])
         (IsFirstLine (R.answer reader.now) config text.now) }
 {
-    let front = reader.front(text);
-    if let Some(
-        LineFront {
-            answer: Ok(number),
-            size,
-            ..
-        },
-    ) = front
-    {
-        if let Some(size) = size_with_end(text, size, config) {
+    match reader.front(text) {
+        Some(front) => line_of_front(text, config, reader, front),
+        None => searched_line(text, config, reader),
+    }
+}
+
+/// The first whole line of a text, if it has one, by what its front tells: it is searched for its end
+/// only if it does not end with the front, and parsed again only if it is shorter.
+#[inline(always)]
+fn line_of_front<R: LineReader>(
+    text: &[u8],
+    config: LineConfig,
+    reader: &R,
+    front: LineFront<R::Number>,
+) -> Option<Line<R::Number>>
+    requires front { IsFront (R.answer reader.now) text.now front }
+    ensures line { MatchOption result (whole_lines config.at_end text.now ≡ [])
+        (IsFirstLine (R.answer reader.now) config text.now) }
+{
+    if let Ok(number) = front.answer {
+        if let Some(size) = size_with_end(text, front.size, config) {
             return Some(Line {
                 answer: Ok(number),
                 size,
             });
         }
     }
-    searched_line(text, config, reader, front)
+    let (read, size) = first_size(text, config)?;
+    Some(Line {
+        answer: answer_by_front(text, read, reader, front),
+        size,
+    })
 }
 
-/// The first whole line of a text, if it has one, by a search for its end, and by what its front tells.
+/// The answer to the first `size` bytes of a text as a line, by what the front tells.
+#[inline(always)]
+fn answer_by_front<R: LineReader>(
+    text: &[u8],
+    size: usize,
+    reader: &R,
+    front: LineFront<R::Number>,
+) -> Result<R::Number, LineError>
+    requires within { size ≤ length text.now }
+    requires front { IsFront (R.answer reader.now) text.now front }
+    ensures answer { result ≡ R.answer reader.now (take size text.now) }
+{
+    if size > front.size {
+        return Err(front.longer);
+    }
+    if size == front.size {
+        return front.answer;
+    }
+    reader.number(&text[..size])
+}
+
+/// The first whole line of a text, if it has one, by a search for its end.
 #[inline(always)]
 fn searched_line<R: LineReader>(
     text: &[u8],
     config: LineConfig,
     reader: &R,
-    front: Option<LineFront<R::Number>>,
 ) -> Option<Line<R::Number>>
-    requires front { IfSome front (IsFront (R.answer reader.now) text.now) }
     ensures line { MatchOption result (whole_lines config.at_end text.now ≡ [])
         (IsFirstLine (R.answer reader.now) config text.now) }
 {
     let (read, size) = first_size(text, config)?;
     Some(Line {
-        answer: line_answer(text, read, reader, front),
+        answer: reader.number(&text[..read]),
         size,
     })
-}
-
-/// The answer to the first `size` bytes of a text as a line, by what its front tells: they are parsed
-/// only if it does not tell the answer.
-#[inline(always)]
-fn line_answer<R: LineReader>(
-    text: &[u8],
-    size: usize,
-    reader: &R,
-    front: Option<LineFront<R::Number>>,
-) -> Result<R::Number, LineError>
-    requires within { size ≤ length text.now }
-    requires front { IfSome front (IsFront (R.answer reader.now) text.now) }
-    ensures answer { result ≡ R.answer reader.now (take size text.now) }
-{
-    match front {
-        Some(front) if front.size < size => Err(front.longer),
-        Some(front) if front.size == size => front.answer,
-        _ => reader.number(&text[..size]),
-    }
 }
 
 /// How many bytes are read of the first whole line of a text, if it has one, and how many it takes

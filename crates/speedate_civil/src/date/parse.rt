@@ -209,8 +209,8 @@ impl FromStr for Date {
     }
 }
 
-/// Whether a text that is refused as a date by this error may be a number, as `TooShort` refuses `1`.
-pub fn may_be_number(fault: ParseError) -> bool
+/// Whether a text that is refused as a date by this error may be a whole number.
+pub(crate) fn may_be_number(fault: ParseError) -> bool
     ensures { result ≡ may_be_number fault }
 {
     matches!(

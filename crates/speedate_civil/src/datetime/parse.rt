@@ -367,9 +367,15 @@ fn has_separator(bytes: &[u8]) -> bool
     matches!(byte, b'T' | b't' | b' ' | b'_')
 }
 
-/// Refuses a text that is parsed as a date-time, but is none of RFC 3339.
+/// Refuses a text that is parsed as a date-time, but is none of RFC 3339: with `InvalidCharDateTimeSep`
+/// for `b"2020-02-29 12:13:14Z"`.
+///
+/// # Errors
+///
+/// Those of [RFC 3339 alone](docs/GRAMMAR.md#rfc-3339-alone), in the order of the rows.
+#[inline]
 #[tactic(auto, using(std::proofs::lemmas::List::take_rest))]
-fn require_standard_date_time(text: &[u8]) -> Result<(), ParseError>
+pub fn require_standard_date_time(text: &[u8]) -> Result<(), ParseError>
     ensures answer { result ≡ first_fault_or (standard_date_time text.now) (Ok tt) }
 {
     if !has_letter_t(text) {

@@ -1,7 +1,7 @@
 use Rattle.std.proofs.Common.{◌∙◌, ap, sym, refl, Err}
-use Rattle.speedate_base.specs.Config.{time_choices}
+use Rattle.speedate_civil.specs.Base.{Behavior}
 use Rattle.speedate_civil.specs.DateTime.{date_and_time, date_time_answer}
-use Rattle.speedate.specs.Column.{HasNoEnd, LineError}
+use Rattle.speedate.specs.Column.{HasNoEnd, LineError, text_behavior}
 use Rattle.speedate.proofs.FrontNumberLemmas.{
   HasNoEnd-read,
   IfOk-any,
@@ -14,22 +14,22 @@ pub returns-in-Ok : goal.returns-in-Ok
 returns-in-Ok c =
     let reader = c.args.self.now in
     let text = c.args.text.now in
-    let behavior = (time_choices c.in_ok-config.config.now).behavior in
+    let behavior : Behavior = text_behavior reader.parser in
     let value = date_and_time c.in-Ok.value in
     let size = c.in-Ok.size in
     let front = c.in-Ok.ensures in
-    let relaxed = c.in_ok-config.ensures.config in
+    let alone = rw c.text_config.ensures.behavior at front.alone in
+    let read = rw c.text_config.ensures.behavior at front.answer in
     let bare : HasNoEnd text size =
-    HasNoEnd-read (date_time_answer behavior) text value size refl front.alone front.no_control in
+    HasNoEnd-read (date_time_answer behavior) text value size refl alone front.no_control in
     record {
       front = record {
         within = front.within;
-        answered = date_time_number-of_date_time reader behavior _ value _ relaxed front.alone
-            c.microsecond.ensures.number;
+        answered = date_time_number-of_date_time reader _ value _ alone
+            c.text_answer.ensures.answer;
         goes_on = λ count more inside.
-            date_time_number-longer reader behavior text count (value, size) relaxed
-            (sym front.answer) more inside
+            date_time_number-longer reader text count (value, size) (sym read) more inside
             ∙ ap (λ fault. Err (LineError.Parse fault)) (sym c.end_fault.ensures.fault);
-        number = IfOk-any c.microsecond.result bare;
+        number = IfOk-any c.text_answer.result bare;
       };
     }
