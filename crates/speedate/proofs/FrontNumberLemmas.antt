@@ -6,7 +6,13 @@ use Rattle.speedate_base.specs.Numbers.{number_answer, whole_number}
 use Rattle.speedate_base.specs.Requirement.{first_fault_or, or_number, result_and_then}
 use Rattle.speedate_civil.specs.Calendar.{Ymd, days_between}
 use Rattle.speedate_civil.specs.Date.{date_answer, date_front, date_timestamp_answer}
-use Rattle.speedate_civil.specs.DateTime.{DateAndTime, date_time_answer, date_time_front, date_time_number_answer, utc_microsecond}
+use Rattle.speedate_civil.specs.DateTime.{
+  DateAndTime,
+  date_time_answer,
+  date_time_front,
+  date_time_number_answer,
+  utc_microsecond,
+}
 use Rattle.speedate_civil.specs.ParserParts.{refusal_size}
 use Rattle.speedate_civil.specs.Standard.{standard_date_time, strict_date_time_answer}
 use Rattle.speedate_civil.specs.Time.{end_fault}
@@ -21,7 +27,21 @@ use Rattle.speedate_civil.proofs.LongerTextLemmas.{
 use Rattle.speedate.specs.declared.column.date.DateReader.{DateReader}
 use Rattle.speedate.specs.declared.column.date_time.DateTimeParser.{DateTimeParser}
 use Rattle.speedate.specs.declared.column.date_time.DateTimeReader.{DateTimeReader}
-use Rattle.speedate.specs.Column.{HasNoEnd, IsFront, LineError, as_number, date_number, date_of_line, date_time_number, date_time_of_line, epoch, refused_front, text_behavior, text_table, with_offset}
+use Rattle.speedate.specs.Column.{
+  HasNoEnd,
+  IsFront,
+  LineError,
+  as_number,
+  date_number,
+  date_of_line,
+  date_time_number,
+  date_time_of_line,
+  epoch,
+  refused_front,
+  text_behavior,
+  text_table,
+  with_offset,
+}
 use Rattle.speedate.proofs.LineLemmas.{IsOneLine-printed, no_return-printed}
 
 -- nothing is read of no bytes
@@ -157,11 +177,14 @@ date_time_of_line-refused : (parser : DateTimeParser) (text : List ℕ) (count s
     → refusal_size fault ≡ Some size → size ≤ count
     → count ≤ length text
     → date_time_of_line parser (take count text) ≡ Err fault
-date_time_of_line-refused (DateTimeParser.Rfc3339 config) text count size fault read takes long inside =
+date_time_of_line-refused (DateTimeParser.Rfc3339 config) text count size fault read takes long
+    inside =
     date_time_answer-refused _ text count size fault read takes long inside
-date_time_of_line-refused (DateTimeParser.OrTimestamp config) text count size fault read takes long inside =
+date_time_of_line-refused (DateTimeParser.OrTimestamp config) text count size fault read takes long
+    inside =
     date_time_by_config-refused config text count size fault read takes long inside
-date_time_of_line-refused (DateTimeParser.Strict behavior) text count size fault read takes long inside =
+date_time_of_line-refused (DateTimeParser.Strict behavior) text count size fault read takes long
+    inside =
     strict-refused behavior (take count text) fault
     (date_time_answer-refused behavior text count size fault read takes long inside)
 

@@ -1,5 +1,5 @@
 -- Columns: the lines of a text as numbers.
-use Rattle.std.specs.Prelude.{◌≡◌, ◌≢◌, ℕ, ◌-◌, ◌^◌, ◌<◌, ◌≤◌, Bool, ◌||◌, List, [], ◌∷◌, length, slice_index, take, drop, nat_lt, Option, Some, None, is_some, Result, Ok, Err, IfOk, ℤ, unsigned_abs, if◌then◌else◌}
+use Rattle.std.specs.Prelude.{◌≡◌, ◌≢◌, ℕ, ◌-◌, ◌^◌, ◌<◌, ◌≤◌, ◌==◌, Bool, ◌||◌, List, [], ◌∷◌, length, slice_index, take, drop, nat_lt, Option, Some, None, is_some, Result, Ok, Err, IfOk, ℤ, unsigned_abs, if◌then◌else◌}
 use Rattle.speedate_civil.specs.Base.{Behavior, ParseError}
 use Rattle.speedate_base.specs.Ascii.{carriage_return}
 use Rattle.speedate_base.specs.Config.{time_choices}
@@ -93,6 +93,12 @@ pub record IsFront {N : Type 0} (answer : List ℕ → Result N LineError) (text
   pub goes_on : (size : ℕ) → front.size < size → size ≤ length text
       → answer (take size text) ≡ Err front.longer
   pub number : IfOk front.answer (λ number. HasNoEnd text front.size)
+
+-- what a front tells of a line of so many bytes: its answer, unless they are fewer
+abbrev pub front_answer : {N : Type 0} → LineFront N → ℕ → Option (Result N LineError)
+front_answer front size =
+    if nat_lt front.size size then Some (Err front.longer)
+    else (if front.size == size then Some front.answer else None)
 
 -- what so many bytes tell with which each line has this error
 abbrev pub refused_front : {N : Type 0} → LineError → ℕ → LineFront N

@@ -98,11 +98,25 @@ pub struct LineFront<N> {
     pub longer: LineError,
 }
 
-impl<N> LineFront<N> {
+impl<N: Copy> LineFront<N> {
     ghost use Rattle.std.specs.Prelude.{◌≡◌};
-    ghost use Rattle.speedate.specs.Column.{refused_front};
+    ghost use Rattle.speedate.specs.Column.{front_answer, refused_front};
 
-    /// What so many bytes tell with which no line is accepted: each is refused with this error.
+    /// The answer to a line of so many bytes, unless they are fewer than these.
+    #[inline(always)]
+    fn answer_to(&self, size: usize) -> Option<Result<N, LineError>>
+        ensures answer { result ≡ front_answer self.now size }
+    {
+        if self.size < size {
+            return Some(Err(self.longer));
+        }
+        if self.size == size {
+            return Some(self.answer);
+        }
+        None
+    }
+
+    /// The front of a text of which each line of so many bytes or more is refused with this error.
     #[inline(always)]
     fn refused(error: LineError, size: usize) -> Self
         ensures front { result ≡ refused_front error size }

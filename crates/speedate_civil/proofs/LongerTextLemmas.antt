@@ -36,14 +36,27 @@ use Rattle.speedate_civil.specs.DateTime.{
   separator_table,
 }
 use Rattle.speedate_civil.specs.ParserParts.{may_be_number, refusal_size}
-use Rattle.speedate_civil.specs.Time.{Clock, TimeOfDay, at_hour, clock_answer, clock_front, end_fault, has_fraction, has_second, hour_range, hour_table, minute_clock, minute_digits, offset_digits, offset_front, offset_ranges, signed_front, time_front}
-use Rattle.speedate_civil.proofs.FrontLemmas.{date-taken, date_time_front-taken}
-use Rattle.speedate_civil.proofs.NumberTextLemmas.{
-  number_answer-date,
-  number_answer-refused,
-  whole_number-none,
-  whole_number-refused,
+use Rattle.speedate_civil.specs.Time.{
+  Clock,
+  TimeOfDay,
+  at_hour,
+  clock_answer,
+  clock_front,
+  end_fault,
+  has_fraction,
+  has_second,
+  hour_range,
+  hour_table,
+  minute_clock,
+  minute_digits,
+  offset_digits,
+  offset_front,
+  offset_ranges,
+  signed_front,
+  time_front,
 }
+use Rattle.speedate_civil.proofs.FrontLemmas.{date-taken, date_time_front-taken}
+use Rattle.speedate_civil.proofs.NumberTextLemmas.{number_answer-date, number_answer-refused, whole_number-none}
 use Rattle.speedate_civil.proofs.OffsetLemmas.{offset-cases}
 use Rattle.speedate_civil.proofs.ReadLemmas.{read-rows, read-value}
 
@@ -168,7 +181,8 @@ fraction_rows behavior rest =
     ∷ []
 
 abbrev fraction_answer : Behavior → List ℕ → Result Clock ParseError
-fraction_answer behavior rest = first_fault_or (fraction_rows behavior rest) (Ok (minute_clock rest))
+fraction_answer behavior rest =
+    first_fault_or (fraction_rows behavior rest) (Ok (minute_clock rest))
 
 takes-fraction : (behavior : Behavior) (rest : List ℕ)
     → Takes (Some 27) (fraction_answer behavior rest)
@@ -211,7 +225,8 @@ fraction_rows-taken behavior rest count long =
     ∷ []
 
 keeps-fraction : (behavior : Behavior) (rest : List ℕ) (count : ℕ)
-    → Keeps (14 + count) (fraction_answer behavior rest) (fraction_answer behavior (take count rest))
+    → Keeps (14 + count) (fraction_answer behavior rest)
+    (fraction_answer behavior (take count rest))
 keeps-fraction behavior rest count =
     let line : List ℕ = take count rest in
     keeps-taken (14 + count) (Some 27) _ _ (takes-fraction behavior rest) (λ shown.

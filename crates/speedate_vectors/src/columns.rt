@@ -194,7 +194,14 @@ skip end '1970-13-01T00:00:00|1970-01-01T00:00:00x|1970-01-01_' 3 52 - -7 -7 -7"
 /// Each row of date-times of RFC 3339 alone.
 const STRICT_DATE_TIMES: &str = "\
 end '1970-01-01T00:00:01Z|1970-01-01 00:00:01Z' 1 21 invalid_char_date_time_sep 1000000
-end '1970-01-01T00:00:00.1234567Z' 0 0 second_fraction_too_long";
+end '1970-01-01T00:00:00.1234567Z' 0 0 second_fraction_too_long
+end '1970-01-01T00:00:00+01:00|1970-01-01t00:00:00.5z|1970-01-01T00:00:00+0100' 2 49 invalid_char_tz_minute -3600000000 500000
+end '1970-01-01T00:00Z|' 0 0 invalid_char_time_sep
+end '1970-01-01T00:00:00|Z' 0 0 tz_required
+end '1970-01-01T00:00:00Z |' 0 0 extra_characters
+end '1970-01-01 00:00:00x|' 0 0 invalid_char_tz_sign
+return '1970-01-01T00:00:00Z~|1970-01-32T00:00:00Z~|' 1 22 out_of_range_day 0
+end '1' 0 0 too_short";
 
 /// Each row of durations and their microseconds.
 const DURATIONS: &str = "\

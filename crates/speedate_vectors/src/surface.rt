@@ -3,8 +3,9 @@
 use speedate::{
     ConfigError, Date, DateConfig, DateConfigBuilder, DateReader, DateTime, DateTimeConfig,
     DateTimeConfigBuilder, DateTimeParser, DateTimeReader, Decimal, Duration, DurationReader,
-    IntFloat, IsoOrder, LineConfig, LineError, LineReader, MicrosecondsPrecisionOverflowBehavior,
-    Moment, ParseError, Progress, Time, TimeConfig, TimeConfigBuilder, TimestampUnit,
+    IntFloat, IsoOrder, LineConfig, LineError, LineFront, LineReader,
+    MicrosecondsPrecisionOverflowBehavior, Moment, ParseError, Progress, Time, TimeConfig,
+    TimeConfigBuilder, TimestampUnit,
 };
 use std::error::Error;
 use std::fmt::{Debug, Display};
@@ -29,7 +30,7 @@ fn is_error<T: Error + Copy + Eq>() {}
 #[test]
 fn each_type_has_its_traits() {
     is_copied::<(Decimal<'_>, IntFloat<'_>)>();
-    is_copied::<(LineConfig, Progress, DateTimeParser)>();
+    is_copied::<(LineConfig, LineFront<i64>, Progress, DateTimeParser)>();
     is_reader::<DateReader>();
     is_reader::<DateTimeReader>();
     is_reader::<DurationReader>();

@@ -96,7 +96,7 @@ impl DateTimeReader {
         self.microsecond(value)
     }
 
-    /// What the first bytes of a text tell that have no date-time, by their error.
+    /// What the first bytes of a text tell of a line, if they are refused as a date-time by this error.
     #[inline(always)]
     fn refused_front(&self, text: &[u8], fault: ParseError) -> Option<LineFront<i64>>
         requires refused { date_time_front (text_behavior self.now.parser) text.now ≡ Err fault }

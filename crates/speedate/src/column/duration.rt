@@ -39,7 +39,6 @@ impl LineReader for DurationReader {
 
     ghost answer = { duration_number };
 
-    #[inline(always)]
     fn number(&self, line: &[u8]) -> Result<i64, LineError> {
         match Duration::parse_bytes_with_config(line, &self.config) {
             Ok(duration) => Self::microseconds(&duration),

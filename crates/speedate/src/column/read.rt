@@ -1,19 +1,17 @@
 //! The column of a text.
 
-ghost use Rattle.std.specs.Prelude.{◌≡◌, ◌≢◌, ◌-◌, ◌<◌, ◌≤◌, ◌++◌, [], IfSome, MatchOption, None, Some, drop, length, min, slice_index, slice_set, take};
-ghost use Rattle.speedate_base.specs.Ascii.{carriage_return};
-ghost use Rattle.speedate.specs.Lines.{IsOneLine, whole_lines};
+ghost use Rattle.std.specs.Prelude.{◌≡◌, ◌≤◌, ◌++◌, [], IfSome, MatchOption, None, Some, drop, length, min, slice_set, take};
+ghost use Rattle.speedate.specs.Lines.{whole_lines};
 ghost use Rattle.speedate.specs.Column.{
   HasNoEnd,
   IsFirstLine,
   IsFirstLineOf,
-  IsFront,
   entry,
   overwritten,
   text_column,
 };
 
-use super::{Line, LineConfig, LineError, LineFront, LineReader, Progress};
+use super::{Line, LineConfig, LineError, LineReader, Progress};
 use crate::lines::{line_end, without_return};
 use speedate_base::numbers::byte_at;
 
@@ -162,65 +160,28 @@ fn entry<N: Copy>(answer: Result<N, LineError>, refused: Option<N>) -> Result<(N
     }
 }
 
-/// The first whole line of a text, if it has one.
+/// The first whole line of a text, if it has one. A line that is read at the front of the text is not
+/// searched for its end, and one whose answer the front tells is parsed once.
 #[inline(always)]
 fn first_line<R: LineReader>(text: &[u8], config: LineConfig, reader: &R) -> Option<Line<R::Number>>
     ensures line { MatchOption result (whole_lines config.at_end text.now ≡ [])
         (IsFirstLine (R.answer reader.now) config text.now) }
 {
-    match reader.front(text) {
-        Some(front) => line_of_front(text, config, reader, front),
-        None => searched_line(text, config, reader),
-    }
-}
-
-/// The first whole line of a text, if it has one, by what its front tells: it is searched for its end
-/// only if it does not end with the front, and parsed again only if it is shorter.
-#[inline(always)]
-fn line_of_front<R: LineReader>(
-    text: &[u8],
-    config: LineConfig,
-    reader: &R,
-    front: LineFront<R::Number>,
-) -> Option<Line<R::Number>>
-    requires front { IsFront (R.answer reader.now) text.now front }
-    ensures line { MatchOption result (whole_lines config.at_end text.now ≡ [])
-        (IsFirstLine (R.answer reader.now) config text.now) }
-{
-    if let Ok(number) = front.answer {
-        if let Some(size) = size_with_end(text, front.size, config) {
-            return Some(Line {
-                answer: Ok(number),
-                size,
-            });
+    if let Some(front) = reader.front(text) {
+        if let Ok(number) = front.answer {
+            if let Some(size) = size_with_end(text, front.size, config) {
+                return Some(Line {
+                    answer: Ok(number),
+                    size,
+                });
+            }
+        }
+        let (read, size) = first_size(text, config)?;
+        if let Some(answer) = front.answer_to(read) {
+            return Some(Line { answer, size });
         }
     }
-    let (read, size) = first_size(text, config)?;
-    Some(Line {
-        answer: answer_by_front(text, read, reader, front),
-        size,
-    })
-}
-
-/// The answer to the first `size` bytes of a text as a line, by what the front tells.
-#[inline(always)]
-fn answer_by_front<R: LineReader>(
-    text: &[u8],
-    size: usize,
-    reader: &R,
-    front: LineFront<R::Number>,
-) -> Result<R::Number, LineError>
-    requires within { size ≤ length text.now }
-    requires front { IsFront (R.answer reader.now) text.now front }
-    ensures answer { result ≡ R.answer reader.now (take size text.now) }
-{
-    if size > front.size {
-        return Err(front.longer);
-    }
-    if size == front.size {
-        return front.answer;
-    }
-    reader.number(&text[..size])
+    searched_line(text, config, reader)
 }
 
 /// The first whole line of a text, if it has one, by a search for its end.

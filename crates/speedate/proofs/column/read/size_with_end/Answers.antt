@@ -27,6 +27,6 @@ returns-in-13 c =
     let feed : slice_index text (c.args.size + 1) ≡ line_feed = grind (arith, nat_tests) in
     record {
       line =
-          IsFirstLineOf-return c.args.config text c.args.size c.if-config.true c.requires.no_end.one_line
-          c.in-13.is feed;
+          IsFirstLineOf-return c.args.config text c.args.size c.if-config.true
+          c.requires.no_end.one_line c.in-13.is feed;
     }
