@@ -94,13 +94,13 @@ pub record IsFront {N : Type 0} (answer : List ℕ → Result N LineError) (text
       → answer (take size text) ≡ Err front.longer
   pub number : IfOk front.answer (λ number. HasNoEnd text front.size)
 
--- what a front tells of a line of so many bytes: its answer, unless they are fewer
+-- what a front tells of a line of so many bytes: its answer, unless the line is shorter
 abbrev pub front_answer : {N : Type 0} → LineFront N → ℕ → Option (Result N LineError)
 front_answer front size =
     if nat_lt front.size size then Some (Err front.longer)
     else (if front.size == size then Some front.answer else None)
 
--- what so many bytes tell with which each line has this error
+-- what so many bytes tell if each line that begins with them has this error
 abbrev pub refused_front : {N : Type 0} → LineError → ℕ → LineFront N
 refused_front error size = record { answer = Err error; size = size; longer = error }
 

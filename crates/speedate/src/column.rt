@@ -102,7 +102,7 @@ impl<N: Copy> LineFront<N> {
     ghost use Rattle.std.specs.Prelude.{◌≡◌};
     ghost use Rattle.speedate.specs.Column.{front_answer, refused_front};
 
-    /// The answer to a line of so many bytes, unless they are fewer than these.
+    /// The answer to a line of so many bytes, unless it is shorter than the front.
     #[inline(always)]
     fn answer_to(&self, size: usize) -> Option<Result<N, LineError>>
         ensures answer { result ≡ front_answer self.now size }
@@ -116,7 +116,8 @@ impl<N: Copy> LineFront<N> {
         None
     }
 
-    /// The front of a text of which each line of so many bytes or more is refused with this error.
+    /// What the first `size` bytes of a text tell if each line that begins with them is refused with this
+    /// error.
     #[inline(always)]
     fn refused(error: LineError, size: usize) -> Self
         ensures front { result ≡ refused_front error size }
