@@ -56,7 +56,11 @@ use Rattle.speedate_civil.specs.Time.{
   time_front,
 }
 use Rattle.speedate_civil.proofs.FrontLemmas.{date-taken, date_time_front-taken}
-use Rattle.speedate_civil.proofs.NumberTextLemmas.{number_answer-date, number_answer-refused, whole_number-none}
+use Rattle.speedate_civil.proofs.NumberTextLemmas.{
+  number_answer-date,
+  number_answer-refused,
+  whole_number-none,
+}
 use Rattle.speedate_civil.proofs.OffsetLemmas.{offset-cases}
 use Rattle.speedate_civil.proofs.ReadLemmas.{read-rows, read-value}
 
