@@ -29,7 +29,15 @@ macro_rules! parse_errors {
                 })
             }
 
-            fn name(&self) -> &'static str {
+            /// The number of the error, by which C and columns name it: 1 for [`TooShort`](Self::TooShort), the first.
+            #[must_use]
+            pub fn number(&self) -> u8 {
+                match self {
+                    $(Self::$variant => $number,)*
+                }
+            }
+
+            pub(crate) fn name(&self) -> &'static str {
                 match self {
                     $(Self::$variant => $name,)*
                 }
@@ -144,6 +152,7 @@ mod tests {
     fn names_and_texts_are_those_of_c() {
         for number in 1..=40 {
             let error = ParseError::numbered(number).unwrap();
+            assert_eq!(i32::from(error.number()), number);
             assert_eq!(Buffer::new().speedate_code_name(number), Ok(error.name()));
             assert_eq!(Buffer::new().speedate_code_documentation(number).ok(), error.get_documentation());
         }
