@@ -52,7 +52,8 @@ impl LineError {
         }
     }
 
-    /// The error of a number that [`read_column_with_errors`] has written. It is `None` for 0.
+    /// The error of a number that [`read_column_with_errors`] has written. It is `None` for 0; [`ParseError`] says which one
+    /// stands for a number that the package does not know.
     #[must_use]
     pub fn numbered(number: u8) -> Option<Self> {
         Code::from(number).into()
@@ -71,7 +72,7 @@ impl fmt::Display for LineError {
 
 impl Error for LineError {}
 
-/// How far a column has come. What [`read_column`] shows has it.
+/// How far a column has come. [`read_column`] has an example.
 #[derive(Debug, PartialEq, Eq, Clone)]
 pub struct Progress {
     /// How many lines have a number in the column.
@@ -87,14 +88,14 @@ mod sealed {
     pub trait Sealed {}
 }
 
-/// Reads a line as a number. A [`DateReader`], a [`DateTimeReader`] and a [`DurationReader`] do.
+/// Reads a line as a number. A [`DateReader`], a [`DateTimeReader`] and a [`DurationReader`] do, and no other type can.
 ///
 /// ```
 /// use speedate::{read_column, DateReader, DurationReader, LineConfig, LineReader, TimeConfig};
 ///
 /// fn first<R: LineReader<Number: Default>>(text: &str, reader: &R) -> R::Number {
-///     let (lines, mut out) = (LineConfig { at_end: true, drops_returns: false }, [R::Number::default()]);
-///     read_column(text.as_bytes(), lines, reader, &mut out).unwrap();
+///     let (config, mut out) = (LineConfig { at_end: true, drops_returns: false }, [R::Number::default()]);
+///     read_column(text.as_bytes(), config, reader, &mut out).unwrap();
 ///     out[0]
 /// }
 ///
@@ -106,13 +107,13 @@ pub trait LineReader: sealed::Sealed {
     type Number: Copy;
 
     #[doc(hidden)]
-    fn column(&self, text: &[u8], lines: LineConfig, out: &mut [Self::Number]) -> Result<Progress, ParseError>;
+    fn column(&self, text: &[u8], config: LineConfig, out: &mut [Self::Number]) -> Result<Progress, ParseError>;
 
     #[doc(hidden)]
     fn column_with_errors(
         &self,
         text: &[u8],
-        lines: LineConfig,
+        config: LineConfig,
         out: &mut [Self::Number],
         errors: &mut [u8],
     ) -> Result<Progress, ParseError>;
@@ -120,15 +121,15 @@ pub trait LineReader: sealed::Sealed {
 
 /// Reads the whole lines of a text as numbers, in order, as many as `out` has room for, and returns how far it came.
 ///
-/// A line is ended by a line feed, or by the end of the text if `lines` says so. An empty line is a line. One that is
+/// A line is ended by a line feed, or by the end of the text if `config` says so. An empty line is a line. One that is
 /// refused ends the column, and the progress has its error. What follows the bytes that the progress counts is left for a
 /// further call. The other places of `out` stay as they are.
 ///
 /// ```
 /// use speedate::{read_column, DateReader, LineConfig, LineError, ParseError, Progress};
 ///
-/// let (lines, mut out) = (LineConfig { at_end: true, drops_returns: false }, [0; 8]);
-/// let progress = read_column(b"1970-01-02\n1969-12-31\n2021-02-29\n", lines, &DateReader::Rfc3339, &mut out)?;
+/// let (config, mut out) = (LineConfig { at_end: true, drops_returns: false }, [0; 8]);
+/// let progress = read_column(b"1970-01-02\n1969-12-31\n2021-02-29\n", config, &DateReader::Rfc3339, &mut out)?;
 /// let error = Some(LineError::Parse(ParseError::OutOfRangeDay));
 /// assert_eq!(progress, Progress { lines: 2, bytes: 22, error });
 /// assert_eq!(out[..progress.lines], [1, -1]);
@@ -142,11 +143,11 @@ pub trait LineReader: sealed::Sealed {
 #[inline]
 pub fn read_column<R: LineReader>(
     text: &[u8],
-    lines: LineConfig,
+    config: LineConfig,
     reader: &R,
     out: &mut [R::Number],
 ) -> Result<Progress, ParseError> {
-    reader.column(text, lines, out)
+    reader.column(text, config, out)
 }
 
 /// Reads the whole lines of a text as numbers, as [`read_column`] does, and writes the number of the error of each line
@@ -158,9 +159,9 @@ pub fn read_column<R: LineReader>(
 /// ```
 /// use speedate::{read_column_with_errors, DateReader, LineConfig, LineError, ParseError};
 ///
-/// let lines = LineConfig { at_end: true, drops_returns: false };
+/// let config = LineConfig { at_end: true, drops_returns: false };
 /// let (mut out, mut errors) = ([0; 2], [0; 2]);
-/// read_column_with_errors(b"1970-01-02\nnever-ever\n", lines, &DateReader::Rfc3339, &mut out, &mut errors)?;
+/// read_column_with_errors(b"1970-01-02\nnever-ever\n", config, &DateReader::Rfc3339, &mut out, &mut errors)?;
 /// assert_eq!(out, [1, i32::MIN]);
 /// assert_eq!(errors.map(LineError::numbered), [None, Some(LineError::Parse(ParseError::InvalidCharYear))]);
 /// # Ok::<(), ParseError>(())
@@ -172,12 +173,12 @@ pub fn read_column<R: LineReader>(
 #[inline]
 pub fn read_column_with_errors<R: LineReader>(
     text: &[u8],
-    lines: LineConfig,
+    config: LineConfig,
     reader: &R,
     out: &mut [R::Number],
     errors: &mut [u8],
 ) -> Result<Progress, ParseError> {
-    reader.column_with_errors(text, lines, out, errors)
+    reader.column_with_errors(text, config, out, errors)
 }
 
 /// Defines what a reader reads, by its functions of C.
@@ -189,19 +190,19 @@ macro_rules! reader {
             type Number = $number;
 
             #[inline]
-            fn column(&self, text: &[u8], lines: LineConfig, out: &mut [$number]) -> Result<Progress, ParseError> {
-                Ok(ffi::$column(text, lines, self, out)?)
+            fn column(&self, text: &[u8], config: LineConfig, out: &mut [$number]) -> Result<Progress, ParseError> {
+                Ok(ffi::$column(text, config, self, out)?)
             }
 
             #[inline]
             fn column_with_errors(
                 &self,
                 text: &[u8],
-                lines: LineConfig,
+                config: LineConfig,
                 out: &mut [$number],
                 errors: &mut [u8],
             ) -> Result<Progress, ParseError> {
-                Ok(ffi::$column_with_errors(text, lines, self, out, errors)?)
+                Ok(ffi::$column_with_errors(text, config, self, out, errors)?)
             }
         }
     };
@@ -212,8 +213,8 @@ macro_rules! reader {
 /// ```
 /// use speedate::{read_column, DateConfig, DateReader, LineConfig};
 ///
-/// let (lines, mut out) = (LineConfig { at_end: true, drops_returns: false }, [0; 2]);
-/// read_column(b"86400\n1970-01-02", lines, &DateReader::OrTimestamp(DateConfig::default()), &mut out).unwrap();
+/// let (config, mut out) = (LineConfig { at_end: true, drops_returns: false }, [0; 2]);
+/// read_column(b"86400\n1970-01-02", config, &DateReader::OrTimestamp(DateConfig::default()), &mut out).unwrap();
 /// assert_eq!(out, [1, 1]);
 /// ```
 #[derive(Debug, Clone, PartialEq)]
@@ -263,8 +264,8 @@ pub enum DateTimeParser {
 /// use speedate::{read_column, DateTimeParser, DateTimeReader, LineConfig, TimeConfig};
 ///
 /// let reader = DateTimeReader { parser: DateTimeParser::Rfc3339(TimeConfig::default()), assumes_utc: true };
-/// let (lines, mut out) = (LineConfig { at_end: true, drops_returns: false }, [0; 2]);
-/// read_column(b"1970-01-01T00:00:01\n1970-01-01T01:00+01:00\n", lines, &reader, &mut out).unwrap();
+/// let (config, mut out) = (LineConfig { at_end: true, drops_returns: false }, [0; 2]);
+/// read_column(b"1970-01-01T00:00:01\n1970-01-01T01:00+01:00\n", config, &reader, &mut out).unwrap();
 /// assert_eq!(out, [1_000_000, 0]);
 /// ```
 #[derive(Debug, Clone, PartialEq)]
@@ -308,9 +309,9 @@ impl From<&DateTimeReader> for ColumnConfig {
 /// ```
 /// use speedate::{read_column, DurationReader, LineConfig, LineError, TimeConfig};
 ///
-/// let (lines, mut out) = (LineConfig { at_end: true, drops_returns: false }, [0; 8]);
+/// let (config, mut out) = (LineConfig { at_end: true, drops_returns: false }, [0; 8]);
 /// let reader = DurationReader { config: TimeConfig::default() };
-/// let progress = read_column(b"-PT1.5S\n106751992 days\n", lines, &reader, &mut out).unwrap();
+/// let progress = read_column(b"-PT1.5S\n106751992 days\n", config, &reader, &mut out).unwrap();
 /// assert_eq!((out[0], progress.error), (-1_500_000, Some(LineError::NumberTooLarge)));
 /// ```
 #[derive(Debug, Clone, PartialEq)]
