@@ -10,6 +10,7 @@ macro_rules! parse_errors {
         /// let error = speedate::Date::parse_str("2021-02-29").unwrap_err();
         /// assert_eq!(error, speedate::ParseError::OutOfRangeDay);
         /// assert_eq!(error.to_string(), "out_of_range_day");
+        /// assert_eq!(error.number(), 22);
         /// assert_eq!(error.get_documentation(), Some("day value is outside expected range"));
         /// ```
         ///
