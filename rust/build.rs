@@ -35,7 +35,7 @@ impl Installed {
             ["OS", "ARCH"].map(|it| env::var(format!("CARGO_CFG_TARGET_{it}")).unwrap_or_default());
         if system != "linux" || !["x86_64", "aarch64"].contains(&&*processor) {
             return Err(format!(
-                "the library is built for Linux on x86-64 and ARM64 alone, and the target is {target}"
+                "the library is built for Linux on x86-64 and 64-bit ARM alone, and the target is {target}"
             ));
         }
         let flag = if processor == "aarch64" { "--target aarch64 " } else { "" };

@@ -620,13 +620,16 @@ static inline bool goes_on(const ColumnReader *reader, int code) {
     return code == SPEEDATE_OK || (reader->lines.goes_on && code <= LAST_OF_TEXTS);
 }
 
-/* Cuts off what ends a line of a file: a line feed, and a carriage return before it. */
-static inline void cut_line_end(const ColumnReader *reader, Text *line) {
-    if (line->size == 0 || line->bytes[line->size - 1] != '\n')
-        return;
-    line->size--;
-    if (reader->lines.drops_returns && line->size > 0 && line->bytes[line->size - 1] == '\r')
+static inline void cut(Text *line, char end) {
+    if (line->size > 0 && line->bytes[line->size - 1] == end)
         line->size--;
+}
+
+/* Cuts off what ends a line of a file, as the library does: a line feed, and then a carriage return. */
+static inline void cut_line_end(const ColumnReader *reader, Text *line) {
+    cut(line, '\n');
+    if (reader->lines.drops_returns)
+        cut(line, '\r');
 }
 
 /* A column: the numbers so far, in an array and in the block that is being filled. */
@@ -692,14 +695,13 @@ static int add_faults(Column *column, size_t lines) {
     return 0;
 }
 
-/* Reads lines into the block, and tells how many bytes of them: lines that end, or a last one that does not, and of which
- * a carriage return is part. What has the bytes keeps them as they are. */
+/* Reads lines into the block, and tells how many bytes of them: lines that end, or a last one that does not. What has the
+ * bytes keeps them as they are. */
 static int add_some_lines(Column *column, const Text *text, bool is_last, size_t *bytes) {
     const ColumnReader *reader = &column->reader;
     SpeedateColumnConfig lines = reader->lines;
     SpeedateProgress progress = {0, 0, SPEEDATE_OK};
     lines.more_follows = !is_last;
-    lines.drops_returns = lines.drops_returns && !is_last;
     uint8_t *codes = column->codes ? column->codes + column->count : NULL;
     PyThreadState *thread = text->size >= LONG_BYTES ? PyEval_SaveThread() : NULL;
     int code = reader->read(text, reader->config, lines, column->numbers + column->count, codes,
@@ -1242,10 +1244,10 @@ static PyMethodDef methods[] = {
            "(texts, config=None, *, strict=False, timestamps=False, naive='error', faults='raise', newline='\\r\\n')",
            "The microseconds from 1970-01-01T00:00Z to each date-time, as an `array.array(\"q\")`.\n\n"
            "`texts` is an iterable of texts, each as `date_time` takes it; or a file, or bytes in memory, such as `bytes` and an\n"
-           "`mmap`, whose lines they are. A line feed ends a line, with a carriage return before it, if there is one; the last\n"
-           "line may lack its end. With `newline=\"\\n\"` a carriage return is part of the text. A mapping and a DataFrame are a\n"
-           "`TypeError`: pass one column. With `strict=True` texts are parsed as by `date_time_strict`, and with\n"
-           "`timestamps=True` they may be timestamps.\n\n"
+           "`mmap`, whose lines they are. A line feed ends a line, which the last one may lack. A carriage return at the end\n"
+           "of a line is dropped; with `newline=\"\\n\"` it is part of the text. A mapping and a DataFrame are a `TypeError`: pass\n"
+           "one column. With `strict=True` texts are parsed as by `date_time_strict`, and with `timestamps=True` they may be\n"
+           "timestamps.\n\n"
            "A text without an offset fails with `tz_required`, or is taken as UTC with `naive=\"utc\"`; so is a timestamp, unless\n"
            "the configuration has an offset: for Unix time it is `Config(timestamp_offset=0)`.\n\n"
            "The first text that is refused raises its `Fault`, whose `index` is its place. With `faults=\"nat\"` the smallest\n"

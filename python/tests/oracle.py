@@ -302,7 +302,7 @@ def _view(texts):
 
 
 def _lines(texts, ends):
-    """The texts of a column. Of lines one of some ends, the first one that is there, is cut off."""
+    """The texts of a column. Of lines each of some ends, in their order, is cut off, if it is there."""
     view = None if isinstance(texts, (bytes, bytearray)) else _view(texts)
     if view is not None or isinstance(texts, (bytes, bytearray)):
         texts = io.BytesIO(view.tobytes() if view is not None else _bytes(texts))
@@ -314,7 +314,9 @@ def _lines(texts, ends):
             yield it
             continue
         line = _bytes(it)
-        yield line[: len(line) - len(next((end for end in ends if line.endswith(end)), b""))]
+        for end in ends:
+            line = line[:-1] if line.endswith(end) else line
+        yield line
 
 
 def _is_missing(text):
@@ -324,7 +326,7 @@ def _is_missing(text):
 def _column(read, texts, faults, newline):
     """The numbers of texts, each by a call that gives it of the bytes, or raises a Fault."""
     column = array.array("q")
-    for index, text in enumerate(_lines(texts, [b"\r\n", b"\n"] if newline == "\r\n" else [b"\n"])):
+    for index, text in enumerate(_lines(texts, [b"\n", b"\r"] if newline == "\r\n" else [b"\n"])):
         if _is_missing(text):
             column.append(-(2**63))
             continue

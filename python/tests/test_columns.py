@@ -134,7 +134,7 @@ class Sources(unittest.TestCase):
             with open(path, "rb") as file:
                 self.assertEqual(column(file, newline="\n", faults=faults), [1_000_000, NAT, NAT])
             self.assertEqual(list(map(str, faults)), ["too_short in text 1", "extra_characters in text 2"])
-        self.assertEqual(column(Reads(f"{SECOND}\n", None, f"{SECOND}\n\n", f"{SECOND}\r")), [1_000_000, NAT, NAT, NAT])
+        self.assertEqual(column(Reads(f"{SECOND}\n", None, f"{SECOND}\n\n", f"{SECOND}\r")), [1_000_000, NAT, NAT, 1_000_000])
         with self.assertRaisesRegex(TypeError, "^text 1 has to be str or bytes or bytearray or memoryview, not list$"):
             column(Reads(SECOND, []))
 

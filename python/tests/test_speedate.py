@@ -62,7 +62,9 @@ date_time_column(b"\n") -> Fault: too_short in text 0
 date_time_column(b"1970-01-01T00:00Z\r\n1970-01-01T00:00:01Z\r\n1970-01-01T00:00:02Z\n") -> array('q', [0, 1000000, 2000000])
 date_time_column(b"1970-01-01T00:00Z\r\n", newline="\r\n") -> array('q', [0])
 date_time_column(b"1970-01-01T00:00Z\r\n", newline="\n") -> Fault: extra_characters in text 0
-date_time_column(b"1970-01-01T00:00Z\r") -> Fault: extra_characters in text 0
+date_time_column(b"1970-01-01T00:00Z\r") -> array('q', [0])
+date_time_column(b"1970-01-01T00:00Z\r", newline="\n") -> Fault: extra_characters in text 0
+date_time_column(b"1970-01-01T00:00Z\r\r") -> Fault: extra_characters in text 0
 date_time_column(b"1970-01-01T00:00Z\r\r\n") -> Fault: extra_characters in text 0
 date_time_column(b"1970-01-01T00:00Z\n\r\n") -> Fault: too_short in text 1
 date_time_column(["1970-01-01T00:00Z\n"]) -> Fault: extra_characters in text 0
@@ -99,7 +101,7 @@ date_time_column([], faults="coerce") -> ValueError: faults has to be raise or n
 date_column([]), duration_column(b"") -> (array('q'), array('q'))
 date_column(["1970-01-02", b"0000-01-01", None, "9999-12-31"]) -> array('q', [1, -719528, -9223372036854775808, 2932896])
 date_column(b"1970-01-02\r\n1969-12-31\n1970-01-01") -> array('q', [1, -1, 0])
-date_column(b"1970-01-02\n1970-01-01\r") -> Fault: extra_characters in text 1
+date_column(b"1970-01-02\n1970-01-01\r") -> array('q', [1, 0])
 date_column(b"1970-01-02\r\n", newline="\n") -> Fault: extra_characters in text 0
 date_column(["1970-01-02\n"]) -> Fault: extra_characters in text 0
 date_column([""], faults="nat"), date_column(b"\n", faults="nat") -> (array('q', [-9223372036854775808]), array('q', [-9223372036854775808]))

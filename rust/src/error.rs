@@ -10,6 +10,7 @@ macro_rules! parse_errors {
         /// let error = speedate::Date::parse_str("2021-02-29").unwrap_err();
         /// assert_eq!(error, speedate::ParseError::OutOfRangeDay);
         /// assert_eq!(error.to_string(), "out_of_range_day");
+        /// assert_eq!(error.number(), 22);
         /// assert_eq!(error.get_documentation(), Some("day value is outside expected range"));
         /// ```
         ///
@@ -29,7 +30,15 @@ macro_rules! parse_errors {
                 })
             }
 
-            fn name(&self) -> &'static str {
+            /// The number of the error, by which C and columns name it: 1 for [`TooShort`](Self::TooShort), the first.
+            #[must_use]
+            pub fn number(&self) -> u8 {
+                match self {
+                    $(Self::$variant => $number,)*
+                }
+            }
+
+            pub(crate) fn name(&self) -> &'static str {
                 match self {
                     $(Self::$variant => $name,)*
                 }
@@ -144,6 +153,7 @@ mod tests {
     fn names_and_texts_are_those_of_c() {
         for number in 1..=40 {
             let error = ParseError::numbered(number).unwrap();
+            assert_eq!(i32::from(error.number()), number);
             assert_eq!(Buffer::new().speedate_code_name(number), Ok(error.name()));
             assert_eq!(Buffer::new().speedate_code_documentation(number).ok(), error.get_documentation());
         }

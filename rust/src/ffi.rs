@@ -7,15 +7,39 @@ use core::ptr::read_volatile;
 use core::slice::from_raw_parts;
 use core::str::from_utf8_unchecked;
 
-use crate::{Date, DateTime, Duration, MicrosecondsPrecisionOverflowBehavior, ParseError, Time, TimestampUnit};
+use crate::{
+    Date, DateTime, Duration, LineConfig, LineError, MicrosecondsPrecisionOverflowBehavior, ParseError, Progress, Time,
+    TimestampUnit,
+};
 
 /// Why a call fails.
 #[derive(Clone, Copy, Debug, PartialEq, Eq)]
 pub(crate) struct Code(c_int);
 
 impl Code {
+    const OK: Self = Self(0);
     pub(crate) const VALUE_OUT_OF_RANGE: Self = Self(101);
     const CONFIG_OUT_OF_RANGE: Self = Self(102);
+}
+
+/// The number of an error that a line has, and no text.
+pub(crate) const NUMBER_TOO_LARGE: u8 = 97;
+
+impl From<u8> for Code {
+    fn from(number: u8) -> Self {
+        Self(number.into())
+    }
+}
+
+/// The error of a line, if it has one.
+impl From<Code> for Option<LineError> {
+    fn from(code: Code) -> Self {
+        match code {
+            Code::OK => None,
+            code if code == NUMBER_TOO_LARGE.into() => Some(LineError::NumberTooLarge),
+            code => Some(LineError::Parse(code.into())),
+        }
+    }
 }
 
 impl From<Code> for ParseError {
@@ -81,6 +105,10 @@ structs! {
         timestamp_offset: i32 = 0, has_timestamp_offset: u8 = 4, timestamp_unit: u8 = 5, overflow_behavior: u8 = 6,
         iso_order: u8 = 7
     }
+    struct ColumnConfig is 5 {
+        more_follows: u8 = 0, drops_returns: u8 = 1, form: u8 = 2, assumes_utc: u8 = 3, goes_on: u8 = 4
+    }
+    struct CProgress is 24 { lines: usize = 0, bytes: usize = 8, error: i32 = 16 }
 }
 
 /// The default has 0 in each field.
@@ -105,6 +133,25 @@ impl Config {
     pub(crate) fn offset(self, offset: Option<i32>) -> Self {
         let (has_timestamp_offset, timestamp_offset) = flagged(offset);
         Self { has_timestamp_offset, timestamp_offset, ..self }
+    }
+}
+
+/// The default has 0 in each field.
+impl ColumnConfig {
+    pub(crate) fn timestamps(self) -> Self {
+        Self { form: 1, ..self }
+    }
+
+    pub(crate) fn strict(self) -> Self {
+        Self { form: 2, ..self }
+    }
+
+    pub(crate) fn assumes_utc(self, assumes_utc: bool) -> Self {
+        Self { assumes_utc: assumes_utc.into(), ..self }
+    }
+
+    fn lines(self, LineConfig { at_end, drops_returns }: LineConfig) -> Self {
+        Self { more_follows: (!at_end).into(), drops_returns: drops_returns.into(), ..self }
     }
 }
 
@@ -162,6 +209,12 @@ impl From<CDuration> for Duration {
     }
 }
 
+impl From<CProgress> for Progress {
+    fn from(CProgress { lines, bytes, error }: CProgress) -> Self {
+        Self { lines, bytes, error: Code(error).into() }
+    }
+}
+
 /// What a call writes, if it returns 0.
 #[inline(always)]
 fn written<C: Written, T: From<C>>(call: impl FnOnce(*mut C) -> c_int) -> Result<T, Code> {
@@ -205,6 +258,35 @@ macro_rules! fronts {
             // SAFETY: as for the calls above; `taken` is a variable's address too.
             let value = written(|out| unsafe { $name($text.as_ptr(), $text.len(), $($config.into(),)? out, &mut taken) })?;
             Ok((value, taken))
+        }
+    )*};
+}
+
+/// Functions that write the numbers of the lines of a text, and how far they came.
+macro_rules! columns {
+    ($(
+        fn $name:ident([$text:ident] $config:ident: Config, $column:ident: ColumnConfig, $([$slice:ident: $number:ty]),*);
+    )*) => {$(
+        #[inline]
+        pub(crate) fn $name<R>(
+            $text: &[u8], lines: LineConfig, reader: &R, $($slice: &mut [$number]),*
+        ) -> Result<Progress, Code>
+        where
+            for<'a> &'a R: Into<Config> + Into<ColumnConfig>,
+        {
+            unsafe extern "C" {
+                fn $name(
+                    $text: *const u8, size: usize, $config: Config, $column: ColumnConfig,
+                    $($slice: *mut $number, _: usize,)* progress: *mut CProgress,
+                ) -> c_int;
+            }
+            let ($config, $column): (Config, ColumnConfig) = (reader.into(), reader.into());
+            let $column = $column.lines(lines);
+            // SAFETY: the types are the header's; addresses and sizes are those of the text and of slices, which do not
+            // overlap it or one another, and `progress` is a variable's address.
+            written(|progress| unsafe {
+                $name($text.as_ptr(), $text.len(), $config, $column, $($slice.as_mut_ptr(), $slice.len(),)* progress)
+            })
         }
     )*};
 }
@@ -297,6 +379,15 @@ fronts! {
     fn speedate_date_parse_front([text]) -> CDate;
     fn speedate_time_parse_front([text] config) -> CTime;
     fn speedate_datetime_parse_front([text] config) -> CDateTime;
+}
+
+columns! {
+    fn speedate_date_column([text] config: Config, column: ColumnConfig, [out: i32]);
+    fn speedate_date_column_with_errors([text] config: Config, column: ColumnConfig, [out: i32], [errors: u8]);
+    fn speedate_datetime_column([text] config: Config, column: ColumnConfig, [out: i64]);
+    fn speedate_datetime_column_with_errors([text] config: Config, column: ColumnConfig, [out: i64], [errors: u8]);
+    fn speedate_duration_column([text] config: Config, column: ColumnConfig, [out: i64]);
+    fn speedate_duration_column_with_errors([text] config: Config, column: ColumnConfig, [out: i64], [errors: u8]);
 }
 
 checks! {

@@ -25,6 +25,7 @@
 #![warn(clippy::missing_errors_doc, clippy::must_use_candidate, clippy::return_self_not_must_use)]
 #![deny(unsafe_code)]
 
+mod column;
 mod config;
 mod date;
 mod datetime;
@@ -36,6 +37,10 @@ mod numbers;
 mod time;
 mod value;
 
+pub use column::{
+    read_column, read_column_with_errors, DateReader, DateTimeParser, DateTimeReader, DurationReader, LineConfig,
+    LineError, LineReader, Progress,
+};
 pub use config::{
     DateConfig, DateConfigBuilder, DateTimeConfig, DateTimeConfigBuilder, TimeConfig, TimeConfigBuilder, TimestampUnit,
 };

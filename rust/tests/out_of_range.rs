@@ -2,7 +2,10 @@
 
 use std::panic::catch_unwind;
 
-use speedate::{Date, DateTime, DateTimeConfig, Duration, ParseError, Time, TimeConfig};
+use speedate::{
+    read_column, read_column_with_errors, Date, DateTime, DateTimeConfig, DateTimeParser, DateTimeReader, Duration,
+    DurationReader, LineConfig, ParseError, Time, TimeConfig,
+};
 
 const DATE: Date = Date { year: 2020, month: 2, day: 29 };
 const TIME: Time = Time { hour: 12, minute: 13, second: 14, microsecond: 0, tz_offset: Some(0) };
@@ -130,5 +133,15 @@ fn configured_offsets() {
         assert_eq!(Time::parse_front(b"12:13:14Z x", &time_config), Ok((TIME, 9)));
         assert!(DateTime::parse_bytes_rfc3339_with_config(b"2020-02-29T12:13", &time_config).is_ok());
         assert!(Duration::parse_bytes_with_config(b"00:00:01", &time_config).is_ok());
+
+        let (lines, mut out, mut errors) = (LineConfig { at_end: true, drops_returns: false }, [7; 2], [7; 2]);
+        let reader = DateTimeReader { parser: DateTimeParser::OrTimestamp(config), assumes_utc: false };
+        assert_eq!(read_column(b"1970-01-01T00:00Z", lines, &reader, &mut out), Err(ParseError::OutOfRangeTz));
+        let with_errors = read_column_with_errors(b"1", lines, &reader, &mut out, &mut errors);
+        assert_eq!((with_errors, out, errors), (Err(ParseError::OutOfRangeTz), [7; 2], [7; 2]));
+        let reader = DateTimeReader { parser: DateTimeParser::Rfc3339(time_config.clone()), ..reader };
+        assert!(read_column(b"1970-01-01T00:00Z", lines, &reader, &mut out).is_ok_and(|it| it.lines == 1));
+        assert!(read_column(b"00:00:01", lines, &DurationReader { config: time_config }, &mut out)
+            .is_ok_and(|it| it.lines == 1));
     }
 }

@@ -3,8 +3,9 @@
 use std::panic::{catch_unwind, set_hook, take_hook};
 
 use speedate::{
-    int_parse_str, Date, DateConfig, DateTime, DateTimeConfig, Duration, MicrosecondsPrecisionOverflowBehavior,
-    ParseError, Time, TimeConfig, TimestampUnit,
+    int_parse_str, read_column, read_column_with_errors, Date, DateConfig, DateReader, DateTime, DateTimeConfig,
+    DateTimeParser, DateTimeReader, Duration, DurationReader, LineConfig, LineReader,
+    MicrosecondsPrecisionOverflowBehavior, ParseError, Time, TimeConfig, TimestampUnit,
 };
 
 const ROWS: &str = include_str!("../../c/tests/rows.txt");
@@ -18,6 +19,8 @@ fn rows() {
     let wrong: Vec<_> = tried.iter().filter(|(_, is_right)| !is_right).collect();
     assert!(wrong.is_empty(), "{wrong:#?}");
     assert!(tried.len() > 200, "only {} rows", tried.len());
+    let columns = tried.iter().filter(|(row, _)| row.contains("_column")).count();
+    assert!(columns > 40, "only {columns} rows of columns");
 }
 
 /// Whether a row tells what its call answers, if the API has the call. One that panics has a value out of range.
@@ -96,8 +99,48 @@ impl Row<'_> {
             "duration_between" => self.get(4) == Some(Duration::between(&self.get(1)?, &self.get(2)?)),
             "duration_after" => self.has(3, self.get::<Duration>(1)?.after(&self.get(2)?)),
             "duration_before" => self.has(3, self.get::<Duration>(1)?.before(&self.get(2)?)),
+            "date_column" | "date_column_with_errors" => {
+                let config: DateConfig = self.get(1)?;
+                let readers = [DateReader::Rfc3339, DateReader::OrTimestamp(config)];
+                self.has_column(readers.get(usize::from(self.get::<Column>(2)?.form))?)?
+            }
+            "datetime_column" | "datetime_column_with_errors" => {
+                let Column { form, assumes_utc, .. } = self.get(2)?;
+                let parser = match form {
+                    0 => DateTimeParser::Rfc3339(time_config(1)?),
+                    1 => DateTimeParser::OrTimestamp(config(1)?),
+                    _ => DateTimeParser::Strict(behavior(1)?),
+                };
+                self.has_column(&DateTimeReader { parser, assumes_utc })?
+            }
+            "duration_column" | "duration_column_with_errors" => {
+                self.has_column(&DurationReader { config: time_config(1)? })?
+            }
             _ => return None,
         })
+    }
+
+    /// Whether a column has these numbers, errors and progress. A column without errors that goes on is none of the API.
+    fn has_column<R: LineReader<Number: Default + ToString>>(&self, reader: &R) -> Option<bool> {
+        let Column { lines, goes_on, .. } = self.get(2)?;
+        let text = self.0[4].replace("\\n", "\n").replace("\\r", "\r");
+        let rooms: Vec<usize> = self.0[3].split(' ').map(|room| room.parse().unwrap()).collect();
+        let mut out = vec![R::Number::default(); rooms[0]];
+        let (progress, errors) = match rooms[..] {
+            [_] if goes_on => return None,
+            [_] => (read_column(text.as_bytes(), lines, reader, &mut out), None),
+            _ => {
+                let mut errors = vec![0; rooms[1]];
+                let progress = read_column_with_errors(text.as_bytes(), lines, reader, &mut out, &mut errors);
+                (progress, Some(errors))
+            }
+        };
+        let progress = progress.unwrap();
+        let error = progress.error.map_or("ok".to_owned(), |error| error.to_string());
+        let mut written = vec!["ok".to_owned(), joined(&out[..progress.lines])];
+        written.extend(errors.map(|errors| joined(&errors[..progress.lines])));
+        written.push(format!("{} {} {error}", progress.lines, progress.bytes));
+        Some(self.0[5..] == written)
     }
 
     fn get<T: Field>(&self, place: usize) -> Option<T> {
@@ -135,6 +178,10 @@ impl Row<'_> {
         let order = self.get::<T>(1)?.partial_cmp(&self.get(2)?);
         Some(order.map_or(self.0[3] == "value_out_of_range", |order| self.get(4) == Some(order as i32)))
     }
+}
+
+fn joined(numbers: &[impl ToString]) -> String {
+    numbers.iter().map(ToString::to_string).collect::<Vec<_>>().join(" ")
 }
 
 /// The error with which a row of a `_check` call refuses a value.
@@ -185,6 +232,24 @@ impl Field for DateConfig {
     fn of(field: &str) -> Option<Self> {
         let DateTimeConfig { timestamp_unit, time_config } = Field::of(field)?;
         time_config.unix_timestamp_offset.is_none().then_some(DateConfig { timestamp_unit })
+    }
+}
+
+/// How a column is read.
+struct Column {
+    lines: LineConfig,
+    form: u8,
+    assumes_utc: bool,
+    goes_on: bool,
+}
+
+impl Field for Column {
+    fn of(field: &str) -> Option<Self> {
+        let field = if field == "default" { "0 0 0 0 0" } else { field };
+        let [more_follows, drops_returns, form @ 0..=2, assumes_utc, goes_on] = numbers(field)? else { return None };
+        let flag = |number| [false, true].get(number as usize).copied();
+        let lines = LineConfig { at_end: !flag(more_follows)?, drops_returns: flag(drops_returns)? };
+        Some(Column { lines, form: form as u8, assumes_utc: flag(assumes_utc)?, goes_on: flag(goes_on)? })
     }
 }
 

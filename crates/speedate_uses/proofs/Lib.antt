@@ -1,1 +1,2 @@
+mod LengthsLemmas
 mod ScheduleLemmas

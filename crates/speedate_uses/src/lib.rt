@@ -6,6 +6,7 @@ pub mod calendar;
 pub mod clock;
 pub mod hours;
 pub mod ledger;
+pub mod lengths;
 pub mod log;
 pub mod schedule;
 pub mod storage;

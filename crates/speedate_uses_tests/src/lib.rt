@@ -12,6 +12,8 @@ mod hours;
 #[cfg(test)]
 mod ledger;
 #[cfg(test)]
+mod lengths;
+#[cfg(test)]
 mod log;
 #[cfg(test)]
 mod schedule;

@@ -1,0 +1,353 @@
+use core::error::Error;
+use core::fmt;
+
+use crate::ffi::{self, Code, ColumnConfig, Config};
+use crate::{DateConfig, DateTimeConfig, MicrosecondsPrecisionOverflowBehavior, ParseError, TimeConfig};
+
+/// How a text is cut into lines.
+///
+/// ```
+/// use speedate::{read_column, DateReader, LineConfig};
+///
+/// let text = b"1970-01-02\r\n1970-01-03";
+/// let lines = |at_end| LineConfig { at_end, drops_returns: true };
+/// assert_eq!(read_column(text, lines(true), &DateReader::Rfc3339, &mut [0; 8]).unwrap().lines, 2);
+/// assert_eq!(read_column(text, lines(false), &DateReader::Rfc3339, &mut [0; 8]).unwrap().lines, 1);
+/// ```
+#[derive(Debug, PartialEq, Eq, Clone, Copy)]
+pub struct LineConfig {
+    /// Whether the end of the text ends its last line. Otherwise that line is left, since it may go on.
+    pub at_end: bool,
+    /// Whether a carriage return at the end of a line is dropped, as files of Windows have it. Otherwise it is part of the
+    /// line, which is then refused.
+    pub drops_returns: bool,
+}
+
+/// Why a line has no number.
+///
+/// ```
+/// use speedate::{LineError, ParseError};
+///
+/// let error = LineError::Parse(ParseError::OutOfRangeDay);
+/// assert_eq!((error.number(), error.to_string()), (22, "out_of_range_day".to_owned()));
+/// assert_eq!([0, 22, 97].map(LineError::numbered), [None, Some(error), Some(LineError::NumberTooLarge)]);
+/// ```
+#[derive(Debug, PartialEq, Eq, Clone)]
+pub enum LineError {
+    /// The text is refused, or has no offset, which the reader needs: then with
+    /// [`TzRequired`](ParseError::TzRequired).
+    Parse(ParseError),
+    /// The number of the value does not fit, as that of `P999999999D` in microseconds.
+    NumberTooLarge,
+}
+
+impl LineError {
+    /// The number of the error: that of the [`ParseError`](ParseError::number), and 97 for
+    /// [`NumberTooLarge`](Self::NumberTooLarge).
+    #[must_use]
+    pub fn number(&self) -> u8 {
+        match self {
+            Self::Parse(error) => error.number(),
+            Self::NumberTooLarge => ffi::NUMBER_TOO_LARGE,
+        }
+    }
+
+    /// The error of a number that [`read_column_with_errors`] has written. It is `None` for 0; [`ParseError`] says which one
+    /// stands for a number that the package does not know.
+    #[must_use]
+    pub fn numbered(number: u8) -> Option<Self> {
+        Code::from(number).into()
+    }
+}
+
+/// Writes the name of the error: `too_short`.
+impl fmt::Display for LineError {
+    fn fmt(&self, f: &mut fmt::Formatter<'_>) -> fmt::Result {
+        match self {
+            Self::Parse(error) => error.fmt(f),
+            Self::NumberTooLarge => f.pad("number_too_large"),
+        }
+    }
+}
+
+impl Error for LineError {}
+
+/// How far a column has come. [`read_column`] has an example.
+#[derive(Debug, PartialEq, Eq, Clone)]
+pub struct Progress {
+    /// How many lines have a number in the column.
+    pub lines: usize,
+    /// How many bytes of the text these lines take, with their ends.
+    pub bytes: usize,
+    /// The error of the next line, if it ends the column.
+    pub error: Option<LineError>,
+}
+
+mod sealed {
+    /// Keeps the trait to the readers that C has.
+    pub trait Sealed {}
+}
+
+/// Reads a line as a number. A [`DateReader`], a [`DateTimeReader`] and a [`DurationReader`] do, and no other type can.
+///
+/// ```
+/// use speedate::{read_column, DateReader, DurationReader, LineConfig, LineReader, TimeConfig};
+///
+/// fn first<R: LineReader<Number: Default>>(text: &str, reader: &R) -> R::Number {
+///     let (config, mut out) = (LineConfig { at_end: true, drops_returns: false }, [R::Number::default()]);
+///     read_column(text.as_bytes(), config, reader, &mut out).unwrap();
+///     out[0]
+/// }
+///
+/// assert_eq!(first("1970-01-02", &DateReader::Rfc3339), 1);
+/// assert_eq!(first("PT1.5S", &DurationReader { config: TimeConfig::default() }), 1_500_000);
+/// ```
+pub trait LineReader: sealed::Sealed {
+    /// What a line is read as.
+    type Number: Copy;
+
+    #[doc(hidden)]
+    fn column(&self, text: &[u8], config: LineConfig, out: &mut [Self::Number]) -> Result<Progress, ParseError>;
+
+    #[doc(hidden)]
+    fn column_with_errors(
+        &self,
+        text: &[u8],
+        config: LineConfig,
+        out: &mut [Self::Number],
+        errors: &mut [u8],
+    ) -> Result<Progress, ParseError>;
+}
+
+/// Reads the whole lines of a text as numbers, in order, as many as `out` has room for, and returns how far it came.
+///
+/// A line is ended by a line feed, or by the end of the text if `config` says so. An empty line is a line. One that is
+/// refused ends the column, and the progress has its error. What follows the bytes that the progress counts is left for a
+/// further call. The other places of `out` stay as they are.
+///
+/// ```
+/// use speedate::{read_column, DateReader, LineConfig, LineError, ParseError, Progress};
+///
+/// let (config, mut out) = (LineConfig { at_end: true, drops_returns: false }, [0; 8]);
+/// let progress = read_column(b"1970-01-02\n1969-12-31\n2021-02-29\n", config, &DateReader::Rfc3339, &mut out)?;
+/// let error = Some(LineError::Parse(ParseError::OutOfRangeDay));
+/// assert_eq!(progress, Progress { lines: 2, bytes: 22, error });
+/// assert_eq!(out[..progress.lines], [1, -1]);
+/// # Ok::<(), ParseError>(())
+/// ```
+///
+/// # Errors
+///
+/// [`OutOfRangeTz`](ParseError::OutOfRangeTz) if the reader takes timestamps and their configured offset is a day or more.
+/// `out` then stays as it is. A line that is refused does not make the call fail.
+#[inline]
+pub fn read_column<R: LineReader>(
+    text: &[u8],
+    config: LineConfig,
+    reader: &R,
+    out: &mut [R::Number],
+) -> Result<Progress, ParseError> {
+    reader.column(text, config, out)
+}
+
+/// Reads the whole lines of a text as numbers, as [`read_column`] does, and writes the number of the error of each line
+/// too, by [`LineError::number`], or 0 for none.
+///
+/// It reads as many lines as both slices have room for. A refused line gets the smallest number, which no other line has,
+/// and none ends the column.
+///
+/// ```
+/// use speedate::{read_column_with_errors, DateReader, LineConfig, LineError, ParseError};
+///
+/// let config = LineConfig { at_end: true, drops_returns: false };
+/// let (mut out, mut errors) = ([0; 2], [0; 2]);
+/// read_column_with_errors(b"1970-01-02\nnever-ever\n", config, &DateReader::Rfc3339, &mut out, &mut errors)?;
+/// assert_eq!(out, [1, i32::MIN]);
+/// assert_eq!(errors.map(LineError::numbered), [None, Some(LineError::Parse(ParseError::InvalidCharYear))]);
+/// # Ok::<(), ParseError>(())
+/// ```
+///
+/// # Errors
+///
+/// Those of [`read_column`].
+#[inline]
+pub fn read_column_with_errors<R: LineReader>(
+    text: &[u8],
+    config: LineConfig,
+    reader: &R,
+    out: &mut [R::Number],
+    errors: &mut [u8],
+) -> Result<Progress, ParseError> {
+    reader.column_with_errors(text, config, out, errors)
+}
+
+/// Defines what a reader reads, by its functions of C.
+macro_rules! reader {
+    ($name:ident by $column:ident, $column_with_errors:ident -> $number:ty) => {
+        impl sealed::Sealed for $name {}
+
+        impl LineReader for $name {
+            type Number = $number;
+
+            #[inline]
+            fn column(&self, text: &[u8], config: LineConfig, out: &mut [$number]) -> Result<Progress, ParseError> {
+                Ok(ffi::$column(text, config, self, out)?)
+            }
+
+            #[inline]
+            fn column_with_errors(
+                &self,
+                text: &[u8],
+                config: LineConfig,
+                out: &mut [$number],
+                errors: &mut [u8],
+            ) -> Result<Progress, ParseError> {
+                Ok(ffi::$column_with_errors(text, config, self, out, errors)?)
+            }
+        }
+    };
+}
+
+/// Reads a line as a date, and counts its days from 1970-01-01: 1 for `1970-01-02`, and -1 for `1969-12-31`.
+///
+/// ```
+/// use speedate::{read_column, DateConfig, DateReader, LineConfig};
+///
+/// let (config, mut out) = (LineConfig { at_end: true, drops_returns: false }, [0; 2]);
+/// read_column(b"86400\n1970-01-02", config, &DateReader::OrTimestamp(DateConfig::default()), &mut out).unwrap();
+/// assert_eq!(out, [1, 1]);
+/// ```
+#[derive(Debug, Clone, PartialEq)]
+pub enum DateReader {
+    /// Parses dates alone, as [`Date::parse_bytes_rfc3339`](crate::Date::parse_bytes_rfc3339) does.
+    Rfc3339,
+    /// Parses timestamps too, as [`Date::parse_bytes_with_config`](crate::Date::parse_bytes_with_config) does.
+    OrTimestamp(DateConfig),
+}
+
+reader!(DateReader by speedate_date_column, speedate_date_column_with_errors -> i32);
+
+impl From<&DateReader> for Config {
+    fn from(reader: &DateReader) -> Self {
+        match reader {
+            DateReader::Rfc3339 => Self::default(),
+            DateReader::OrTimestamp(config) => config.into(),
+        }
+    }
+}
+
+impl From<&DateReader> for ColumnConfig {
+    fn from(reader: &DateReader) -> Self {
+        match reader {
+            DateReader::Rfc3339 => Self::default(),
+            DateReader::OrTimestamp(_) => Self::default().timestamps(),
+        }
+    }
+}
+
+/// How a column parses its date-times. [`DateTimeReader`] has an example.
+#[derive(Debug, Clone, PartialEq)]
+pub enum DateTimeParser {
+    /// No timestamps, as
+    /// [`DateTime::parse_bytes_rfc3339_with_config`](crate::DateTime::parse_bytes_rfc3339_with_config).
+    Rfc3339(TimeConfig),
+    /// Timestamps too, as [`DateTime::parse_bytes_with_config`](crate::DateTime::parse_bytes_with_config).
+    OrTimestamp(DateTimeConfig),
+    /// Texts of RFC 3339 alone, as [`DateTime::parse_bytes_strict`](crate::DateTime::parse_bytes_strict).
+    Strict(MicrosecondsPrecisionOverflowBehavior),
+}
+
+/// Reads a line as a date-time, and counts its microseconds from 1970-01-01T00:00:00 in UTC, as
+/// [`DateTime::timestamp_tz_us`](crate::DateTime::timestamp_tz_us) does.
+///
+/// ```
+/// use speedate::{read_column, DateTimeParser, DateTimeReader, LineConfig, TimeConfig};
+///
+/// let reader = DateTimeReader { parser: DateTimeParser::Rfc3339(TimeConfig::default()), assumes_utc: true };
+/// let (config, mut out) = (LineConfig { at_end: true, drops_returns: false }, [0; 2]);
+/// read_column(b"1970-01-01T00:00:01\n1970-01-01T01:00+01:00\n", config, &reader, &mut out).unwrap();
+/// assert_eq!(out, [1_000_000, 0]);
+/// ```
+#[derive(Debug, Clone, PartialEq)]
+pub struct DateTimeReader {
+    /// How a line is parsed.
+    pub parser: DateTimeParser,
+    /// Whether a date-time without an offset is taken to be in UTC. Otherwise it is refused, with
+    /// [`TzRequired`](ParseError::TzRequired).
+    pub assumes_utc: bool,
+}
+
+reader!(DateTimeReader by speedate_datetime_column, speedate_datetime_column_with_errors -> i64);
+
+impl From<&DateTimeReader> for Config {
+    fn from(reader: &DateTimeReader) -> Self {
+        match &reader.parser {
+            DateTimeParser::Rfc3339(config) => config.into(),
+            DateTimeParser::OrTimestamp(config) => config.into(),
+            DateTimeParser::Strict(behavior) => Self::default().behavior(*behavior),
+        }
+    }
+}
+
+impl From<&DateTimeReader> for ColumnConfig {
+    fn from(reader: &DateTimeReader) -> Self {
+        let column = Self::default().assumes_utc(reader.assumes_utc);
+        match reader.parser {
+            DateTimeParser::Rfc3339(_) => column,
+            DateTimeParser::OrTimestamp(_) => column.timestamps(),
+            DateTimeParser::Strict(_) => column.strict(),
+        }
+    }
+}
+
+/// Reads a line as a duration, as [`Duration::parse_bytes_with_config`](crate::Duration::parse_bytes_with_config) does, and
+/// counts its microseconds, with the sign.
+///
+/// One of 2^63 microseconds or more, which are over 106,751,991 days, is refused, with
+/// [`NumberTooLarge`](LineError::NumberTooLarge).
+///
+/// ```
+/// use speedate::{read_column, DurationReader, LineConfig, LineError, TimeConfig};
+///
+/// let (config, mut out) = (LineConfig { at_end: true, drops_returns: false }, [0; 8]);
+/// let reader = DurationReader { config: TimeConfig::default() };
+/// let progress = read_column(b"-PT1.5S\n106751992 days\n", config, &reader, &mut out).unwrap();
+/// assert_eq!((out[0], progress.error), (-1_500_000, Some(LineError::NumberTooLarge)));
+/// ```
+#[derive(Debug, Clone, PartialEq)]
+pub struct DurationReader {
+    /// How a line is parsed.
+    pub config: TimeConfig,
+}
+
+reader!(DurationReader by speedate_duration_column, speedate_duration_column_with_errors -> i64);
+
+impl From<&DurationReader> for Config {
+    fn from(reader: &DurationReader) -> Self {
+        Self::from(&reader.config)
+    }
+}
+
+impl From<&DurationReader> for ColumnConfig {
+    fn from(_: &DurationReader) -> Self {
+        Self::default()
+    }
+}
+
+#[cfg(test)]
+mod tests {
+    use super::*;
+    use crate::ffi::Buffer;
+
+    #[test]
+    fn numbers_and_names_are_those_of_c() {
+        let errors: Vec<_> = (1..=40).chain([97]).map(|number| LineError::numbered(number).unwrap()).collect();
+        for error in &errors {
+            let number = error.number();
+            assert_eq!(Buffer::new().speedate_code_name(i32::from(number)), Ok(&*error.to_string()));
+            assert_eq!(LineError::numbered(number).as_ref(), Some(error));
+        }
+        assert_eq!(errors.last(), Some(&LineError::NumberTooLarge));
+        assert_eq!(LineError::numbered(0), None);
+    }
+}

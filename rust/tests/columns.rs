@@ -1,0 +1,206 @@
+//! Columns of drawn texts, beside a loop over the calls of one text.
+
+use std::fmt::Debug;
+
+use speedate::{
+    read_column, read_column_with_errors, Date, DateConfig, DateReader, DateTime, DateTimeConfig, DateTimeParser,
+    DateTimeReader, Duration, DurationReader, LineConfig, LineError, LineReader, MicrosecondsPrecisionOverflowBehavior,
+    ParseError, Progress, TimeConfig, TimestampUnit,
+};
+
+const TEXTS: usize = 120_000;
+
+#[test]
+fn dates() {
+    let lines = ["2020-02-29", "0000-01-01", "9999-12-31", "2021-02-29", "86400", "-86400000000", "1", ""];
+    let epoch = Date { year: 1970, month: 1, day: 1 };
+    for seed in 1..=TEXTS {
+        let mut draws = Draws::new(seed);
+        let reader = match draws.flag() {
+            true => DateReader::Rfc3339,
+            false => DateReader::OrTimestamp(DateConfig { timestamp_unit: draws.unit() }),
+        };
+        draws.compare(&lines, &reader, i32::MIN, |line| {
+            let date = match &reader {
+                DateReader::Rfc3339 => Date::parse_bytes_rfc3339(line),
+                DateReader::OrTimestamp(config) => Date::parse_bytes_with_config(line, config),
+            };
+            Ok(date.map_err(LineError::Parse)?.days_since(&epoch))
+        });
+    }
+}
+
+#[test]
+fn date_times() {
+    let lines = [
+        "2020-02-29T12:13:14Z",
+        "2020-02-29 12:13:14.123456+01:30",
+        "1969-12-31t23:59:59.1234567-00:30",
+        "0000-01-01T00:00:00+23:59",
+        "9999-12-31_23:59",
+        "1582934400.5",
+        "-1",
+        "",
+    ];
+    for seed in 1..=TEXTS {
+        let mut draws = Draws::new(seed);
+        let reader = DateTimeReader { parser: draws.parser(), assumes_utc: draws.flag() };
+        draws.compare(&lines, &reader, i64::MIN, |line| {
+            let value = match &reader.parser {
+                DateTimeParser::Rfc3339(config) => DateTime::parse_bytes_rfc3339_with_config(line, config),
+                DateTimeParser::OrTimestamp(config) => DateTime::parse_bytes_with_config(line, config),
+                DateTimeParser::Strict(behavior) => DateTime::parse_bytes_strict(line, *behavior),
+            };
+            let value = value.map_err(LineError::Parse)?;
+            if value.time.tz_offset.is_none() && !reader.assumes_utc {
+                return Err(LineError::Parse(ParseError::TzRequired));
+            }
+            Ok(value.timestamp_tz_us())
+        });
+    }
+}
+
+#[test]
+fn durations() {
+    let lines = [
+        "PT1.5S",
+        "-P1DT90M",
+        "106751991 days, 04:00:54.775807",
+        "-106751991 days, 04:00:54.775808",
+        "P999999999D",
+        "-00:01:00.1234567",
+        "P1",
+        "",
+    ];
+    for seed in 1..=TEXTS {
+        let mut draws = Draws::new(seed);
+        let reader = DurationReader { config: draws.time_config() };
+        draws.compare(&lines, &reader, i64::MIN, |line| {
+            let duration = Duration::parse_bytes_with_config(line, &reader.config).map_err(LineError::Parse)?;
+            let seconds = i128::from(duration.signed_total_seconds());
+            let amount = seconds * 1_000_000 + i128::from(duration.signed_microseconds());
+            i64::try_from(amount).ok().filter(|amount| *amount != i64::MIN).ok_or(LineError::NumberTooLarge)
+        });
+    }
+}
+
+/// A generator of pseudorandom numbers, xorshift64.
+struct Draws(u64);
+
+impl Draws {
+    fn new(seed: usize) -> Self {
+        Self((seed as u64).wrapping_mul(0x9E37_79B9_7F4A_7C15))
+    }
+
+    fn below(&mut self, end: usize) -> usize {
+        self.0 ^= self.0 << 13;
+        self.0 ^= self.0 >> 7;
+        self.0 ^= self.0 << 17;
+        (((self.0 >> 32) * end as u64) >> 32) as usize
+    }
+
+    fn flag(&mut self) -> bool {
+        self.below(2) == 1
+    }
+
+    fn one_of<T: Copy>(&mut self, choices: &[T]) -> T {
+        choices[self.below(choices.len())]
+    }
+
+    fn unit(&mut self) -> TimestampUnit {
+        self.one_of(&[TimestampUnit::Infer, TimestampUnit::Second, TimestampUnit::Millisecond])
+    }
+
+    fn behavior(&mut self) -> MicrosecondsPrecisionOverflowBehavior {
+        self.one_of(&["error", "truncate"]).parse().unwrap()
+    }
+
+    fn time_config(&mut self) -> TimeConfig {
+        TimeConfig {
+            microseconds_precision_overflow_behavior: self.behavior(),
+            unix_timestamp_offset: self.one_of(&[None, Some(0), Some(5_400), Some(-86_399)]),
+        }
+    }
+
+    fn parser(&mut self) -> DateTimeParser {
+        match self.below(3) {
+            0 => DateTimeParser::Rfc3339(self.time_config()),
+            1 => DateTimeParser::Strict(self.behavior()),
+            _ => {
+                let (timestamp_unit, time_config) = (self.unit(), self.time_config());
+                DateTimeParser::OrTimestamp(DateTimeConfig { timestamp_unit, time_config })
+            }
+        }
+    }
+
+    /// A text of a few lines, of which some have another byte at a place.
+    fn text(&mut self, lines: &[&str]) -> Vec<u8> {
+        let mut text = Vec::new();
+        for _ in 0..self.below(6) {
+            let mut line = self.one_of(lines).as_bytes().to_vec();
+            if self.below(4) == 0 && !line.is_empty() {
+                let place = self.below(line.len());
+                line[place] = self.one_of(b"0159-+:.,TZPDS \r\n\0\xE2");
+            }
+            text.extend(line);
+            text.extend(self.one_of(&["\n", "\n", "\n", "\r\n", "\r\n", "\r", "\r\r\n", ""]).bytes());
+        }
+        text
+    }
+
+    /// Compares the columns of a drawn text with what the answer to each line gives. The number `least` is that of a line
+    /// that is refused.
+    fn compare<R: LineReader<Number: From<u8> + PartialEq + Debug> + Debug>(
+        &mut self,
+        lines: &[&str],
+        reader: &R,
+        least: R::Number,
+        answer: impl Fn(&[u8]) -> Result<R::Number, LineError>,
+    ) {
+        let text = self.text(lines);
+        let config = LineConfig { at_end: self.flag(), drops_returns: self.flag() };
+        let about = format!("{:?}, {config:?}, {reader:?}", String::from_utf8_lossy(&text));
+        let kept = R::Number::from(77);
+        let room = self.below(6);
+
+        let mut wanted = Progress { lines: 0, bytes: 0, error: None };
+        let mut numbers = vec![kept; room];
+        for (line, end) in cut(&text, config).take(room) {
+            match answer(line) {
+                Ok(number) => numbers[wanted.lines] = number,
+                Err(error) => {
+                    wanted.error = Some(error);
+                    break;
+                }
+            }
+            wanted = Progress { lines: wanted.lines + 1, bytes: end, error: None };
+        }
+        let mut out = vec![kept; room];
+        assert_eq!(read_column(&text, config, reader, &mut out), Ok(wanted), "{about}");
+        assert_eq!(out, numbers, "{about}");
+
+        let error_room = self.below(6);
+        let mut wanted = Progress { lines: 0, bytes: 0, error: None };
+        let (mut numbers, mut codes) = (vec![kept; room], vec![77; error_room]);
+        for (line, end) in cut(&text, config).take(room.min(error_room)) {
+            let answer = answer(line);
+            codes[wanted.lines] = answer.as_ref().map_or_else(LineError::number, |_| 0);
+            numbers[wanted.lines] = answer.unwrap_or(least);
+            wanted = Progress { lines: wanted.lines + 1, bytes: end, error: None };
+        }
+        let (mut out, mut errors) = (vec![kept; room], vec![77; error_room]);
+        let progress = read_column_with_errors(&text, config, reader, &mut out, &mut errors);
+        assert_eq!((progress, out, errors), (Ok(wanted), numbers, codes), "{about}");
+    }
+}
+
+/// The whole lines of a text, each with the number of bytes up to its end.
+fn cut(text: &[u8], config: LineConfig) -> impl Iterator<Item = (&[u8], usize)> {
+    let mut end = 0;
+    let lines = text.split_inclusive(|byte| *byte == b'\n');
+    lines.take_while(move |line| config.at_end || line.ends_with(b"\n")).map(move |line| {
+        end += line.len();
+        let line = line.strip_suffix(b"\n").unwrap_or(line);
+        (line.strip_suffix(b"\r").filter(|_| config.drops_returns).unwrap_or(line), end)
+    })
+}
