@@ -213,6 +213,7 @@ impl DateTime {
     /// these has the errors of [RFC 3339 alone](docs/GRAMMAR.md#rfc-3339-alone), in the order of its
     /// rows: `InvalidCharDateTimeSep` if neither `T` nor `t` parts date and time, then those that
     /// [`Time::parse_bytes_strict`] lists.
+    #[inline(always)]
     pub fn parse_bytes_strict(
         bytes: &[u8],
         behavior: MicrosecondsPrecisionOverflowBehavior,
