@@ -21,22 +21,6 @@ behaviors = Behavior.Error ∷ Behavior.Truncate ∷ []
 abbrev pub orders : List IsoOrder
 orders = IsoOrder.Lax ∷ IsoOrder.Strict ∷ []
 
--- whether a configuration from outside says nothing of timestamps
-abbrev pub is_without_timestamps : SpeedateConfig → Bool
-is_without_timestamps config =
-    int_eq config.timestamp_offset (pos 0)
-    && (config.has_timestamp_offset == 0) && (config.timestamp_unit == 0)
-
--- the behavior and the order of a configuration that says nothing of timestamps, if one at most is
--- not 0
-abbrev pub one_choice_of_texts : SpeedateConfig → Option (Behavior × IsoOrder)
-one_choice_of_texts config =
-    if is_without_timestamps config && ((config.overflow_behavior == 0) || (config.iso_order == 0))
-    then option_and_then (λ behavior.
-    option_map (λ order. (behavior, order)) (slice_get orders config.iso_order))
-    (slice_get behaviors config.overflow_behavior)
-    else None
-
 -- what a flag says
 abbrev pub flags : List Bool
 flags = false ∷ true ∷ []

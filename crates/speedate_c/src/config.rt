@@ -1,16 +1,15 @@
 //! Configurations from outside.
 
-ghost use Rattle.std.specs.Option.{option_map};
-ghost use Rattle.std.specs.Prelude.{◌≡◌, slice_get};
-ghost use Rattle.speedate.specs.Config.{choices, time_choices};
+ghost use Rattle.std.specs.Option.{ForSome, option_map};
+ghost use Rattle.std.specs.Prelude.{◌≡◌, ◌==◌, IfSome, None, Some, if◌then◌else◌, is_some, slice_get, true};
+ghost use Rattle.speedate.specs.Config.{choices};
+ghost use Rattle.speedate.specs.Offset.{IsOffset};
 ghost use Rattle.speedate_c.specs.Config.{
   behaviors,
   choices_of,
   flags,
   offset_by_flag,
-  one_choice_of_texts,
   orders,
-  time_choices_of,
   units,
 };
 
@@ -37,124 +36,115 @@ pub struct SpeedateConfig {
 }
 
 impl SpeedateConfig {
-    /// The configuration of date-times, if each number has a value. One that changes one choice of texts
-    /// at most is looked for first, by few comparisons.
+    /// The configuration of date-times, if each number has a value.
     #[inline(always)]
     pub(crate) fn to_config(self) -> Option<DateTimeConfig>
         ensures choices { option_map choices result ≡ choices_of self }
     {
-        let Some((behavior, order)) = self.one_choice_of_texts() else {
-            return self.to_config_apart();
-        };
-        let time_config = TimeConfig::builder()
-            .microseconds_precision_overflow_behavior(behavior)
-            .iso_order(order);
-        Some(DateTimeConfig {
-            timestamp_unit: TimestampUnit::Infer,
-            time_config: time_config.build(),
-        })
-    }
-
-    /// The behavior and the order, if one of them at most is not the default, and all other numbers are
-    /// 0. Four bytes are compared as one number.
-    #[inline(always)]
-    fn one_choice_of_texts(self) -> Option<(MicrosecondsPrecisionOverflowBehavior, IsoOrder)>
-        ensures choices { result ≡ one_choice_of_texts self }
-    {
-        use MicrosecondsPrecisionOverflowBehavior::{Error, Truncate};
-
-        let bytes = [
-            self.has_timestamp_offset,
-            self.timestamp_unit,
-            self.overflow_behavior,
-            self.iso_order,
-        ];
-        match (self.timestamp_offset, u32::from_le_bytes(bytes)) {
-            (0, 0) => Some((Error, IsoOrder::Lax)),
-            (0, 0x1_0000) => Some((Truncate, IsoOrder::Lax)),
-            (0, 0x100_0000) => Some((Error, IsoOrder::Strict)),
-            _ => None,
+        if !self.has_values() {
+            return None;
         }
-    }
-
-    /// The configuration of date-times, out of line, so that it keeps no registers from the calls.
-    #[cold]
-    #[inline(never)]
-    fn to_config_apart(self) -> Option<DateTimeConfig>
-        ensures choices { option_map choices result ≡ choices_of self }
-    {
-        self.to_config_by_fields()
-    }
-
-    /// The configuration of date-times, if each number has a value, field by field.
-    #[inline(always)]
-    pub(crate) fn to_config_by_fields(self) -> Option<DateTimeConfig>
-        ensures choices { option_map choices result ≡ choices_of self }
-    {
-        let time_config = self.to_time_config()?;
         Some(DateTimeConfig {
-            timestamp_unit: unit(self.timestamp_unit)?,
-            time_config,
+            timestamp_unit: unit(self.timestamp_unit),
+            time_config: TimeConfig {
+                microseconds_precision_overflow_behavior: behavior(self.overflow_behavior),
+                unix_timestamp_offset: self.offset(),
+                iso_order: order(self.iso_order),
+            },
         })
     }
 
     /// The configuration of dates, if each number has a value: those that dates do not use too.
+    #[inline(always)]
     pub(crate) fn to_date_config(self) -> Option<DateConfig>
         ensures unit { option_map (λ config. config.timestamp_unit) result
             ≡ option_map (λ config. config.unit) (choices_of self) }
     {
-        self.to_time_config()?;
+        if !self.has_values() {
+            return None;
+        }
         Some(DateConfig {
-            timestamp_unit: unit(self.timestamp_unit)?,
+            timestamp_unit: unit(self.timestamp_unit),
         })
     }
 
-    /// The configuration of times, if each number of it has a value.
-    fn to_time_config(self) -> Option<TimeConfig>
-        ensures choices { option_map time_choices result ≡ time_choices_of self }
+    /// The offset that a timestamp gets, if each number has a value.
+    #[inline(always)]
+    fn offset(self) -> Option<i32>
+        requires { is_some (choices_of self) ≡ true }
+        ensures range { ForSome result IsOffset }
+        ensures value { result
+            ≡ if self.has_timestamp_offset == 0 then None else Some self.timestamp_offset }
     {
-        let offset = offset(self.has_timestamp_offset, self.timestamp_offset).ok()?;
-        let builder = TimeConfig::builder()
-            .try_unix_timestamp_offset(offset)
-            .ok()?
-            .microseconds_precision_overflow_behavior(behavior(self.overflow_behavior)?)
-            .iso_order(order(self.iso_order)?);
-        Some(builder.build())
+        match self.has_timestamp_offset {
+            0 => None,
+            _ => Some(self.timestamp_offset),
+        }
+    }
+
+    /// Whether each number has a value. One test tells it if those of timestamps are 0, as they mostly
+    /// are.
+    #[inline(always)]
+    fn has_values(self) -> bool
+        ensures value { result ≡ is_some (choices_of self) }
+    {
+        let is_of_texts = self.timestamp_offset == 0
+            && self.has_timestamp_offset == 0
+            && self.timestamp_unit == 0
+            && self.overflow_behavior <= 1
+            && self.iso_order <= 1;
+        is_of_texts || self.has_values_apart()
+    }
+
+    /// Whether each number has a value, out of line, so that it keeps no registers from the calls.
+    #[cold]
+    #[inline(never)]
+    fn has_values_apart(self) -> bool
+        ensures value { result ≡ is_some (choices_of self) }
+    {
+        let offset = match self.has_timestamp_offset {
+            0 => true,
+            1 => TimeConfig::builder()
+                .try_unix_timestamp_offset(Some(self.timestamp_offset))
+                .is_ok(),
+            _ => false,
+        };
+        offset && self.timestamp_unit <= 3 && self.overflow_behavior <= 1 && self.iso_order <= 1
     }
 }
 
-/// The unit of a number.
-fn unit(number: u8) -> Option<TimestampUnit>
-    ensures { result ≡ slice_get units number }
+/// The unit of a number that has one.
+#[inline(always)]
+fn unit(number: u8) -> TimestampUnit
+    ensures { IfSome (slice_get units number) (λ unit. result ≡ unit) }
 {
     match number {
-        0 => Some(TimestampUnit::Infer),
-        1 => Some(TimestampUnit::Second),
-        2 => Some(TimestampUnit::Millisecond),
-        3 => Some(TimestampUnit::Microsecond),
-        _ => None,
+        1 => TimestampUnit::Second,
+        2 => TimestampUnit::Millisecond,
+        3 => TimestampUnit::Microsecond,
+        _ => TimestampUnit::Infer,
     }
 }
 
-/// The behavior of a number.
-fn behavior(number: u8) -> Option<MicrosecondsPrecisionOverflowBehavior>
-    ensures { result ≡ slice_get behaviors number }
+/// The behavior of a number that has one.
+#[inline(always)]
+fn behavior(number: u8) -> MicrosecondsPrecisionOverflowBehavior
+    ensures { IfSome (slice_get behaviors number) (λ behavior. result ≡ behavior) }
 {
     match number {
-        0 => Some(MicrosecondsPrecisionOverflowBehavior::Error),
-        1 => Some(MicrosecondsPrecisionOverflowBehavior::Truncate),
-        _ => None,
+        0 => MicrosecondsPrecisionOverflowBehavior::Error,
+        _ => MicrosecondsPrecisionOverflowBehavior::Truncate,
     }
 }
 
-/// The order of a number.
-fn order(number: u8) -> Option<IsoOrder>
-    ensures { result ≡ slice_get orders number }
+/// The order of a number that has one.
+#[inline(always)]
+fn order(number: u8) -> IsoOrder
+    ensures { IfSome (slice_get orders number) (λ order. result ≡ order) }
 {
     match number {
-        0 => Some(IsoOrder::Lax),
-        1 => Some(IsoOrder::Strict),
-        _ => None,
+        0 => IsoOrder::Lax,
+        _ => IsoOrder::Strict,
     }
 }
 

@@ -249,7 +249,7 @@ pub extern "C" fn speedate_datetime_from_timestamp(
         (λ config. written_answer shown_date_time out.old
         (date_time_timestamp_answer config.unit config.offset microsecond timestamp)) }
 {
-    let config = config_or_return!(config.to_config_by_fields());
+    let config = config_or_return!(config.to_config());
     let answer = DateTime::from_timestamp_with_config(timestamp, microsecond, &config);
     write_date_time(answer, out)
 }

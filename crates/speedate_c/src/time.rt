@@ -248,7 +248,7 @@ pub extern "C" fn speedate_time_from_timestamp(
         (λ config. written_answer shown_time out.old
         (timestamp_answer second microsecond config.offset)) }
 {
-    let config = config_or_return!(config.to_config_by_fields());
+    let config = config_or_return!(config.to_config());
     let time = Time::from_timestamp_with_config(second, microsecond, &config.time_config);
     write_time(time, out)
 }

@@ -185,6 +185,27 @@ date_time_decimal_text unit behavior offset decimal =
     first_fault_or (digits_table behavior (decimal_row unit decimal) decimal)
     (date_time_decimal_answer unit offset decimal)
 
+-- the instant of a timestamp, in the years 0000 to 9999, or the fault
+abbrev pub whole_instant : TimestampUnit → ℤ → Result Instant ParseError
+whole_instant unit timestamp = do
+  instant ← instant_answer unit timestamp
+  later ← later_answer 0 instant
+  range_answer later
+
+-- the instant of a decimal timestamp in a text, whose digits may be counted first, or the fault
+abbrev pub decimal_text_instant : TimestampUnit → Behavior → DecimalParts
+    → Result Instant ParseError
+decimal_text_instant unit behavior decimal =
+    let row = decimal_row unit decimal in
+    first_fault_or (digits_table behavior row decimal) (range_answer (decimal_instant row decimal))
+
+-- the instant of a number in a text, if there is one
+abbrev pub number_instant : TimestampUnit → Behavior → Number → Option (Result Instant ParseError)
+number_instant unit behavior (Whole timestamp) = Some (whole_instant unit timestamp)
+number_instant unit behavior (Fractional decimal) =
+    Some (decimal_text_instant unit behavior decimal)
+number_instant unit behavior NoNumber = None
+
 -- the answer to a number in a text, if there is one
 abbrev pub date_time_number_answer : TimestampUnit → Behavior → Option ℤ → Number
     → Option (Result DateAndTime ParseError)

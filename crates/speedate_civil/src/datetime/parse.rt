@@ -6,17 +6,20 @@ ghost use Rattle.speedate_base.specs.Ascii.{HasNoControl, capital_t, small_t};
 ghost use Rattle.speedate_base.specs.Config.{choices, time_choices};
 ghost use Rattle.speedate_base.specs.Numbers.{NoNumber, decimal_value, number_answer};
 ghost use Rattle.speedate_base.specs.Offset.{IsWholeMinutes};
-ghost use Rattle.speedate_base.specs.Requirement.{first_fault_or, result_map, with_size};
+ghost use Rattle.speedate_base.specs.Requirement.{first_fault_or, or_number, result_map, with_size};
+ghost use Rattle.speedate_base.specs.Timestamp.{IsInYears, unix_instant};
 ghost use Rattle.speedate_civil.specs.Base.{Behavior, TimestampUnit};
 ghost use Rattle.speedate_civil.specs.DateTime.{
   DateAndTime,
   date_and_time,
   date_time_answer,
   date_time_by_config,
-  date_time_decimal_text,
   date_time_front,
   date_time_or_timestamp,
+  decimal_text_instant,
   is_separator,
+  number_instant,
+  whole_instant,
   separator_table,
   ◌gives◌,
   ◌gives_front◌,
@@ -31,10 +34,14 @@ ghost use Rattle.speedate_civil.specs.Time.{time_front, time_of_day};
 use super::DateTime;
 use crate::date::{Date, may_be_number};
 use crate::time::{Time, end_fault};
-use speedate_base::config::{DateTimeConfig, MicrosecondsPrecisionOverflowBehavior, TimeConfig};
+use speedate_base::config::{
+    DateTimeConfig, MicrosecondsPrecisionOverflowBehavior, TimeConfig, TimestampUnit,
+};
 use speedate_base::faults::ParseError;
 use speedate_base::numbers::{Decimal, IntFloat, byte_at, float_parse_bytes, takes_digits};
-use speedate_base::util::decimal_unit;
+use speedate_base::util::{
+    UnixTime, decimal_to_seconds_micros, decimal_unit, timestamp_to_seconds_micros,
+};
 use std::str::FromStr;
 
 /// The place of the time, after the ten bytes of a date and a separator.
@@ -206,6 +213,7 @@ impl DateTime {
     /// these has the errors of [RFC 3339 alone](docs/GRAMMAR.md#rfc-3339-alone), in the order of its
     /// rows: `InvalidCharDateTimeSep` if neither `T` nor `t` parts date and time, then those that
     /// [`Time::parse_bytes_strict`] lists.
+    #[inline(always)]
     pub fn parse_bytes_strict(
         bytes: &[u8],
         behavior: MicrosecondsPrecisionOverflowBehavior,
@@ -282,6 +290,10 @@ impl DateTime {
     }
 
     /// Parses the timestamp that the bytes are, which are no date-time, by this error.
+    ///
+    /// The instant comes back from a call, and its date and time are calculated here, so that they go
+    /// straight to where the caller wants them.
+    #[inline(always)]
     fn parse_timestamp(
         bytes: &[u8],
         fault: ParseError,
@@ -296,28 +308,9 @@ impl DateTime {
         if !may_be_number(fault) {
             return Err(fault);
         }
-        match float_parse_bytes(bytes) {
-            IntFloat::Int(timestamp) => Self::from_timestamp_with_config(timestamp, 0, config),
-            IntFloat::Float(decimal) => Self::parse_decimal(decimal, config),
-            IntFloat::Err => Err(fault),
-        }
-    }
-
-    /// The date-time of a decimal timestamp in a text, whose digits are counted if the configuration
-    /// refuses those past the microsecond.
-    fn parse_decimal(decimal: Decimal<'_>, config: &DateTimeConfig) -> Result<Self, ParseError>
-        ensures answer { result gives date_time_decimal_text (choices config.now).unit
-            (choices config.now).behavior
-            (choices config.now).offset (decimal_value decimal.entry) }
-        ensures minutes { IsWholeMinutes (choices config.now).offset
-            → IfOk result (λ value. IsWholeMinutes value.time.tz_offset) }
-    {
-        let unit = decimal_unit(decimal, config.timestamp_unit);
         let behavior = config.time_config.microseconds_precision_overflow_behavior;
-        if !takes_digits(behavior, decimal.fraction.len(), unit.digits) {
-            return Err(unit.too_long);
-        }
-        Self::at_decimal(decimal, unit, config.time_config.unix_timestamp_offset)
+        let time = parse_unix_time(bytes, fault, config.timestamp_unit, behavior)?;
+        Ok(Self::from_instant(time, config.time_config.unix_timestamp_offset))
     }
 }
 
@@ -392,4 +385,50 @@ fn has_letter_t(text: &[u8]) -> bool
 {
     let byte = byte_at(text, 10);
     byte == b'T' || byte == b't'
+}
+
+/// Parses the instant of the timestamp that the bytes are. Fails with this error if they are no number.
+fn parse_unix_time(
+    bytes: &[u8],
+    fault: ParseError,
+    unit: TimestampUnit,
+    behavior: MicrosecondsPrecisionOverflowBehavior,
+) -> Result<UnixTime, ParseError>
+    ensures answer { result_map unix_instant result
+        ≡ or_number (number_instant unit behavior (number_answer bytes.now)) (Err fault) }
+    ensures within { IfOk result (λ time. IsInYears (unix_instant time)) }
+{
+    match float_parse_bytes(bytes) {
+        IntFloat::Int(timestamp) => whole_unix_time(timestamp, unit),
+        IntFloat::Float(decimal) => decimal_unix_time(decimal, unit, behavior),
+        IntFloat::Err => Err(fault),
+    }
+}
+
+/// The instant of a whole timestamp.
+#[inline(always)]
+fn whole_unix_time(timestamp: i64, unit: TimestampUnit) -> Result<UnixTime, ParseError>
+    ensures answer { result_map unix_instant result ≡ whole_instant unit timestamp }
+    ensures within { IfOk result (λ time. IsInYears (unix_instant time)) }
+{
+    let time = timestamp_to_seconds_micros(timestamp, unit)?;
+    time.checked_add_microseconds(0)?.in_years()
+}
+
+/// The instant of a decimal timestamp in a text, whose digits are counted if those past the microsecond
+/// are refused.
+fn decimal_unix_time(
+    decimal: Decimal<'_>,
+    unit: TimestampUnit,
+    behavior: MicrosecondsPrecisionOverflowBehavior,
+) -> Result<UnixTime, ParseError>
+    ensures answer { result_map unix_instant result
+        ≡ decimal_text_instant unit behavior (decimal_value decimal.entry) }
+    ensures within { IfOk result (λ time. IsInYears (unix_instant time)) }
+{
+    let unit = decimal_unit(decimal, unit);
+    if !takes_digits(behavior, decimal.fraction.len(), unit.digits) {
+        return Err(unit.too_long);
+    }
+    decimal_to_seconds_micros(decimal, unit)
 }

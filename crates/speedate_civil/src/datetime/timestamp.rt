@@ -123,7 +123,7 @@ impl DateTime {
     }
 
     /// The date-time of a decimal timestamp in a unit that is known, with the offset attached.
-    pub(super) fn at_decimal(
+    fn at_decimal(
         decimal: Decimal<'_>,
         unit: UnixUnit,
         offset: Option<i32>,
@@ -154,7 +154,8 @@ impl DateTime {
     }
 
     /// The date-time at an instant of the years 0000 to 9999, with the offset attached.
-    fn from_instant(time: UnixTime, offset: Option<i32>) -> Self
+    #[inline(always)]
+    pub(super) fn from_instant(time: UnixTime, offset: Option<i32>) -> Self
         requires within { IsInYears (unix_instant time) }
         requires offset { ForSome offset IsOffset }
         ensures value { date_and_time result ≡ date_time_at offset (unix_instant time) }

@@ -1,8 +1,14 @@
-use Rattle.std.proofs.Common.{◌∙◌, ap₂, sym, refl, Result, rules}
+use Rattle.std.proofs.Common.{◌∙◌, Ok, Result, ap, ap₂, refl, rules, sym}
 use Rattle.speedate_civil.specs.Base.{ParseError}
-use Rattle.speedate_base.specs.Numbers.{Number}
-use Rattle.speedate_civil.specs.DateTime.{DateAndTime, date_time_answer, date_time_number_answer}
-use Rattle.speedate_base.specs.Requirement.{or_number}
+use Rattle.speedate_base.specs.Numbers.{Number, number_answer}
+use Rattle.speedate_base.specs.Requirement.{or_number, result_map}
+use Rattle.speedate_civil.specs.DateTime.{
+  DateAndTime,
+  date_time_answer,
+  date_time_at,
+  date_time_number_answer,
+}
+use Rattle.speedate_civil.proofs.DateTimeTimestampLemmas.{number_instant-date_time}
 use Rattle.speedate_civil.proofs.NumberTextLemmas.{number_answer-refused}
 use Rattle.speedate_civil.proofs.datetime.DateTime.parse_timestamp.Goals as goal
 
@@ -20,5 +26,25 @@ returns-then-not-may_be_number-clause-answer c =
     sym (ap₂ (λ (number : Number) (answer : Result DateAndTime ParseError). or_number
     (timestamp number) answer) none c.requires)
 
-pub returns-in-Int-clause-answer : goal.returns-in-Int-clause-answer
-returns-in-Int-clause-answer c = search rules
+pub returns-in_err-time-clause-answer : goal.returns-in_err-time-clause-answer
+returns-in_err-time-clause-answer c =
+    let config = c.args.config.now in
+    let behavior = config.time_config.microseconds_precision_overflow_behavior in
+    let offset = config.time_config.unix_timestamp_offset in
+    let number = number_answer c.args.bytes.now in
+    let law = number_instant-date_time config.timestamp_unit behavior offset number c.args.fault in
+    let read = c.in_err-time.ensures.answer in
+    let refused = c.requires in
+    search rules
+
+pub returns-clause-answer : goal.returns-clause-answer
+returns-clause-answer c =
+    let config = c.args.config.now in
+    let behavior = config.time_config.microseconds_precision_overflow_behavior in
+    let offset = config.time_config.unix_timestamp_offset in
+    let number = number_answer c.args.bytes.now in
+    ap (λ (value : DateAndTime). Ok value) c.from_instant.ensures.value
+    ∙ ap (result_map (date_time_at offset)) c.in_ok-time.ensures.answer
+    ∙ sym (number_instant-date_time config.timestamp_unit behavior offset number c.args.fault)
+    ∙ ap (or_number (date_time_number_answer config.timestamp_unit behavior offset number))
+    (sym c.requires)
