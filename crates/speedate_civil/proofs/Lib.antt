@@ -9,6 +9,7 @@ mod DateTimeLemmas
 pub mod DateTimeTimestampLemmas
 pub mod DateTimestampLemmas
 mod DayNumberLemmas
+mod ErrorPlaceLemmas
 mod FrontLemmas
 pub mod InstantOrderLemmas
 mod NoControlLemmas
