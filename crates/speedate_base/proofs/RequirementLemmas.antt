@@ -1,10 +1,11 @@
 -- How tables chain, and which of their rows has the place.
-use Rattle.std.proofs.Common.{◌≡◌, ◌↔◌, ◌+◌, ◌≤◌, IfSome, ℕ, Bool, true, false, List, [], ◌∷◌, ◌++◌, length, Option, Some, None, Result, Ok, Err, is_some, is_err, refl, rules, arith}
+use Rattle.std.proofs.Common.{◌≡◌, ◌↔◌, ◌+◌, ◌≤◌, ◌∙◌, ◌==◌, IfSome, if◌then◌else◌, ap, sym, ℕ, Bool, true, false, List, [], ◌∷◌, ◌++◌, length, Option, Some, None, Result, Ok, Err, is_some, is_err, refl, rules, arith}
 use Rattle.std.specs.Option.{option_map}
 use Rattle.std.specs.Result.{result_and}
 use Rattle.speedate_base.specs.Requirement.{
   Requirement,
   TextRow,
+  end_table,
   first_fault_or,
   fault_at_byte,
   first_place,
@@ -110,6 +111,45 @@ pub first_place-refused : {A : Type 0} (rows next : List TextRow) (value : A) (f
 first_place-refused [] next value fault refused = search rules
 first_place-refused (row ∷ rows) next value fault refused =
     search (rules, first_place-refused rows next value fault)
+
+-- so the place of two tables, one after the other, is the first's, if there is one, and otherwise the
+-- other's
+pub first_place-stays : (rows next : List TextRow) (place : ℕ) → Some place ≡ first_place rows
+    → Some place ≡ first_place (rows ++ next)
+first_place-stays [] next place same = search rules
+first_place-stays (row ∷ rows) next place same = search (rules, first_place-stays rows next place)
+
+pub first_place-goes_on : (rows next : List TextRow) → None ≡ first_place rows
+    → first_place next ≡ first_place (rows ++ next)
+first_place-goes_on [] next same = refl
+first_place-goes_on (row ∷ rows) next same = search (rules, first_place-goes_on rows next)
+
+-- a table without a place holds
+pub first_place-holds : (rows : List TextRow) → None ≡ first_place rows → AllHold rows
+first_place-holds [] same = tt
+first_place-holds (row ∷ rows) same = search (rules, first_place-holds rows)
+
+pub all_hold-append : (rows next : List TextRow) → AllHold (rows ++ next)
+    → AllHold rows × AllHold next
+all_hold-append [] next all = (tt, all)
+all_hold-append (row ∷ rows) next all =
+    let others = all_hold-append rows next all.1 in ((all.0, others.0), others.1)
+
+pub all_hold-moved : (start : ℕ) (rows : List TextRow) → AllHold (moved start rows) → AllHold rows
+all_hold-moved start [] all = tt
+all_hold-moved start (row ∷ rows) all = (all.0, all_hold-moved start rows all.1)
+
+-- if a value was read, the place is that of the text's end, if it goes on
+pub end_table-place : {A : Type 0} (rows : List TextRow) (fault : ParseError) (text : List ℕ)
+    (given value : A) (end size : ℕ)
+    → first_fault_or {A = A × ℕ} rows (Ok (given, end)) ≡ Ok (value, size)
+    → (if length text == size then None else Some size)
+    ≡ first_place (rows ++ end_table fault end text)
+end_table-place {A = A} rows fault text given value end size read =
+    let held = first_fault_or-value {A = A × ℕ} rows (given, end) (value, size) read in
+    let place : ℕ → Option ℕ = λ size. if length text == size then None else Some size in
+    ap (λ (front : A × ℕ). place front.1) (sym held.1)
+    ∙ sym (first_place-all rows (end_table fault end text) held.0)
 
 -- the rows of a part of a text have their places from its beginning on, and the same answer
 pub first_place-moved : (start : ℕ) (rows : List TextRow)

@@ -48,12 +48,11 @@ whole_or_fault-table fault text rows value size =
 
 -- a date is what its whole table lets through
 pub date_answer-table : (text : List ℕ) → IsAnswerOf (whole_date_table text) (date_answer text)
-date_answer-table text =
-    (
-      date_numbers text,
-      whole_or_fault-table (λ (read : Ymd). ParseError.ExtraCharacters) text (date_table text)
+date_answer-table text = (
+  date_numbers text,
+  whole_or_fault-table (λ (read : Ymd). ParseError.ExtraCharacters) text (date_table text)
       (date_numbers text) 10,
-    )
+)
 
 pub date_front-table : (text : List ℕ) → IsAnswerOf (date_table text) (date_front text)
 date_front-table text = ((date_numbers text, 10), refl)

@@ -79,7 +79,7 @@ abbrev pub offset_numbers_table : List ℕ → List TextRow
 offset_numbers_table numbers = offset_digits numbers ++ offset_ranges numbers
 
 -- what a text has to meet to begin with an offset, or with none
-abbrev pub offset_front_table : List ℕ → List TextRow
+unfoldable pub offset_front_table : List ℕ → List TextRow
 offset_front_table rest =
     if is_plus_or_minus (slice_index rest 0) then moved 1 (offset_numbers_table (drop 1 rest))
     else (if is_utc (slice_index rest 0) then []
@@ -92,43 +92,46 @@ offset_bytes rest =
     else (if is_utc (slice_index rest 0) then 1
     else (if has_minus_sign rest then 3 + offset_digits_size (drop 3 rest) else 0))
 
--- what follows a clock has to meet: it is an offset, or nothing
-abbrev pub whole_offset_table : List ℕ → List TextRow
-whole_offset_table rest =
-    offset_front_table rest
-    ++ end_table (if begins_offset rest then ParseError.ExtraCharacters
-    else ParseError.InvalidCharTzSign) (offset_bytes rest) rest
-
 -- what a text has to meet to begin with a time
-abbrev pub time_front_table : Behavior → List ℕ → List TextRow
+unfoldable pub time_front_table : Behavior → List ℕ → List TextRow
 time_front_table behavior text =
     clock_table behavior text
     ++ moved (clock_size text) (offset_front_table (drop (clock_size text) text))
 
+-- the fault of a text that goes on after a time: of what follows the clock, if there is no offset
+abbrev pub time_end_fault : List ℕ → ParseError
+time_end_fault text =
+    if begins_offset (drop (clock_size text) text) then ParseError.ExtraCharacters
+    else ParseError.InvalidCharTzSign
+
+-- how many bytes a time takes
+abbrev pub time_size : List ℕ → ℕ
+time_size text = clock_size text + offset_bytes (drop (clock_size text) text)
+
 -- what a text has to meet to be a time
-abbrev pub whole_time_table : Behavior → List ℕ → List TextRow
+unfoldable pub whole_time_table : Behavior → List ℕ → List TextRow
 whole_time_table behavior text =
-    clock_table behavior text
-    ++ moved (clock_size text) (whole_offset_table (drop (clock_size text) text))
+    time_front_table behavior text ++ end_table (time_end_fault text) (time_size text) text
 
 -- what a text has to meet to be a time of RFC 3339
-abbrev pub strict_time_table : Behavior → List ℕ → List TextRow
+unfoldable pub strict_time_table : Behavior → List ℕ → List TextRow
 strict_time_table behavior text = whole_time_table behavior text ++ standard_time text
 
 -- Date-times: the time begins at byte 11.
 
 -- what a text has to meet to begin with a date-time
-abbrev pub date_time_front_table : Behavior → List ℕ → List TextRow
+unfoldable pub date_time_front_table : Behavior → List ℕ → List TextRow
 date_time_front_table behavior text =
     date_table text ++ separator_table text ++ moved 11 (time_front_table behavior (drop 11 text))
 
 -- what a text has to meet to be a date-time
-abbrev pub whole_date_time_table : Behavior → List ℕ → List TextRow
-whole_date_time_table behavior text =
-    date_table text ++ separator_table text ++ moved 11 (whole_time_table behavior (drop 11 text))
+unfoldable pub whole_date_time_table : Behavior → List ℕ → List TextRow
+whole_date_time_table behavior text = let time = drop 11 text in
+    date_time_front_table behavior text
+    ++ end_table (time_end_fault time) (11 + time_size time) text
 
 -- what a text has to meet to be a date-time of RFC 3339
-abbrev pub strict_date_time_table : Behavior → List ℕ → List TextRow
+unfoldable pub strict_date_time_table : Behavior → List ℕ → List TextRow
 strict_date_time_table behavior text =
     whole_date_time_table behavior text ++ standard_date_time text
 

@@ -1,6 +1,6 @@
 //! Where a text that is refused as a date has its error.
 
-ghost use Rattle.std.specs.Prelude.{◌≡◌, ◌≤◌, Err, IfSome, Some, is_err, is_some, length};
+ghost use Rattle.std.specs.Prelude.{◌≡◌, ◌≤◌, IfSome, is_err, is_some, length};
 ghost use Rattle.speedate_base.specs.Requirement.{IsAnswerOf, first_place};
 ghost use Rattle.speedate_civil.specs.Date.{
   date_answer,
@@ -65,23 +65,12 @@ impl Date {
     {
         match Self::parse_front(bytes) {
             Ok(_) => None,
-            Err(fault) => Some(front_place(bytes, fault)),
+            Err(ParseError::TooShort) => Some(bytes.len()),
+            Err(ParseError::InvalidCharYear) => Some(0),
+            Err(ParseError::InvalidCharDateSep) if byte_at(bytes, 4) == b'-' => Some(7),
+            Err(ParseError::InvalidCharDateSep) => Some(4),
+            Err(ParseError::InvalidCharMonth | ParseError::OutOfRangeMonth) => Some(5),
+            Err(_) => Some(8),
         }
-    }
-}
-
-/// The place of the error for which a text has no date at its front.
-fn front_place(bytes: &[u8], fault: ParseError) -> usize
-    requires { date_front bytes.now ≡ Err fault }
-    ensures place { first_place (date_table bytes.now) ≡ Some result }
-    ensures within { result ≤ length bytes.now }
-{
-    match fault {
-        ParseError::TooShort => bytes.len(),
-        ParseError::InvalidCharYear => 0,
-        ParseError::InvalidCharDateSep if byte_at(bytes, 4) == b'-' => 7,
-        ParseError::InvalidCharDateSep => 4,
-        ParseError::InvalidCharMonth | ParseError::OutOfRangeMonth => 5,
-        _ => 8,
     }
 }
