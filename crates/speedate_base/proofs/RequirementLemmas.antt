@@ -135,6 +135,11 @@ all_hold-append [] next all = (tt, all)
 all_hold-append (row ∷ rows) next all =
     let others = all_hold-append rows next all.1 in ((all.0, others.0), others.1)
 
+pub all_hold-join : (rows next : List TextRow) → AllHold rows → AllHold next
+    → AllHold (rows ++ next)
+all_hold-join [] next all others = others
+all_hold-join (row ∷ rows) next all others = (all.0, all_hold-join rows next all.1 others)
+
 pub all_hold-moved : (start : ℕ) (rows : List TextRow) → AllHold (moved start rows) → AllHold rows
 all_hold-moved start [] all = tt
 all_hold-moved start (row ∷ rows) all = (all.0, all_hold-moved start rows all.1)

@@ -506,10 +506,10 @@ comma-there : (text : List ℕ) → not (slice_index text 8 == comma) ≡ false 
 comma-there text fails =
     let there = byte-within text 8 comma (search rules) (search rules) in omega arith
 
-ends-at : (text : List ℕ) (size : ℕ) → (length text == size) ≡ true → length text ≡ size
+pub ends-at : (text : List ℕ) (size : ℕ) → (length text == size) ≡ true → length text ≡ size
 ends-at text size same = grind (arith, nat_tests)
 
-standard-within : (behavior : Behavior) (text : List ℕ) → AllHold (whole_time_table behavior text)
+pub standard-within : (behavior : Behavior) (text : List ℕ) → AllHold (whole_time_table behavior text)
     → AreWithin (length text) (standard_time text)
 unfolding whole_time_table time_front_table
 standard-within behavior text all =

@@ -1,6 +1,6 @@
 //! Where a text that is refused as a time has its error.
 
-ghost use Rattle.std.specs.Prelude.{◌≡◌, ◌≤◌, IfSome, is_err, is_some, length};
+ghost use Rattle.std.specs.Prelude.{◌≡◌, ◌≤◌, ◌+◌, IfSome, is_err, is_some, length};
 ghost use Rattle.speedate_base.specs.Config.{time_choices};
 ghost use Rattle.speedate_base.specs.Requirement.{IsAnswerOf, first_place, moved};
 ghost use Rattle.speedate_civil.specs.ErrorPlace.{
@@ -107,6 +107,7 @@ impl Time {
     /// The place of the error for which a text that is a time is none of RFC 3339.
     pub(crate) fn standard_error_place(bytes: &[u8]) -> Option<usize>
         ensures place { result ≡ first_place (standard_time bytes.now) }
+        ensures small { IfSome result (λ place. place ≤ 11 + length bytes.now) }
     {
         match Self::require_standard(bytes) {
             Ok(()) => None,
@@ -175,6 +176,7 @@ fn offset_minute_place(numbers: &[u8]) -> usize
 /// The place of the offset of a time that has a second.
 fn offset_place(bytes: &[u8]) -> usize
     ensures place { result ≡ offset_place bytes.now }
+    ensures small { result ≤ 8 + length bytes.now }
 {
     if byte_at(bytes, 8) == b'.' {
         run_end(bytes, 9)
