@@ -246,11 +246,10 @@ are_within-append size (row ∷ rows) next are others =
 pub are_within-moved : (start size : ℕ) (rows : List TextRow) → AreWithin size rows
     → AreWithin (start + size) (moved start rows)
 are_within-moved start size [] are = tt
-are_within-moved start size (row ∷ rows) are =
-    (
-      λ fails. let first = are.0 fails in omega arith,
-      λ holds. are_within-moved start size rows (are.1 holds),
-    )
+are_within-moved start size (row ∷ rows) are = (
+  λ fails. let first = are.0 fails in omega arith,
+  λ holds. are_within-moved start size rows (are.1 holds),
+)
 
 -- a value that a table lets through, seen in another way
 pub first_fault_or-map : {Place A B : Type 0} (view : A → B) (rows : List (Requirement Place))

@@ -7,11 +7,30 @@ use Rattle.std.proofs.lemmas.Bool.{cases_lt}
 use Rattle.std.proofs.lemmas.List.{get_or_past, length-drop}
 use Rattle.std.proofs.Common.{eq-eqb}
 use Rattle.speedate_base.specs.Ascii.{capital_t, small_t}
-use Rattle.speedate_civil.specs.Base.{Behavior, ParseError}
+use Rattle.speedate_civil.specs.Base.{Behavior, ParseError, TimestampUnit}
+use Rattle.speedate_base.specs.Numbers.{
+  DecimalParts,
+  Fractional,
+  NoNumber,
+  Number,
+  Whole,
+  number_answer,
+}
+use Rattle.speedate_base.specs.Timestamp.{
+  Instant,
+  UnitRow,
+  decimal_instant,
+  decimal_row,
+  digits_row,
+  digits_table,
+  range_answer,
+  range_table,
+}
 use Rattle.speedate_base.specs.Requirement.{
   AllHold,
   IsAnswerOf,
   TextRow,
+  all_at_byte,
   end_table,
   first_fault_or,
   first_place,
@@ -28,7 +47,9 @@ use Rattle.speedate_base.proofs.RequirementLemmas.{
   are_within-moved,
   end_table-place,
   first_fault_or-and_then,
+  fault_at_byte-is_some,
   first_fault_or-append,
+  first_fault_or-map,
   first_fault_or-moved,
   first_place-goes_on,
   first_place-holds,
@@ -36,19 +57,28 @@ use Rattle.speedate_base.proofs.RequirementLemmas.{
   first_place-refused,
   first_place-stays,
   is_answer_of-is_some,
+  or_number-is_some,
 }
 use Rattle.speedate_civil.specs.Calendar.{Ymd}
 use Rattle.speedate_civil.specs.Date.{date_front, date_numbers, date_table}
 use Rattle.speedate_civil.specs.DateTime.{
   DateAndTime,
   date_time_answer,
+  date_time_at,
   date_time_front,
+  date_time_number_answer,
+  date_time_or_timestamp,
+  date_time_timestamp_answer,
+  instant_date_time,
   is_separator,
   separator_table,
 }
 use Rattle.speedate_civil.specs.ErrorPlace.{
   clock_size,
   date_time_front_table,
+  date_time_number_place,
+  date_time_or_timestamp_place,
+  decimal_table,
   strict_date_time_table,
   time_end_fault,
   time_front_table,
@@ -108,21 +138,22 @@ date_time_front-rows behavior text =
     let date : Ymd × ℕ = (date_numbers text, 10) in
     let read : TimeOfDay × ℕ = (clock_with_offset (whole_clock time) found.0, time_size time) in
     let value : Result (DateAndTime × ℕ) ParseError =
-    Ok (front_value text found.0, 11 + time_size time) in
-    (
+    Ok (front_value text found.0, 11 + time_size time) in (
       found.0,
-      (first_fault_or-and_then step (date_table text) (Ok date)
-      ∙ ap (first_fault_or (date_table text))
-      (ap (λ (answer : Result (TimeOfDay × ℕ) ParseError).
-      result_and_then (joined date) (first_fault_or (separator_table text) answer)) found.1.0
-      ∙ first_fault_or-and_then (joined date) (separator_table text) (first_fault_or rows (Ok read))
-      ∙ ap (first_fault_or (separator_table text))
-      (first_fault_or-and_then (joined date) rows (Ok read)
-      ∙ sym (first_fault_or-moved 11 rows value)))
-      ∙ ap (first_fault_or (date_table text))
-      (sym (first_fault_or-append (separator_table text) (moved 11 rows) value))
-      ∙ sym (first_fault_or-append (date_table text) (separator_table text ++ moved 11 rows) value),
-      found.1.1),
+      (
+        first_fault_or-and_then step (date_table text) (Ok date)
+            ∙ ap (first_fault_or (date_table text))
+            (ap (λ (answer : Result (TimeOfDay × ℕ) ParseError).
+            result_and_then (joined date) (first_fault_or (separator_table text) answer)) found.1.0
+            ∙ first_fault_or-and_then (joined date) (separator_table text) (first_fault_or rows (Ok read))
+            ∙ ap (first_fault_or (separator_table text))
+            (first_fault_or-and_then (joined date) rows (Ok read)
+            ∙ sym (first_fault_or-moved 11 rows value)))
+            ∙ ap (first_fault_or (date_table text))
+            (sym (first_fault_or-append (separator_table text) (moved 11 rows) value))
+            ∙ sym (first_fault_or-append (date_table text) (separator_table text ++ moved 11 rows) value),
+        found.1.1,
+      ),
     )
 
 pub date_time_front-table : (behavior : Behavior) (text : List ℕ)
@@ -139,14 +170,13 @@ date_time_answer-table behavior text =
     let found = date_time_front-rows behavior text in
     let value = front_value text found.0 in
     let size = 11 + time_size (drop 11 text) in
-    let end = λ (read : DateAndTime). end_fault read.time.offset in
-    (
+    let end = λ (read : DateAndTime). end_fault read.time.offset in (
       value,
       ap (result_and_then (whole_or_fault end text)) found.1.0
-      ∙ whole_or_fault-table end text (date_time_front_table behavior text) value size
-      ∙ ap (λ (test : Bool). first_fault_or (date_time_front_table behavior text
-      ++ end_table (if test then ParseError.ExtraCharacters else ParseError.InvalidCharTzSign)
-      size text) (Ok value)) found.1.1,
+          ∙ whole_or_fault-table end text (date_time_front_table behavior text) value size
+          ∙ ap (λ (test : Bool). first_fault_or (date_time_front_table behavior text
+          ++ end_table (if test then ParseError.ExtraCharacters else ParseError.InvalidCharTzSign)
+          size text) (Ok value)) found.1.1,
     )
 
 -- a date-time of RFC 3339 is what both tables let through
@@ -154,11 +184,10 @@ pub strict_date_time-table : (behavior : Behavior) (text : List ℕ)
     → IsAnswerOf (strict_date_time_table behavior text) (strict_date_time_answer behavior text)
 unfolding strict_date_time_table
 strict_date_time-table behavior text =
-    let found = date_time_answer-table behavior text in
-    (
+    let found = date_time_answer-table behavior text in (
       found.0,
       further-table (whole_date_time_table behavior text) (standard_date_time text) found.0 _
-      found.1,
+          found.1,
     )
 
 -- A text has a place if and only if it is refused.
@@ -285,11 +314,10 @@ standard-date-time-within behavior text all =
     let inner =
     standard-within behavior time
     (time-holds behavior time (all_hold-moved 11 rows later.1)
-    (eq-eqb (length time) (time_size time) (omega arith))) in
-    (
+    (eq-eqb (length time) (time_size time) (omega arith))) in (
       λ fails. omega arith,
       λ letter. subst (λ (size : ℕ). AreWithin size (moved 11 (standard_time time))) whole
-      (are_within-moved 11 (length time) (standard_time time) inner),
+          (are_within-moved 11 (length time) (standard_time time) inner),
     )
 
 pub strict-date-time-within : (behavior : Behavior) (text : List ℕ)
@@ -310,3 +338,57 @@ standard-place-time text place letter same =
     ∙ sym (first_place-moved 11 (standard_time (drop 11 text)))
     ∙ ap (λ (test : Bool). if test then first_place (moved 11 (standard_time (drop 11 text)))
     else Some 10) letter
+
+-- Timestamps.
+
+-- an instant outside the years is refused at the beginning of its text
+range-place : (instant : Instant) (fault : ParseError) → Err fault ≡ range_answer instant
+    → Some 0 ≡ first_place (all_at_byte 0 (range_table instant))
+range-place instant fault refused = search rules
+
+pub decimal-place-range : (row : UnitRow) (behavior : Behavior) (text : List ℕ)
+    (decimal : DecimalParts) (fault : ParseError)
+    → (digits_row behavior row decimal).holds ≡ true
+    → Err fault ≡ range_answer (decimal_instant row decimal)
+    → Some 0 ≡ first_place (decimal_table row behavior text decimal)
+decimal-place-range row behavior text decimal fault few refused =
+    range-place (decimal_instant row decimal) fault refused
+    ∙ ap (λ (test : Bool). if test
+    then first_place (all_at_byte 0 (range_table (decimal_instant row decimal)))
+    else Some (length text - length decimal.fraction + row.digits)) (sym few)
+
+-- a decimal is refused if and only if it has a place
+decimal-is_some : (row : UnitRow) (behavior : Behavior) (offset : Option ℤ) (text : List ℕ)
+    (decimal : DecimalParts)
+    → is_some (first_place (decimal_table row behavior text decimal))
+    ≡ is_err (first_fault_or (digits_table behavior row decimal)
+    (instant_date_time offset (decimal_instant row decimal)))
+decimal-is_some row behavior offset text decimal =
+    let instant = decimal_instant row decimal in
+    is_answer_of-is_some (decimal_table row behavior text decimal)
+    (first_fault_or (digits_table behavior row decimal) (instant_date_time offset instant)) (
+      date_time_at offset instant,
+      ap (first_fault_or (digits_table behavior row decimal))
+          (first_fault_or-map (date_time_at offset) (range_table instant) (Ok instant)),
+    )
+
+number-is_some : (unit : TimestampUnit) (behavior : Behavior) (offset : Option ℤ) (text : List ℕ)
+    (number : Number)
+    → option_map (λ place. is_some place) (date_time_number_place unit behavior offset text number)
+    ≡ option_map (λ answer. is_err answer) (date_time_number_answer unit behavior offset number)
+number-is_some unit behavior offset text (Whole timestamp) =
+    fault_at_byte-is_some (date_time_timestamp_answer unit offset 0) 0 (Some timestamp)
+number-is_some unit behavior offset text (Fractional decimal) =
+    ap (λ test. Some test) (decimal-is_some (decimal_row unit decimal) behavior offset text decimal)
+number-is_some unit behavior offset text NoNumber = refl
+
+pub date_time_or_timestamp-is_some : (unit : TimestampUnit) (behavior : Behavior)
+    (offset : Option ℤ) (text : List ℕ)
+    → is_some (date_time_or_timestamp_place unit behavior offset text)
+    ≡ is_err (date_time_or_timestamp unit behavior offset text)
+date_time_or_timestamp-is_some unit behavior offset text =
+    or_number-is_some (date_time_number_answer unit behavior offset (number_answer text))
+    (date_time_number_place unit behavior offset text (number_answer text))
+    (date_time_answer behavior text) (first_place (whole_date_time_table behavior text))
+    (number-is_some unit behavior offset text (number_answer text))
+    (date_time-is_some behavior text)

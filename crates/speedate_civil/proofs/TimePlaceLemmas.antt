@@ -523,29 +523,24 @@ standard-within behavior text all =
     let offset = all_hold-moved size (offset_front_table rest) front.1 in
     let five : 5 ≤ length text = leb-true 5 (length text) front.0.0 in
     let ends = ends-at text (time_size text) parts.1.0 in
-    let left = length-drop size text in
-    (
+    let left = length-drop size text in (
       λ fails. five,
-      λ second.
-      (
+      λ second. (
         comma-there text,
-        λ plain. let place = offset_place-is text second plain in
-        (
+        λ plain. let place = offset_place-is text second plain in (
           λ fails. omega (arith, place, ends),
-          λ some.
-          (
+          λ some. (
             λ fails. omega (arith, place, ends),
-            λ no_minus.
-            (
+            λ no_minus. (
               λ fails.
-              let begins =
-              bytes-begin rest (omega (arith, ltb-true 0 (length (drop (offset_place text) text)) some, ends, left, ap (λ (place : ℕ). length (drop place text)) place)) in
-              let three =
-              minute-there rest offset begins
-              (subst (λ (place : ℕ). not (has_minus_sign (drop place text)) ≡ true) place no_minus)
-              (subst (λ (place : ℕ). (is_utc (slice_index (drop place text) 0)
-              || (slice_index (drop place text) 3 == colon)) ≡ false) place fails) in
-              omega (arith, place, ends, left, three),
+                  let begins =
+                  bytes-begin rest (omega (arith, ltb-true 0 (length (drop (offset_place text) text)) some, ends, left, ap (λ (place : ℕ). length (drop place text)) place)) in
+                  let three =
+                  minute-there rest offset begins
+                  (subst (λ (place : ℕ). not (has_minus_sign (drop place text)) ≡ true) place no_minus)
+                  (subst (λ (place : ℕ). (is_utc (slice_index (drop place text) 0)
+                  || (slice_index (drop place text) 3 == colon)) ≡ false) place fails) in
+                  omega (arith, place, ends, left, three),
               λ part. tt,
             ),
           ),

@@ -40,17 +40,7 @@ impl DateTime {
         ensures refused { is_some result ≡ is_err (date_time_by_config config.now bytes.now) }
         ensures within { IfSome result (λ place. place ≤ length bytes.now) }
     {
-        let place = Self::error_place_rfc3339(bytes, &config.time_config)?;
-        match float_parse_bytes(bytes) {
-            IntFloat::Int(timestamp) => {
-                match Self::from_timestamp_with_config(timestamp, 0, config) {
-                    Ok(_) => None,
-                    Err(_) => Some(0),
-                }
-            }
-            IntFloat::Float(decimal) => decimal_error_place(bytes, decimal, config),
-            IntFloat::Err => Some(place),
-        }
+        Self::timestamp_error_place(bytes, config)
     }
 
     /// The byte at which the error lies for which [`DateTime::parse_bytes_rfc3339_with_config`] refuses
@@ -111,6 +101,25 @@ impl DateTime {
         Self::front_error_place(bytes, config.microseconds_precision_overflow_behavior)
     }
 
+    /// The place of the error for which a text is neither a date-time nor a timestamp.
+    fn timestamp_error_place(bytes: &[u8], config: &DateTimeConfig) -> Option<usize>
+        ensures place { result ≡ date_time_or_timestamp_place (choices config.now).unit
+            (choices config.now).behavior (choices config.now).offset bytes.now }
+        ensures within { IfSome result (λ place. place ≤ length bytes.now) }
+    {
+        let place = Self::error_place_rfc3339(bytes, &config.time_config)?;
+        match float_parse_bytes(bytes) {
+            IntFloat::Int(timestamp) => {
+                match Self::from_timestamp_with_config(timestamp, 0, config) {
+                    Ok(_) => None,
+                    Err(_) => Some(0),
+                }
+            }
+            IntFloat::Float(decimal) => decimal_error_place(bytes, decimal, config),
+            IntFloat::Err => Some(place),
+        }
+    }
+
     /// The place of the error for which a text is no date-time.
     fn whole_error_place(
         bytes: &[u8],
@@ -160,12 +169,8 @@ fn standard_error_place(bytes: &[u8]) -> Option<usize>
 }
 
 /// The place of the error for which a text that is a decimal is no timestamp.
-fn decimal_error_place(
-    bytes: &[u8],
-    decimal: Decimal<'_>,
-    config: &DateTimeConfig,
-) -> Option<usize>
-    requires { length decimal.entry.fraction.now ≤ length bytes.now }
+fn decimal_error_place(bytes: &[u8], decimal: Decimal<'_>, config: &DateTimeConfig) -> Option<usize>
+    requires { length decimal.fraction.now ≤ length bytes.now }
     ensures place { result ≡ first_place (decimal_table
         (decimal_row (choices config.now).unit (decimal_value decimal.entry))
         (choices config.now).behavior bytes.now (decimal_value decimal.entry)) }

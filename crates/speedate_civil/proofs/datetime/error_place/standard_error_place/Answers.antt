@@ -10,9 +10,9 @@ returns-in-Some c =
     let bytes = c.args.bytes.now in
     record {
       place =
-        standard-place-time bytes (Some c.in-Some.place) c.if-not-has_letter_t.ensures.value
-        (c.in-Some.ensures.place
-        ∙ ap (λ (time : List ℕ). first_place (standard_time time)) (take_rest bytes 11));
+          standard-place-time bytes (Some c.in-Some.place) c.if-not-has_letter_t.ensures.value
+          (c.in-Some.ensures.place
+          ∙ ap (λ (time : List ℕ). first_place (standard_time time)) (take_rest bytes 11));
     }
 
 pub returns-in-None : goal.returns-in-None
@@ -20,7 +20,7 @@ returns-in-None c =
     let bytes = c.args.bytes.now in
     record {
       place =
-        standard-place-time bytes None c.if-not-has_letter_t.ensures.value
-        (c.in-None.ensures.place
-        ∙ ap (λ (time : List ℕ). first_place (standard_time time)) (take_rest bytes 11));
+          standard-place-time bytes None c.if-not-has_letter_t.ensures.value
+          (c.in-None.ensures.place
+          ∙ ap (λ (time : List ℕ). first_place (standard_time time)) (take_rest bytes 11));
     }
