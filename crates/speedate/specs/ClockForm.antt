@@ -8,7 +8,7 @@ use Rattle.speedate_base.specs.Ascii.{colon}
 use Rattle.speedate_base.specs.Digits.{digits_value}
 use Rattle.speedate_base.specs.Config.{refuses_digits}
 use Rattle.speedate_base.specs.Requirement.{
-  Requirement,
+  NumberRow,
   ◌else_fault◌,
   ◌implies◌,
   first_fault_or,
@@ -37,7 +37,7 @@ has_hours text =
 
 -- what a text has to meet to begin with hours: it has at least five bytes, and begins with at most
 -- ten digits, or none, and `:`
-abbrev pub hours_table : List ℕ → List Requirement
+abbrev pub hours_table : List ℕ → List NumberRow
 hours_table text =
     (nat_le 5 (length text) else_fault ParseError.TooShort)
     ∷ (nat_lt (colon_place text) (length text) else_fault ParseError.InvalidCharHour)
@@ -48,7 +48,7 @@ hours_table text =
 -- what a text that begins with hours has to meet to go on to the minute: there are at most
 -- 2,400,000,000 hours, and what follows them has at least two bytes, and at most 12 if digits are
 -- refused
-abbrev pub hours_range : Behavior → ℕ → List ℕ → List Requirement
+abbrev pub hours_range : Behavior → ℕ → List ℕ → List NumberRow
 hours_range behavior hours rest =
     (nat_le hours 2400000000 else_fault ParseError.DurationHourValueTooLarge)
     ∷ ((refuses_digits behavior implies nat_le (length rest) 12)

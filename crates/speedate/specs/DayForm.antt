@@ -6,7 +6,7 @@ use Rattle.std.specs.List.{list_any, starts_with}
 use Rattle.speedate_base.specs.Ascii.{capital_d, small_d}
 use Rattle.speedate_base.specs.Digits.{run_length, run_value}
 use Rattle.speedate_base.specs.Requirement.{
-  Requirement,
+  NumberRow,
   ◌else_fault◌,
   first_fault_or,
   result_and_then,
@@ -56,7 +56,7 @@ has_whole_ending text =
     || not (list_any (starts_with nat_eq text) (codes "a" ∷ codes "A" ∷ []))
 
 -- what a text has to meet to begin with days
-abbrev pub days_table : List ℕ → List Requirement
+abbrev pub days_table : List ℕ → List NumberRow
 days_table text =
     (nat_lt 0 (run_length text 0) else_fault ParseError.DurationInvalidNumber)
     ∷ (nat_le (run_value text 0) 4294967295 else_fault ParseError.DurationValueTooLarge)

@@ -11,7 +11,7 @@ use Rattle.speedate_civil.specs.Base.{ParseError}
 pub use Rattle.speedate.specs.declared.duration.unsigned.UnsignedDuration.{UnsignedDuration}
 use Rattle.speedate_base.specs.Numbers.{with_sign}
 use Rattle.speedate_base.specs.Timestamp.{seconds_per_day}
-use Rattle.speedate_base.specs.Requirement.{Requirement, ◌else_fault◌, first_fault_or}
+use Rattle.speedate_base.specs.Requirement.{NumberRow, ◌else_fault◌, first_fault_or}
 
 -- a duration by its sign, its days, the seconds of a day and the microseconds of a second
 pub record DurationNumbers : Type 0 where
@@ -53,7 +53,7 @@ carried_day numbers = numbers.day + carried_second numbers / seconds_per_day
 
 -- what the numbers of a duration, of any size, have to meet to be brought into their ranges: the
 -- sums are counted in 32 bits, and then the days are at most 999,999,999
-abbrev pub normal_table : DurationNumbers → List Requirement
+abbrev pub normal_table : DurationNumbers → List NumberRow
 normal_table numbers =
     (nat_le (carried_second numbers) 4294967295 else_fault ParseError.DurationValueTooLarge)
     ∷ (nat_le (carried_day numbers) 4294967295 else_fault ParseError.DurationValueTooLarge)

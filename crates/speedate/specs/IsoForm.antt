@@ -22,7 +22,7 @@ use Rattle.speedate_base.specs.Ascii.{
 use Rattle.speedate_base.specs.Digits.{run_length, digits_value, is_decimal_mark}
 use Rattle.speedate_base.specs.Nearest.{nearest}
 use Rattle.speedate_base.specs.Timestamp.{seconds_per_day}
-use Rattle.speedate_base.specs.Requirement.{Requirement, ◌else_fault◌, first_fault_or, AllHold}
+use Rattle.speedate_base.specs.Requirement.{NumberRow, ◌else_fault◌, first_fault_or, AllHold}
 use Rattle.speedate.specs.DurationNumbers.{UnsignedDuration}
 
 -- a unit of a duration by its designator, and what one of it is: whole days, or seconds
@@ -184,7 +184,7 @@ with_item (Component component) sums =
 -- component: it has digits; its number is counted in 32 bits; no component before it has a
 -- fraction; its unit is one of its side, and one that may still come; and the sums with it are
 -- counted in 32 bits
-abbrev pub item_table : IsoSums → Item → List Requirement
+abbrev pub item_table : IsoSums → Item → List NumberRow
 item_table sums TimeDesignator = (not sums.is_time else_fault ParseError.DurationTRepeated) ∷ []
 item_table sums (Component component) =
     (nat_lt 0 (length component.number) else_fault ParseError.DurationInvalidNumber)

@@ -1,19 +1,44 @@
--- A grammar as an ordered table: each row is a test of the text and the fault of a text that fails
--- it. A fault is an error of the code; definitions and local names call it so, since `Error` is a
--- behavior.
-use Rattle.std.specs.Prelude.{◌≡◌, ℕ, Bool, true, List, [], ◌∷◌, length, ◌==◌, Result, Ok, Err, if◌then◌else◌, Option, Some, None}
+-- A grammar as an ordered table: each row is a test of the text, the fault of a text that fails it,
+-- and the place of what the row is about. A fault is an error of the code; definitions and local
+-- names call it so, since `Error` is a behavior.
+use Rattle.std.specs.Prelude.{◌≡◌, ℕ, ◌+◌, Bool, true, List, [], ◌∷◌, length, ◌==◌, Result, Ok, Err, if◌then◌else◌, Option, Some, None}
 use Rattle.std.specs.Result.{result_map_both, result_flatten}
 pub use Rattle.speedate_base.specs.declared.faults.ParseError.{ParseError}
 
--- what a text has to meet, and the fault of one that does not
-pub record Requirement : Type 0 where
+-- what is required, the fault of what does not meet it, and where that is
+pub record Requirement (Place : Type 0) : Type 0 where
   pub holds : Bool
   pub fault : ParseError
+  pub place : Place
+
+-- a requirement of numbers, which has no place
+abbrev pub NumberRow : Type 0
+NumberRow = Requirement (Unit {0})
+
+-- a requirement of a text: its place is the byte at which the part that it is about begins, or would
+-- begin
+abbrev pub TextRow : Type 0
+TextRow = Requirement ℕ
 
 infix 20 ◌else_fault◌
--- a row of a table: a test, and the fault of a text that fails it
-abbrev pub ◌else_fault◌ : Bool → ParseError → Requirement
-test else_fault fault = record { holds = test; fault = fault }
+-- a row of a table: a test, and the fault of what fails it
+abbrev pub ◌else_fault◌ : Bool → ParseError → NumberRow
+test else_fault fault = record { holds = test; fault = fault; place = tt }
+
+infix 18 ◌at_byte◌
+-- a row with its place in a text
+abbrev pub ◌at_byte◌ : {Place : Type 0} → Requirement Place → ℕ → TextRow
+row at_byte place = record { holds = row.holds; fault = row.fault; place = place }
+
+-- rows of numbers that are all about what begins at a byte
+abbrev pub all_at_byte : ℕ → List NumberRow → List TextRow
+all_at_byte place [] = []
+all_at_byte place (row ∷ rows) = (row at_byte place) ∷ all_at_byte place rows
+
+-- the rows of a part of a text that begins at a byte
+abbrev pub moved : ℕ → List TextRow → List TextRow
+moved start [] = []
+moved start (row ∷ rows) = (row at_byte (start + row.place)) ∷ moved start rows
 
 infix 15 ◌implies◌
 -- a test that is asked only if another one holds
@@ -21,13 +46,18 @@ abbrev pub ◌implies◌ : Bool → Bool → Bool
 there implies asked = if there then asked else true
 
 -- what comes next if every row of a table holds, otherwise the fault of the first row that does not
-abbrev pub first_fault_or : {A : Type 0} → List Requirement → Result A ParseError
+abbrev pub first_fault_or : {Place A : Type 0} → List (Requirement Place) → Result A ParseError
     → Result A ParseError
 first_fault_or [] next = next
 first_fault_or (row ∷ rows) next = if row.holds then first_fault_or rows next else Err row.fault
 
+-- the place of the first row of a table that does not hold, if there is one
+abbrev pub first_place : List TextRow → Option ℕ
+first_place [] = None
+first_place (row ∷ rows) = if row.holds then first_place rows else Some row.place
+
 -- every row of a table holds
-abbrev pub AllHold : List Requirement → Type 0
+abbrev pub AllHold : {Place : Type 0} → List (Requirement Place) → Type 0
 AllHold [] = Unit {0}
 AllHold (row ∷ rows) = (row.holds ≡ true) × AllHold rows
 
@@ -39,11 +69,15 @@ result_map view answer = result_map_both view (λ fault. fault) answer
 abbrev pub with_size : {A B : Type 0} → (A → B) → A × ℕ → B × ℕ
 with_size view front = (view front.0, front.1)
 
+-- what a text has to meet to end with the value at its front, which takes some bytes of it
+abbrev pub end_table : ParseError → ℕ → List ℕ → List TextRow
+end_table fault size text = (length text == size else_fault fault at_byte size) ∷ []
+
 -- the value at the front of a text, with how many bytes it takes, if the text ends with it;
 -- otherwise its fault
 abbrev pub whole_or_fault : {A : Type 0} → (A → ParseError) → List ℕ → A × ℕ → Result A ParseError
 whole_or_fault fault text front =
-    first_fault_or ((length text == front.1 else_fault fault front.0) ∷ []) (Ok front.0)
+    first_fault_or (end_table (fault front.0) front.1 text) (Ok front.0)
 
 -- what is answered to a value that was read; a fault stays
 abbrev pub result_and_then : {A B : Type 0} → (A → Result B ParseError) → Result A ParseError
@@ -61,3 +95,19 @@ abbrev pub or_number : {A : Type 0} → Option (Result A ParseError) → Result 
 or_number number (Ok value) = Ok value
 or_number (Some answer) (Err fault) = answer
 or_number None (Err fault) = Err fault
+
+-- the answer to a text is that of a table: the fault of the first row that does not hold, whose place
+-- is the table's, and otherwise a value
+abbrev pub IsAnswerOf : {A : Type 0} → List TextRow → Result A ParseError → Type 0
+IsAnswerOf {A = A} rows answer = (value : A) × (answer ≡ first_fault_or rows (Ok value))
+
+-- the place of a fault that is about all that begins at a byte; a value has none
+abbrev pub fault_at_byte : {A : Type 0} → ℕ → Result A ParseError → Option ℕ
+fault_at_byte place (Ok value) = None
+fault_at_byte place (Err fault) = Some place
+
+-- the place of the fault of a table; but if there is one and the text is a number, that of the number
+abbrev pub or_number_place : Option (Option ℕ) → Option ℕ → Option ℕ
+or_number_place number None = None
+or_number_place (Some answer) (Some place) = answer
+or_number_place None (Some place) = Some place

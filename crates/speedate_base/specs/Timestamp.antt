@@ -8,7 +8,7 @@ use Rattle.speedate_base.specs.Config.{refuses_digits, Behavior, TimestampUnit}
 use Rattle.speedate_base.specs.Nearest.{nearest}
 use Rattle.speedate_base.specs.Numbers.{DecimalParts, decimal_digits, decimal_scale, with_sign}
 use Rattle.speedate_base.specs.Requirement.{
-  Requirement,
+  NumberRow,
   ◌else_fault◌,
   first_fault_or,
   ◌implies◌,
@@ -79,7 +79,7 @@ has_unit TimestampUnit.Infer timestamp = nat_lt (unsigned_abs timestamp) (2 ^ 63
 has_unit given timestamp = true
 
 -- what a timestamp has to meet to have a unit
-abbrev pub unit_table : TimestampUnit → ℤ → List Requirement
+abbrev pub unit_table : TimestampUnit → ℤ → List NumberRow
 unit_table unit timestamp = (has_unit unit timestamp else_fault ParseError.DateTooSmall) ∷ []
 
 -- the instant of a timestamp, or its fault
@@ -96,7 +96,7 @@ later_instant microseconds instant =
 
 -- what an instant and additional microseconds have to meet to be added: their microseconds fit 32
 -- bits, and the seconds 64 bits with a sign
-abbrev pub sum_table : ℕ → Instant → List Requirement
+abbrev pub sum_table : ℕ → Instant → List NumberRow
 sum_table microseconds instant =
     (nat_lt (instant.microsecond + microseconds) (2 ^ 32) else_fault ParseError.TimeTooLarge)
     ∷ (int_lt (later_instant microseconds instant).second (pos (2 ^ 63))
@@ -121,7 +121,7 @@ IsInYears instant =
     IsTrue (int_le first_second instant.second) × IsTrue (int_le instant.second last_second)
 
 -- what an instant has to meet to lie in the years 0000 to 9999
-abbrev pub range_table : Instant → List Requirement
+abbrev pub range_table : Instant → List NumberRow
 range_table instant =
     (int_le first_second instant.second else_fault ParseError.DateTooSmall)
     ∷ (int_le instant.second last_second else_fault ParseError.DateTooLarge)
@@ -153,11 +153,14 @@ decimal_microsecond row decimal = nearest (decimal_numerator row decimal) (decim
 abbrev pub decimal_instant : UnitRow → DecimalParts → Instant
 decimal_instant row decimal = instant_at (decimal_microsecond row decimal)
 
--- what a decimal in a text has to meet if its digits are counted
-abbrev pub digits_table : Behavior → UnitRow → DecimalParts → List Requirement
-digits_table behavior row decimal =
-    ((refuses_digits behavior implies nat_le (length decimal.fraction) row.digits)
-    else_fault row.too_long) ∷ []
+-- what the digits of a decimal in a text have to meet: they are counted if further ones are refused
+abbrev pub digits_row : Behavior → UnitRow → DecimalParts → NumberRow
+digits_row behavior row decimal =
+    (refuses_digits behavior implies nat_le (length decimal.fraction) row.digits)
+    else_fault row.too_long
+
+abbrev pub digits_table : Behavior → UnitRow → DecimalParts → List NumberRow
+digits_table behavior row decimal = digits_row behavior row decimal ∷ []
 
 -- the numbers of an instant
 abbrev pub unix_instant : UnixTime → Instant

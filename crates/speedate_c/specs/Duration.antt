@@ -3,7 +3,7 @@ use Rattle.std.specs.Prelude.{ℕ, ◌==◌, nat_le, nat_lt, Bool, true, false, 
 use Rattle.speedate.specs.Base.{ParseError}
 use Rattle.speedate.specs.DurationNumbers.{DurationNumbers}
 use Rattle.speedate.specs.Timestamp.{seconds_per_day}
-use Rattle.speedate.specs.Requirement.{Requirement, ◌else_fault◌, first_fault_or}
+use Rattle.speedate.specs.Requirement.{NumberRow, ◌else_fault◌, first_fault_or}
 use Rattle.speedate_c.specs.declared.duration.SpeedateDuration.{SpeedateDuration}
 
 -- the numbers of a duration from outside, whatever they are
@@ -16,7 +16,7 @@ numbers_of duration = record {
 }
 
 -- what a duration from outside has to meet: the flag is 0 or 1, and the numbers are in their ranges
-abbrev pub duration_table : SpeedateDuration → List Requirement
+abbrev pub duration_table : SpeedateDuration → List NumberRow
 duration_table duration =
     (nat_le duration.negative 1 else_fault ParseError.DurationValueTooLarge)
     ∷ (nat_le duration.day 999999999 else_fault ParseError.DurationDaysTooLarge)

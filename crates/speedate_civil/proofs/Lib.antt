@@ -6,9 +6,11 @@ mod DateLemmas
 pub mod DateOrderLemmas
 pub mod DateTimeInstantLemmas
 mod DateTimeLemmas
+mod DateTimePlaceLemmas
 pub mod DateTimeTimestampLemmas
 pub mod DateTimestampLemmas
 mod DayNumberLemmas
+mod ErrorPlaceLemmas
 mod FrontLemmas
 pub mod LongerTextLemmas
 pub mod InstantOrderLemmas
@@ -20,6 +22,7 @@ mod OffsetMoveLemmas
 mod ReadLemmas
 mod Rfc3339Lemmas
 mod TimeLemmas
+mod TimePlaceLemmas
 pub mod ValueLemmas
 pub mod MonthLemmas
 mod YearLemmas

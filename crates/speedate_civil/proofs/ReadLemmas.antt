@@ -15,7 +15,8 @@ pub if_cases : {A : Type 0} (P : A → Type 0) (test : Bool) (one other : A) →
 if_cases P test one other holds fails = search rules
 
 -- a table lets a value through where its rows hold
-pub read-rows : {A : Type 0} (P : A → Type 0) (rows : List Requirement) (next : Result A ParseError)
+pub read-rows : {Place A : Type 0} (P : A → Type 0) (rows : List (Requirement Place))
+    (next : Result A ParseError)
     → (AllHold rows → IfOk next P) → IfOk (first_fault_or rows next) P
 read-rows P [] next held = held tt
 read-rows P (row ∷ rows) next held =

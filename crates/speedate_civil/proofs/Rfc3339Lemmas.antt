@@ -516,7 +516,8 @@ date-time-taken behavior text is =
     )
 
 -- a result whose value meets further rows is a value if and only if a text is one of the rules
-strict : {A B : Type 0} (view : A → B) (result : Result A ParseError) (rows : List Requirement)
+strict : {Place A B : Type 0} (view : A → B) (result : Result A ParseError)
+    (rows : List (Requirement Place))
     (answer : Result B ParseError) (IsOne : Type 0)
     → result_map view result ≡ result_and_then (λ (read : B). first_fault_or rows (Ok read)) answer
     → ((value : B) → answer ≡ Ok value → AllHold rows → IsOne)

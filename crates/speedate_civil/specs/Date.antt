@@ -14,8 +14,10 @@ use Rattle.speedate_base.specs.Digits.{
 use Rattle.speedate_base.specs.Numbers.{whole_number}
 use Rattle.speedate_base.specs.Timestamp.{seconds_per_day, Instant, instant_answer, range_answer}
 use Rattle.speedate_base.specs.Requirement.{
-  Requirement,
+  NumberRow,
+  TextRow,
   ◌else_fault◌,
+  ◌at_byte◌,
   first_fault_or,
   whole_or_fault,
   ◌implies◌,
@@ -42,20 +44,22 @@ infix 15 ◌gives_front◌
 abbrev pub ◌gives_front◌ : Result (Date × ℕ) ParseError → Result (Ymd × ℕ) ParseError → Type 0
 result gives_front front = result_map (with_size ymd) result ≡ front
 
--- what a month and a day have to meet
-abbrev pub day_table : Ymd → List Requirement
-day_table date =
-    (is_in_range 1 12 date.month else_fault ParseError.OutOfRangeMonth)
-    ∷ (is_in_range 1 (month_length date.year date.month) date.day
-    else_fault ParseError.OutOfRangeDay)
-    ∷ []
+-- what a month has to meet
+abbrev pub month_row : Ymd → NumberRow
+month_row date = is_in_range 1 12 date.month else_fault ParseError.OutOfRangeMonth
+
+-- what a day has to meet
+abbrev pub day_row : Ymd → NumberRow
+day_row date =
+    is_in_range 1 (month_length date.year date.month) date.day else_fault ParseError.OutOfRangeDay
 
 -- the date of a year, a month and a day, or the fault of one that is out of range: the year is
 -- looked at first
 abbrev pub new_date_answer : ℕ → ℕ → ℕ → Result Ymd ParseError
 new_date_answer year month day =
     let date : Ymd = record { year = year; month = month; day = day } in
-    first_fault_or ((nat_le year 9999 else_fault ParseError.DateTooLarge) ∷ day_table date)
+    first_fault_or
+    ((nat_le year 9999 else_fault ParseError.DateTooLarge) ∷ month_row date ∷ day_row date ∷ [])
     (Ok date)
 
 -- The text of a date, `YYYY-MM-DD` (RFC 3339 5.6, full-date; the ranges of month and day are those
@@ -70,15 +74,17 @@ date_numbers text = record {
 }
 
 -- what the first ten bytes of a text have to meet to be a date
-abbrev pub date_table : List ℕ → List Requirement
+abbrev pub date_table : List ℕ → List TextRow
 date_table text = let date = date_numbers text in
-    (nat_le 10 (length text) else_fault ParseError.TooShort)
-    ∷ (four_digits_at text 0 else_fault ParseError.InvalidCharYear)
-    ∷ (slice_index text 4 == hyphen else_fault ParseError.InvalidCharDateSep)
-    ∷ (two_digits_at text 5 else_fault ParseError.InvalidCharMonth)
-    ∷ (slice_index text 7 == hyphen else_fault ParseError.InvalidCharDateSep)
-    ∷ (two_digits_at text 8 else_fault ParseError.InvalidCharDay)
-    ∷ day_table date
+    (nat_le 10 (length text) else_fault ParseError.TooShort at_byte length text)
+    ∷ (four_digits_at text 0 else_fault ParseError.InvalidCharYear at_byte 0)
+    ∷ (slice_index text 4 == hyphen else_fault ParseError.InvalidCharDateSep at_byte 4)
+    ∷ (two_digits_at text 5 else_fault ParseError.InvalidCharMonth at_byte 5)
+    ∷ (slice_index text 7 == hyphen else_fault ParseError.InvalidCharDateSep at_byte 7)
+    ∷ (two_digits_at text 8 else_fault ParseError.InvalidCharDay at_byte 8)
+    ∷ (month_row date at_byte 5)
+    ∷ (day_row date at_byte 8)
+    ∷ []
 
 -- the date at the front of a text, and how many bytes it takes, or the text's fault
 abbrev pub date_front : List ℕ → Result (Ymd × ℕ) ParseError

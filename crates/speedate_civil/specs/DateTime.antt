@@ -25,8 +25,9 @@ use Rattle.speedate_base.specs.Timestamp.{
   later_answer,
 }
 use Rattle.speedate_base.specs.Requirement.{
-  Requirement,
+  TextRow,
   ◌else_fault◌,
+  ◌at_byte◌,
   first_fault_or,
   whole_or_fault,
   result_map,
@@ -116,9 +117,10 @@ is_separator byte =
     (byte == capital_t) || (byte == small_t) || (byte == space) || (byte == low_line)
 
 -- what a text that begins with a date has to meet to go on to a time
-abbrev pub separator_table : List ℕ → List Requirement
+abbrev pub separator_table : List ℕ → List TextRow
 separator_table text =
-    (is_separator (slice_index text 10) else_fault ParseError.InvalidCharDateTimeSep) ∷ []
+    (is_separator (slice_index text 10) else_fault ParseError.InvalidCharDateTimeSep at_byte 10)
+    ∷ []
 
 -- the date-time at the front of a text, a date, a separator and a time, and how many bytes it
 -- takes, or the text's fault

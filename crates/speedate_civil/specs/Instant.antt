@@ -3,13 +3,13 @@ use Rattle.std.specs.Prelude.{◌≡◌, ◌&&◌, ◌++◌, Bool, IsTrue, List,
 use Rattle.std.specs.Ordering.{int_cmp, is_le, nat_cmp, on, then_cmp}
 use Rattle.std.specs.declared.cmp.Ordering.{Ordering}
 use Rattle.speedate_base.specs.Offset.{offset_table}
-use Rattle.speedate_base.specs.Requirement.{Requirement, ◌else_fault◌}
+use Rattle.speedate_base.specs.Requirement.{NumberRow, ◌else_fault◌}
 use Rattle.speedate_base.specs.Timestamp.{Instant}
 use Rattle.speedate_civil.specs.Base.{ParseError}
 
 -- what a move to another offset has to meet: that one is in its range, and there is an old one, at
 -- which a clock shows the instant now
-abbrev pub move_table : ℤ → Option ℤ → List Requirement
+abbrev pub move_table : ℤ → Option ℤ → List NumberRow
 move_table offset old =
     offset_table (Some offset) ++ (is_some old else_fault ParseError.TzRequired) ∷ []
 

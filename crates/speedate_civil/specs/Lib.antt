@@ -6,3 +6,4 @@ pub mod DateTime
 pub mod Time
 pub mod ParserParts
 pub mod Standard
+pub mod ErrorPlace

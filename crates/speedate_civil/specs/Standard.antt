@@ -18,7 +18,14 @@ use Rattle.speedate_base.specs.Ascii.{
 }
 use Rattle.speedate_base.specs.Config.{refuses_digits}
 use Rattle.speedate_base.specs.Digits.{two_digit_text, four_digit_text, run_length}
-use Rattle.speedate_base.specs.Requirement.{Requirement, ◌else_fault◌, first_fault_or, ◌>>=◌}
+use Rattle.speedate_base.specs.Requirement.{
+  TextRow,
+  ◌else_fault◌,
+  ◌at_byte◌,
+  moved,
+  first_fault_or,
+  ◌>>=◌,
+}
 use Rattle.speedate_civil.specs.Calendar.{month_length}
 use Rattle.speedate_civil.specs.DateTime.{DateAndTime, date_time_answer}
 use Rattle.speedate_civil.specs.Time.{has_minus_sign, is_utc, TimeOfDay, time_answer}
@@ -103,27 +110,27 @@ abbrev pub offset_place : List ℕ → ℕ
 offset_place text = if slice_index text 8 == full_stop then 9 + run_length text 9 else 8
 
 -- what the offset of a text that is read as a time has to meet besides, to be one of RFC 3339
-abbrev pub standard_offset : List ℕ → List Requirement
+abbrev pub standard_offset : List ℕ → List TextRow
 standard_offset rest =
-    (nat_lt 0 (length rest) else_fault ParseError.TzRequired)
-    ∷ (not (has_minus_sign rest) else_fault ParseError.InvalidCharTzSign)
+    (nat_lt 0 (length rest) else_fault ParseError.TzRequired at_byte 0)
+    ∷ (not (has_minus_sign rest) else_fault ParseError.InvalidCharTzSign at_byte 0)
     ∷ ((is_utc (slice_index rest 0) || (slice_index rest 3 == colon))
-    else_fault ParseError.InvalidCharTzMinute)
+    else_fault ParseError.InvalidCharTzMinute at_byte 3)
     ∷ []
 
 -- what a text that is read as a time has to meet besides, to be one of RFC 3339
-abbrev pub standard_time : List ℕ → List Requirement
+abbrev pub standard_time : List ℕ → List TextRow
 standard_time text =
-    (slice_index text 5 == colon else_fault ParseError.InvalidCharTimeSep)
-    ∷ (not (slice_index text 8 == comma) else_fault ParseError.InvalidCharTzSign)
-    ∷ standard_offset (drop (offset_place text) text)
+    (slice_index text 5 == colon else_fault ParseError.InvalidCharTimeSep at_byte 5)
+    ∷ (not (slice_index text 8 == comma) else_fault ParseError.InvalidCharTzSign at_byte 8)
+    ∷ moved (offset_place text) (standard_offset (drop (offset_place text) text))
 
 -- what a text that is read as a date-time has to meet besides, to be one of RFC 3339
-abbrev pub standard_date_time : List ℕ → List Requirement
+abbrev pub standard_date_time : List ℕ → List TextRow
 standard_date_time text =
     (((slice_index text 10 == capital_t) || (slice_index text 10 == small_t))
-    else_fault ParseError.InvalidCharDateTimeSep)
-    ∷ standard_time (drop 11 text)
+    else_fault ParseError.InvalidCharDateTimeSep at_byte 10)
+    ∷ moved 11 (standard_time (drop 11 text))
 
 -- the time that a text of RFC 3339 is, or the text's fault
 abbrev pub strict_time_answer : Behavior → List ℕ → Result TimeOfDay ParseError

@@ -21,9 +21,11 @@ use Rattle.speedate_base.specs.Numbers.{with_sign}
 use Rattle.speedate_base.specs.Offset.{IsOffset, offset_table}
 use Rattle.speedate_base.specs.Timestamp.{Instant, seconds_per_day}
 use Rattle.speedate_base.specs.Requirement.{
+  NumberRow,
+  TextRow,
   ◌else_fault◌,
+  ◌at_byte◌,
   first_fault_or,
-  Requirement,
   ◌implies◌,
   result_map,
   whole_or_fault,
@@ -108,7 +110,7 @@ abbrev pub ◌gives_front◌ : Result (Time × ℕ) ParseError → Result (TimeO
 result gives_front front = result_map (with_size time_of_day) result ≡ front
 
 -- what microseconds of a second have to meet
-abbrev pub microsecond_range : ℕ → Requirement
+abbrev pub microsecond_range : ℕ → NumberRow
 microsecond_range microsecond = nat_le microsecond 999999 else_fault ParseError.TimeTooLarge
 
 -- the time of an hour, a minute, a second, a microsecond and an offset, or the fault of the first
@@ -170,38 +172,40 @@ abbrev pub at_hour : ℕ → Clock → Clock
 at_hour hour clock = record clock { hour = hour; size = 3 + clock.size }
 
 -- what a text has to meet to begin with an hour
-abbrev pub hour_table : List ℕ → List Requirement
+abbrev pub hour_table : List ℕ → List TextRow
 hour_table text =
-    (nat_le 5 (length text) else_fault ParseError.TooShort)
-    ∷ (two_digits_at text 0 else_fault ParseError.InvalidCharHour)
-    ∷ (slice_index text 2 == colon else_fault ParseError.InvalidCharTimeSep)
+    (nat_le 5 (length text) else_fault ParseError.TooShort at_byte length text)
+    ∷ (two_digits_at text 0 else_fault ParseError.InvalidCharHour at_byte 0)
+    ∷ (slice_index text 2 == colon else_fault ParseError.InvalidCharTimeSep at_byte 2)
     ∷ []
 
 -- what the minute of a clock has to meet: its characters are digits
-abbrev pub minute_digits : List ℕ → List Requirement
-minute_digits rest = (two_digits_at rest 0 else_fault ParseError.InvalidCharMinute) ∷ []
+abbrev pub minute_digits : List ℕ → List TextRow
+minute_digits rest = (two_digits_at rest 0 else_fault ParseError.InvalidCharMinute at_byte 0) ∷ []
 
 -- what the hour of a clock has to meet: its range
-abbrev pub hour_range : List ℕ → List Requirement
-hour_range text = (nat_le (two_digit_value text 0) 23 else_fault ParseError.OutOfRangeHour) ∷ []
+abbrev pub hour_range : List ℕ → List TextRow
+hour_range text =
+    (nat_le (two_digit_value text 0) 23 else_fault ParseError.OutOfRangeHour at_byte 0) ∷ []
 
 -- what the second of a clock, and its fraction, have to meet, if they are there
-abbrev pub second_table : Behavior → List ℕ → List Requirement
+abbrev pub second_table : Behavior → List ℕ → List TextRow
 second_table behavior rest =
-    ((has_second rest implies two_digits_at rest 3) else_fault ParseError.InvalidCharSecond)
+    ((has_second rest implies two_digits_at rest 3)
+    else_fault ParseError.InvalidCharSecond at_byte 3)
     ∷ ((has_second rest implies nat_le (two_digit_value rest 3) 59)
-    else_fault ParseError.OutOfRangeSecond)
+    else_fault ParseError.OutOfRangeSecond at_byte 3)
     ∷ ((has_fraction rest implies nat_lt 0 (run_length rest 6))
-    else_fault ParseError.SecondFractionMissing)
+    else_fault ParseError.SecondFractionMissing at_byte 6)
     ∷ (((has_fraction rest && refuses_digits behavior) implies nat_le (run_length rest 6) 6)
-    else_fault ParseError.SecondFractionTooLong)
+    else_fault ParseError.SecondFractionTooLong at_byte 12)
     ∷ []
 
 -- what a clock has to meet after the digits of its minute: the minute's range, then the second and
 -- the fraction
-abbrev pub minute_table : Behavior → List ℕ → List Requirement
+abbrev pub minute_table : Behavior → List ℕ → List TextRow
 minute_table behavior rest =
-    (nat_le (two_digit_value rest 0) 59 else_fault ParseError.OutOfRangeMinute)
+    (nat_le (two_digit_value rest 0) 59 else_fault ParseError.OutOfRangeMinute at_byte 0)
     ∷ second_table behavior rest
 
 -- the clock whose minute begins a text, given that it is two digits, or the text's fault
@@ -274,18 +278,19 @@ abbrev pub offset_size : List ℕ → ℕ
 offset_size numbers = 3600 * two_digit_value numbers 0 + 60 * offset_minute numbers
 
 -- what the digits of an offset after its sign have to be
-abbrev pub offset_digits : List ℕ → List Requirement
+abbrev pub offset_digits : List ℕ → List TextRow
 offset_digits numbers =
-    (two_digits_at numbers 0 else_fault ParseError.InvalidCharTzHour)
+    (two_digits_at numbers 0 else_fault ParseError.InvalidCharTzHour at_byte 0)
     ∷ (two_digits_at numbers (offset_minute_place numbers)
-    else_fault ParseError.InvalidCharTzMinute)
+    else_fault ParseError.InvalidCharTzMinute at_byte offset_minute_place numbers)
     ∷ []
 
 -- what the numbers of an offset have to meet: their ranges
-abbrev pub offset_ranges : List ℕ → List Requirement
+abbrev pub offset_ranges : List ℕ → List TextRow
 offset_ranges numbers =
-    (nat_le (offset_minute numbers) 59 else_fault ParseError.OutOfRangeTzMinute)
-    ∷ (nat_lt (offset_size numbers) seconds_per_day else_fault ParseError.OutOfRangeTz)
+    (nat_le (offset_minute numbers) 59
+    else_fault ParseError.OutOfRangeTzMinute at_byte offset_minute_place numbers)
+    ∷ (nat_lt (offset_size numbers) seconds_per_day else_fault ParseError.OutOfRangeTz at_byte 0)
     ∷ []
 
 -- the offset after a sign, which is given by its bytes, and how many bytes both take, or the fault

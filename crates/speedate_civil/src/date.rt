@@ -5,6 +5,7 @@ ghost use Rattle.std.specs.Int.{is_in_range, IsInRange};
 ghost use Rattle.speedate_civil.specs.Calendar.{month_length, is_leap_year};
 
 mod day_number;
+mod error_place;
 mod order;
 mod parse;
 mod text;

@@ -1,5 +1,6 @@
 //! Date-times: a date and a time of day, with or without an offset from UTC.
 
+mod error_place;
 mod now;
 mod order;
 mod parse;

@@ -45,7 +45,7 @@ use speedate_base::util::{
 use std::str::FromStr;
 
 /// The place of the time, after the ten bytes of a date and a separator.
-const TIME_PLACE: usize = 11;
+pub(super) const TIME_PLACE: usize = 11;
 
 impl DateTime {
     /// Parses a date-time from a text, which may be a timestamp: 12:13:14 on 29 February 2020 from
@@ -275,7 +275,7 @@ impl DateTime {
 
     /// Parses the date-time at the front of a text, and how many bytes it takes, whatever follows it.
     #[inline(always)]
-    fn front(
+    pub(super) fn front(
         bytes: &[u8],
         behavior: MicrosecondsPrecisionOverflowBehavior,
     ) -> Result<(Self, usize), ParseError>
@@ -352,7 +352,7 @@ fn time_after_date(
 
 /// Whether a separator follows the ten bytes of a date: `T`, `t`, a space or `_`.
 #[inline(always)]
-fn has_separator(bytes: &[u8]) -> bool
+pub(super) fn has_separator(bytes: &[u8]) -> bool
     ensures value { result ≡ is_separator (slice_index bytes.now 10) }
     ensures there { IsTrue result → 11 ≤ length bytes.now }
 {
@@ -378,7 +378,7 @@ pub fn require_standard_date_time(text: &[u8]) -> Result<(), ParseError>
 }
 
 /// Whether `T` or `t` follows the ten bytes of a date.
-fn has_letter_t(text: &[u8]) -> bool
+pub(super) fn has_letter_t(text: &[u8]) -> bool
     ensures value { result
         ≡ ((slice_index text.now 10 == capital_t) || (slice_index text.now 10 == small_t)) }
     ensures there { IsTrue result → 11 ≤ length text.now }

@@ -73,7 +73,7 @@ pub fn end_fault(offset: Option<i32>) -> ParseError
 
 /// Whether a byte is `+` or `-`, the neighbours of `,`: one test, and so one branch, tells both.
 #[inline(always)]
-fn is_plus_or_minus(byte: u8) -> bool
+pub(super) fn is_plus_or_minus(byte: u8) -> bool
     ensures value { result ≡ is_plus_or_minus byte }
 {
     byte.abs_diff(b',') == 1
@@ -102,7 +102,7 @@ pub(super) fn is_utc(byte: u8) -> bool
 /// The offset whose hour begins at `place`, west of UTC or east of it, and how many bytes it takes
 /// with its sign, which has `sign` bytes.
 #[inline(always)]
-fn signed_offset(
+pub(super) fn signed_offset(
     west: bool,
     sign: usize,
     bytes: &[u8],

@@ -1,0 +1,12 @@
+use Rattle.std.proofs.Common.{◌∙◌, ap, is_some}
+use Rattle.speedate_civil.proofs.TimePlaceLemmas.{time-is_some, time_answer-table}
+use Rattle.speedate_civil.proofs.time.Time.error_place.Goals as goal
+
+pub returns-clause-table : goal.returns-clause-table
+returns-clause-table c =
+    time_answer-table c.args.config.now.microseconds_precision_overflow_behavior c.args.bytes.now
+
+pub returns-clause-refused : goal.returns-clause-refused
+returns-clause-refused c =
+    ap is_some c.whole_error_place.ensures.place
+    ∙ time-is_some c.args.config.now.microseconds_precision_overflow_behavior c.args.bytes.now

@@ -1,0 +1,76 @@
+//! Where a text that is refused as a date has its error.
+
+ghost use Rattle.std.specs.Prelude.{◌≡◌, ◌≤◌, IfSome, is_err, is_some, length};
+ghost use Rattle.speedate_base.specs.Requirement.{IsAnswerOf, first_place};
+ghost use Rattle.speedate_civil.specs.Date.{
+  date_answer,
+  date_front,
+  date_or_timestamp,
+  date_table,
+};
+ghost use Rattle.speedate_civil.specs.ErrorPlace.{date_or_timestamp_place, whole_date_table};
+
+use super::{Date, TEXT_LENGTH};
+use speedate_base::config::DateConfig;
+use speedate_base::faults::ParseError;
+use speedate_base::numbers::{byte_at, int_parse_bytes};
+
+impl Date {
+    /// The byte at which the error lies for which [`Date::parse_bytes_with_config`] refuses a text, and
+    /// `None` for a text that it accepts: 5, the month's, for `b"2020-13-01"`.
+    ///
+    /// It is the place [that the row has](docs/GRAMMAR.md#date) that names the error; of a timestamp,
+    /// which is refused as a whole, it is 0.
+    pub fn error_place(bytes: &[u8], config: &DateConfig) -> Option<usize>
+        ensures place { result ≡ date_or_timestamp_place config.now.timestamp_unit bytes.now }
+        ensures refused { is_some result
+            ≡ is_err (date_or_timestamp config.now.timestamp_unit bytes.now) }
+        ensures within { IfSome result (λ place. place ≤ length bytes.now) }
+    {
+        let place = Self::error_place_rfc3339(bytes)?;
+        match int_parse_bytes(bytes) {
+            Some(timestamp) => match Self::from_timestamp(timestamp, true, config) {
+                Ok(_) => None,
+                Err(_) => Some(0),
+            },
+            None => Some(place),
+        }
+    }
+
+    /// The byte at which the error lies for which [`Date::parse_bytes_rfc3339`] refuses a text, and
+    /// `None` for a text that it accepts: 10, where the date ends, for `b"2020-01-01T12:13"`.
+    ///
+    /// It is the place [that the row has](docs/GRAMMAR.md#date) that names the error.
+    pub fn error_place_rfc3339(bytes: &[u8]) -> Option<usize>
+        ensures place { result ≡ first_place (whole_date_table bytes.now) }
+        ensures table { IsAnswerOf (whole_date_table bytes.now) (date_answer bytes.now) }
+        ensures refused { is_some result ≡ is_err (date_answer bytes.now) }
+        ensures within { IfSome result (λ place. place ≤ length bytes.now) }
+    {
+        match Self::error_place_front(bytes) {
+            Some(place) => Some(place),
+            None => (bytes.len() != TEXT_LENGTH).then_some(TEXT_LENGTH),
+        }
+    }
+
+    /// The byte at which the error lies for which [`Date::parse_front`] refuses a text, and `None` for a
+    /// text that begins with a date: 9, the text's end, for `b"2026-11-2"`.
+    ///
+    /// It is the place [that the row has](docs/GRAMMAR.md#date) that names the error.
+    pub fn error_place_front(bytes: &[u8]) -> Option<usize>
+        ensures place { result ≡ first_place (date_table bytes.now) }
+        ensures table { IsAnswerOf (date_table bytes.now) (date_front bytes.now) }
+        ensures refused { is_some result ≡ is_err (date_front bytes.now) }
+        ensures within { IfSome result (λ place. place ≤ length bytes.now) }
+    {
+        match Self::parse_front(bytes) {
+            Ok(_) => None,
+            Err(ParseError::TooShort) => Some(bytes.len()),
+            Err(ParseError::InvalidCharYear) => Some(0),
+            Err(ParseError::InvalidCharDateSep) if byte_at(bytes, 4) == b'-' => Some(7),
+            Err(ParseError::InvalidCharDateSep) => Some(4),
+            Err(ParseError::InvalidCharMonth | ParseError::OutOfRangeMonth) => Some(5),
+            Err(_) => Some(8),
+        }
+    }
+}

@@ -1,0 +1,189 @@
+//! Where a text that is refused as a date-time has its error.
+
+ghost use Rattle.std.specs.Prelude.{◌≡◌, ◌≤◌, IfSome, Some, is_err, is_some, length};
+ghost use Rattle.speedate_base.specs.Config.{choices, time_choices};
+ghost use Rattle.speedate_base.specs.Numbers.{decimal_value};
+ghost use Rattle.speedate_base.specs.Requirement.{IsAnswerOf, first_place};
+ghost use Rattle.speedate_base.specs.Timestamp.{decimal_row};
+ghost use Rattle.speedate_civil.specs.DateTime.{
+  date_time_answer,
+  date_time_by_config,
+  date_time_front,
+};
+ghost use Rattle.speedate_civil.specs.ErrorPlace.{
+  date_time_front_table,
+  date_time_or_timestamp_place,
+  decimal_table,
+  strict_date_time_table,
+  whole_date_time_table,
+};
+ghost use Rattle.speedate_civil.specs.Standard.{standard_date_time, strict_date_time_answer};
+
+use super::DateTime;
+use super::parse::{TIME_PLACE, has_letter_t, has_separator};
+use crate::date::Date;
+use crate::time::Time;
+use speedate_base::config::{DateTimeConfig, MicrosecondsPrecisionOverflowBehavior, TimeConfig};
+use speedate_base::numbers::{Decimal, IntFloat, float_parse_bytes, takes_digits};
+use speedate_base::util::{decimal_to_seconds_micros, decimal_unit};
+
+impl DateTime {
+    /// The byte at which the error lies for which [`DateTime::parse_bytes_with_config`] refuses a text,
+    /// and `None` for a text that it accepts: 17, the second's, for `b"2020-02-29T12:13:60"`.
+    ///
+    /// It is the place that the row has that names the error, of [a date](docs/GRAMMAR.md#date), the
+    /// separator, or [a time](docs/GRAMMAR.md#time), which begins at byte 11. Of a timestamp it is 0,
+    /// but digits past the microsecond have their own.
+    pub fn error_place(bytes: &[u8], config: &DateTimeConfig) -> Option<usize>
+        ensures place { result ≡ date_time_or_timestamp_place (choices config.now).unit
+            (choices config.now).behavior (choices config.now).offset bytes.now }
+        ensures refused { is_some result ≡ is_err (date_time_by_config config.now bytes.now) }
+        ensures within { IfSome result (λ place. place ≤ length bytes.now) }
+    {
+        Self::timestamp_error_place(bytes, config)
+    }
+
+    /// The byte at which the error lies for which [`DateTime::parse_bytes_rfc3339_with_config`] refuses
+    /// a text, and `None` for a text that it accepts: 10, the separator's, for `b"2020-02-29"`.
+    ///
+    /// It is the place that the row has that names the error, of [a date](docs/GRAMMAR.md#date), the
+    /// separator, or [a time](docs/GRAMMAR.md#time), which begins at byte 11.
+    pub fn error_place_rfc3339(bytes: &[u8], config: &TimeConfig) -> Option<usize>
+        ensures place { result
+            ≡ first_place (whole_date_time_table (time_choices config.now).behavior bytes.now) }
+        ensures table { IsAnswerOf
+            (whole_date_time_table (time_choices config.now).behavior bytes.now)
+            (date_time_answer (time_choices config.now).behavior bytes.now) }
+        ensures refused { is_some result
+            ≡ is_err (date_time_answer (time_choices config.now).behavior bytes.now) }
+        ensures within { IfSome result (λ place. place ≤ length bytes.now) }
+    {
+        Self::whole_error_place(bytes, config.microseconds_precision_overflow_behavior)
+    }
+
+    /// The byte at which the error lies for which [`DateTime::parse_bytes_strict`] refuses a text, and
+    /// `None` for a text that it accepts: 19, the text's end, where an offset is missing, for
+    /// `b"2020-02-29T12:13:14"`.
+    ///
+    /// It is the place [that the row has](docs/GRAMMAR.md#rfc-3339-alone) that names the error.
+    pub fn error_place_strict(
+        bytes: &[u8],
+        behavior: MicrosecondsPrecisionOverflowBehavior,
+    ) -> Option<usize>
+        ensures place { result ≡ first_place (strict_date_time_table behavior bytes.now) }
+        ensures table { IsAnswerOf (strict_date_time_table behavior bytes.now)
+            (strict_date_time_answer behavior bytes.now) }
+        ensures refused { is_some result ≡ is_err (strict_date_time_answer behavior bytes.now) }
+        ensures within { IfSome result (λ place. place ≤ length bytes.now) }
+    {
+        match Self::whole_error_place(bytes, behavior) {
+            Some(place) => Some(place),
+            None => standard_error_place(bytes),
+        }
+    }
+
+    /// The byte at which the error lies for which [`DateTime::parse_front`] refuses a text, and `None`
+    /// for a text that begins with a date-time: 20, after the sign, for
+    /// `b"2026-11-22T12:00:00-ERROR"`.
+    ///
+    /// It is the place that the row has that names the error, of [a date](docs/GRAMMAR.md#date), the
+    /// separator, or [a time](docs/GRAMMAR.md#time), which begins at byte 11.
+    pub fn error_place_front(bytes: &[u8], config: &TimeConfig) -> Option<usize>
+        ensures place { result
+            ≡ first_place (date_time_front_table (time_choices config.now).behavior bytes.now) }
+        ensures table { IsAnswerOf
+            (date_time_front_table (time_choices config.now).behavior bytes.now)
+            (date_time_front (time_choices config.now).behavior bytes.now) }
+        ensures refused { is_some result
+            ≡ is_err (date_time_front (time_choices config.now).behavior bytes.now) }
+        ensures within { IfSome result (λ place. place ≤ length bytes.now) }
+    {
+        Self::front_error_place(bytes, config.microseconds_precision_overflow_behavior)
+    }
+
+    /// The place of the error for which a text is neither a date-time nor a timestamp.
+    fn timestamp_error_place(bytes: &[u8], config: &DateTimeConfig) -> Option<usize>
+        ensures place { result ≡ date_time_or_timestamp_place (choices config.now).unit
+            (choices config.now).behavior (choices config.now).offset bytes.now }
+        ensures within { IfSome result (λ place. place ≤ length bytes.now) }
+    {
+        let place = Self::error_place_rfc3339(bytes, &config.time_config)?;
+        match float_parse_bytes(bytes) {
+            IntFloat::Int(timestamp) => {
+                match Self::from_timestamp_with_config(timestamp, 0, config) {
+                    Ok(_) => None,
+                    Err(_) => Some(0),
+                }
+            }
+            IntFloat::Float(decimal) => decimal_error_place(bytes, decimal, config),
+            IntFloat::Err => Some(place),
+        }
+    }
+
+    /// The place of the error for which a text is no date-time.
+    fn whole_error_place(
+        bytes: &[u8],
+        behavior: MicrosecondsPrecisionOverflowBehavior,
+    ) -> Option<usize>
+        ensures place { result ≡ first_place (whole_date_time_table behavior bytes.now) }
+        ensures within { IfSome result (λ place. place ≤ length bytes.now) }
+    {
+        match Self::front(bytes, behavior) {
+            Ok((_, size)) => (size != bytes.len()).then_some(size),
+            Err(_) => Self::front_error_place(bytes, behavior),
+        }
+    }
+
+    /// The place of the error for which a text has no date-time at its front.
+    fn front_error_place(
+        bytes: &[u8],
+        behavior: MicrosecondsPrecisionOverflowBehavior,
+    ) -> Option<usize>
+        ensures place { result ≡ first_place (date_time_front_table behavior bytes.now) }
+        ensures within { IfSome result (λ place. place ≤ length bytes.now) }
+    {
+        if let Some(place) = Date::error_place_front(bytes) {
+            return Some(place);
+        }
+        if !has_separator(bytes) {
+            return Some(10);
+        }
+        match Time::front_error_place(&bytes[TIME_PLACE..], behavior) {
+            Some(place) => Some(TIME_PLACE + place),
+            None => None,
+        }
+    }
+}
+
+/// The place of the error for which a text that is a date-time is none of RFC 3339.
+fn standard_error_place(bytes: &[u8]) -> Option<usize>
+    ensures place { result ≡ first_place (standard_date_time bytes.now) }
+{
+    if !has_letter_t(bytes) {
+        return Some(10);
+    }
+    match Time::standard_error_place(&bytes[TIME_PLACE..]) {
+        Some(place) => Some(TIME_PLACE + place),
+        None => None,
+    }
+}
+
+/// The place of the error for which a text that is a decimal is no timestamp.
+fn decimal_error_place(bytes: &[u8], decimal: Decimal<'_>, config: &DateTimeConfig) -> Option<usize>
+    requires { length decimal.fraction.now ≤ length bytes.now }
+    ensures place { result ≡ first_place (decimal_table
+        (decimal_row (choices config.now).unit (decimal_value decimal.entry))
+        (choices config.now).behavior bytes.now (decimal_value decimal.entry)) }
+    ensures within { IfSome result (λ place. place ≤ length bytes.now) }
+{
+    let unit = decimal_unit(decimal, config.timestamp_unit);
+    let behavior = config.time_config.microseconds_precision_overflow_behavior;
+    let digits = decimal.fraction.len();
+    if !takes_digits(behavior, digits, unit.digits) {
+        return Some(bytes.len() - digits + unit.digits);
+    }
+    match decimal_to_seconds_micros(decimal, unit) {
+        Ok(_) => None,
+        Err(_) => Some(0),
+    }
+}
