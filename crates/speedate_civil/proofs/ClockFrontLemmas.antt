@@ -104,6 +104,64 @@ pub no-clock : (behavior : Behavior) (text : List ℕ) → length text < 5
     → clock_front behavior text ≡ Err ParseError.TooShort
 no-clock behavior text short = rw (lt-leb 5 (length text) short) refl
 
+-- two tests of which one does not hold
+first-two : (a b : Bool) (rest : ℕ) → (if a then 1 + (if b then 1 + rest else 0) else 0) < 2
+    → (a && b) ≡ false
+first-two false b rest few = refl
+first-two true false rest few = refl
+first-two true true rest few = absurd (omega arith)
+
+-- the third of three tests does not hold
+third-of : (a b c : Bool) (rest : ℕ)
+    → (if a then 1 + (if b then 1 + (if c then 1 + rest else 0) else 0) else 0) ≡ 2
+    → ((a && b) ≡ true) × (c ≡ false)
+third-of false b c rest two = absurd (omega arith)
+third-of true false c rest two = absurd (omega arith)
+third-of true true false rest two = (refl, refl)
+third-of true true true rest two = absurd (omega arith)
+
+-- the fourth or the fifth of five does not hold
+fourth-of : (a b c d e : Bool) (rest count : ℕ)
+    → count ≡ (if a then 1 + (if b then 1 + (if c then 1 + (if d then 1
+    + (if e then 1 + rest else 0) else 0) else 0) else 0) else 0)
+    → 3 ≤ count → count < 5 → ((a && b) ≡ true) × (c ≡ true) × ((d && e) ≡ false)
+fourth-of false b c d e rest count is some few = absurd (omega arith)
+fourth-of true false c d e rest count is some few = absurd (omega arith)
+fourth-of true true false d e rest count is some few = absurd (omega arith)
+fourth-of true true true false e rest count is some few = (refl, refl, refl)
+fourth-of true true true true false rest count is some few = (refl, refl, refl)
+fourth-of true true true true true rest count is some few = absurd (omega arith)
+
+pub no-hour : (behavior : Behavior) (text front : List ℕ) (fits : ℕ) → 5 ≤ length text
+    → front ≡ eight_at text 0 → fits ≡ fit_length pattern front → fits < 2
+    → clock_front behavior text ≡ Err ParseError.InvalidCharHour
+no-hour behavior text front fits long from counted few =
+    let is : fits ≡ fit_length pattern (eight_at text 0) = counted ∙ ap (fit_length pattern) from in
+    rw (le-leb 5 (length text) long, first-two _ _ _ (subst (λ (n : ℕ). n < 2) is few)) refl
+
+pub no-separator : (behavior : Behavior) (text front : List ℕ) (fits : ℕ) → 5 ≤ length text
+    → front ≡ eight_at text 0 → fits ≡ fit_length pattern front → fits ≡ 2
+    → clock_front behavior text ≡ Err ParseError.InvalidCharTimeSep
+no-separator behavior text front fits long from counted two =
+    let is : fits ≡ fit_length pattern (eight_at text 0) = counted ∙ ap (fit_length pattern) from in
+    let tests = third-of _ _ _ _ (sym is ∙ two) in
+    rw (le-leb 5 (length text) long, tests.0, tests.1) refl
+
+pub no-minute : (behavior : Behavior) (text front : List ℕ) (fits : ℕ) → 5 ≤ length text
+    → front ≡ eight_at text 0 → fits ≡ fit_length pattern front → 3 ≤ fits → fits < 5
+    → clock_front behavior text ≡ Err ParseError.InvalidCharMinute
+no-minute behavior text front fits long from counted some few =
+    let is : fits ≡ fit_length pattern (eight_at text 0) = counted ∙ ap (fit_length pattern) from in
+    let tests = fourth-of _ _ _ _ _ _ fits is some few in
+    rw (
+      le-leb 5 (length text) long,
+      tests.0,
+      tests.1,
+      get_or-drop 3 text 0 0,
+      get_or-drop 3 text 1 0,
+      tests.2,
+    ) refl
+
 -- the second is that of the eight bytes
 second-same : (text : List ℕ) → second_of (drop 3 (eight_at text 0)) ≡ second_of (drop 3 text)
 second-same text = search (rules, get_or-drop)
@@ -158,13 +216,6 @@ pub minute-late : (behavior : Behavior) (text numbers : List ℕ)
 minute-late behavior text numbers minute late =
     let range = subst (λ (n : ℕ). 59 < n) minute.is late in
     rw (minute.digits, lt-leb (two_digit_value text 0) 59 range) refl
-
--- two tests of which one does not hold
-first-two : (a b : Bool) (rest : ℕ) → (if a then 1 + (if b then 1 + rest else 0) else 0) < 2
-    → (a && b) ≡ false
-first-two false b rest few = refl
-first-two true false rest few = refl
-first-two true true rest few = absurd (omega arith)
 
 pub minute-none : (behavior : Behavior) (text front : List ℕ)
     (fits : ℕ) → front ≡ eight_at text 0 → fits ≡ fit_length pattern front → fits < 2

@@ -1,6 +1,6 @@
 -- The first run later than now is counted by division, and comes whole numbers of times after the
 -- last one.
-use Rattle.std.proofs.Common.{◌≡◌, ℕ, ◌+◌, ◌*◌, ◌/◌, ◌<◌, Bool, true, false, not, ℤ, pos, negsuc, ◌+ℤ◌, ◌-ℤ◌, int_lt, unsigned_abs, Result, Ok, Err, IsOk, inl, inr, refl, arith, div-lt_iff_lt-mul, mul-le-mul_right}
+use Rattle.std.proofs.Common.{◌≡◌, ℕ, ◌+◌, ◌*◌, ◌/◌, ◌<◌, Bool, true, false, not, ℤ, pos, negsuc, ◌+ℤ◌, ◌-ℤ◌, ◌≤ℤ◌, int_lt, unsigned_abs, Result, Ok, Err, IsOk, inl, inr, refl, arith, div-lt_iff_lt-mul, mul-le-mul_right}
 use Rattle.std.proofs.Math.Nat.{div-eq_of_lt, mul-div-le, lt-div-mul-add}
 use Rattle.std.proofs.lemmas.Bool.{cases_lt}
 use Rattle.std.proofs.lemmas.Bool.Decides.{nat_tests}
@@ -53,3 +53,8 @@ pub first_run : (positive : Bool) (last now run : ℤ) (every : ℕ)
 first_run false last now run every some is = absurd (grind (arith, ints, nat_tests))
 first_run true last now run every some is =
     rw is (counted last now (now -ℤ last) every (grind (arith, ints, nat_tests)) refl)
+
+-- what is positive is not zero or less
+pub not-positive : (amount : ℤ) → int_lt (pos 0) amount ≡ true → amount ≤ℤ pos 0 → ⊥
+not-positive (pos amount) some none = grind (arith, ints, nat_tests)
+not-positive (negsuc below) some none = grind (arith, ints, nat_tests)

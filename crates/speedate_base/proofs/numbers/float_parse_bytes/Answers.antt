@@ -1,4 +1,5 @@
 use Rattle.std.proofs.Common.{arith}
+use Rattle.std.proofs.lemmas.Grind.{common_steps}
 use Rattle.speedate_base.proofs.NumberLemmas.{number_value-joins, whole_number-none}
 use Rattle.speedate_base.proofs.BlockLemmas.{run_stops}
 use Rattle.speedate_base.proofs.numbers.float_parse_bytes.Goals as goal
@@ -17,3 +18,12 @@ returns-in-Err-clause-joined c =
       whole_number-none c.args.bytes.now,
       number_value-joins c.decimal.result c.args.bytes.now,
     )
+
+pub decimal-requires-clause-point : goal.decimal-requires-clause-point
+decimal-requires-clause-point c = grind (arith, common_steps)
+
+pub returns-in-Some-clause-answer : goal.returns-in-Some-clause-answer
+returns-in-Some-clause-answer c = grind (arith, common_steps)
+
+pub returns-in-None-clause-answer : goal.returns-in-None-clause-answer
+returns-in-None-clause-answer c = grind (arith, common_steps)

@@ -1,4 +1,5 @@
 use Rattle.std.proofs.Common.{◌≡◌, ℕ, ◌+◌, ◌-◌, ◌*◌, ◌/◌, ◌^◌, ◌<◌, ◌≤◌, List, [], ◌∷◌, length, take, drop, get_or, arith, rules, Fits, w8}
+use Rattle.std.proofs.lemmas.Grind.{common_steps}
 use lib.Lanes.{digits_l}
 use Rattle.speedate_base.specs.Digits.{eight_at}
 use Rattle.speedate_base.proofs.numbers.lanes.short_bytes.Goals as goal
@@ -34,3 +35,6 @@ returns c = record {
   bytes = made c.args.bytes.now _ _ c.if-bytes-lt4.false c.requires.few
       c.type_inv.bytes c.four_bytes.ensures.value c.four_bytes-2.ensures.value;
 }
+
+pub returns-then-bytes-lt4 : goal.returns-then-bytes-lt4
+returns-then-bytes-lt4 c = grind (arith, common_steps)

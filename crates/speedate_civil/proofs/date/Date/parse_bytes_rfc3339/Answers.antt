@@ -1,4 +1,5 @@
-use Rattle.std.proofs.Common.{◌∙◌, ap, sym}
+use Rattle.std.proofs.Common.{◌∙◌, ap, sym, arith}
+use Rattle.std.proofs.lemmas.Grind.{common_steps}
 use Rattle.speedate_civil.specs.Base.{ParseError}
 use Rattle.speedate_base.specs.Requirement.{whole_or_fault, result_and_then}
 use Rattle.speedate_civil.specs.Calendar.{Ymd}
@@ -17,3 +18,6 @@ returns-then-size-bytes-clause-answer c =
     sym (whole_or_fault-longer fault bytes (ymd c.in_ok-date.date) c.in_ok-date.size
     (λ same. c.if-size-bytes.true (sym same)))
     ∙ ap (result_and_then (whole_or_fault fault bytes)) c.in_ok-date.ensures.answer
+
+pub returns-clause-answer : goal.returns-clause-answer
+returns-clause-answer c = grind (arith, common_steps)

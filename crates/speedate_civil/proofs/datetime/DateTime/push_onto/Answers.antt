@@ -14,3 +14,9 @@ returns g c = record {
   text = joined _ _ _ _ _ _ c.push_onto.ensures.text (c.push.ensures.ascii (lit< tt))
       c.push_onto-2.ensures.text;
 }
+
+pub push-requires : goal.push-requires
+push-requires g c = grind (arith, common_steps)
+
+pub push_onto-requires-2 : goal.push_onto-requires-2
+push_onto-requires-2 g c = grind (arith, common_steps)

@@ -1,6 +1,7 @@
 use Rattle.std.proofs.Common.{◌∙◌, ap, sym, ℕ, pos, ◌+ℤ◌, ◌-ℤ◌, unwrap_or, Ok, Err, w32, SFits, rules, arith}
 use Rattle.std.proofs.lemmas.Int.{ints, to_z-of_z}
 use Rattle.std.proofs.lemmas.Result.{err_from_is_err_and}
+use Rattle.std.proofs.lemmas.Grind.{common_steps}
 use Rattle.speedate_base.proofs.RequirementLemmas.{first_fault_or-next}
 use Rattle.speedate_civil.specs.Instant.{move_table}
 use Rattle.speedate_civil.specs.Time.{time_of_day}
@@ -80,3 +81,6 @@ returns-clause-instant c =
     let there = simp to_z-of_z at c.from_second.ensures.time in
     second_of_day-kept time (time_of_day c.from_second.result)
     offset _ is c.if-second-lt0.false there
+
+pub overflow_cast-second-2 : goal.overflow_cast-second-2
+overflow_cast-second-2 c = grind (arith, common_steps)

@@ -1,4 +1,5 @@
-use Rattle.std.proofs.Common.{rules, ◌≡◌, ◌∙◌, add-zero, ap, ap₂, sym, ℕ, List, drop, true, ◌==◌, slice_index, drop-drop, get_or-drop}
+use Rattle.std.proofs.Common.{rules, ◌≡◌, ◌∙◌, add-zero, ap, ap₂, sym, ℕ, List, drop, true, ◌==◌, slice_index, drop-drop, get_or-drop, arith}
+use Rattle.std.proofs.lemmas.Grind.{common_steps}
 use Rattle.speedate_base.specs.Ascii.{hyphen}
 use Rattle.speedate_civil.specs.Time.{is_plus_or_minus, is_utc, signed_front}
 use Rattle.speedate_civil.proofs.time.offset.parse_offset.Goals as goal
@@ -33,3 +34,9 @@ returns-then-has_minus_sign-clause-answer c =
 
 pub returns-clause-answer : goal.returns-clause-answer
 returns-clause-answer c = search (rules, first)
+
+pub signed_offset-requires-clause-place : goal.signed_offset-requires-clause-place
+signed_offset-requires-clause-place c = grind (arith, common_steps)
+
+pub returns-then-is_utc-clause-within : goal.returns-then-is_utc-clause-within
+returns-then-is_utc-clause-within c = grind (arith, common_steps)

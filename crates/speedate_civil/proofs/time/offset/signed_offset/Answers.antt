@@ -101,3 +101,6 @@ returns-clause-answer c =
     let value = to_z-of_z w32 c.with_sign.result fits in
     grind (arith, nat_tests, c.from.ensures, c.from-2.ensures, value, c.with_sign.ensures.value)
     ∙ is
+
+pub returns-clause-within : goal.returns-clause-within
+returns-clause-within c = grind (arith, common_steps)

@@ -1,5 +1,4 @@
 use Rattle.std.proofs.Common.{◌∙◌, ap, sym, subst, ℕ, ◌+◌, ◌≤◌, List, length, get_or, take, drop, ◌-◌, Ok, arith}
-use Rattle.std.proofs.lemmas.Grind.{common_steps}
 use Rattle.std.proofs.lemmas.List.{take_rest}
 use Rattle.std.proofs.lemmas.Result.{err_from_is_err_and}
 use Rattle.speedate_base.specs.Requirement.{result_map}
@@ -11,6 +10,9 @@ use Rattle.speedate_civil.proofs.ClockFrontLemmas.{
   late-hour,
   late-minute,
   no-clock,
+  no-hour,
+  no-minute,
+  no-separator,
   second-read,
   within-rest,
 }
@@ -45,13 +47,31 @@ after_minute-requires-clause-second c =
     ∙ second-read text c.eight_bytes-front.result c.eight_bytes-front.ensures.bytes
 
 pub returns-in-0-clause-answer : goal.returns-in-0-clause-answer
-returns-in-0-clause-answer c = grind (arith, common_steps)
+returns-in-0-clause-answer c =
+    let bytes = c.args.bytes.now in
+    let place = c.args.place in
+    let text : List ℕ = take (length bytes - place) (drop place bytes) in
+    sym (ap (clock_front c.args.behavior) (sym (take_rest bytes place))
+    ∙ no-hour c.args.behavior text _ _ c.if-text-lt5.false c.eight_bytes-front.ensures.bytes
+    c.fit_length-fits.ensures.count (omega arith))
 
 pub returns-in-2-clause-answer : goal.returns-in-2-clause-answer
-returns-in-2-clause-answer c = grind (arith, common_steps)
+returns-in-2-clause-answer c =
+    let bytes = c.args.bytes.now in
+    let place = c.args.place in
+    let text : List ℕ = take (length bytes - place) (drop place bytes) in
+    sym (ap (clock_front c.args.behavior) (sym (take_rest bytes place))
+    ∙ no-separator c.args.behavior text _ _ c.if-text-lt5.false c.eight_bytes-front.ensures.bytes
+    c.fit_length-fits.ensures.count c.in-2.is)
 
 pub returns-in_default-clause-answer : goal.returns-in_default-clause-answer
-returns-in_default-clause-answer c = grind (arith, common_steps)
+returns-in_default-clause-answer c =
+    let bytes = c.args.bytes.now in
+    let place = c.args.place in
+    let text : List ℕ = take (length bytes - place) (drop place bytes) in
+    sym (ap (clock_front c.args.behavior) (sym (take_rest bytes place))
+    ∙ no-minute c.args.behavior text _ _ c.if-text-lt5.false c.eight_bytes-front.ensures.bytes
+    c.fit_length-fits.ensures.count (omega arith) c.if-fits-lt5.true)
 
 pub returns-then-hour-gt23-clause-answer : goal.returns-then-hour-gt23-clause-answer
 returns-then-hour-gt23-clause-answer c =
