@@ -5,7 +5,7 @@ use Rattle.speedate_base.specs.Ascii.{carriage_return}
 use Rattle.speedate_base.specs.Config.{time_choices}
 use Rattle.speedate_base.specs.Fault.{fault_number}
 use Rattle.speedate_base.specs.Requirement.{
-  Requirement,
+  TextRow,
   ◌else_fault◌,
   first_fault_or,
   result_and_then,
@@ -151,7 +151,7 @@ text_behavior (DateTimeParser.OrTimestamp config) = (time_choices config.time_co
 text_behavior (DateTimeParser.Strict behavior) = behavior
 
 -- what a text of a date-time has to meet further to be taken
-abbrev pub text_table : DateTimeParser → List ℕ → List Requirement
+abbrev pub text_table : DateTimeParser → List ℕ → List TextRow
 text_table (DateTimeParser.Rfc3339 config) text = []
 text_table (DateTimeParser.OrTimestamp config) text = []
 text_table (DateTimeParser.Strict behavior) text = standard_date_time text

@@ -1,5 +1,5 @@
 -- How tables chain, and which of their rows has the place.
-use Rattle.std.proofs.Common.{◌≡◌, ◌↔◌, ◌+◌, ◌≤◌, ◌∙◌, ◌==◌, IfSome, if◌then◌else◌, ap, sym, ℕ, Bool, true, false, List, [], ◌∷◌, ◌++◌, length, Option, Some, None, Result, Ok, Err, is_some, is_err, refl, rules, arith}
+use Rattle.std.proofs.Common.{◌≡◌, ◌↔◌, ◌+◌, ◌≤◌, ◌∙◌, ◌==◌, IfSome, if◌then◌else◌, ap, sym, ℕ, true, false, List, [], ◌∷◌, ◌++◌, length, Option, Some, None, Result, Ok, Err, is_some, is_err, refl, rules, arith}
 use Rattle.std.specs.Option.{option_map}
 use Rattle.std.specs.Result.{result_and}
 use Rattle.speedate_base.specs.Requirement.{

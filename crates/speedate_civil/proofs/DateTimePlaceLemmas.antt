@@ -1,6 +1,6 @@
 -- The whole tables of date-times: their answers are those of the grammar, and their places lie within
 -- the text.
-use Rattle.std.proofs.Common.{◌≡◌, ◌≤◌, ◌+◌, ◌∙◌, ◌==◌, ◌||◌, ◌-◌, ℕ, ℤ, List, [], ◌∷◌, ◌++◌, length, drop, slice_index, Bool, true, false, if◌then◌else◌, Option, Some, None, Result, Ok, Err, IfSome, is_err, is_some, refl, sym, subst, ap, rules, arith}
+use Rattle.std.proofs.Common.{◌≡◌, ◌≤◌, ◌+◌, ◌∙◌, ◌==◌, ◌||◌, ◌-◌, ℕ, ℤ, List, ◌++◌, length, drop, slice_index, Bool, true, if◌then◌else◌, Option, Some, None, Result, Ok, Err, IfSome, is_err, is_some, refl, sym, subst, ap, rules, arith}
 use Rattle.std.specs.Option.{option_map}
 use Rattle.std.proofs.lemmas.Bool.Decides.{nat_tests}
 use Rattle.std.proofs.lemmas.Bool.{cases_lt}
@@ -29,7 +29,6 @@ use Rattle.speedate_base.specs.Timestamp.{
 use Rattle.speedate_base.specs.Requirement.{
   AllHold,
   IsAnswerOf,
-  TextRow,
   all_at_byte,
   end_table,
   first_fault_or,
@@ -60,7 +59,7 @@ use Rattle.speedate_base.proofs.RequirementLemmas.{
   or_number-is_some,
 }
 use Rattle.speedate_civil.specs.Calendar.{Ymd}
-use Rattle.speedate_civil.specs.Date.{date_front, date_numbers, date_table}
+use Rattle.speedate_civil.specs.Date.{date_numbers, date_table}
 use Rattle.speedate_civil.specs.DateTime.{
   DateAndTime,
   date_time_answer,

@@ -1,10 +1,9 @@
 -- The whole tables of dates, times and date-times: their answers are those of the grammar, and their
 -- places lie within the text.
-use Rattle.std.proofs.Common.{◌≡◌, ◌≤◌, ◌+◌, ◌∙◌, ℕ, List, [], ◌∷◌, ◌++◌, length, drop, slice_index, Bool, true, false, Option, Result, Ok, Err, IfSome, is_err, is_some, refl, sym, ap, rules, arith}
+use Rattle.std.proofs.Common.{◌≡◌, ◌∙◌, ℕ, List, ◌++◌, length, true, Ok, is_err, is_some, refl, sym, arith}
 use Rattle.std.proofs.lemmas.Bool.Decides.{nat_tests}
-use Rattle.speedate_civil.specs.Base.{Behavior, ParseError, TimestampUnit}
+use Rattle.speedate_civil.specs.Base.{ParseError, TimestampUnit}
 use Rattle.speedate_base.specs.Requirement.{
-  AllHold,
   IsAnswerOf,
   TextRow,
   end_table,
@@ -12,14 +11,12 @@ use Rattle.speedate_base.specs.Requirement.{
   first_fault_or,
   first_place,
   result_and_then,
-  result_map,
   whole_or_fault,
 }
 use Rattle.speedate_base.proofs.RequirementLemmas.{
   AreWithin,
   first_fault_or-and_then,
   first_fault_or-append,
-  first_fault_or-map,
   fault_at_byte-is_some,
   is_answer_of-is_some,
   or_number-is_some,

@@ -10,7 +10,9 @@ use Rattle.speedate_base.specs.Config.{refuses_digits}
 use Rattle.speedate_base.specs.Digits.{run_length, two_digits_at, two_digit_value}
 use Rattle.speedate_base.specs.Numbers.{NoNumber, number_answer, whole_number}
 use Rattle.speedate_base.specs.Requirement.{
+  NumberRow,
   Requirement,
+  TextRow,
   first_fault_or,
   result_and_then,
   result_map,
@@ -97,8 +99,13 @@ keeps-same : {A : Type 0} (count : ℕ) (answer other : Result A ParseError) →
 keeps-same count (Ok value) other same = tt
 keeps-same count (Err fault) other same = λ shown. same
 
+-- a table without its places, of which one is how long the text is
+abbrev unplaced : List TextRow → List NumberRow
+unplaced [] = []
+unplaced (row ∷ rows) = (row.holds else_fault row.fault) ∷ unplaced rows
+
 -- the faults of a table take so many bytes
-abbrev AllTake : Option ℕ → List Requirement → Type 0
+abbrev AllTake : {Place : Type 0} → Option ℕ → List (Requirement Place) → Type 0
 AllTake size [] = Unit {0}
 AllTake size (row ∷ rows) = (refusal_size row.fault ≡ size) × AllTake size rows
 
@@ -108,7 +115,8 @@ takes-row : {A : Type 0} (size : Option ℕ) (test : Bool) (fault : ParseError)
 takes-row size true fault next takes after = after
 takes-row size false fault next takes after = takes
 
-takes-rows : {A : Type 0} (size : Option ℕ) (rows : List Requirement) (next : Result A ParseError)
+takes-rows : {Place A : Type 0} (size : Option ℕ) (rows : List (Requirement Place))
+    (next : Result A ParseError)
     → AllTake size rows → Takes size next → Takes size (first_fault_or rows next)
 takes-rows size [] next takes after = after
 takes-rows size (row ∷ rows) next takes after =
@@ -122,7 +130,8 @@ keeps-row : {A : Type 0} (count : ℕ) (test : Bool) (fault : ParseError)
 keeps-row count true fault next other kept = kept
 keeps-row count false fault next other kept = λ shown. refl
 
-keeps-rows : {A : Type 0} (count : ℕ) (rows : List Requirement) (next other : Result A ParseError)
+keeps-rows : {Place A : Type 0} (count : ℕ) (rows : List (Requirement Place))
+    (next other : Result A ParseError)
     → Keeps count next other
     → Keeps count (first_fault_or rows next) (first_fault_or rows other)
 keeps-rows count [] next other kept = kept
@@ -167,7 +176,7 @@ late-then next (Ok value) late after = after value
 late-then next (Err fault) late after = late
 
 -- what the second of a clock has to meet before its fraction
-abbrev second_rows : List ℕ → List Requirement
+abbrev second_rows : List ℕ → List NumberRow
 second_rows rest =
     (nat_le (two_digit_value rest 0) 59 else_fault ParseError.OutOfRangeMinute)
     ∷ ((has_second rest implies two_digits_at rest 3) else_fault ParseError.InvalidCharSecond)
@@ -176,7 +185,7 @@ second_rows rest =
     ∷ []
 
 -- what its fraction has to meet
-abbrev fraction_rows : Behavior → List ℕ → List Requirement
+abbrev fraction_rows : Behavior → List ℕ → List NumberRow
 fraction_rows behavior rest =
     ((has_fraction rest implies nat_lt 0 (run_length rest 6))
     else_fault ParseError.SecondFractionMissing)
@@ -235,7 +244,7 @@ keeps-fraction behavior rest count =
     let line : List ℕ = take count rest in
     keeps-taken (14 + count) (Some 27) _ _ (takes-fraction behavior rest) (λ shown.
     subst (Keeps (14 + count) (fraction_answer behavior rest))
-    (sym (ap (λ (rows : List Requirement). first_fault_or rows (Ok (minute_clock line)))
+    (sym (ap (λ (rows : List NumberRow). first_fault_or rows (Ok (minute_clock line)))
     (fraction_rows-taken behavior rest count (omega (arith, shown)))))
     (keeps-rows (14 + count) (fraction_rows behavior rest) _ (Ok (minute_clock line)) tt))
 
@@ -245,13 +254,13 @@ keeps-minute : (behavior : Behavior) (rest : List ℕ) (count : ℕ) → 5 ≤ c
 keeps-minute behavior rest count five =
     let other : Result Clock ParseError = fraction_answer behavior (take count rest) in
     subst (Keeps (14 + count) (clock_answer behavior rest))
-    (sym (ap (λ (rows : List Requirement). first_fault_or rows other)
+    (sym (ap (λ (rows : List NumberRow). first_fault_or rows other)
     (second_rows-taken rest count five)))
     (keeps-rows (14 + count) (second_rows rest) (fraction_answer behavior rest) other
     (keeps-fraction behavior rest count))
 
 -- a clock whose tables are given
-abbrev clock_by : List Requirement → List Requirement → List Requirement → ℕ
+abbrev clock_by : List NumberRow → List NumberRow → List NumberRow → ℕ
     → Result Clock ParseError → Result Clock ParseError
 clock_by hours minutes range hour clock =
     first_fault_or hours (first_fault_or minutes (first_fault_or range
@@ -267,10 +276,12 @@ keeps-clock behavior text count eight inside =
     let rest : List ℕ = drop 3 text in
     let after : drop 3 (take count text) ≡ take less rest =
     ap (λ (n : ℕ). drop 3 (take n text)) (sym left) ∙ drop-take 3 less text in
-    let hour : hour_table (take count text) ≡ hour_table text = grind (arith, common_steps) in
-    let digits : minute_digits (drop 3 (take count text)) ≡ minute_digits rest =
+    let hour : unplaced (hour_table (take count text)) ≡ unplaced (hour_table text) =
     grind (arith, common_steps) in
-    let range : hour_range (take count text) ≡ hour_range text = grind (arith, common_steps) in
+    let digits : unplaced (minute_digits (drop 3 (take count text))) ≡ unplaced (minute_digits rest) =
+    grind (arith, common_steps) in
+    let range : unplaced (hour_range (take count text)) ≡ unplaced (hour_range text) =
+    grind (arith, common_steps) in
     let value : two_digit_value (take count text) 0 ≡ two_digit_value text 0 =
     grind (arith, get_or-take) in
     let other : Result Clock ParseError = clock_answer behavior (take less rest) in

@@ -1,6 +1,6 @@
 -- The whole tables of times: their answers are those of the grammar, and their places lie within the
 -- text.
-use Rattle.std.proofs.Common.{◌≡◌, ◌≤◌, ◌+◌, ◌∙◌, ◌==◌, ◌<◌, nat_le, ◌||◌, not, ℕ, ℤ, pos, List, [], ◌∷◌, ◌++◌, length, drop, slice_index, Bool, true, false, if◌then◌else◌, Option, Some, None, Result, Ok, Err, IfSome, is_err, is_some, refl, sym, subst, ap, rules, arith}
+use Rattle.std.proofs.Common.{◌≡◌, ◌≤◌, ◌+◌, ◌∙◌, ◌==◌, ◌<◌, nat_le, ◌||◌, not, ℕ, ℤ, pos, List, [], ◌++◌, length, drop, slice_index, Bool, true, false, if◌then◌else◌, Option, Some, None, Result, Ok, Err, IfSome, is_err, is_some, refl, sym, subst, ap, rules, arith}
 use Rattle.std.proofs.lemmas.Bool.{cases_lt, leb-true, ltb-true}
 use Rattle.std.proofs.lemmas.Bool.Decides.{nat_tests}
 use Rattle.std.proofs.lemmas.List.{drop-drop, get_or-drop, get_or_past, length-drop}

@@ -1,7 +1,7 @@
 -- Where a refused text of a date, a time or a date-time has its fault: the whole table of each, in
 -- which every row has its place, and the place of the first row that does not hold. A place is a
 -- byte of the text, or its end.
-use Rattle.std.specs.Prelude.{ℕ, ◌+◌, ◌-◌, ◌==◌, List, [], ◌∷◌, ◌++◌, drop, length, slice_index, Bool, true, if◌then◌else◌, Option, Some, None, ℤ, option_map}
+use Rattle.std.specs.Prelude.{ℕ, ◌+◌, ◌-◌, List, [], ◌∷◌, ◌++◌, drop, length, slice_index, true, if◌then◌else◌, Option, Some, None, ℤ, option_map}
 use Rattle.speedate_base.specs.Numbers.{
   DecimalParts,
   Number,

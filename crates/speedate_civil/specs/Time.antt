@@ -5,7 +5,14 @@ use Rattle.std.specs.Int.{is_negative}
 use Rattle.std.specs.Option.{ForSome, unwrap_or}
 use Rattle.std.specs.declared.cmp.Ordering.{Ordering}
 use Rattle.speedate_civil.specs.Base.{Behavior, ParseError}
-use Rattle.speedate_base.specs.Ascii.{colon, full_stop, plus_sign, hyphen, capital_z, small_z}
+use Rattle.speedate_base.specs.Ascii.{
+  colon,
+  full_stop,
+  plus_sign,
+  hyphen,
+  capital_z,
+  small_z,
+}
 use Rattle.speedate_base.specs.Config.{refuses_digits}
 use Rattle.speedate_base.specs.Digits.{
   run_length,

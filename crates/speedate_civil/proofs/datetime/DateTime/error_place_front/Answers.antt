@@ -1,5 +1,8 @@
 use Rattle.std.proofs.Common.{◌∙◌, ap, is_some}
-use Rattle.speedate_civil.proofs.DateTimePlaceLemmas.{date_time_front-is_some, date_time_front-table}
+use Rattle.speedate_civil.proofs.DateTimePlaceLemmas.{
+  date_time_front-is_some,
+  date_time_front-table,
+}
 use Rattle.speedate_civil.proofs.datetime.DateTime.error_place_front.Goals as goal
 
 pub returns-clause-table : goal.returns-clause-table

@@ -1,9 +1,6 @@
 use Rattle.std.proofs.Common.{◌∙◌, rules}
 use Rattle.speedate_civil.specs.DateTime.{date_and_time}
-use Rattle.speedate_civil.proofs.DateTimePlaceLemmas.{
-  whole-date-time-read,
-  whole-date-time-refused,
-}
+use Rattle.speedate_civil.proofs.DateTimePlaceLemmas.{whole-date-time-read, whole-date-time-refused}
 use Rattle.speedate_civil.proofs.datetime.DateTime.whole_error_place.Goals as goal
 
 pub returns-in-Ok-clause-place : goal.returns-in-Ok-clause-place

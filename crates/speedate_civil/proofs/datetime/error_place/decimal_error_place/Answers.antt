@@ -1,4 +1,4 @@
-use Rattle.std.proofs.Common.{◌∙◌, Err, ap, rules, sym}
+use Rattle.std.proofs.Common.{◌∙◌, ap, rules}
 use Rattle.speedate_base.specs.Numbers.{decimal_value}
 use Rattle.speedate_base.specs.Timestamp.{UnitRow, decimal_instant, decimal_row, range_answer}
 use Rattle.speedate_civil.proofs.DateTimePlaceLemmas.{decimal-place-range}

@@ -1,0 +1,240 @@
+//! The places of errors: refused texts of each row of each table, and the byte at which the error lies.
+
+use crate::rows::{date_time_config, quoted, same, time_config, value, words};
+use speedate::{Date, DateConfig, DateTime, Time, TimestampUnit};
+use std::process::Abort;
+
+/// Texts that are refused as a date of RFC 3339, as a date or a timestamp, and at the front: the place of
+/// each error, and none for `-`.
+const DATES: &str = "\
+''                      0  0  0
+'x'                     1  1  1
+'2020-1-1'              8  8  8
+'2026-11-2'             9  9  9
+'202x-01-01'            0  0  0
+'+202-01-01'            0  0  0
+'2020/01/01'            4  4  4
+'2020x1x-01'            4  4  4
+'2020-1x-01'            5  5  5
+'2020-01/01'            7  7  7
+'2020-01-1x'            8  8  8
+'2020-13-0x'            8  8  8
+'2020-13-01'            5  5  5
+'2020-00-00'            5  5  5
+'2021-02-29'            8  8  8
+'2020-04-31'            8  8  8
+'2020-01-01T12:13'      10 10 -
+'2020-01-01 '           10 10 -
+'2020-02-29'            -  -  -
+'1'                     1  0  1
+'+'                     1  1  1
+'86400'                 5  -  5
+'1654560000.0'          4  4  4
+'20200229'              8  0  8
+'253402300800000'       4  0  4
+'-62167219200001'       0  0  0
+'9223372036854775808'   4  4  4
+'9223372036854775807'   4  0  4
+'-9223372036854775808'  0  0  0";
+
+/// A behavior, and texts that are refused as a time, as one of RFC 3339 alone, and at the front: the place
+/// of each error.
+const TIMES: &str = "\
+error     ''                      0  0  0
+error     '12:1'                  4  4  4
+error     '1:13:14'               0  0  0
+error     '12.13'                 2  2  2
+error     '12:1:14'               3  3  3
+error     '1x:1y'                 0  0  0
+error     '24:1y'                 3  3  3
+error     '24:60'                 0  0  0
+error     '12:60:99'              3  3  3
+error     '12:13:4'               6  6  6
+error     '12:13:'                6  6  6
+error     '12:13: x'              6  6  6
+error     '23:59:60'              6  6  6
+error     '12:13:60.'             6  6  6
+error     '12:13:14.'             9  9  9
+error     '12:13:14,x'            9  9  9
+error     '12:13:14.1234567'      15 15 15
+error     '12:13:14.1234567890x'  15 15 15
+truncate  '12:13:14.1234567'      -  16 -
+truncate  '12:13:14.1234567x'     16 16 -
+truncate  '12:13:14.'             9  9  9
+error     '12:13x'                5  5  -
+error     '12:13.5'               5  5  -
+error     '12:13:14 +01:00'       8  8  -
+error     '12:13:14.5x'           10 10 -
+error     '12:13:14.5.5'          10 10 -
+error     '12:13+'                6  6  6
+error     '12:13+1:00'            6  6  6
+error     '12:00:00-ERROR'        9  9  9
+error     '12:13:14.123456-'      16 16 16
+error     '12:13+01'              8  8  8
+error     '12:13+01:'             9  9  9
+error     '12:13+01:x'            9  9  9
+error     '12:13+01x'             8  8  8
+error     '12:13+01:60'           9  9  9
+error     '12:13+0160'            8  8  8
+error     '12:13+99:99'           9  9  9
+error     '12:13+24:00'           6  6  6
+error     '12:00:00+25:00'        9  9  9
+error     '12:13Z+01:00'          6  6  -
+error     '12:13z '               6  6  -
+error     '12:13+01:00x'          11 11 -
+error     '12:13+0100x'           10 10 -
+error     '12:13−'                8  8  8
+error     '12:13−1:00'            8  8  8
+error     '12:13−01:6'            11 11 11
+error     '12:13−01:60'           11 11 11
+error     '12:13−0160'            10 10 10
+error     '12:13−24:00'           8  8  8
+error     '12:13−01:00x'          13 13 -
+error     '00:0ééééééé'           3  3  3
+error     'éé:éé'                 0  0  0
+error     '12:13'                 -  5  -
+error     '12:13Z'                -  5  -
+error     '12:13+01:00'           -  5  -
+error     '12:13:14,5Z'           -  8  -
+error     '12:13:14,5'            -  8  -
+error     '12:13:14'              -  8  -
+error     '12:13:14.5'            -  10 -
+error     '12:13:14.123456'       -  15 -
+error     '12:13:14−01:00'        -  8  -
+error     '12:13:14.25−0100'      -  11 -
+error     '12:13:14+0100'         -  11 -
+error     '12:13:14.25+0100'      -  14 -
+error     '12:13:14z'             -  -  -
+error     '12:13:14.5-01:00'      -  -  -";
+
+/// A behavior, and texts that are refused as a date-time, as one of RFC 3339 alone, and at the front: the
+/// place of each error.
+const DATE_TIMES: &str = "\
+error     ''                                 0  0  0
+error     '2020-02-2'                        9  9  9
+error     '2020-13-01T24:00'                 5  5  5
+error     '2021-02-29T12:13'                 8  8  8
+error     '20200229T121314Z'                 4  4  4
+error     '2020-02-29'                       10 10 10
+error     '2020-02-29x12:13'                 10 10 10
+error     '2020-02-29T'                      11 11 11
+error     '2020-02-29T12Z'                   14 14 14
+error     '2020-02-29T24:00'                 11 11 11
+error     '2020-02-29T12-13'                 13 13 13
+error     '2020-02-29T12:60'                 14 14 14
+error     '2020-02-29T12:13:60'              17 17 17
+error     '2020-02-29T12:13:14.'             20 20 20
+error     '2020-02-29T12:13:14.123456789Z'   26 26 26
+truncate  '2020-02-29T12:13:14.123456789Z'   -  -  -
+error     '2020-02-29T12:13:14 +01:00'       19 19 -
+error     '2020-02-29 12:13:14+00'           22 22 22
+error     '2020-02-29T12:13:14+1:00'         20 20 20
+error     '2026-11-22T12:00:00-ERROR'        20 20 20
+error     '2020-02-29T12:13:14+24:00'        20 20 20
+error     '2020-02-29T12:13:14+01:60'        23 23 23
+error     '2020-02-29T12:13:14−01:60'        25 25 25
+error     '2020-02-29T12:13:14ZZ'            20 20 -
+error     '2020-02-29T12:13:14.5+01:00 GET'  27 27 -
+error     '2020-01-01 12:13:14Z'             -  10 -
+error     '2020-01-01_12:13'                 -  10 -
+error     '2020-02-29T12:13+01:00'           -  16 -
+error     '2020-02-29t12:13:14,5Z'           -  19 -
+error     '2020-02-29T12:13:14'              -  19 -
+error     '2020-02-29T12:13:14.5'            -  21 -
+error     '2020-02-29T12:13:14−01:00'        -  19 -
+error     '2020-02-29T12:13:14+0100'         -  22 -
+error     '2020-02-29T12:13:14.25+0100'      -  25 -
+error     '2020-02-29T12:13:14Z'             -  -  -";
+
+/// A unit and a behavior, and texts that are refused as a date-time or a timestamp: the place of each error.
+const TIMESTAMPS: &str = "\
+infer error     '1'                      -
+infer error     'x'                      1
+infer error     '1.0000000'              8
+infer error     '-1.00000001'            9
+infer error     '.1234567'               7
+infer error     '20000000001.0000'       15
+infer truncate  '20000000001.0000'       -
+s     error     '20000000001.0000000'    18
+us    error     '1.0'                    2
+us    error     '1.'                     -
+ms    error     '+1.2345'                6
+infer error     '1e5'                    3
+infer error     '253402300800000'        0
+infer error     '-62167219200001'        0
+infer error     '-9223372036854775808'   0
+infer error     '9223372036854775808'    4
+infer error     '99999999999999999.5'    0
+infer error     '-99999999999999999.5'   0
+us    truncate  '-99999999999999999999.' 0
+infer error     '2020-02-29T12:13:60'    17
+infer error     '2020-02-29 '            11
+infer error     '2020-02-29T12:13'       -";
+
+/// The place is to be the one that the row wants.
+fn expect_place<R: Abort>(rt: &R, found: Option<usize>, want: &str, row: &str) {
+    match found {
+        Some(place) => same(rt, place, value(rt, want), row),
+        None => same(rt, "-", want, row),
+    }
+}
+
+#[test]
+fn dates(rt: HostRuntime) {
+    for row in DATES.lines() {
+        let (_, text, wants) = quoted(&rt, row);
+        let [alone, relaxed, front, ..] = words(wants);
+        let text = text.as_bytes();
+        expect_place(&rt, Date::error_place_rfc3339(text), alone, row);
+        let place = Date::error_place(text, &DateConfig::default());
+        expect_place(&rt, place, relaxed, row);
+        expect_place(&rt, Date::error_place_front(text), front, row);
+    }
+}
+
+#[test]
+fn dates_of_a_unit(rt: HostRuntime) {
+    let config = DateConfig {
+        timestamp_unit: TimestampUnit::Millisecond,
+    };
+    expect_place(&rt, Date::error_place(b"86400000", &config), "-", "ms");
+    expect_place(&rt, Date::error_place(b"86400", &config), "0", "ms");
+}
+
+#[test]
+fn times(rt: HostRuntime) {
+    for row in TIMES.lines() {
+        let (behavior, text, wants) = quoted(&rt, row);
+        let [relaxed, strict, front, ..] = words(wants);
+        let (text, config) = (text.as_bytes(), time_config(&rt, behavior));
+        expect_place(&rt, Time::error_place(text, &config), relaxed, row);
+        let place = Time::error_place_strict(text, value(&rt, behavior));
+        expect_place(&rt, place, strict, row);
+        expect_place(&rt, Time::error_place_front(text, &config), front, row);
+    }
+}
+
+#[test]
+fn date_times(rt: HostRuntime) {
+    for row in DATE_TIMES.lines() {
+        let (behavior, text, wants) = quoted(&rt, row);
+        let [relaxed, strict, front, ..] = words(wants);
+        let (text, config) = (text.as_bytes(), time_config(&rt, behavior));
+        let place = DateTime::error_place_rfc3339(text, &config);
+        expect_place(&rt, place, relaxed, row);
+        let place = DateTime::error_place_strict(text, value(&rt, behavior));
+        expect_place(&rt, place, strict, row);
+        let place = DateTime::error_place_front(text, &config);
+        expect_place(&rt, place, front, row);
+    }
+}
+
+#[test]
+fn timestamps(rt: HostRuntime) {
+    for row in TIMESTAMPS.lines() {
+        let (config, text, want) = quoted(&rt, row);
+        let config = date_time_config(&rt, config.trim());
+        let place = DateTime::error_place(text.as_bytes(), &config);
+        expect_place(&rt, place, want, row);
+    }
+}
