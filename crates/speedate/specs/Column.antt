@@ -4,12 +4,7 @@ use Rattle.speedate_civil.specs.Base.{Behavior, ParseError}
 use Rattle.speedate_base.specs.Ascii.{carriage_return}
 use Rattle.speedate_base.specs.Config.{time_choices}
 use Rattle.speedate_base.specs.Fault.{fault_number}
-use Rattle.speedate_base.specs.Requirement.{
-  TextRow,
-  ◌else_fault◌,
-  first_fault_or,
-  result_and_then,
-}
+use Rattle.speedate_base.specs.Requirement.{TextRow, ◌else_fault◌, first_fault_or, result_and_then}
 use Rattle.speedate_civil.specs.Calendar.{Ymd, days_between}
 use Rattle.speedate_civil.specs.Date.{date_answer, date_or_timestamp}
 use Rattle.speedate_civil.specs.DateTime.{

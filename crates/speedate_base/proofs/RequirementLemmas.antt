@@ -112,8 +112,8 @@ first_place-refused [] next value fault refused = search rules
 first_place-refused (row ∷ rows) next value fault refused =
     search (rules, first_place-refused rows next value fault)
 
--- so the place of two tables, one after the other, is the first's, if there is one, and otherwise the
--- other's
+-- so the place of two tables, one after the other, is the first's, if there is one, and otherwise
+-- the other's
 pub first_place-stays : (rows next : List TextRow) (place : ℕ) → Some place ≡ first_place rows
     → Some place ≡ first_place (rows ++ next)
 first_place-stays [] next place same = search rules

@@ -15,8 +15,8 @@ pub record Requirement (Place : Type 0) : Type 0 where
 abbrev pub NumberRow : Type 0
 NumberRow = Requirement (Unit {0})
 
--- a requirement of a text: its place is the byte at which the part that it is about begins, or would
--- begin
+-- a requirement of a text: its place is the byte at which the part that it is about begins, or
+-- would begin
 abbrev pub TextRow : Type 0
 TextRow = Requirement ℕ
 
@@ -96,8 +96,8 @@ or_number number (Ok value) = Ok value
 or_number (Some answer) (Err fault) = answer
 or_number None (Err fault) = Err fault
 
--- the answer to a text is that of a table: the fault of the first row that does not hold, whose place
--- is the table's, and otherwise a value
+-- the answer to a text is that of a table: the fault of the first row that does not hold, whose
+-- place is the table's, and otherwise a value
 abbrev pub IsAnswerOf : {A : Type 0} → List TextRow → Result A ParseError → Type 0
 IsAnswerOf {A = A} rows answer = (value : A) × (answer ≡ first_fault_or rows (Ok value))
 
@@ -106,7 +106,8 @@ abbrev pub fault_at_byte : {A : Type 0} → ℕ → Result A ParseError → Opti
 fault_at_byte place (Ok value) = None
 fault_at_byte place (Err fault) = Some place
 
--- the place of the fault of a table; but if there is one and the text is a number, that of the number
+-- the place of the fault of a table; but if there is one and the text is a number, that of the
+-- number
 abbrev pub or_number_place : Option (Option ℕ) → Option ℕ → Option ℕ
 or_number_place number None = None
 or_number_place (Some answer) (Some place) = answer

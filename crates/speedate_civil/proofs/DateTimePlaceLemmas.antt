@@ -1,5 +1,5 @@
--- The whole tables of date-times: their answers are those of the grammar, and their places lie within
--- the text.
+-- The whole tables of date-times: their answers are those of the grammar, and their places lie
+-- within the text.
 use Rattle.std.proofs.Common.{◌≡◌, ◌≤◌, ◌+◌, ◌∙◌, ◌==◌, ◌||◌, ◌-◌, ℕ, ℤ, List, ◌++◌, length, drop, slice_index, Bool, true, if◌then◌else◌, Option, Some, None, Result, Ok, Err, IfSome, is_err, is_some, refl, sym, subst, ap, rules, arith}
 use Rattle.std.specs.Option.{option_map}
 use Rattle.std.proofs.lemmas.Bool.Decides.{nat_tests}
@@ -144,13 +144,15 @@ date_time_front-rows behavior text =
             ∙ ap (first_fault_or (date_table text))
             (ap (λ (answer : Result (TimeOfDay × ℕ) ParseError).
             result_and_then (joined date) (first_fault_or (separator_table text) answer)) found.1.0
-            ∙ first_fault_or-and_then (joined date) (separator_table text) (first_fault_or rows (Ok read))
+            ∙ first_fault_or-and_then (joined date) (separator_table text)
+            (first_fault_or rows (Ok read))
             ∙ ap (first_fault_or (separator_table text))
             (first_fault_or-and_then (joined date) rows (Ok read)
             ∙ sym (first_fault_or-moved 11 rows value)))
             ∙ ap (first_fault_or (date_table text))
             (sym (first_fault_or-append (separator_table text) (moved 11 rows) value))
-            ∙ sym (first_fault_or-append (date_table text) (separator_table text ++ moved 11 rows) value),
+            ∙ sym (first_fault_or-append (date_table text) (separator_table text ++ moved 11 rows)
+            value),
         found.1.1,
       ),
     )

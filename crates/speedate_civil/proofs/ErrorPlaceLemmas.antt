@@ -1,5 +1,4 @@
--- The whole tables of dates, times and date-times: their answers are those of the grammar, and their
--- places lie within the text.
+-- The whole table of dates: its answer is that of the grammar, and its places lie within the text.
 use Rattle.std.proofs.Common.{◌≡◌, ◌∙◌, ℕ, List, ◌++◌, length, true, Ok, is_err, is_some, refl, sym, arith}
 use Rattle.std.proofs.lemmas.Bool.Decides.{nat_tests}
 use Rattle.speedate_civil.specs.Base.{ParseError, TimestampUnit}

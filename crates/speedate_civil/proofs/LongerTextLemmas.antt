@@ -278,7 +278,8 @@ keeps-clock behavior text count eight inside =
     ap (λ (n : ℕ). drop 3 (take n text)) (sym left) ∙ drop-take 3 less text in
     let hour : unplaced (hour_table (take count text)) ≡ unplaced (hour_table text) =
     grind (arith, common_steps) in
-    let digits : unplaced (minute_digits (drop 3 (take count text))) ≡ unplaced (minute_digits rest) =
+    let line : List ℕ = drop 3 (take count text) in
+    let digits : unplaced (minute_digits line) ≡ unplaced (minute_digits rest) =
     grind (arith, common_steps) in
     let range : unplaced (hour_range (take count text)) ≡ unplaced (hour_range text) =
     grind (arith, common_steps) in

@@ -1,5 +1,5 @@
--- The whole tables of times: their answers are those of the grammar, and their places lie within the
--- text.
+-- The whole tables of times: their answers are those of the grammar, and their places lie within
+-- the text.
 use Rattle.std.proofs.Common.{◌≡◌, ◌≤◌, ◌+◌, ◌∙◌, ◌==◌, ◌<◌, nat_le, ◌||◌, not, ℕ, ℤ, pos, List, [], ◌++◌, length, drop, slice_index, Bool, true, false, if◌then◌else◌, Option, Some, None, Result, Ok, Err, IfSome, is_err, is_some, refl, sym, subst, ap, rules, arith}
 use Rattle.std.proofs.lemmas.Bool.{cases_lt, leb-true, ltb-true}
 use Rattle.std.proofs.lemmas.Bool.Decides.{nat_tests}
@@ -187,7 +187,8 @@ offset-choice : (signed utc minus : Bool) (one three : List TextRow) (first thir
     else (if utc then Ok (Some (pos 0), 1)
     else (if minus then first_fault_or {A = Option ℤ × ℕ} three (Ok (third, other))
     else Ok (None, 0))))
-    ≡ first_fault_or {A = Option ℤ × ℕ} (if signed then one else (if utc then [] else (if minus then three else [])))
+    ≡ first_fault_or {A = Option ℤ × ℕ}
+    (if signed then one else (if utc then [] else (if minus then three else [])))
     (Ok (offset, if signed then size else (if utc then 1 else (if minus then other else 0)))))
     × (is_some offset ≡ (signed || utc || minus))
 offset-choice true utc minus one three first third size other some also =
@@ -202,7 +203,8 @@ offset-choice false false false one three first third size other some also =
 -- an offset is what its table lets through
 offset_front-table : (rest : List ℕ)
     → (offset : Option ℤ)
-    × (offset_front rest ≡ first_fault_or (offset_front_table rest) (Ok (offset, offset_bytes rest)))
+    × (offset_front rest
+    ≡ first_fault_or (offset_front_table rest) (Ok (offset, offset_bytes rest)))
     × (is_some offset ≡ begins_offset rest)
 unfolding offset_front_table
 offset_front-table rest =
@@ -399,7 +401,8 @@ pub offset-rest-within : (sign : ℕ) (rest : List ℕ) (place : Option ℕ) →
     → place ≡ first_place (moved sign (offset_numbers_table (drop sign rest)))
     → IfSome place (λ place. place ≤ length rest)
 offset-rest-within sign rest place there same =
-    let whole : sign + length (drop sign rest) ≡ length rest = omega (arith, length-drop sign rest) in
+    let whole : sign + length (drop sign rest) ≡ length rest =
+    omega (arith, length-drop sign rest) in
     place-within (length rest) place
     (first_place (moved sign (offset_numbers_table (drop sign rest)))) same
     (subst (λ (size : ℕ). IfSome (first_place (moved sign (offset_numbers_table (drop sign rest))))
@@ -431,8 +434,8 @@ whole-place-refused behavior text fault refused =
     let rows = time_front_table behavior text in
     let value : TimeOfDay × ℕ =
     (clock_with_offset (whole_clock text) found.0, time_size text) in
-    sym (first_place-refused rows (end_table (time_end_fault text) (time_size text) text) value fault
-    (sym found.1.0 ∙ sym refused))
+    sym (first_place-refused rows (end_table (time_end_fault text) (time_size text) text) value
+    fault (sym found.1.0 ∙ sym refused))
 
 pub strict-place-stays : (behavior : Behavior) (text : List ℕ) (place : ℕ)
     → Some place ≡ first_place (whole_time_table behavior text)
@@ -509,8 +512,8 @@ comma-there text fails =
 pub ends-at : (text : List ℕ) (size : ℕ) → (length text == size) ≡ true → length text ≡ size
 ends-at text size same = grind (arith, nat_tests)
 
-pub standard-within : (behavior : Behavior) (text : List ℕ) → AllHold (whole_time_table behavior text)
-    → AreWithin (length text) (standard_time text)
+pub standard-within : (behavior : Behavior) (text : List ℕ)
+    → AllHold (whole_time_table behavior text) → AreWithin (length text) (standard_time text)
 unfolding whole_time_table time_front_table
 standard-within behavior text all =
     let size = clock_size text in
@@ -534,10 +537,17 @@ standard-within behavior text all =
             λ no_minus. (
               λ fails.
                   let begins =
-                  bytes-begin rest (omega (arith, ltb-true 0 (length (drop (offset_place text) text)) some, ends, left, ap (λ (place : ℕ). length (drop place text)) place)) in
+                  bytes-begin rest (omega (
+                    arith,
+                    ltb-true 0 (length (drop (offset_place text) text)) some,
+                    ends,
+                    left,
+                    ap (λ (place : ℕ). length (drop place text)) place,
+                  )) in
                   let three =
                   minute-there rest offset begins
-                  (subst (λ (place : ℕ). not (has_minus_sign (drop place text)) ≡ true) place no_minus)
+                  (subst (λ (place : ℕ). not (has_minus_sign (drop place text)) ≡ true) place
+                  no_minus)
                   (subst (λ (place : ℕ). (is_utc (slice_index (drop place text) 0)
                   || (slice_index (drop place text) 3 == colon)) ≡ false) place fails) in
                   omega (arith, place, ends, left, three),

@@ -7,9 +7,11 @@ use Rattle.speedate_civil.proofs.datetime.DateTime.error_place_front.Goals as go
 
 pub returns-clause-table : goal.returns-clause-table
 returns-clause-table c =
-    date_time_front-table c.args.config.now.microseconds_precision_overflow_behavior c.args.bytes.now
+    date_time_front-table
+    c.args.config.now.microseconds_precision_overflow_behavior c.args.bytes.now
 
 pub returns-clause-refused : goal.returns-clause-refused
 returns-clause-refused c =
     ap is_some c.front_error_place.ensures.place
-    ∙ date_time_front-is_some c.args.config.now.microseconds_precision_overflow_behavior c.args.bytes.now
+    ∙ date_time_front-is_some
+    c.args.config.now.microseconds_precision_overflow_behavior c.args.bytes.now

@@ -17,14 +17,16 @@ pub returns-in-Some-clause-place : goal.returns-in-Some-clause-place
 returns-in-Some-clause-place c =
     date-time-place-date c.args.behavior c.args.bytes.now c.in-Some.place c.in-Some.ensures.place
 
-pub returns-then-not-has_separator-clause-place : goal.returns-then-not-has_separator-clause-place
+pub returns-then-not-has_separator-clause-place :
+    goal.returns-then-not-has_separator-clause-place
 unfolding separator_place
 returns-then-not-has_separator-clause-place c =
     date-time-place-separator c.args.behavior c.args.bytes.now 10
     (sym c.in_default.is ∙ c.error_place_front.ensures.place)
     (ap separator_place c.if-not-has_separator.ensures.value)
 
-pub returns-in-Some-front_error_place-clause-place : goal.returns-in-Some-front_error_place-clause-place
+pub returns-in-Some-front_error_place-clause-place :
+    goal.returns-in-Some-front_error_place-clause-place
 unfolding separator_place
 returns-in-Some-front_error_place-clause-place c =
     let bytes = c.args.bytes.now in

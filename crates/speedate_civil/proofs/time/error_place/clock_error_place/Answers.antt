@@ -15,41 +15,48 @@ returns-in-Ok c = record {
 pub returns-in-Err-TooShort : goal.returns-in-Err-TooShort
 returns-in-Err-TooShort c = record {
   place =
-      clock-place c.args.behavior c.args.bytes.now _ _ c.in-Err-TooShort.ensures.answer (search rules);
+      clock-place c.args.behavior c.args.bytes.now _ _ c.in-Err-TooShort.ensures.answer
+      (search rules);
 }
 
 pub returns-in-Err-InvalidCharHour : goal.returns-in-Err-InvalidCharHour
 returns-in-Err-InvalidCharHour c = record {
   place =
-      clock-place c.args.behavior c.args.bytes.now _ _ c.in-Err-InvalidCharHour.ensures.answer (search rules);
+      clock-place c.args.behavior c.args.bytes.now _ _ c.in-Err-InvalidCharHour.ensures.answer
+      (search rules);
 }
 
 pub returns-in-Err-InvalidCharTimeSep : goal.returns-in-Err-InvalidCharTimeSep
 returns-in-Err-InvalidCharTimeSep c = record {
   place =
-      clock-place c.args.behavior c.args.bytes.now _ _ c.in-Err-InvalidCharTimeSep.ensures.answer (search rules);
+      clock-place c.args.behavior c.args.bytes.now _ _ c.in-Err-InvalidCharTimeSep.ensures.answer
+      (search rules);
 }
 
 pub returns-in-Err-InvalidCharMinute : goal.returns-in-Err-InvalidCharMinute
 returns-in-Err-InvalidCharMinute c = record {
   place =
-      clock-place c.args.behavior c.args.bytes.now _ _ c.in-Err-InvalidCharMinute.ensures.answer (search rules);
+      clock-place c.args.behavior c.args.bytes.now _ _ c.in-Err-InvalidCharMinute.ensures.answer
+      (search rules);
 }
 
 pub returns-in-Err-InvalidCharSecond : goal.returns-in-Err-InvalidCharSecond
 returns-in-Err-InvalidCharSecond c = record {
   place =
-      clock-place c.args.behavior c.args.bytes.now _ _ c.in-Err-InvalidCharSecond.ensures.answer (search rules);
+      clock-place c.args.behavior c.args.bytes.now _ _ c.in-Err-InvalidCharSecond.ensures.answer
+      (search rules);
 }
 
 pub returns-in-Err-SecondFractionMissing : goal.returns-in-Err-SecondFractionMissing
 returns-in-Err-SecondFractionMissing c = record {
   place =
-      clock-place c.args.behavior c.args.bytes.now _ _ c.in-Err-SecondFractionMissing.ensures.answer (search rules);
+      clock-place c.args.behavior c.args.bytes.now _ _ c.in-Err-SecondFractionMissing.ensures.answer
+      (search rules);
 }
 
 pub returns-in-Err : goal.returns-in-Err
 returns-in-Err c = record {
   place =
-      clock-place c.args.behavior c.args.bytes.now _ _ c.in-Err.ensures.answer (search rules);
+      clock-place c.args.behavior c.args.bytes.now _ _ c.in-Err.ensures.answer
+      (search rules);
 }

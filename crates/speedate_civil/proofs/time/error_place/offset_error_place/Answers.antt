@@ -53,7 +53,9 @@ returns-then-has_minus_sign c =
           (ap is_utc (sym c.byte_at-first.ensures.byte) ∙ sym c.is_utc.ensures.value
           ∙ c.if-is_utc.false)
           (sym c.has_minus_sign.ensures.value ∙ c.if-has_minus_sign.true) place;
-      within = offset-rest-within 3 rest answer.result (omega (arith, c.if-has_minus_sign.ensures.there)) place;
+      within =
+          offset-rest-within 3 rest answer.result
+          (omega (arith, c.if-has_minus_sign.ensures.there)) place;
     }
 
 pub returns-clause-place : goal.returns-clause-place
