@@ -1,8 +1,7 @@
 -- What a configuration from outside says. Each choice is a number: the place of its value in a
 -- list.
-use Rattle.std.specs.Prelude.{ℕ, ◌==◌, ◌&&◌, ◌||◌, nat_le, Bool, false, true, ℤ, pos, List, [], ◌∷◌, slice_get, Option, Some, None, Result, Ok, if◌then◌else◌}
+use Rattle.std.specs.Prelude.{ℕ, ◌==◌, nat_le, Bool, false, true, ℤ, List, [], ◌∷◌, slice_get, Option, Some, None, Result, Ok, if◌then◌else◌}
 use Rattle.std.specs.Option.{option_and_then, option_map}
-use Rattle.std.specs.Ordering.{int_eq}
 use Rattle.std.specs.Result.{result_ok}
 use Rattle.speedate.specs.Config.{Choices}
 use Rattle.speedate.specs.Base.{Behavior, IsoOrder, ParseError, TimestampUnit}

@@ -1,8 +1,9 @@
 -- What a call leaves: its code, and then what stands where it writes. A call that refuses leaves
 -- what stood there.
 use Rattle.std.specs.Prelude.{ℕ, ◌+◌, ℤ, List, ◌∷◌, ◌++◌, length, drop, nat_lt, Option, Some, None, Result, Ok, Err, if◌then◌else◌}
+use Rattle.std.specs.Option.{unwrap_or}
 use Rattle.speedate.specs.Base.{ParseError}
-use Rattle.speedate_c.specs.Code.{success, fault_code, buffer_too_small, no_such_date}
+use Rattle.speedate_c.specs.Code.{answer_code, success, fault_code, buffer_too_small, no_such_date}
 
 -- what follows from a value that is in its ranges; what is left where it is not
 abbrev pub with_value : {A B : Type 0} → Result A ParseError → B → (A → B) → B
@@ -27,6 +28,11 @@ written_answer shown before (Err fault) = (fault_code fault, before)
 abbrev pub written_front : {A B : Type 0} → (A → B) → B → ℕ → Result (A × ℕ) ParseError → ℤ × B × ℕ
 written_front shown before size (Ok front) = (success, shown front.0, front.1)
 written_front shown before size (Err fault) = (fault_code fault, before, size)
+
+-- written of an answer to a text and the place of its fault, where there is one: the answer's code,
+-- and the place
+abbrev pub written_place : {A : Type 0} → Result A ParseError → Option ℕ → ℕ → ℤ × ℕ
+written_place answer found before = (answer_code answer, unwrap_or found before)
 
 -- written of a date, where there is one
 abbrev pub written_optional_date : {A B : Type 0} → (A → B) → B → Option A → ℤ × B

@@ -6,6 +6,7 @@ ghost use Rattle.speedate.specs.Date.{
   ymd,
   date_answer,
   date_front,
+  date_table,
   date_text,
   date_or_timestamp,
   date_timestamp_answer,
@@ -21,11 +22,13 @@ ghost use Rattle.speedate.specs.Calendar.{
   midnight_second,
   ordinal_day,
 };
-ghost use Rattle.speedate.specs.Requirement.{result_map};
+ghost use Rattle.speedate.specs.ErrorPlace.{date_or_timestamp_place, whole_date_table};
+ghost use Rattle.speedate.specs.Requirement.{first_place, result_map};
 ghost use Rattle.speedate_c.specs.Written.{
   written_answer,
   written_front,
   written_optional_date,
+  written_place,
   written_text,
   written_value,
   with_option,
@@ -44,7 +47,7 @@ ghost use Rattle.speedate_c.specs.Date.{date_of, shown_date};
 
 use crate::code::{NO_SUCH_DATE, SUCCESS, VALUE_OUT_OF_RANGE, order_number};
 use crate::config::{SpeedateConfig, flag};
-use crate::text::write_text;
+use crate::text::{write_place, write_text};
 use speedate::{Date, ParseError};
 
 /// A date.
@@ -156,14 +159,55 @@ pub extern "C" fn speedate_date_parse_front(
     SUCCESS
 }
 
+/// Writes the byte at which the error lies for which [`speedate_date_parse`] refuses a text, as
+/// [`Date::error_place`] gives it, and gives the code of that call: 5 for `2020-13-01`.
+///
+/// Nothing is written for a text that it accepts, and where the code is `CONFIG_OUT_OF_RANGE`.
+#[unsafe(no_mangle)]
+pub extern "C" fn speedate_date_error_place(
+    text: &[u8],
+    config: SpeedateConfig,
+    place: &mut usize,
+) -> i32
+    ensures answer { (result, place.new)
+        ≡ with_option (choices_of config) (config_out_of_range, place.old)
+        (λ config. written_place (date_or_timestamp config.unit text.now)
+        (date_or_timestamp_place config.unit text.now) place.old) }
+{
+    let config = config_or_return!(config.to_date_config());
+    write_place(Date::error_place(text, &config), place);
+    code_of!(Date::parse_bytes_with_config(text, &config))
+}
+
+/// The same for [`speedate_date_parse_rfc3339`], as [`Date::error_place_rfc3339`] gives it: 10 for
+/// `2020-01-01T12:13`.
+#[unsafe(no_mangle)]
+pub extern "C" fn speedate_date_error_place_rfc3339(text: &[u8], place: &mut usize) -> i32
+    ensures answer { (result, place.new)
+        ≡ written_place (date_answer text.now) (first_place (whole_date_table text.now)) place.old }
+{
+    write_place(Date::error_place_rfc3339(text), place);
+    code_of!(Date::parse_bytes_rfc3339(text))
+}
+
+/// The same for [`speedate_date_parse_front`], as [`Date::error_place_front`] gives it: 9 for
+/// `2026-11-2`.
+#[unsafe(no_mangle)]
+pub extern "C" fn speedate_date_error_place_front(text: &[u8], place: &mut usize) -> i32
+    ensures answer { (result, place.new)
+        ≡ written_place (date_front text.now) (first_place (date_table text.now)) place.old }
+{
+    write_place(Date::error_place_front(text), place);
+    code_of!(Date::parse_front(text))
+}
+
 /// Whether the numbers are those of a date, as [`Date::new`] tells: `SUCCESS`, or the error of the
 /// first number that is out of range, `OutOfRangeDay` for 2021-02-29.
 #[unsafe(no_mangle)]
 pub extern "C" fn speedate_date_check(date: SpeedateDate) -> i32
     ensures answer { result ≡ answer_code (date_of date) }
 {
-    let _ = answer_or_return!(date.to_value());
-    SUCCESS
+    code_of!(date.to_value())
 }
 
 /// Prints a date into a buffer, with a zero byte after it, as [`Date::to_text`] gives it:

@@ -17,11 +17,18 @@ ghost use Rattle.speedate.specs.DateTime.{
   date_time_in_timezone,
   ◌gives◌,
 };
+ghost use Rattle.speedate.specs.ErrorPlace.{
+  date_time_front_table,
+  date_time_or_timestamp_place,
+  strict_date_time_table,
+  whole_date_time_table,
+};
 ghost use Rattle.speedate.specs.Standard.{strict_date_time_answer};
-ghost use Rattle.speedate.specs.Requirement.{result_map};
+ghost use Rattle.speedate.specs.Requirement.{first_place, result_map};
 ghost use Rattle.speedate_c.specs.Written.{
   written_answer,
   written_front,
+  written_place,
   written_text,
   written_value,
   with_option,
@@ -41,7 +48,7 @@ ghost use Rattle.speedate_c.specs.DateTime.{date_time_of, shown_date_time};
 use crate::code::{SUCCESS, order_number};
 use crate::config::SpeedateConfig;
 use crate::date::SpeedateDate;
-use crate::text::write_text;
+use crate::text::{write_place, write_text};
 use crate::time::SpeedateTime;
 use arrayvec::ArrayString;
 use speedate::{DateTime, ParseError};
@@ -175,14 +182,97 @@ pub extern "C" fn speedate_datetime_parse_front(
     SUCCESS
 }
 
+/// Writes the byte at which the error lies for which [`speedate_datetime_parse`] refuses a text, as
+/// [`DateTime::error_place`] gives it, and gives the code of that call: 17 for
+/// `2020-02-29T12:13:60`.
+///
+/// Nothing is written for a text that it accepts, and where the code is `CONFIG_OUT_OF_RANGE`.
+#[unsafe(no_mangle)]
+pub extern "C" fn speedate_datetime_error_place(
+    text: &[u8],
+    config: SpeedateConfig,
+    place: &mut usize,
+) -> i32
+    ensures answer { (result, place.new)
+        ≡ with_option (choices_of config) (config_out_of_range, place.old)
+        (λ config. written_place
+        (date_time_or_timestamp config.unit config.behavior config.offset text.now)
+        (date_time_or_timestamp_place config.unit config.behavior config.offset text.now)
+        place.old) }
+{
+    let config = config_or_return!(config.to_config());
+    write_place(DateTime::error_place(text, &config), place);
+    code_of!(DateTime::parse_bytes_with_config(text, &config))
+}
+
+/// The same for [`speedate_datetime_parse_rfc3339`], as [`DateTime::error_place_rfc3339`] gives it: 10
+/// for `2020-02-29`.
+#[unsafe(no_mangle)]
+pub extern "C" fn speedate_datetime_error_place_rfc3339(
+    text: &[u8],
+    config: SpeedateConfig,
+    place: &mut usize,
+) -> i32
+    ensures answer { (result, place.new)
+        ≡ with_option (choices_of config) (config_out_of_range, place.old)
+        (λ config. written_place (date_time_answer config.behavior text.now)
+        (first_place (whole_date_time_table config.behavior text.now)) place.old) }
+{
+    let config = config_or_return!(config.to_config());
+    write_place(
+        DateTime::error_place_rfc3339(text, &config.time_config),
+        place,
+    );
+    code_of!(DateTime::parse_bytes_rfc3339_with_config(text, &config.time_config))
+}
+
+/// The same for [`speedate_datetime_parse_strict`], as [`DateTime::error_place_strict`] gives it: 19
+/// for `2020-02-29T12:13:14`.
+#[unsafe(no_mangle)]
+pub extern "C" fn speedate_datetime_error_place_strict(
+    text: &[u8],
+    config: SpeedateConfig,
+    place: &mut usize,
+) -> i32
+    ensures answer { (result, place.new)
+        ≡ with_option (choices_of config) (config_out_of_range, place.old)
+        (λ config. written_place (strict_date_time_answer config.behavior text.now)
+        (first_place (strict_date_time_table config.behavior text.now)) place.old) }
+{
+    let config = config_or_return!(config.to_config());
+    let behavior = config.time_config.microseconds_precision_overflow_behavior;
+    write_place(DateTime::error_place_strict(text, behavior), place);
+    code_of!(DateTime::parse_bytes_strict(text, behavior))
+}
+
+/// The same for [`speedate_datetime_parse_front`], as [`DateTime::error_place_front`] gives it: 20 for
+/// `2026-11-22T12:00:00-ERROR`.
+#[unsafe(no_mangle)]
+pub extern "C" fn speedate_datetime_error_place_front(
+    text: &[u8],
+    config: SpeedateConfig,
+    place: &mut usize,
+) -> i32
+    ensures answer { (result, place.new)
+        ≡ with_option (choices_of config) (config_out_of_range, place.old)
+        (λ config. written_place (date_time_front config.behavior text.now)
+        (first_place (date_time_front_table config.behavior text.now)) place.old) }
+{
+    let config = config_or_return!(config.to_config());
+    write_place(
+        DateTime::error_place_front(text, &config.time_config),
+        place,
+    );
+    code_of!(DateTime::parse_front(text, &config.time_config))
+}
+
 /// Whether the numbers are those of a date-time: `SUCCESS`, or the error of a number that is out of
 /// range. The date is looked at first.
 #[unsafe(no_mangle)]
 pub extern "C" fn speedate_datetime_check(value: SpeedateDateTime) -> i32
     ensures answer { result ≡ answer_code (date_time_of value) }
 {
-    let _ = answer_or_return!(value.to_value());
-    SUCCESS
+    code_of!(value.to_value())
 }
 
 /// Prints a date-time into a buffer, with a zero byte after it, as [`DateTime::to_text`] gives it:

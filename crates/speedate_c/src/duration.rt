@@ -155,8 +155,7 @@ pub extern "C" fn speedate_duration_normalize(
 pub extern "C" fn speedate_duration_check(duration: SpeedateDuration) -> i32
     ensures answer { result ≡ answer_code (duration_of duration) }
 {
-    let _ = answer_or_return!(duration.to_value());
-    SUCCESS
+    code_of!(duration.to_value())
 }
 
 /// Prints a duration into a buffer, with a zero byte after it, as [`Duration::to_text`] gives it:

@@ -34,6 +34,14 @@ macro_rules! answer_or_return {
     };
 }
 
+/// The code of an answer.
+macro_rules! code_of {
+    ($answer:expr) => {{
+        let _ = answer_or_return!($answer);
+        $crate::code::SUCCESS
+    }};
+}
+
 /// Writes what is computed of the values of structs of the caller's, and gives the code.
 macro_rules! write_of {
     ($($value:ident),+ => *$out:ident = $written:expr) => {{

@@ -1,5 +1,6 @@
-//! Texts in buffers of the caller's.
+//! Texts in buffers of the caller's, and places of texts.
 
+ghost use Rattle.std.specs.Option.{unwrap_or};
 ghost use Rattle.std.specs.Prelude.{◌≡◌, ◌≢◌, ◌+◌, ◌<◌, ◌≤◌, ◌∷◌, ◌++◌, drop, length};
 ghost use Rattle.speedate_c.specs.Written.{written_text, with_option};
 ghost use Rattle.speedate_c.specs.Code.{buffer_too_small, code_row, success, value_out_of_range};
@@ -32,6 +33,16 @@ fn fill(text: &str, buffer: &mut [u8])
     let size = text.len();
     buffer[..size].copy_from_slice(text.as_bytes());
     buffer[size] = 0;
+}
+
+/// Writes the place of a text's error, if there is one.
+#[inline(always)]
+pub(crate) fn write_place(found: Option<usize>, place: &mut usize)
+    ensures after { place.new ≡ unwrap_or found place.old }
+{
+    if let Some(found) = found {
+        *place = found;
+    }
 }
 
 /// Prints the name of a code: `too_short` for 1.

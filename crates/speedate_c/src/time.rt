@@ -2,8 +2,13 @@
 
 ghost use Rattle.std.specs.Prelude.{◌≡◌, ◌≢◌, ◌≤◌, length};
 ghost use Rattle.std.specs.Option.{ForSome};
+ghost use Rattle.speedate.specs.ErrorPlace.{
+  strict_time_table,
+  time_front_table,
+  whole_time_table,
+};
 ghost use Rattle.speedate.specs.Offset.{IsOffset};
-ghost use Rattle.speedate.specs.Requirement.{result_map};
+ghost use Rattle.speedate.specs.Requirement.{first_place, result_map};
 ghost use Rattle.speedate.specs.Time.{
   time_of_day,
   millisecond_of_day,
@@ -20,6 +25,7 @@ ghost use Rattle.speedate.specs.Standard.{strict_time_answer};
 ghost use Rattle.speedate_c.specs.Written.{
   written_answer,
   written_front,
+  written_place,
   written_text,
   written_value,
   with_option,
@@ -38,7 +44,7 @@ ghost use Rattle.speedate_c.specs.Time.{shown_time, time_of};
 
 use crate::code::{SUCCESS, order_number};
 use crate::config::{SpeedateConfig, offset};
-use crate::text::write_text;
+use crate::text::{write_place, write_text};
 use arrayvec::ArrayString;
 use speedate::{ParseError, Time};
 
@@ -161,14 +167,70 @@ pub extern "C" fn speedate_time_parse_front(
     SUCCESS
 }
 
+/// Writes the byte at which the error lies for which [`speedate_time_parse`] refuses a text, as
+/// [`Time::error_place`] gives it, and gives the code of that call: 6 for `12:13:60`.
+///
+/// Nothing is written for a text that it accepts, and where the code is `CONFIG_OUT_OF_RANGE`.
+#[unsafe(no_mangle)]
+pub extern "C" fn speedate_time_error_place(
+    text: &[u8],
+    config: SpeedateConfig,
+    place: &mut usize,
+) -> i32
+    ensures answer { (result, place.new)
+        ≡ with_option (choices_of config) (config_out_of_range, place.old)
+        (λ config. written_place (time_answer config.behavior text.now)
+        (first_place (whole_time_table config.behavior text.now)) place.old) }
+{
+    let config = config_or_return!(config.to_config());
+    write_place(Time::error_place(text, &config.time_config), place);
+    code_of!(Time::parse_bytes_with_config(text, &config.time_config))
+}
+
+/// The same for [`speedate_time_parse_strict`], as [`Time::error_place_strict`] gives it: 5 for
+/// `12:13`.
+#[unsafe(no_mangle)]
+pub extern "C" fn speedate_time_error_place_strict(
+    text: &[u8],
+    config: SpeedateConfig,
+    place: &mut usize,
+) -> i32
+    ensures answer { (result, place.new)
+        ≡ with_option (choices_of config) (config_out_of_range, place.old)
+        (λ config. written_place (strict_time_answer config.behavior text.now)
+        (first_place (strict_time_table config.behavior text.now)) place.old) }
+{
+    let config = config_or_return!(config.to_config());
+    let behavior = config.time_config.microseconds_precision_overflow_behavior;
+    write_place(Time::error_place_strict(text, behavior), place);
+    code_of!(Time::parse_bytes_strict(text, behavior))
+}
+
+/// The same for [`speedate_time_parse_front`], as [`Time::error_place_front`] gives it: 9 for
+/// `12:00:00-ERROR`.
+#[unsafe(no_mangle)]
+pub extern "C" fn speedate_time_error_place_front(
+    text: &[u8],
+    config: SpeedateConfig,
+    place: &mut usize,
+) -> i32
+    ensures answer { (result, place.new)
+        ≡ with_option (choices_of config) (config_out_of_range, place.old)
+        (λ config. written_place (time_front config.behavior text.now)
+        (first_place (time_front_table config.behavior text.now)) place.old) }
+{
+    let config = config_or_return!(config.to_config());
+    write_place(Time::error_place_front(text, &config.time_config), place);
+    code_of!(Time::parse_front(text, &config.time_config))
+}
+
 /// Whether the numbers are those of a time, as [`Time::new`] tells: `SUCCESS`, or the error of the
 /// first number that is out of range. `OutOfRangeTz`, for the offset or its flag, comes last.
 #[unsafe(no_mangle)]
 pub extern "C" fn speedate_time_check(time: SpeedateTime) -> i32
     ensures answer { result ≡ answer_code (time_of time) }
 {
-    let _ = answer_or_return!(time.to_value());
-    SUCCESS
+    code_of!(time.to_value())
 }
 
 /// Prints a time into a buffer, with a zero byte after it, as [`Time::to_text`] gives it:
