@@ -5,6 +5,8 @@
  *
  * - It returns a code: 0 (SPEEDATE_OK) on success, otherwise the SpeedateCode that says why it fails. A call that fails
  *   writes nothing. Only speedate_version, speedate_version_minor and speedate_code_string return something else.
+ * - A call with _error_place in its name is the exception: it returns the code of a parser, and writes only if that is
+ *   a fault of the text.
  * - If several things are wrong, SPEEDATE_CONFIG_OUT_OF_RANGE comes first, then SPEEDATE_VALUE_OUT_OF_RANGE.
  * - A text is passed as an address and a size in bytes. It may hold any bytes, and needs no zero byte at its end. If
  *   the size is 0, the address may be NULL.
@@ -15,8 +17,8 @@
  *   text needs. Bytes after the zero byte keep their values. If the size is 0, the buffer may be NULL.
  * - Values and configurations are passed by value. So `out` may point to the variable that is passed:
  *   speedate_date_add_days(date, 1, &date).
- * - `out`, `taken`, `length` and `progress` point to variables of their types. They are not NULL, and do not overlap a
- *   text, a buffer or one another.
+ * - `out`, `taken`, `place`, `length` and `progress` point to variables of their types. They are not NULL, and do not
+ *   overlap a text, a buffer or one another.
  * - No call allocates memory or keeps anything for the next one. Any thread may make any call at any time.
  *
  * GRAMMAR.md, which is installed in share/doc/speedate, lists the texts and their faults. Of the repository's documents
@@ -310,6 +312,12 @@ typedef struct SpeedateDuration {
 /* Every call below that takes a value fails with SPEEDATE_VALUE_OUT_OF_RANGE if the value is out of range. The
  * exceptions are the _check calls, which say what is out of range, and speedate_duration_normalize. */
 
+/* Each parser of dates, times and date-times has a call that says where a text is wrong, with _error_place in its name
+ * for _parse. It takes the same text and configuration, and returns the parser's code. If that is a fault of the text,
+ * it writes the place of the fault to *place: the byte, counted from 0, at which the part of the text begins that the
+ * fault is about, or would begin if it is missing. That is at most `size`. If the code is another one, nothing is
+ * written. GRAMMAR.md has the place of each fault. */
+
 /* ---- Dates ---- */
 
 /* Parses a date, "2020-02-29", or in its place a timestamp, "1582934400", in the unit of the configuration. Every whole
@@ -322,6 +330,16 @@ SPEEDATE_NODISCARD int speedate_date_parse_rfc3339(const char *text, size_t size
 /* Parses the date at the front of a text, whatever follows it, and writes how many bytes it takes to *taken:
  * 2020-02-29, and 10, from "2020-02-29 opening balance". */
 SPEEDATE_NODISCARD int speedate_date_parse_front(const char *text, size_t size, SpeedateDate *out, size_t *taken);
+
+/* Where a text is wrong as a date or a timestamp: at 5, the month, in "2020-13-01". A number that is no timestamp of a
+ * date is wrong at 0. */
+SPEEDATE_NODISCARD int speedate_date_error_place(const char *text, size_t size, SpeedateConfig config, size_t *place);
+
+/* Where a text is wrong as a date: at 10, the end of the date, in "2020-01-01T12:13". */
+SPEEDATE_NODISCARD int speedate_date_error_place_rfc3339(const char *text, size_t size, size_t *place);
+
+/* Where a text has no date at its front: at 9, its end, in "2026-11-2". */
+SPEEDATE_NODISCARD int speedate_date_error_place_front(const char *text, size_t size, size_t *place);
 
 /* SPEEDATE_OK if the numbers are those of a date; otherwise the first of SPEEDATE_DATE_TOO_LARGE,
  * SPEEDATE_OUT_OF_RANGE_MONTH and SPEEDATE_OUT_OF_RANGE_DAY that applies. */
@@ -376,6 +394,17 @@ SPEEDATE_NODISCARD int speedate_time_parse_strict(const char *text, size_t size,
 SPEEDATE_NODISCARD int speedate_time_parse_front(const char *text, size_t size, SpeedateConfig config,
                                                  SpeedateTime *out, size_t *taken);
 
+/* Where a text is wrong as a time: at 6, the second, in "12:13:60". */
+SPEEDATE_NODISCARD int speedate_time_error_place(const char *text, size_t size, SpeedateConfig config, size_t *place);
+
+/* Where a text is wrong as a time of RFC 3339: at 5, the missing second, in "12:13". */
+SPEEDATE_NODISCARD int speedate_time_error_place_strict(const char *text, size_t size, SpeedateConfig config,
+                                                        size_t *place);
+
+/* Where a text has no time at its front: at 9, after the sign, in "12:00:00-ERROR". */
+SPEEDATE_NODISCARD int speedate_time_error_place_front(const char *text, size_t size, SpeedateConfig config,
+                                                       size_t *place);
+
 /* SPEEDATE_OK if the numbers are those of a time; otherwise the first of SPEEDATE_OUT_OF_RANGE_HOUR,
  * SPEEDATE_OUT_OF_RANGE_MINUTE, SPEEDATE_OUT_OF_RANGE_SECOND, SPEEDATE_TIME_TOO_LARGE (the microsecond) and
  * SPEEDATE_OUT_OF_RANGE_TZ (the offset or its flag) that applies. */
@@ -427,6 +456,23 @@ SPEEDATE_NODISCARD int speedate_datetime_parse_strict(const char *text, size_t s
  * set SPEEDATE_OVERFLOW_TRUNCATE. */
 SPEEDATE_NODISCARD int speedate_datetime_parse_front(const char *text, size_t size, SpeedateConfig config,
                                                      SpeedateDateTime *out, size_t *taken);
+
+/* Where a text is wrong as a date-time or a timestamp: at 17, the second, in "2020-02-29T12:13:60". A number that is no
+ * timestamp is wrong at 0, or at the digit past the microsecond that is refused: at 8 in "1.0000000". */
+SPEEDATE_NODISCARD int speedate_datetime_error_place(const char *text, size_t size, SpeedateConfig config,
+                                                     size_t *place);
+
+/* Where a text is wrong as a date-time: at 10, the missing separator, in "2020-02-29". */
+SPEEDATE_NODISCARD int speedate_datetime_error_place_rfc3339(const char *text, size_t size, SpeedateConfig config,
+                                                             size_t *place);
+
+/* Where a text is wrong as a date-time of RFC 3339: at 19, the missing offset, in "2020-02-29T12:13:14". */
+SPEEDATE_NODISCARD int speedate_datetime_error_place_strict(const char *text, size_t size, SpeedateConfig config,
+                                                            size_t *place);
+
+/* Where a text has no date-time at its front: at 20, after the sign, in "2026-11-22T12:00:00-ERROR". */
+SPEEDATE_NODISCARD int speedate_datetime_error_place_front(const char *text, size_t size, SpeedateConfig config,
+                                                           size_t *place);
 
 /* SPEEDATE_OK if the numbers are those of a date-time; otherwise what speedate_date_check returns for the date, or, if
  * the date is in range, what speedate_time_check returns for the time. */

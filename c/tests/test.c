@@ -11,7 +11,8 @@
  * Each text is read from three places: a block of the heap of its very size, the end of a page after which none
  * can be read, and the beginning of one before which none can be; an empty one also from NULL. Each text is
  * printed into a buffer of its very size, at the end of such a page, and is refused by one that is a byte too small,
- * and by none. Each output stands before bytes that no call may touch, and a call that refuses may touch no output. */
+ * and by none. Each output stands before bytes that no call may touch, and a call that refuses may touch no output but
+ * the place of its fault. */
 #define _DEFAULT_SOURCE
 #include "speedate.h"
 
@@ -230,6 +231,20 @@ static void say_progress(SpeedateProgress it) {
         return 1;                                                                                                      \
     }
 
+/* A call that writes the place of a fault, and nothing where its code is no fault of a text. */
+#define WRITES_PLACE(CALL)                                                                                             \
+    {                                                                                                                  \
+        OUTPUT(size_t, place)                                                                                          \
+        int code = CALL;                                                                                               \
+        int is_fault = code >= SPEEDATE_TOO_SHORT && code <= SPEEDATE_LAST_FAULT;                                      \
+        say_code(code);                                                                                                \
+        if (!IS_KEPT(is_fault ? SPEEDATE_OK : SPEEDATE_CONFIG_OUT_OF_RANGE, place))                                    \
+            strcat(answer, " but wrote where it may not");                                                             \
+        if (is_fault)                                                                                                  \
+            say("|%lld", (long long)*place);                                                                           \
+        return 1;                                                                                                      \
+    }
+
 /* Calls that read a column, without errors and with them. Without room there is no address either. */
 #define COLUMN(TYPE, NAME)                                                                                             \
     if (is_call(#NAME)) {                                                                                              \
@@ -341,6 +356,12 @@ static int is_call(const char *name) {
         WRITES_FRONT(TYPE, SAY, speedate_##NAME(text, size, it, out, taken))                                           \
     }
 
+#define PLACE(NAME)                                                                                                    \
+    if (is_call(#NAME)) {                                                                                              \
+        SpeedateConfig it = config();                                                                                  \
+        WRITES_PLACE(speedate_##NAME(text, size, it, place))                                                           \
+    }
+
 #define CHECK(NAME, TYPE, READ)                                                                                        \
     if (is_call(#NAME)) {                                                                                              \
         TYPE it = READ();                                                                                              \
@@ -368,6 +389,10 @@ static int run_text(const char *text, size_t size) {
         WRITES(SpeedateDate, say_date, speedate_date_parse_rfc3339(text, size, out))
     if (is_call("date_parse_front"))
         WRITES_FRONT(SpeedateDate, say_date, speedate_date_parse_front(text, size, out, taken))
+    if (is_call("date_error_place_rfc3339"))
+        WRITES_PLACE(speedate_date_error_place_rfc3339(text, size, place))
+    if (is_call("date_error_place_front"))
+        WRITES_PLACE(speedate_date_error_place_front(text, size, place))
     if (is_call("int_parse"))
         WRITES(int64_t, say_number, speedate_int_parse(text, size, out))
     PARSE(SpeedateDate, say_date, date_parse)
@@ -379,6 +404,14 @@ static int run_text(const char *text, size_t size) {
     PARSE(SpeedateDateTime, say_datetime, datetime_parse_strict)
     FRONT(SpeedateDateTime, say_datetime, datetime_parse_front)
     PARSE(SpeedateDuration, say_duration, duration_parse)
+    PLACE(date_error_place)
+    PLACE(time_error_place)
+    PLACE(time_error_place_strict)
+    PLACE(time_error_place_front)
+    PLACE(datetime_error_place)
+    PLACE(datetime_error_place_rfc3339)
+    PLACE(datetime_error_place_strict)
+    PLACE(datetime_error_place_front)
     COLUMN(int64_t, datetime_column)
     COLUMN(int32_t, date_column)
     COLUMN(int64_t, duration_column)
