@@ -81,6 +81,42 @@ impl Date {
         Ok(ffi::speedate_date_parse_front(bytes)?)
     }
 
+    /// The byte at which the error lies for which [`parse_bytes_with_config`](Self::parse_bytes_with_config) refuses an
+    /// input. It is `None` for an input that it accepts.
+    ///
+    /// ```
+    /// use speedate::{Date, DateConfig};
+    ///
+    /// let places = ["2020-13-01", "2020-12-01"].map(|text| Date::error_place(text.as_bytes(), &DateConfig::default()));
+    /// assert_eq!(places, [Some(5), None]);
+    /// ```
+    #[must_use]
+    pub fn error_place(bytes: &[u8], config: &DateConfig) -> Option<usize> {
+        ffi::speedate_date_error_place(bytes, config)
+    }
+
+    /// The byte at which the error lies for which [`parse_bytes_rfc3339`](Self::parse_bytes_rfc3339) refuses an input.
+    /// It is `None` for an input that it accepts.
+    ///
+    /// ```
+    /// assert_eq!(speedate::Date::error_place_rfc3339(b"2020-01-01T12:13"), Some(10));
+    /// ```
+    #[must_use]
+    pub fn error_place_rfc3339(bytes: &[u8]) -> Option<usize> {
+        ffi::speedate_date_error_place_rfc3339(bytes)
+    }
+
+    /// The byte at which the error lies for which [`parse_front`](Self::parse_front) refuses an input. It is `None` for
+    /// an input that it accepts.
+    ///
+    /// ```
+    /// assert_eq!(speedate::Date::error_place_front(b"2026-11-2"), Some(9));
+    /// ```
+    #[must_use]
+    pub fn error_place_front(bytes: &[u8]) -> Option<usize> {
+        ffi::speedate_date_error_place_front(bytes)
+    }
+
     /// The date of a timestamp in the unit of the configuration, which has to be a midnight if `require_exact`.
     ///
     /// ```

@@ -127,6 +127,53 @@ impl DateTime {
         Ok(ffi::speedate_datetime_parse_front(bytes, config)?)
     }
 
+    /// The byte at which the error lies for which [`parse_bytes_with_config`](Self::parse_bytes_with_config) refuses an
+    /// input. It is `None` for an input that it accepts, and if the configured offset is a day or more.
+    ///
+    /// ```
+    /// assert_eq!(speedate::DateTime::error_place(b"2020-02-29T12:13:60", &Default::default()), Some(17));
+    /// ```
+    #[must_use]
+    pub fn error_place(bytes: &[u8], config: &DateTimeConfig) -> Option<usize> {
+        ffi::speedate_datetime_error_place(bytes, config)
+    }
+
+    /// The byte at which the error lies for which
+    /// [`parse_bytes_rfc3339_with_config`](Self::parse_bytes_rfc3339_with_config) refuses an input. It is `None` for an
+    /// input that it accepts.
+    ///
+    /// ```
+    /// assert_eq!(speedate::DateTime::error_place_rfc3339(b"2020-02-29", &Default::default()), Some(10));
+    /// ```
+    #[must_use]
+    pub fn error_place_rfc3339(bytes: &[u8], config: &TimeConfig) -> Option<usize> {
+        ffi::speedate_datetime_error_place_rfc3339(bytes, config)
+    }
+
+    /// The byte at which the error lies for which [`parse_bytes_strict`](Self::parse_bytes_strict) refuses an input. It
+    /// is `None` for an input that it accepts.
+    ///
+    /// ```
+    /// use speedate::{DateTime, MicrosecondsPrecisionOverflowBehavior::Error};
+    ///
+    /// assert_eq!(DateTime::error_place_strict(b"2020-02-29T12:13:14", Error), Some(19));
+    /// ```
+    #[must_use]
+    pub fn error_place_strict(bytes: &[u8], behavior: MicrosecondsPrecisionOverflowBehavior) -> Option<usize> {
+        ffi::speedate_datetime_error_place_strict(bytes, Config::default().behavior(behavior))
+    }
+
+    /// The byte at which the error lies for which [`parse_front`](Self::parse_front) refuses an input. It is `None` for
+    /// an input that it accepts.
+    ///
+    /// ```
+    /// assert_eq!(speedate::DateTime::error_place_front(b"2026-11-22T12:00:00-ERROR", &Default::default()), Some(20));
+    /// ```
+    #[must_use]
+    pub fn error_place_front(bytes: &[u8], config: &TimeConfig) -> Option<usize> {
+        ffi::speedate_datetime_error_place_front(bytes, config)
+    }
+
     /// [`from_timestamp`](Self::from_timestamp), in the unit and with the offset of a configuration.
     ///
     /// # Errors

@@ -262,6 +262,25 @@ macro_rules! fronts {
     )*};
 }
 
+/// Functions that write where a text is wrong, if their code is an error of it.
+macro_rules! places {
+    ($(fn $name:ident([$text:ident] $($config:ident)?);)*) => {$(
+        #[inline]
+        pub(crate) fn $name($text: &[u8] $(, $config: impl Into<Config>)?) -> Option<usize> {
+            unsafe extern "C" {
+                fn $name($text: *const u8, size: usize, $($config: Config,)? place: *mut usize) -> c_int;
+            }
+            let mut place = 0;
+            // SAFETY: as for the calls above; `place` is a variable's address.
+            let code = unsafe { $name($text.as_ptr(), $text.len(), $($config.into(),)? &mut place) };
+            match Code(code) {
+                Code::OK | Code::CONFIG_OUT_OF_RANGE => None,
+                _ => Some(place),
+            }
+        }
+    )*};
+}
+
 /// Functions that write the numbers of the lines of a text, and how far they came.
 macro_rules! columns {
     ($(
@@ -379,6 +398,19 @@ fronts! {
     fn speedate_date_parse_front([text]) -> CDate;
     fn speedate_time_parse_front([text] config) -> CTime;
     fn speedate_datetime_parse_front([text] config) -> CDateTime;
+}
+
+places! {
+    fn speedate_date_error_place([text] config);
+    fn speedate_date_error_place_rfc3339([text]);
+    fn speedate_date_error_place_front([text]);
+    fn speedate_time_error_place([text] config);
+    fn speedate_time_error_place_strict([text] config);
+    fn speedate_time_error_place_front([text] config);
+    fn speedate_datetime_error_place([text] config);
+    fn speedate_datetime_error_place_rfc3339([text] config);
+    fn speedate_datetime_error_place_strict([text] config);
+    fn speedate_datetime_error_place_front([text] config);
 }
 
 columns! {

@@ -91,6 +91,41 @@ impl Time {
         Ok(ffi::speedate_time_parse_front(bytes, config)?)
     }
 
+    /// The byte at which the error lies for which [`parse_bytes_with_config`](Self::parse_bytes_with_config) refuses an
+    /// input. It is `None` for an input that it accepts.
+    ///
+    /// ```
+    /// assert_eq!(speedate::Time::error_place(b"12:13:60", &Default::default()), Some(6));
+    /// ```
+    #[must_use]
+    pub fn error_place(bytes: &[u8], config: &TimeConfig) -> Option<usize> {
+        ffi::speedate_time_error_place(bytes, config)
+    }
+
+    /// The byte at which the error lies for which [`parse_bytes_strict`](Self::parse_bytes_strict) refuses an input. It
+    /// is `None` for an input that it accepts.
+    ///
+    /// ```
+    /// use speedate::{MicrosecondsPrecisionOverflowBehavior::Error, Time};
+    ///
+    /// assert_eq!(Time::error_place_strict(b"12:13", Error), Some(5));
+    /// ```
+    #[must_use]
+    pub fn error_place_strict(bytes: &[u8], behavior: MicrosecondsPrecisionOverflowBehavior) -> Option<usize> {
+        ffi::speedate_time_error_place_strict(bytes, Config::default().behavior(behavior))
+    }
+
+    /// The byte at which the error lies for which [`parse_front`](Self::parse_front) refuses an input. It is `None` for
+    /// an input that it accepts.
+    ///
+    /// ```
+    /// assert_eq!(speedate::Time::error_place_front(b"12:00:00-ERROR", &Default::default()), Some(9));
+    /// ```
+    #[must_use]
+    pub fn error_place_front(bytes: &[u8], config: &TimeConfig) -> Option<usize> {
+        ffi::speedate_time_error_place_front(bytes, config)
+    }
+
     /// The time so many seconds and microseconds after midnight, on the same day.
     ///
     /// ```

@@ -21,6 +21,8 @@ fn rows() {
     assert!(tried.len() > 200, "only {} rows", tried.len());
     let columns = tried.iter().filter(|(row, _)| row.contains("_column")).count();
     assert!(columns > 40, "only {columns} rows of columns");
+    let places = tried.iter().filter(|(row, _)| row.contains("_error_place")).count();
+    assert!(places > 60, "only {places} rows of places");
 }
 
 /// Whether a row tells what its call answers, if the API has the call. One that panics has a value out of range.
@@ -43,6 +45,9 @@ impl Row<'_> {
             "date_parse" => self.has(3, Date::parse_bytes_with_config(text(2), &self.get(1)?)),
             "date_parse_rfc3339" => self.has(2, Date::parse_bytes_rfc3339(text(1))),
             "date_parse_front" => self.has_front(2, Date::parse_front(text(1))),
+            "date_error_place" => self.has_place(2, Date::error_place(text(2), &self.get(1)?)),
+            "date_error_place_rfc3339" => self.has_place(1, Date::error_place_rfc3339(text(1))),
+            "date_error_place_front" => self.has_place(1, Date::error_place_front(text(1))),
             "date_to_text" => self.has_text(2, self.get::<Date>(1)?),
             "date_from_timestamp" => {
                 let is_exact = *[false, true].get(self.get::<i64>(2)? as usize)?;
@@ -59,6 +64,9 @@ impl Row<'_> {
             "time_parse" => self.has(3, Time::parse_bytes_with_config(text(2), &time_config(1)?)),
             "time_parse_strict" => self.has(3, Time::parse_bytes_strict(text(2), behavior(1)?)),
             "time_parse_front" => self.has_front(3, Time::parse_front(text(2), &time_config(1)?)),
+            "time_error_place" => self.has_place(2, Time::error_place(text(2), &time_config(1)?)),
+            "time_error_place_strict" => self.has_place(2, Time::error_place_strict(text(2), behavior(1)?)),
+            "time_error_place_front" => self.has_place(2, Time::error_place_front(text(2), &time_config(1)?)),
             "time_to_text" => self.has_text(2, self.get::<Time>(1)?),
             "time_compare" => self.has_order::<Time>()?,
             "time_from_timestamp" => {
@@ -73,6 +81,12 @@ impl Row<'_> {
             }
             "datetime_parse_strict" => self.has(3, DateTime::parse_bytes_strict(text(2), behavior(1)?)),
             "datetime_parse_front" => self.has_front(3, DateTime::parse_front(text(2), &time_config(1)?)),
+            "datetime_error_place" => self.has_place(2, DateTime::error_place(text(2), &config(1)?)),
+            "datetime_error_place_rfc3339" => {
+                self.has_place(2, DateTime::error_place_rfc3339(text(2), &time_config(1)?))
+            }
+            "datetime_error_place_strict" => self.has_place(2, DateTime::error_place_strict(text(2), behavior(1)?)),
+            "datetime_error_place_front" => self.has_place(2, DateTime::error_place_front(text(2), &time_config(1)?)),
             "datetime_to_text" => self.has_text(2, self.get::<DateTime>(1)?),
             "datetime_compare" => self.has_order::<DateTime>()?,
             "datetime_from_timestamp" => {
@@ -166,6 +180,11 @@ impl Row<'_> {
         self.has(place, answer.map(|front| front.0)) && self.get::<i64>(place + 2).unwrap_or(0) == size as i64
     }
 
+    /// Whether the place of an error follows the text and the name of the code, if there is one.
+    fn has_place(&self, text: usize, found: Option<usize>) -> bool {
+        self.get(text + 2) == found
+    }
+
     fn has_text(&self, place: usize, value: impl ToString) -> bool {
         self.0.get(place + 1) == Some(&value.to_string().as_str())
     }
@@ -212,7 +231,7 @@ macro_rules! number_field {
     )*};
 }
 
-number_field!(i64 i32 u32);
+number_field!(i64 i32 u32 usize);
 
 impl Field for DateTimeConfig {
     fn of(field: &str) -> Option<Self> {
