@@ -576,7 +576,7 @@ typedef struct SpeedateColumnConfig {
     /* 0 if the end of the text ends its last line. 1 if more text may follow: what stands after the last line feed is
      * then left for a further call. */
     uint8_t more_follows;
-    /* 1 if a carriage return at the end of a line is dropped, as files of Windows have it; 0 if it is part of the line,
+    /* 1 if a carriage return at the end of a line is dropped, as files of Windows have one; 0 if it is part of the line,
      * which is then refused. */
     uint8_t drops_returns;
     /* What a line of dates or date-times may be: SPEEDATE_FORM_TEXT, _TIMESTAMP or _STRICT. */
@@ -624,7 +624,7 @@ SPEEDATE_NODISCARD int speedate_date_column(const char *text, size_t size, Speed
                                             SpeedateProgress *progress);
 
 /* The microseconds of durations, with their signs: 1500000 and -60000000 from "PT1.5S\n-00:01:00\n". A duration of 2^63
- * microseconds or more, which are over 106,751,991 days, is refused with SPEEDATE_NUMBER_TOO_LARGE. */
+ * microseconds or more, which is over 106,751,991 days, is refused with SPEEDATE_NUMBER_TOO_LARGE. */
 SPEEDATE_NODISCARD int speedate_duration_column(const char *text, size_t size, SpeedateConfig config,
                                                 SpeedateColumnConfig column, int64_t *out, size_t room,
                                                 SpeedateProgress *progress);

@@ -18,7 +18,7 @@ use crate::{DateConfig, DateTimeConfig, MicrosecondsPrecisionOverflowBehavior, P
 pub struct LineConfig {
     /// Whether the end of the text ends its last line. Otherwise that line is left, since it may go on.
     pub at_end: bool,
-    /// Whether a carriage return at the end of a line is dropped, as files of Windows have it. Otherwise it is part of the
+    /// Whether a carriage return at the end of a line is dropped, as files of Windows have one. Otherwise it is part of the
     /// line, which is then refused.
     pub drops_returns: bool,
 }
@@ -303,7 +303,7 @@ impl From<&DateTimeReader> for ColumnConfig {
 /// Reads a line as a duration, as [`Duration::parse_bytes_with_config`](crate::Duration::parse_bytes_with_config) does, and
 /// counts its microseconds, with the sign.
 ///
-/// One of 2^63 microseconds or more, which are over 106,751,991 days, is refused, with
+/// One of 2^63 microseconds or more, which is over 106,751,991 days, is refused, with
 /// [`NumberTooLarge`](LineError::NumberTooLarge).
 ///
 /// ```
