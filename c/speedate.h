@@ -312,11 +312,11 @@ typedef struct SpeedateDuration {
 /* Every call below that takes a value fails with SPEEDATE_VALUE_OUT_OF_RANGE if the value is out of range. The
  * exceptions are the _check calls, which say what is out of range, and speedate_duration_normalize. */
 
-/* Each parser of dates, times and date-times has a call that says where a text is wrong, with _error_place in its name
- * for _parse. It takes the same text and configuration, and returns the parser's code. If that is a fault of the text,
- * it writes the place of the fault to *place: the byte, counted from 0, at which the part of the text begins that the
- * fault is about, or would begin if it is missing. That is at most `size`. If the code is another one, nothing is
- * written. GRAMMAR.md has the place of each fault. */
+/* Each parser of dates, times and date-times has a call that says where a text is wrong. Its name has _error_place
+ * where the parser's has _parse. It takes the same text and configuration, and returns the parser's code. If that is
+ * a fault of the text, it writes the place of the fault to *place: the byte, counted from 0, at which the part of the
+ * text begins that the fault is about, or would begin if it is missing. That is at most `size`. If the code is
+ * another one, nothing is written. GRAMMAR.md has the place of each fault. */
 
 /* ---- Dates ---- */
 
@@ -331,8 +331,8 @@ SPEEDATE_NODISCARD int speedate_date_parse_rfc3339(const char *text, size_t size
  * 2020-02-29, and 10, from "2020-02-29 opening balance". */
 SPEEDATE_NODISCARD int speedate_date_parse_front(const char *text, size_t size, SpeedateDate *out, size_t *taken);
 
-/* Where a text is wrong as a date or a timestamp: at 5, the month, in "2020-13-01". A number that is no timestamp of a
- * date is wrong at 0. */
+/* Where a text is wrong as a date or a timestamp: at 5, the month, in "2020-13-01". A number that is refused as a
+ * timestamp is wrong at 0. */
 SPEEDATE_NODISCARD int speedate_date_error_place(const char *text, size_t size, SpeedateConfig config, size_t *place);
 
 /* Where a text is wrong as a date: at 10, the end of the date, in "2020-01-01T12:13". */
@@ -457,8 +457,8 @@ SPEEDATE_NODISCARD int speedate_datetime_parse_strict(const char *text, size_t s
 SPEEDATE_NODISCARD int speedate_datetime_parse_front(const char *text, size_t size, SpeedateConfig config,
                                                      SpeedateDateTime *out, size_t *taken);
 
-/* Where a text is wrong as a date-time or a timestamp: at 17, the second, in "2020-02-29T12:13:60". A number that is no
- * timestamp is wrong at 0, or at the digit past the microsecond that is refused: at 8 in "1.0000000". */
+/* Where a text is wrong as a date-time or a timestamp: at 17, the second, in "2020-02-29T12:13:60". A number that is
+ * refused as a timestamp is wrong at 0, or at its first digit past the microsecond: at 8 in "1.0000000". */
 SPEEDATE_NODISCARD int speedate_datetime_error_place(const char *text, size_t size, SpeedateConfig config,
                                                      size_t *place);
 
