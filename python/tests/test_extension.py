@@ -454,13 +454,16 @@ class Extension(unittest.TestCase):
                     getattr(error, "place", None)
                 if type(named.get("faults")) is list:
                     named["faults"].clear()
+
+            def grown():
+                before = [sys.getrefcount(it) for it in [*watched, *positional, *named.values()]]
+                for _ in range(20):
+                    once()
+                after = [sys.getrefcount(it) for it in [*watched, *positional, *named.values()]]
+                return [more - fewer for more, fewer in zip(after, before) if abs(more - fewer) >= 20]
             once()
-            before = [sys.getrefcount(it) for it in [*watched, *positional, *named.values()]]
-            for _ in range(20):
-                once()
-            after = [sys.getrefcount(it) for it in [*watched, *positional, *named.values()]]
-            grown = [more - fewer for more, fewer in zip(after, before) if abs(more - fewer) >= 20]
-            self.assertEqual(grown, [], (name, positional, named))
+            # Python 3.10 gives up references of its own to None, now and then and of any call.
+            self.assertFalse(all(grown() for _ in range(4)), (name, positional, named))
 
         def each():
             for name, positional, named in calls:
