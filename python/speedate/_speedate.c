@@ -8,6 +8,7 @@
 #include <math.h>
 #include <stdbool.h>
 #include <string.h>
+#include <structmember.h>
 
 #include "speedate.h"
 
@@ -27,8 +28,13 @@ enum {
     ALL = ZONES + 2 * QUARTERS + 1
 };
 
+/* What a Fault keeps, so that it can find its place: the text that was refused, and how. They are slots of the class. */
+enum { SOURCE, CALL_NUMBER, SLOTS };
+static const char *const slot_names[SLOTS] = {"_source", "_call"};
+
 typedef struct {
     PyDateTime_CAPI *datetime;
+    Py_ssize_t offsets[SLOTS]; /* of these slots in a Fault */
     PyObject *held[ALL];
 } State;
 
@@ -392,11 +398,85 @@ PARSE(parse_date_time_strict, speedate_datetime_parse_strict(BYTES, config, &out
 PARSE(parse_date_time_front, speedate_datetime_parse_front(BYTES, config, &out->date_time, taken))
 PARSE(parse_duration, speedate_duration_parse(BYTES, config, &out->duration))
 
+/* How the place of an error is told, after a parser that has refused the text: it is written if the code is a fault. */
+typedef int FindPlace(const Text *text, SpeedateConfig config, size_t *place);
+
+#define FIND_PLACE(name, call) \
+    static int name(const Text *text, SpeedateConfig config, size_t *place) { \
+        (void)config; \
+        return call; \
+    }
+FIND_PLACE(place_of_date, speedate_date_error_place_rfc3339(BYTES, place))
+FIND_PLACE(place_of_date_or_timestamp, speedate_date_error_place(BYTES, config, place))
+FIND_PLACE(place_of_date_front, speedate_date_error_place_front(BYTES, place))
+FIND_PLACE(place_of_time, speedate_time_error_place(BYTES, config, place))
+FIND_PLACE(place_of_time_strict, speedate_time_error_place_strict(BYTES, config, place))
+FIND_PLACE(place_of_time_front, speedate_time_error_place_front(BYTES, config, place))
+FIND_PLACE(place_of_date_time, speedate_datetime_error_place_rfc3339(BYTES, config, place))
+FIND_PLACE(place_of_date_time_or_timestamp, speedate_datetime_error_place(BYTES, config, place))
+FIND_PLACE(place_of_date_time_strict, speedate_datetime_error_place_strict(BYTES, config, place))
+FIND_PLACE(place_of_date_time_front, speedate_datetime_error_place_front(BYTES, config, place))
+
+/* The calls whose faults have places. */
+enum {
+    NO_PLACE,
+    DATE,
+    DATE_OR_TIMESTAMP,
+    DATE_FRONT,
+    TIME,
+    TIME_STRICT,
+    TIME_FRONT,
+    DATE_TIME,
+    DATE_TIME_OR_TIMESTAMP,
+    DATE_TIME_STRICT,
+    DATE_TIME_FRONT,
+    ALL_PLACES
+};
+static FindPlace *const find_place[ALL_PLACES] = {
+    [DATE] = place_of_date,
+    [DATE_OR_TIMESTAMP] = place_of_date_or_timestamp,
+    [DATE_FRONT] = place_of_date_front,
+    [TIME] = place_of_time,
+    [TIME_STRICT] = place_of_time_strict,
+    [TIME_FRONT] = place_of_time_front,
+    [DATE_TIME] = place_of_date_time,
+    [DATE_TIME_OR_TIMESTAMP] = place_of_date_time_or_timestamp,
+    [DATE_TIME_STRICT] = place_of_date_time_strict,
+    [DATE_TIME_FRONT] = place_of_date_time_front,
+};
+
 typedef struct {
     Signature signature;
     PyObject *(*make)(const State *state, const Value *value);
     Parse *parse, *parse_timestamp; /* the second with timestamps=True */
+    int place, place_timestamp;     /* the same, of the calls above */
 } Reader;
+
+/* One number for a call and what its faults depend on of a configuration, less than 128, so that Python has it ready. */
+static long call_number(int call, SpeedateConfig config) {
+    return call | config.timestamp_unit << 4 | config.overflow_behavior << 6;
+}
+
+/* Puts an object into a slot of a Fault that has just been made. */
+static inline void keep(const State *state, PyObject *fault, int slot, PyObject *object) {
+    Py_INCREF(object);
+    *(PyObject **)((char *)fault + state->offsets[slot]) = object;
+}
+
+/* Raises the Fault of a text. What it keeps no one can write: a str, or the bytes that were read. */
+static PyObject *refuse(const State *state, int code, PyObject *object, const Text *text, int call,
+                        SpeedateConfig config) {
+    if (call == NO_PLACE || code < 1 || code > SPEEDATE_LAST_FAULT)
+        return raise_fault(state, code);
+    PyObject *number = PyLong_FromLong(call_number(call, config));
+    PyObject *fault = number ? new_fault(state, code, state->held[ARGUMENTS + code]) : NULL;
+    if (fault) {
+        keep(state, fault, SOURCE, text->owner && !PyUnicode_Check(object) ? text->owner : object);
+        keep(state, fault, CALL_NUMBER, number);
+    }
+    Py_XDECREF(number);
+    return raise_error(fault);
+}
 
 static inline PyObject *read_text(const Reader *reader, GIVEN) {
     const State *state = PyModule_GetState(module);
@@ -413,7 +493,9 @@ static inline PyObject *read_text(const Reader *reader, GIVEN) {
         return NULL;
     if (take_config(state, bound[1], timestamps ? READS_ALL : READS_NONE, &config) == 0) {
         int code = (timestamps ? reader->parse_timestamp : reader->parse)(&text, config, &value, NULL);
-        made = code == SPEEDATE_OK ? reader->make(state, &value) : raise_fault(state, code);
+        int place = timestamps ? reader->place_timestamp : reader->place;
+        made = code == SPEEDATE_OK ? reader->make(state, &value)
+                                   : refuse(state, code, bound[0], &text, place, config);
     }
     Py_XDECREF(text.owner);
     return made;
@@ -450,25 +532,48 @@ static inline PyObject *read_front(const Reader *reader, GIVEN) {
         return NULL;
     int code = reader->parse(&text, config, &value, &taken);
     PyObject *pair = code == SPEEDATE_OK ? with_size(reader->make(state, &value), size_in(bound[0], &text, taken))
-                                         : raise_fault(state, code);
+                                         : refuse(state, code, bound[0], &text, reader->place, config);
     Py_XDECREF(text.owner);
     return pair;
 }
 
 static const Reader date_reader = {
-    {"date", {"text", "config", "timestamps"}, 2}, make_date, parse_date, parse_date_or_timestamp};
-static const Reader time_reader = {{"time", {"text", "config"}, 2}, make_time, parse_time, NULL};
+    {"date", {"text", "config", "timestamps"}, 2},
+    make_date,
+    parse_date,
+    parse_date_or_timestamp,
+    DATE,
+    DATE_OR_TIMESTAMP};
+static const Reader time_reader = {{"time", {"text", "config"}, 2}, make_time, parse_time, NULL, TIME, NO_PLACE};
 static const Reader date_time_reader = {
-    {"date_time", {"text", "config", "timestamps"}, 2}, make_date_time, parse_date_time, parse_date_time_or_timestamp};
-static const Reader duration_reader = {{"duration", {"text", "config"}, 2}, make_duration, parse_duration, NULL};
+    {"date_time", {"text", "config", "timestamps"}, 2},
+    make_date_time,
+    parse_date_time,
+    parse_date_time_or_timestamp,
+    DATE_TIME,
+    DATE_TIME_OR_TIMESTAMP};
+static const Reader duration_reader = {
+    {"duration", {"text", "config"}, 2}, make_duration, parse_duration, NULL, NO_PLACE, NO_PLACE};
 static const Reader time_strict_reader = {
-    {"time_strict", {"text", "config"}, 2}, make_time, parse_time_strict, NULL};
+    {"time_strict", {"text", "config"}, 2}, make_time, parse_time_strict, NULL, TIME_STRICT, NO_PLACE};
 static const Reader date_time_strict_reader = {
-    {"date_time_strict", {"text", "config"}, 2}, make_date_time, parse_date_time_strict, NULL};
-static const Reader date_front_reader = {{"date_front", {"text"}, 1}, make_date, parse_date_front, NULL};
-static const Reader time_front_reader = {{"time_front", {"text", "config"}, 2}, make_time, parse_time_front, NULL};
+    {"date_time_strict", {"text", "config"}, 2},
+    make_date_time,
+    parse_date_time_strict,
+    NULL,
+    DATE_TIME_STRICT,
+    NO_PLACE};
+static const Reader date_front_reader = {
+    {"date_front", {"text"}, 1}, make_date, parse_date_front, NULL, DATE_FRONT, NO_PLACE};
+static const Reader time_front_reader = {
+    {"time_front", {"text", "config"}, 2}, make_time, parse_time_front, NULL, TIME_FRONT, NO_PLACE};
 static const Reader date_time_front_reader = {
-    {"date_time_front", {"text", "config"}, 2}, make_date_time, parse_date_time_front, NULL};
+    {"date_time_front", {"text", "config"}, 2},
+    make_date_time,
+    parse_date_time_front,
+    NULL,
+    DATE_TIME_FRONT,
+    NO_PLACE};
 
 #define CALL(name, read) \
     static PyObject *call_##name(GIVEN) { \
@@ -483,6 +588,40 @@ CALL(date_time_strict, read_text)
 CALL(date_front, read_front)
 CALL(time_front, read_front)
 CALL(date_time_front, read_front)
+
+/* ---- Places ---- */
+
+/* A place as Python counts it: one within a character of a str is that of its beginning. */
+static Py_ssize_t place_in(PyObject *object, const Text *text, size_t place) {
+    if (PyUnicode_Check(object))
+        while (place > 0 && place < text->size && ((unsigned char)text->bytes[place] & 0xc0) == 0x80)
+            place--;
+    return size_in(object, text, place);
+}
+
+/* The place of an error, from what a Fault keeps. */
+static PyObject *call_place(PyObject *module, PyObject *arguments) {
+    (void)module;
+    PyObject *object, *found = NULL;
+    int number;
+    Text text;
+    size_t place;
+    if (!PyArg_ParseTuple(arguments, "Oi:_place", &object, &number))
+        return NULL;
+    int call = number & 15;
+    SpeedateConfig config = {.timestamp_unit = number >> 4 & 3, .overflow_behavior = number >> 6 & 1};
+    if (call == NO_PLACE || call >= ALL_PLACES || call_number(call, config) != number)
+        return PyErr_Format(PyExc_ValueError, "no call has the number %d", number);
+    if (take_text(object, -1, &text) < 0)
+        return NULL;
+    int code = find_place[call](&text, config, &place);
+    if (code >= 1 && code <= SPEEDATE_LAST_FAULT)
+        found = PyLong_FromSsize_t(place_in(object, &text, place));
+    else
+        PyErr_SetString(PyExc_ValueError, "the text is not refused");
+    Py_XDECREF(text.owner);
+    return found;
+}
 
 /* ---- Timestamps ---- */
 
@@ -1125,6 +1264,28 @@ static int hold_imports(State *state) {
     return -1;
 }
 
+/* Where in a Fault a slot lies, or a negative number. */
+static Py_ssize_t find_slot(PyTypeObject *fault, const char *name) {
+    Py_ssize_t offset = -1;
+    PyObject *slot = PyObject_GetAttrString((PyObject *)fault, name);
+    if (slot && Py_TYPE(slot) == &PyMemberDescr_Type) {
+        PyMemberDescrObject *member = (PyMemberDescrObject *)slot;
+        if (member->d_member->type == T_OBJECT_EX && PyType_IsSubtype(fault, PyDescr_TYPE(member)))
+            offset = member->d_member->offset;
+    }
+    Py_XDECREF(slot);
+    if (offset < 0)
+        PyErr_Format(PyExc_ImportError, "speedate.Fault has no slot %s", name);
+    return offset;
+}
+
+static int find_slots(State *state) {
+    for (int i = 0; i < SLOTS; i++)
+        if ((state->offsets[i] = find_slot((PyTypeObject *)state->held[FAULT], slot_names[i])) < 0)
+            return -1;
+    return 0;
+}
+
 static int hold_fault(State *state, int code) {
     PyObject *words = words_of(state, code);
     int status = -1;
@@ -1148,7 +1309,7 @@ static int give_classes(PyObject *module, const State *state) {
 
 static int start(PyObject *module) {
     State *state = PyModule_GetState(module);
-    if (hold_imports(state) < 0 || give_classes(module, state) < 0 ||
+    if (hold_imports(state) < 0 || find_slots(state) < 0 || give_classes(module, state) < 0 ||
         hold(state, NUMBERS, PyUnicode_InternFromString("_numbers")) < 0 ||
         hold(state, INDEX, PyUnicode_InternFromString("index")) < 0 ||
         hold(state, UTCOFFSET, PyUnicode_InternFromString("utcoffset")) < 0 ||
@@ -1290,6 +1451,8 @@ static PyMethodDef methods[] = {
            ">>> text(datetime.timedelta(microseconds=-1))\n"
            "'-PT0.000001S'\n"),
     {"_words", call_words, METH_O, "_words(code)\n--\n\nThe name and the documentation of a fault."},
+    {"_place", call_place, METH_VARARGS,
+     "_place(source, call)\n--\n\nThe place of an error, from what its Fault keeps."},
     {NULL, NULL, 0, NULL},
 };
 

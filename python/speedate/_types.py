@@ -11,18 +11,24 @@ import sys
 class Fault(ValueError):
     """Why the library refuses a text, or a number: the `name` of the fault, its `code` in C, and its `documentation`.
 
+    Its `place` is where the fault lies in the text of a date, a time or a date-time, counted in characters of a `str`,
+    otherwise in bytes. It is `None` for a duration, a number, a text of a column, and a `Fault` that no call raised.
+
     Its `index` is the place of the text in a column, which `str` tells too, and `None` in any other call.
 
     >>> try:
-    ...     time("24:00")
+    ...     time("12:13:60")
     ... except Fault as fault:
-    ...     fault.name, fault.code, fault.documentation
-    ('out_of_range_hour', 23, 'hour value is outside expected range of 0-23')
+    ...     fault.name, fault.code, fault.documentation, fault.place
+    ('out_of_range_second', 25, 'second value is outside expected range of 0-59', 6)
     >>> Fault(23), Fault(23, 1000)
     (<Fault out_of_range_hour>, <Fault out_of_range_hour in text 1000>)
     """
 
     __module__ = "speedate"
+    # What the place is found from, if a call has refused a text: that text, and a number for the call. In a copy the place
+    # is the source itself.
+    __slots__ = "_source", "_call", "__weakref__"
     code: int
     name: str
     documentation: str
@@ -36,6 +42,17 @@ class Fault(ValueError):
             self.index = _integer("index", index, 0, sys.maxsize)
         self.name, self.documentation = _words(self.code)
         super().__init__(*(it for it in (self.code, self.index) if it is not None))
+
+    @property
+    def place(self):
+        if not hasattr(self, "_call"):
+            return getattr(self, "_source", None)
+        from ._speedate import _place
+
+        return _place(self._source, self._call)
+
+    def __reduce__(self):
+        return type(self), self.args, {**vars(self), "_source": self.place}
 
     def __str__(self):
         return self.name if self.index is None else f"{self.name} in text {self.index}"

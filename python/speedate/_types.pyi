@@ -6,6 +6,8 @@ class Fault(ValueError):
     documentation: str
     index: Optional[int]
     def __init__(self, code: int, index: Optional[int] = None) -> None: ...
+    @property
+    def place(self) -> Optional[int]: ...
 
 class Unrepresentable(ValueError):
     name: str

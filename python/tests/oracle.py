@@ -9,6 +9,7 @@ import dataclasses
 import datetime
 import functools
 import io
+import itertools
 import pathlib
 import struct
 
@@ -16,9 +17,11 @@ from speedate._types import _FIELDS, _by_lines, _choice, _integer, _missing, _pl
 
 
 class Fault(ValueError):
+    __slots__ = ("place",)  # no attribute of vars()
     index = None
 
     def __init__(self, code, index=None):
+        self.place = None
         self.code = _integer("code", code, 0, 2**31 - 1)
         self.name, self.documentation = _words(self.code)
         super().__init__(*[self.code, index][: 1 if index is None else 2])
@@ -122,12 +125,15 @@ _CALLS = {
     "duration_parse": [*_TEXT, _Config, _TO_DURATION],
     "duration_to_text": [_Duration, *_PRINTED],
 }
+_PLACES = {
+    name.replace("_parse", "_error_place"): [*_TEXT, *[_Config] * (_Config in types), _SIZE]
+    for name, types in _CALLS.items() if "_parse" in name and "duration" not in name}
 
 
 def _load(path):
     """The library, with the types of its calls."""
     library = ctypes.PyDLL(str(path))
-    for name, types in _CALLS.items():
+    for name, types in {**_CALLS, **_PLACES}.items():
         call = getattr(library, f"speedate_{name}")
         call.argtypes, call.restype = types, ctypes.c_int
     return library
@@ -217,24 +223,45 @@ def _value(out, code):
     return out.value()
 
 
-def _read(call, out, text, config, read=()):
+def _fault(call, code, text, *numbers):
+    """The fault of a text, with its place, which in a str is how many characters end there or before."""
+    fault, whole, place = Fault(code), _bytes(text), ctypes.c_size_t()
+    name = call.__name__.replace("speedate_", "").replace("_parse", "_error_place")
+    if name in _PLACES:
+        assert getattr(_library, f"speedate_{name}")(whole, len(whole), *numbers, place) == code
+        ends = itertools.accumulate(len(it.encode("utf-8", "surrogatepass")) for it in (text if isinstance(text, str) else ""))
+        fault.place = sum(it <= place.value for it in ends) if isinstance(text, str) else place.value
+    return fault
+
+
+def _read_text(call, out, text, *numbers):
     """The value that a call reads from a text."""
-    text, numbers = _bytes(text), _configured(config, read)
-    return _value(out, call(text, len(text), numbers, out))
+    whole = _bytes(text)
+    code = call(whole, len(whole), *numbers, out)
+    if code:
+        raise _fault(call, code, text, *numbers)
+    return out.value()
+
+
+def _read(call, out, text, config, read=()):
+    _bytes(text)
+    return _read_text(call, out, text, _configured(config, read))
 
 
 def _read_front(call, out, text, *numbers):
     """The value that a call reads at the front of a text, and its size."""
     whole, size = _bytes(text), ctypes.c_size_t()
-    value = _value(out, call(whole, len(whole), *numbers, out, size))
+    code = call(whole, len(whole), *numbers, out, size)
+    if code:
+        raise _fault(call, code, text, *numbers)
+    value = out.value()
     return value, len(whole[: size.value].decode()) if isinstance(text, str) else size.value
 
 
 def date(text, config=None, *, timestamps=False):
     if timestamps is False:
-        text, out = _bytes(text), _Date()
-        _configured(config)
-        return _value(out, _library.speedate_date_parse_rfc3339(text, len(text), out))
+        _bytes(text), _configured(config)
+        return _read_text(_library.speedate_date_parse_rfc3339, _Date(), text)
     _flag("timestamps", timestamps)
     return _read(_library.speedate_date_parse, _Date(), text, config, _OF_TIMESTAMPS)
 

@@ -157,6 +157,25 @@ pickle.loads(pickle.dumps(Fault(22))).documentation -> 'day value is outside exp
 again(Fault(22)) -> ['Fault', (22,), 'out_of_range_day', 22, 'day value is outside expected range', None, 'out_of_range_day']
 again(Fault(22, 0)) -> ['Fault', (22, 0), 'out_of_range_day', 22, 'day value is outside expected range', 0, 'out_of_range_day in text 0']
 pickle.loads(pickle.dumps(Unrepresentable("year_zero"))).name -> 'year_zero'
+place(time, "12:13\u221201:60"), place(time, "12:13\u221201:60".encode()) -> (9, 11)
+place(time, "00:0\u00e9\u00e9"), place(time_front, "00:0\u00e9\u00e9".encode()) -> (3, 3)
+place(time, "12:13:14\U0001f552"), place(time, "12:13:14Z\U0001f552") -> (8, 9)
+place(time, "\u00e9\u00e9:\u00e9\u00e9"), place(time, "\u00e9"), place(time, "\u00e9".encode()), place(time, "") -> (0, 1, 2, 0)
+place(date, "\ud800"), place(date, "202\ud800-01-01"), place(date, "2020-02-2\ud800"), place(date, "2020-02-29\ud800") -> (1, 0, 8, 10)
+place(date, subclass(str, encode=None)("2020-02-2\ud800")), place(date, subclass(bytes)(b"2020-01/01")) -> (8, 7)
+place(date, b"\xff" * 10), place(date, b"2020-1\xc3\xa901"), place(date, b"\xff"), place(date, b"2020-01-01\xff") -> (0, 5, 1, 10)
+place(date, "20200229"), place(date, "20200229", timestamps=True), place(date, "86400", Config("ms"), timestamps=True) -> (8, 0, 0)
+place(date_time, "1.0000000", timestamps=True), place(date_time, "1.0", Config("us"), timestamps=True), place(date_time, "1.0") -> (8, 2, 3)
+place(date_time, "253402300800000", timestamps=True), place(date_time, "253402300800000", Config(timestamp_offset=60), timestamps=True) -> (0, 0)
+place(time, "12:13:14.1234567x"), place(time, "12:13:14.1234567x", Config(overflow_behavior="truncate")) -> (15, 16)
+place(time_strict, "12:13:14.1234567"), place(time_strict, "12:13:14.1234567", Config(overflow_behavior="truncate")) -> (15, 16)
+place(date_time_strict, "2020-02-29T12:13:14\u221201:00"), place(date_time_strict, "2020-02-29T12:13:14,5Z") -> (19, 19)
+place(date_time_strict, "2020-02-29T12:13:14+0100"), place(date_time, "2020-02-29T12:13:14+0100 ") -> (22, 24)
+place(date_front, "2020-02-3 opening"), place(date_time_front, "2020-02-29 opening"), place(time_front, "12:13\u22121") -> (8, 11, 6)
+place(time, memoryview(b"2x1x.x2x1")[::-2]), place(time, memoryview(bytearray(b"12:13:60"))) -> (2, 6)
+place(date, "2020-02-29"), place(duration, "x"), place(duration, b"P1D ") -> (None, None, None)
+place(date_from_timestamp, 1), place(time_from_timestamp, 86_400), place(Fault, 43), place(date_column, ["x"]) -> (None, None, None, None)
+Fault(1).place, Fault(1, 0).place, copy.copy(Fault(1)).place -> (None, None, None)
 Fault(43) -> Fault: value_out_of_range
 Fault(2**31) -> ValueError: code has to be from 0 to 2147483647
 Fault(-1) -> ValueError: code has to be from 0 to 2147483647
@@ -217,6 +236,15 @@ def again(fault):
     copies = [type(fault)(*fault.args), copy.copy(fault), pickle.loads(pickle.dumps(fault))]
     assert all(told(it) == told(fault) for it in copies)
     return told(copies[0])
+
+
+def place(call, *given, **named):
+    """The place of the fault that a call raises, which its copies have too, or `None`."""
+    try:
+        call(*given, **named)
+    except speedate.Fault as fault:
+        assert copy.copy(fault).place == copy.deepcopy(fault).place == pickle.loads(pickle.dumps(copy.copy(fault))).place == fault.place
+        return fault.place
 
 
 class numbers:
@@ -344,14 +372,15 @@ def config_of(field, *names):
     return speedate.Config(**{name: fields[name] for name in names})
 
 
-def call_of(name, fields):
-    """The call here that is one of C, with its arguments, or nothing."""
+def call_of(name, fields, text_of=str.encode):
+    """The call here that is one of C, with its arguments, or nothing. For one that tells a place it is the parser."""
+    name = name.replace("_error_place", "_parse")
     kind, _, form = name.replace("datetime", "date_time").rpartition("_parse")
     if kind in ("date", "time", "date_time", "duration") and form in ("", "_rfc3339", "_front", "_strict"):
         call = getattr(speedate, kind + form.replace("_rfc3339", ""))
         config = {"config": config_of(fields[0], *READ.get(name, ("overflow_behavior",)))} if fields[1:] else {}
         timestamps = {"timestamps": True} if name in ("date_parse", "datetime_parse") else {}
-        return lambda: call(fields[-1].encode(), **config, **timestamps)
+        return lambda: call(text_of(fields[-1]), **config, **timestamps)
     if name == "time_from_timestamp":
         return lambda: speedate.time_from_timestamp(*map(int, fields[:2]), config_of(fields[2], "timestamp_offset"))
     config = "timestamp_unit", "timestamp_offset"
@@ -408,8 +437,11 @@ class Speedate(unittest.TestCase):
                 continue
             with self.subTest(row):
                 self.check_row(name, call, wanted, *fields[place + 1:])
+                if "_error_place" in name:
+                    self.check_places(name, fields[:place], *fields[place + 1:])
                 ran[name] += 1
-        self.assertGreater(sum(ran.values()), 130, (ran, left))
+        self.assertGreater(sum(ran.values()), 190, (ran, left))
+        self.assertEqual(sum("_error_place" in name for name in ran), 10, ran)
 
     def check_row(self, name, call, wanted, written=None, size=None):
         try:
@@ -424,8 +456,15 @@ class Speedate(unittest.TestCase):
         self.assertEqual(wanted, "ok")
         if name.startswith("code_") or name.endswith("_to_text"):
             self.assertEqual(told, written)
-        else:
+        elif "_error_place" not in name:
             self.assertEqual(repr(told), repr((value_of(written), int(size)) if size else value_of(written)))
+
+    def check_places(self, name, fields, written=None):
+        """The place that C writes, in texts of each type: in a str it is how many characters end there or before."""
+        ends = [len(fields[-1][:it].encode()) for it in range(1, len(fields[-1]) + 1)]
+        for text_of in (str.encode, str, lambda it: bytearray(it.encode()), lambda it: memoryview(it.encode()), lambda it: memoryview(bytearray(it.encode()))):
+            wanted = None if written is None else sum(it <= int(written) for it in ends) if text_of is str else int(written)
+            self.assertEqual(place(call_of(name, fields, text_of)), wanted)
 
     def test_docstrings(self):
         self.assertEqual([it.__name__ for it in CALLS if ">>> " not in it.__doc__], [])
