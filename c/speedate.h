@@ -312,11 +312,11 @@ typedef struct SpeedateDuration {
 /* Every call below that takes a value fails with SPEEDATE_VALUE_OUT_OF_RANGE if the value is out of range. The
  * exceptions are the _check calls, which say what is out of range, and speedate_duration_normalize. */
 
-/* Each parser of dates, times and date-times has a call that says where a text is wrong. Its name has _error_place
- * where the parser's has _parse. It takes the same text and configuration, and returns the parser's code. If that is
- * a fault of the text, it writes the place of the fault to *place: the byte, counted from 0, at which the part of the
- * text begins that the fault is about, or would begin if it is missing. That is at most `size`. If the code is
- * another one, nothing is written. GRAMMAR.md has the place of each fault. */
+/* Each parser of a date, a time, a date-time or a duration has a call that says where a text is wrong. Its name has
+ * _error_place where the parser's has _parse. It takes the same text and configuration, and returns the parser's code.
+ * If that is a fault of the text, it writes the place of the fault to *place: the byte, counted from 0, at which the
+ * part of the text begins that the fault is about, or would begin if it is missing. That is at most `size`. If the code
+ * is another one, nothing is written. GRAMMAR.md has the place of each fault. */
 
 /* ---- Dates ---- */
 
@@ -517,6 +517,10 @@ SPEEDATE_NODISCARD int speedate_datetime_in_timezone(SpeedateDateTime value, int
  * is 365 days and a month 30; no call adds calendar months. */
 SPEEDATE_NODISCARD int speedate_duration_parse(const char *text, size_t size, SpeedateConfig config,
                                                SpeedateDuration *out);
+
+/* Where a text is wrong as a duration: at 4, the unit, in "P1D1Q". */
+SPEEDATE_NODISCARD int speedate_duration_error_place(const char *text, size_t size, SpeedateConfig config,
+                                                     size_t *place);
 
 /* Brings days, seconds and microseconds of any size into their ranges: 2 days, 101 seconds and 123 microseconds for 1,
  * 86,500 and 1,000,123. It fails with SPEEDATE_VALUE_OUT_OF_RANGE if `negative` is over 1,

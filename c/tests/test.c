@@ -412,6 +412,7 @@ static int run_text(const char *text, size_t size) {
     PLACE(datetime_error_place_rfc3339)
     PLACE(datetime_error_place_strict)
     PLACE(datetime_error_place_front)
+    PLACE(duration_error_place)
     COLUMN(int64_t, datetime_column)
     COLUMN(int32_t, date_column)
     COLUMN(int64_t, duration_column)

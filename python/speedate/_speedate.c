@@ -416,6 +416,7 @@ FIND_PLACE(place_of_date_time, speedate_datetime_error_place_rfc3339(BYTES, conf
 FIND_PLACE(place_of_date_time_or_timestamp, speedate_datetime_error_place(BYTES, config, place))
 FIND_PLACE(place_of_date_time_strict, speedate_datetime_error_place_strict(BYTES, config, place))
 FIND_PLACE(place_of_date_time_front, speedate_datetime_error_place_front(BYTES, config, place))
+FIND_PLACE(place_of_duration, speedate_duration_error_place(BYTES, config, place))
 
 /* The calls whose faults have places. */
 enum {
@@ -430,6 +431,7 @@ enum {
     DATE_TIME_OR_TIMESTAMP,
     DATE_TIME_STRICT,
     DATE_TIME_FRONT,
+    DURATION,
     ALL_PLACES
 };
 static FindPlace *const find_place[ALL_PLACES] = {
@@ -443,6 +445,7 @@ static FindPlace *const find_place[ALL_PLACES] = {
     [DATE_TIME_OR_TIMESTAMP] = place_of_date_time_or_timestamp,
     [DATE_TIME_STRICT] = place_of_date_time_strict,
     [DATE_TIME_FRONT] = place_of_date_time_front,
+    [DURATION] = place_of_duration,
 };
 
 typedef struct {
@@ -452,9 +455,9 @@ typedef struct {
     int place, place_timestamp;     /* the same, of the calls above */
 } Reader;
 
-/* One number for a call and what its faults depend on of a configuration, less than 128, so that Python has it ready. */
+/* One number for a call and what its faults depend on of a configuration, less than 256, so that Python has it ready. */
 static long call_number(int call, SpeedateConfig config) {
-    return call | config.timestamp_unit << 4 | config.overflow_behavior << 6;
+    return call | config.timestamp_unit << 4 | config.overflow_behavior << 6 | config.iso_order << 7;
 }
 
 /* Puts an object into a slot of a Fault that has just been made. */
@@ -553,7 +556,7 @@ static const Reader date_time_reader = {
     DATE_TIME,
     DATE_TIME_OR_TIMESTAMP};
 static const Reader duration_reader = {
-    {"duration", {"text", "config"}, 2}, make_duration, parse_duration, NULL, NO_PLACE, NO_PLACE};
+    {"duration", {"text", "config"}, 2}, make_duration, parse_duration, NULL, DURATION, NO_PLACE};
 static const Reader time_strict_reader = {
     {"time_strict", {"text", "config"}, 2}, make_time, parse_time_strict, NULL, TIME_STRICT, NO_PLACE};
 static const Reader date_time_strict_reader = {
@@ -609,7 +612,8 @@ static PyObject *call_place(PyObject *module, PyObject *arguments) {
     if (!PyArg_ParseTuple(arguments, "Oi:_place", &object, &number))
         return NULL;
     int call = number & 15;
-    SpeedateConfig config = {.timestamp_unit = number >> 4 & 3, .overflow_behavior = number >> 6 & 1};
+    SpeedateConfig config = {
+        .timestamp_unit = number >> 4 & 3, .overflow_behavior = number >> 6 & 1, .iso_order = number >> 7 & 1};
     if (call == NO_PLACE || call >= ALL_PLACES || call_number(call, config) != number)
         return PyErr_Format(PyExc_ValueError, "no call has the number %d", number);
     if (take_text(object, -1, &text) < 0)

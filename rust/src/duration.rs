@@ -88,6 +88,17 @@ impl Duration {
         Ok(ffi::speedate_duration_normalize(&Self { positive, day, second, microsecond })?)
     }
 
+    /// The byte at which the error lies for which [`parse_bytes_with_config`](Self::parse_bytes_with_config) refuses an
+    /// input. It is `None` for an input that it accepts.
+    ///
+    /// ```
+    /// assert_eq!(speedate::Duration::error_place(b"P1D1Q", &Default::default()), Some(4));
+    /// ```
+    #[must_use]
+    pub fn error_place(bytes: &[u8], config: &TimeConfig) -> Option<usize> {
+        ffi::speedate_duration_error_place(bytes, config)
+    }
+
     /// The duration from one date-time to another, by their instants, which is negative if the other is the earlier one. A
     /// date-time without an offset is taken to be in UTC. It panics if one is out of range.
     ///

@@ -411,6 +411,7 @@ places! {
     fn speedate_datetime_error_place_rfc3339([text] config);
     fn speedate_datetime_error_place_strict([text] config);
     fn speedate_datetime_error_place_front([text] config);
+    fn speedate_duration_error_place([text] config);
 }
 
 columns! {

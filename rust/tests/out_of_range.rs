@@ -132,6 +132,7 @@ fn configured_offsets() {
         assert_eq!(["x", "2020-02-29T12:13"].map(|it| DateTime::error_place(it.as_bytes(), &config)), [None; 2]);
         assert_eq!(DateTime::error_place_rfc3339(b"x", &time_config), Some(1));
         assert_eq!(Time::error_place(b"24:00", &time_config), Some(0));
+        assert_eq!(Duration::error_place(b"P1D1Q", &time_config), Some(4));
         assert_eq!(Time::parse_bytes_with_config(b"12:13:14Z", &time_config), Ok(TIME));
         assert_eq!(Time::parse_front(b"12:13:14Z x", &time_config), Ok((TIME, 9)));
         assert!(DateTime::parse_bytes_rfc3339_with_config(b"2020-02-29T12:13", &time_config).is_ok());

@@ -1,16 +1,18 @@
-//! The places of errors, beside a second reading of the tables of `docs/GRAMMAR.md`: of texts with up to two bytes changed
-//! in each way, and with three changed by lot.
+//! The places of errors, beside a second reading of the tables of `docs/GRAMMAR.md`: of all short texts of some bytes, and
+//! of texts with up to three bytes changed in each way.
 
 use std::fmt::Debug;
 
-use speedate::{Date, DateTime, MicrosecondsPrecisionOverflowBehavior, ParseError, Time, TimeConfig};
+use speedate::{Date, DateTime, Duration, MicrosecondsPrecisionOverflowBehavior, ParseError, Time, TimeConfig};
 use MicrosecondsPrecisionOverflowBehavior::{Error, Truncate};
 
-/// Bytes that a text may have in place of its own.
+/// Bytes that a text may have in place of one or two of its own, and in place of three.
 const BYTES: &[u8] = b"0129-:.,+TZ_ x\xe2\x88\x92\xc3";
+const FEW_BYTES: &[u8] = b"09-:.+x";
 
-/// How many texts with three bytes changed are drawn of each template.
-const DRAWN: usize = 20_000;
+/// The same for texts of durations.
+const DURATION_BYTES: &[u8] = b"0159PTYMWDHS.,:- adxy\xc3";
+const FEW_DURATION_BYTES: &[u8] = b"19PTDS.: d";
 
 /// How many bytes something takes at the front of a text, or its error and the place of that.
 type Taken = Result<usize, (ParseError, usize)>;
@@ -21,7 +23,7 @@ type Front = Result<(usize, ParseError), (ParseError, usize)>;
 #[test]
 fn dates() {
     for template in ["2020-02-29", "1999-12-31x", "2021-06-30T1"] {
-        each_text(template, |text| {
+        each_text(template, BYTES, FEW_BYTES, |text| {
             same(text, Date::parse_bytes_rfc3339(text), Date::error_place_rfc3339(text), whole_date(text));
             same(text, Date::parse_front(text), Date::error_place_front(text), date(text));
         });
@@ -35,7 +37,7 @@ fn times() {
     for behavior in [Error, Truncate] {
         let config = TimeConfig { microseconds_precision_overflow_behavior: behavior, ..TimeConfig::default() };
         for template in templates {
-            each_text(template, |text| {
+            each_text(template, BYTES, FEW_BYTES, |text| {
                 let whole = whole_time(text, behavior);
                 same(text, Time::parse_bytes_with_config(text, &config), Time::error_place(text, &config), whole);
                 let strict = whole_time(text, behavior).and_then(|_| standard_time(text));
@@ -53,7 +55,7 @@ fn date_times() {
     for template in
         ["2020-02-29T12:13", "2020-02-29 12:13:14.5Z", "2020-02-29T12:13:14+01:30", "2020-02-29t12:13:14−0130"]
     {
-        each_text(template, |text| {
+        each_text(template, BYTES, FEW_BYTES, |text| {
             let place = DateTime::error_place_rfc3339(text, &config);
             same(text, DateTime::parse_bytes_rfc3339_with_config(text, &config), place, whole_date_time(text));
             let strict = whole_date_time(text).and_then(|_| standard_date_time(text));
@@ -61,6 +63,33 @@ fn date_times() {
             let front = date_time(text).map(|(size, _)| size);
             same(text, DateTime::parse_front(text, &config), DateTime::error_place_front(text, &config), front);
         });
+    }
+}
+
+#[test]
+fn durations() {
+    let try_text = |text: &[u8]| {
+        for behavior in [Error, Truncate] {
+            let config = TimeConfig { microseconds_precision_overflow_behavior: behavior, ..TimeConfig::default() };
+            let place = Duration::error_place(text, &config);
+            same(text, Duration::parse_bytes_with_config(text, &config), place, duration(text, behavior));
+        }
+    };
+    for size in 0..=4 {
+        each_change(&vec![b' '; size], &(0..size).collect::<Vec<_>>(), DURATION_BYTES, &mut |text| try_text(text));
+    }
+    for template in [
+        "-P1Y2MT3H4.5S",
+        "P4294967295DT9H",
+        "P999999999DT24H",
+        "PT4294967295.9999996S",
+        "2 days, 10:20:30",
+        "+1d23:59:59.123456",
+        "999999999D",
+        "10:20:30.1234567",
+        "2399999999:59",
+    ] {
+        each_text(template, DURATION_BYTES, FEW_DURATION_BYTES, try_text);
     }
 }
 
@@ -73,35 +102,31 @@ fn same<T: Debug>(text: &[u8], answer: Result<T, ParseError>, place: Option<usiz
     assert!(place.unwrap_or_default() <= text.len());
 }
 
-/// A template cut anywhere, with two of its bytes changed in each way, and with three changed by lot.
-fn each_text(template: &str, mut try_text: impl FnMut(&[u8])) {
+/// A template cut anywhere, with two of its bytes changed in each way, and with three changed to few others.
+fn each_text(template: &str, bytes: &[u8], few: &[u8], mut try_text: impl FnMut(&[u8])) {
     let template = template.as_bytes();
-    let mut text = template.to_vec();
     for size in 0..=template.len() {
         try_text(&template[..size]);
     }
     for first in 0..template.len() {
         for second in first..template.len() {
-            for byte in BYTES {
-                for other in BYTES {
-                    (text[first], text[second]) = (*byte, *other);
-                    try_text(&text);
-                }
+            each_change(template, &[first, second], bytes, &mut try_text);
+            for third in second + 1..template.len() {
+                each_change(template, &[first, second, third], few, &mut try_text);
             }
-            text.copy_from_slice(template);
         }
     }
-    let mut seed = 0x9e37_79b9_7f4a_7c15_u64;
-    let mut draw = |below: usize| {
-        seed = seed.wrapping_mul(6_364_136_223_846_793_005).wrapping_add(1_442_695_040_888_963_407);
-        (seed >> 33) as usize % below
-    };
-    for _ in 0..DRAWN {
-        for _ in 0..3 {
-            text[draw(template.len())] = BYTES[draw(BYTES.len())];
+}
+
+/// A text with each of some bytes at each of some places.
+fn each_change(text: &[u8], places: &[usize], bytes: &[u8], try_text: &mut impl FnMut(&[u8])) {
+    let mut text = text.to_vec();
+    for mut number in 0..bytes.len().pow(places.len() as u32) {
+        for &place in places {
+            text[place] = bytes[number % bytes.len()];
+            number /= bytes.len();
         }
         try_text(&text);
-        text.copy_from_slice(template);
     }
 }
 
@@ -253,4 +278,153 @@ fn whole_date_time(text: &[u8]) -> Taken {
 fn standard_date_time(text: &[u8]) -> Taken {
     first(&[(matches!(at(text, 10), b'T' | b't'), ParseError::InvalidCharDateTimeSep, 10)])?;
     moved(standard_time(&text[11..]), 11)
+}
+
+fn duration(text: &[u8], behavior: MicrosecondsPrecisionOverflowBehavior) -> Taken {
+    let sign = usize::from(matches!(at(text, 0), b'+' | b'-'));
+    let rest = &text[sign..];
+    let taken = match rest {
+        [] => Err((ParseError::TooShort, 0)),
+        [b'P', body @ ..] => moved(iso_duration(body), 1),
+        _ if rest.len() < 5 || rest.iter().any(|byte| matches!(byte, b'd' | b'D')) => days(rest, behavior),
+        _ => hours_and_clock(rest, behavior).map(|_| rest.len()),
+    };
+    moved(taken, sign)
+}
+
+/// The days, seconds and microseconds up to an item, and where the item begins.
+struct Sum {
+    place: usize,
+    day: u128,
+    second: u128,
+    microsecond: u128,
+}
+
+impl Sum {
+    fn all_seconds(&self) -> u128 {
+        self.second + self.microsecond / 1_000_000
+    }
+
+    fn all_days(&self) -> u128 {
+        self.day + self.all_seconds() / 86_400
+    }
+}
+
+fn iso_duration(body: &[u8]) -> Taken {
+    let limit = u128::from(u32::MAX);
+    let (mut place, mut is_time, mut has_fraction) = (0, false, false);
+    let mut sums = vec![Sum { place, day: 0, second: 0, microsecond: 0 }];
+    while place < body.len() {
+        if body[place] == b'T' {
+            first(&[(!is_time, ParseError::DurationTRepeated, place)])?;
+            (place, is_time) = (place + 1, true);
+            continue;
+        }
+        let digits = run(body, place);
+        first(&[
+            (digits > 0, ParseError::DurationInvalidNumber, place),
+            (long_number(body, place, digits) <= limit, ParseError::DurationValueTooLarge, place),
+            (!has_fraction, ParseError::DurationInvalidFraction, place),
+        ])?;
+        let mark = place + digits;
+        has_fraction = matches!(at(body, mark), b'.' | b',');
+        let decimals = if has_fraction { run(body, mark + 1) } else { 0 };
+        let unit = mark + usize::from(has_fraction) + decimals;
+        let (units, error) = if is_time {
+            (vec![(b'H', 3_600), (b'M', 60), (b'S', 1)], ParseError::DurationInvalidTimeUnit)
+        } else {
+            (vec![(b'Y', 365), (b'M', 30), (b'W', 7), (b'D', 1)], ParseError::DurationInvalidDateUnit)
+        };
+        let Some((_, one)) = units.into_iter().find(|(designator, _)| *designator == at(body, unit)) else {
+            return Err((error, unit));
+        };
+        let seconds = if is_time { one } else { 86_400 * one };
+        let (numerator, power) = (seconds * long_number(body, mark + 1, decimals), 10_u128.pow(decimals as u32));
+        let (whole, number) = (numerator / power, long_number(body, place, digits));
+        let last = &sums[sums.len() - 1];
+        let sum = Sum {
+            place,
+            day: last.day + if is_time { 0 } else { number * one } + whole / 86_400,
+            second: last.second + if is_time { number * one } else { 0 } + whole % 86_400,
+            microsecond: (2_000_000 * numerator + power) / (2 * power) - 1_000_000 * whole,
+        };
+        first(&[(sum.day <= limit && sum.second <= limit, ParseError::DurationValueTooLarge, place)])?;
+        sums.push(sum);
+        place = unit + 1;
+    }
+    first(&[(sums.len() > 1, ParseError::TooShort, body.len())])?;
+    let after = |is_over: &dyn Fn(&Sum) -> bool| sums.iter().find(|sum| is_over(sum)).map_or(0, |sum| sum.place);
+    let last = &sums[sums.len() - 1];
+    let most_days = 999_999_999;
+    first(&[
+        (last.all_seconds() <= limit, ParseError::DurationValueTooLarge, after(&|sum| sum.all_seconds() > limit)),
+        (last.all_days() <= limit, ParseError::DurationValueTooLarge, after(&|sum| sum.all_days() > limit)),
+        (last.all_days() <= most_days, ParseError::DurationDaysTooLarge, after(&|sum| sum.all_days() > most_days)),
+    ])?;
+    Ok(body.len())
+}
+
+/// The number of some digits.
+fn long_number(text: &[u8], place: usize, digits: usize) -> u128 {
+    text.iter().skip(place).take(digits).fold(0, |number, byte| 10 * number + u128::from(byte - b'0'))
+}
+
+fn days(text: &[u8], behavior: MicrosecondsPrecisionOverflowBehavior) -> Taken {
+    let digits = run(text, 0);
+    let days = long_number(text, 0, digits);
+    let letter = digits + usize::from(at(text, digits) == b' ');
+    let ending = letter + 1;
+    first(&[
+        (digits > 0, ParseError::DurationInvalidNumber, 0),
+        (days <= u128::from(u32::MAX), ParseError::DurationValueTooLarge, 0),
+        (matches!(at(text, letter), b'd' | b'D'), ParseError::DurationInvalidDays, letter),
+    ])?;
+    let rest = &text[ending..];
+    let word = ["ays", "AYS", "ay", "AY"].iter().find(|word| rest.starts_with(word.as_bytes())).map_or(0, |it| it.len());
+    first(&[(word > 0 || !matches!(at(rest, 0), b'a' | b'A'), ParseError::DurationInvalidDays, ending)])?;
+    let rest = &rest[word..];
+    let gap = [", ", ",", " "].iter().find(|gap| rest.starts_with(gap.as_bytes())).map_or(0, |it| it.len());
+    let clock = ending + word + gap;
+    if clock < text.len() {
+        let hours = hours_and_clock(&text[clock..], behavior).map_err(|(error, place)| (error, clock + place))?;
+        first(&[(hours < 24, ParseError::DurationHourValueTooLarge, clock)])?;
+    }
+    first(&[(days <= 999_999_999, ParseError::DurationDaysTooLarge, 0)])?;
+    Ok(text.len())
+}
+
+/// The hours of a clock that takes all of a text.
+fn hours_and_clock(
+    text: &[u8],
+    behavior: MicrosecondsPrecisionOverflowBehavior,
+) -> Result<u128, (ParseError, usize)> {
+    let end = text.len();
+    first(&[(end >= 5, ParseError::TooShort, end)])?;
+    let Some(colon) = text.iter().position(|&byte| byte == b':') else {
+        return Err((ParseError::InvalidCharHour, run(text, 0)));
+    };
+    first(&[
+        (colon <= 10, ParseError::DurationHourValueTooLarge, 0),
+        (run(text, 0) == colon, ParseError::InvalidCharHour, 0),
+    ])?;
+    let (hours, minute, second) = (long_number(text, 0, colon), colon + 1, colon + 4);
+    first(&[
+        (hours <= 2_400_000_000, ParseError::DurationHourValueTooLarge, 0),
+        (behavior == Truncate || end - minute <= 12, ParseError::SecondFractionTooLong, colon + 13),
+        (end - minute >= 2, ParseError::TooShort, end),
+        (are_digits(text, minute, 2), ParseError::InvalidCharMinute, minute),
+    ])?;
+    first(&[(number(text, minute, 2) <= 59, ParseError::OutOfRangeMinute, minute)])?;
+    let mut size = colon + 3;
+    if at(text, size) == b':' {
+        first(&[(are_digits(text, second, 2), ParseError::InvalidCharSecond, second)])?;
+        first(&[(number(text, second, 2) <= 59, ParseError::OutOfRangeSecond, second)])?;
+        size = colon + 6;
+        if matches!(at(text, size), b'.' | b',') {
+            size = colon + 7 + run(text, colon + 7);
+            first(&[(size > colon + 7, ParseError::SecondFractionMissing, colon + 7)])?;
+        }
+    }
+    first(&[(size == end, ParseError::ExtraCharacters, size)])?;
+    Ok(hours)
 }

@@ -22,7 +22,7 @@ fn rows() {
     let columns = tried.iter().filter(|(row, _)| row.contains("_column")).count();
     assert!(columns > 40, "only {columns} rows of columns");
     let places = tried.iter().filter(|(row, _)| row.contains("_error_place")).count();
-    assert!(places > 60, "only {places} rows of places");
+    assert!(places > 90, "only {places} rows of places");
 }
 
 /// Whether a row tells what its call answers, if the API has the call. One that panics has a value out of range.
@@ -99,6 +99,7 @@ impl Row<'_> {
             "datetime_timestamp_tz_us" => self.has_total(self.get::<DateTime>(1)?.timestamp_tz_us()),
             "datetime_in_timezone" => self.has(3, self.get::<DateTime>(1)?.in_timezone(self.get(2)?)),
             "duration_parse" => self.has(3, Duration::parse_bytes_with_config(text(2), &time_config(1)?)),
+            "duration_error_place" => self.has_place(2, Duration::error_place(text(2), &time_config(1)?)),
             "duration_normalize" => {
                 let Duration { positive, day, second, microsecond } = self.get(1)?;
                 self.has(2, Duration::new(positive, day, second, microsecond))

@@ -1,7 +1,7 @@
 -- Where the hours of a clock end, and where no letter of a day stands: among digits, and in a
 -- clock.
 use Rattle.std.proofs.Common.{rules, arith, ◌∙◌, ap, sym, get_or, inl, inr, ap₂, ◌≡◌, ℕ, ◌-◌, ◌^◌, ◌<◌, min, Bool, true, false, List, length, take, ◌==◌, ◌&&◌, nat_lt, nat_le, refl, ◌+◌, ◌||◌, [], ◌∷◌, drop, if◌then◌else◌, Ok}
-use Rattle.speedate_civil.specs.Base.{Behavior, ParseError}
+use Rattle.speedate_civil.specs.Base.{Behavior}
 use Rattle.std.specs.Char.{is_ascii_digit}
 use Rattle.std.specs.List.{list_all, list_any, prefix_len}
 use Rattle.std.proofs.lemmas.Bool.{cases_lt, eqb-true}
@@ -18,18 +18,15 @@ use Rattle.speedate.specs.ClockForm.{
   has_hours,
   after_hours,
   from_minute,
+  clock_end,
   hours_table,
   hours_range,
+  rest_table,
   clock_numbers,
   clock_form,
 }
 use Rattle.std.proofs.lemmas.List.Folds.{list_any-append}
-use Rattle.speedate_base.specs.Requirement.{
-  ◌else_fault◌,
-  ◌implies◌,
-  first_fault_or,
-  result_and_then,
-}
+use Rattle.speedate_base.specs.Requirement.{◌implies◌, first_fault_or, result_and_then}
 use Rattle.speedate_base.proofs.RequirementLemmas.{
   and_then-ok,
   first_fault_or-ok,
@@ -164,14 +161,14 @@ clock-no_letter behavior text value same =
     let first = colon_place text in
     let rest : List ℕ = from_minute text in
     let count = digits_value (hours text) in
-    let ends = λ (clock : Clock). (clock.size == length rest else_fault ParseError.ExtraCharacters)
-    ∷ [] in
+    let ends = λ (clock : Clock). clock_end clock rest in
     let front = first_fault_or-ok (hours_table text) (after_hours behavior count rest) value same in
     let whole_clock =
     λ (clock : Clock). first_fault_or (ends clock) (Ok (clock_numbers count clock)) in
-    let ranges =
-    first_fault_or-ok (hours_range behavior count rest)
-    (result_and_then whole_clock (minute_front behavior rest)) value front.1 in
+    let clocks = result_and_then whole_clock (minute_front behavior rest) in
+    let range = first_fault_or-ok (hours_range count)
+    (first_fault_or (rest_table behavior rest) clocks) value front.1 in
+    let ranges = first_fault_or-ok (rest_table behavior rest) clocks value range.1 in
     let read = and_then-ok whole_clock (minute_front behavior rest) value ranges.1 in
     let minute =
     first_fault_or-ok (minute_digits rest) (clock_answer behavior rest) read.0 read.1 in

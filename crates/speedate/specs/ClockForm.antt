@@ -5,10 +5,11 @@ use Rattle.std.specs.Char.{is_ascii_digit}
 use Rattle.std.specs.List.{list_all, position_or_len}
 use Rattle.speedate_civil.specs.Base.{Behavior, ParseError}
 use Rattle.speedate_base.specs.Ascii.{colon}
-use Rattle.speedate_base.specs.Digits.{digits_value}
+use Rattle.speedate_base.specs.Digits.{digits_value, run_length}
 use Rattle.speedate_base.specs.Config.{refuses_digits}
 use Rattle.speedate_base.specs.Requirement.{
-  NumberRow,
+  TextRow,
+  ◌at_byte◌,
   ◌else_fault◌,
   ◌implies◌,
   first_fault_or,
@@ -37,24 +38,32 @@ has_hours text =
 
 -- what a text has to meet to begin with hours: it has at least five bytes, and begins with at most
 -- ten digits, or none, and `:`
-abbrev pub hours_table : List ℕ → List NumberRow
+abbrev pub hours_table : List ℕ → List TextRow
 hours_table text =
-    (nat_le 5 (length text) else_fault ParseError.TooShort)
-    ∷ (nat_lt (colon_place text) (length text) else_fault ParseError.InvalidCharHour)
-    ∷ (nat_le (colon_place text) 10 else_fault ParseError.DurationHourValueTooLarge)
-    ∷ (list_all is_ascii_digit (hours text) else_fault ParseError.InvalidCharHour)
+    (nat_le 5 (length text) else_fault ParseError.TooShort at_byte length text)
+    ∷ (nat_lt (colon_place text) (length text)
+    else_fault ParseError.InvalidCharHour at_byte run_length text 0)
+    ∷ (nat_le (colon_place text) 10 else_fault ParseError.DurationHourValueTooLarge at_byte 0)
+    ∷ (list_all is_ascii_digit (hours text) else_fault ParseError.InvalidCharHour at_byte 0)
     ∷ []
 
--- what a text that begins with hours has to meet to go on to the minute: there are at most
--- 2,400,000,000 hours, and what follows them has at least two bytes, and at most 12 if digits are
--- refused
-abbrev pub hours_range : Behavior → ℕ → List ℕ → List NumberRow
-hours_range behavior hours rest =
-    (nat_le hours 2400000000 else_fault ParseError.DurationHourValueTooLarge)
-    ∷ ((refuses_digits behavior implies nat_le (length rest) 12)
-    else_fault ParseError.SecondFractionTooLong)
-    ∷ (nat_le 2 (length rest) else_fault ParseError.TooShort)
+-- what the hours have to meet: there are at most 2,400,000,000
+abbrev pub hours_range : ℕ → List TextRow
+hours_range hours =
+    (nat_le hours 2400000000 else_fault ParseError.DurationHourValueTooLarge at_byte 0) ∷ []
+
+-- what follows the hours has at least two bytes, and at most 12 if digits are refused
+abbrev pub rest_table : Behavior → List ℕ → List TextRow
+rest_table behavior rest =
+    ((refuses_digits behavior implies nat_le (length rest) 12)
+    else_fault ParseError.SecondFractionTooLong at_byte 12)
+    ∷ (nat_le 2 (length rest) else_fault ParseError.TooShort at_byte length rest)
     ∷ []
+
+-- a clock, from its minute on, takes all of a text
+abbrev pub clock_end : Clock → List ℕ → List TextRow
+clock_end clock rest =
+    (clock.size == length rest else_fault ParseError.ExtraCharacters at_byte clock.size) ∷ []
 
 -- a number of hours, and the minute, second and microsecond of a clock
 abbrev pub clock_numbers : ℕ → Clock → UnsignedDuration
@@ -68,12 +77,10 @@ clock_numbers hours clock = record {
 -- them
 abbrev pub after_hours : Behavior → ℕ → List ℕ → Result UnsignedDuration ParseError
 after_hours behavior hours rest =
-    first_fault_or (hours_range behavior hours rest)
+    first_fault_or (hours_range hours) (first_fault_or (rest_table behavior rest)
     (result_and_then
-    (λ clock. first_fault_or
-    ((clock.size == length rest else_fault ParseError.ExtraCharacters) ∷ [])
-    (Ok (clock_numbers hours clock)))
-    (minute_front behavior rest))
+    (λ clock. first_fault_or (clock_end clock rest) (Ok (clock_numbers hours clock)))
+    (minute_front behavior rest)))
 
 -- the duration that a text says as a clock, or the text's fault
 unfoldable pub clock_form : Behavior → List ℕ → Result UnsignedDuration ParseError

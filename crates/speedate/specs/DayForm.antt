@@ -6,7 +6,8 @@ use Rattle.std.specs.List.{list_any, starts_with}
 use Rattle.speedate_base.specs.Ascii.{capital_d, small_d}
 use Rattle.speedate_base.specs.Digits.{run_length, run_value}
 use Rattle.speedate_base.specs.Requirement.{
-  NumberRow,
+  TextRow,
+  ◌at_byte◌,
   ◌else_fault◌,
   first_fault_or,
   result_and_then,
@@ -56,27 +57,30 @@ has_whole_ending text =
     || not (list_any (starts_with nat_eq text) (codes "a" ∷ codes "A" ∷ []))
 
 -- what a text has to meet to begin with days
-abbrev pub days_table : List ℕ → List NumberRow
+abbrev pub days_table : List ℕ → List TextRow
 days_table text =
-    (nat_lt 0 (run_length text 0) else_fault ParseError.DurationInvalidNumber)
-    ∷ (nat_le (run_value text 0) 4294967295 else_fault ParseError.DurationValueTooLarge)
+    (nat_lt 0 (run_length text 0) else_fault ParseError.DurationInvalidNumber at_byte 0)
+    ∷ (nat_le (run_value text 0) 4294967295 else_fault ParseError.DurationValueTooLarge at_byte 0)
     ∷ (is_day_letter (slice_index text (letter_place text))
-    else_fault ParseError.DurationInvalidDays)
-    ∷ (has_whole_ending (drop (ending_place text) text) else_fault ParseError.DurationInvalidDays)
+    else_fault ParseError.DurationInvalidDays at_byte letter_place text)
+    ∷ (has_whole_ending (drop (ending_place text) text)
+    else_fault ParseError.DurationInvalidDays at_byte ending_place text)
     ∷ []
 
 -- the days at the front of a text, and how many bytes come before the clock, or the text's fault
 abbrev pub days_front : List ℕ → Result (ℕ × ℕ) ParseError
 days_front text = first_fault_or (days_table text) (Ok (run_value text 0, days_size text))
 
+-- what the whole days of a clock have to meet that follows days: there are none
+abbrev pub hours_of_day : ℕ → List TextRow
+hours_of_day days = (days == 0 else_fault ParseError.DurationHourValueTooLarge at_byte 0) ∷ []
+
 -- the numbers of days and of what follows them: of nothing, or of a clock of fewer than 24 hours
 unfoldable pub after_days : Behavior → ℕ → List ℕ → Result UnsignedDuration ParseError
 after_days behavior days rest =
     if length rest == 0 then Ok (record { day = days; second = 0; microsecond = 0 })
     else result_and_then
-    (λ clock. first_fault_or
-    ((clock.day == 0 else_fault ParseError.DurationHourValueTooLarge) ∷ [])
-    (Ok (record clock { day = days })))
+    (λ clock. first_fault_or (hours_of_day clock.day) (Ok (record clock { day = days })))
     (clock_form behavior rest)
 
 -- the numbers that a text says as days and a clock, the days of any size, or the text's fault

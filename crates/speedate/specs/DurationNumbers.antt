@@ -51,13 +51,20 @@ carried_second numbers = numbers.second + numbers.microsecond / 1000000
 abbrev pub carried_day : DurationNumbers → ℕ
 carried_day numbers = numbers.day + carried_second numbers / seconds_per_day
 
+-- the seconds, or the days, with what is carried into them are at most a number
+abbrev pub has_seconds_up_to : ℕ → DurationNumbers → Bool
+has_seconds_up_to largest numbers = nat_le (carried_second numbers) largest
+
+abbrev pub has_days_up_to : ℕ → DurationNumbers → Bool
+has_days_up_to largest numbers = nat_le (carried_day numbers) largest
+
 -- what the numbers of a duration, of any size, have to meet to be brought into their ranges: the
 -- sums are counted in 32 bits, and then the days are at most 999,999,999
 abbrev pub normal_table : DurationNumbers → List NumberRow
 normal_table numbers =
-    (nat_le (carried_second numbers) 4294967295 else_fault ParseError.DurationValueTooLarge)
-    ∷ (nat_le (carried_day numbers) 4294967295 else_fault ParseError.DurationValueTooLarge)
-    ∷ (nat_le (carried_day numbers) 999999999 else_fault ParseError.DurationDaysTooLarge)
+    (has_seconds_up_to 4294967295 numbers else_fault ParseError.DurationValueTooLarge)
+    ∷ (has_days_up_to 4294967295 numbers else_fault ParseError.DurationValueTooLarge)
+    ∷ (has_days_up_to 999999999 numbers else_fault ParseError.DurationDaysTooLarge)
     ∷ []
 
 -- the normal form of a duration: the numbers in their ranges that have the same amount, or the

@@ -22,7 +22,13 @@ use Rattle.speedate_base.specs.Ascii.{
 use Rattle.speedate_base.specs.Digits.{run_length, digits_value, is_decimal_mark}
 use Rattle.speedate_base.specs.Nearest.{nearest}
 use Rattle.speedate_base.specs.Timestamp.{seconds_per_day}
-use Rattle.speedate_base.specs.Requirement.{NumberRow, ◌else_fault◌, first_fault_or, AllHold}
+use Rattle.speedate_base.specs.Requirement.{
+  TextRow,
+  ◌at_byte◌,
+  ◌else_fault◌,
+  first_fault_or,
+  AllHold,
+}
 use Rattle.speedate.specs.DurationNumbers.{UnsignedDuration}
 
 -- a unit of a duration by its designator, and what one of it is: whole days, or seconds
@@ -58,6 +64,10 @@ pub record ComponentText : Type 0 where
   pub number : List ℕ
   pub fraction : List ℕ
   pub designator : ℕ
+
+-- the place of the designator in a component
+abbrev pub designator_place : ComponentText → ℕ
+designator_place component = length component.number + length component.fraction
 
 -- an item: a `T`, or a component
 pub data Item : Type 0 where
@@ -183,21 +193,22 @@ with_item (Component component) sums =
 -- what an item has to meet after others. A `T`: it is the first one, also after a fraction. A
 -- component: it has digits; its number is counted in 32 bits; no component before it has a
 -- fraction; its unit is one of its side, and one that may still come; and the sums with it are
--- counted in 32 bits
-abbrev pub item_table : IsoSums → Item → List NumberRow
-item_table sums TimeDesignator = (not sums.is_time else_fault ParseError.DurationTRepeated) ∷ []
+-- counted in 32 bits. Places count from the item
+abbrev pub item_table : IsoSums → Item → List TextRow
+item_table sums TimeDesignator =
+    (not sums.is_time else_fault ParseError.DurationTRepeated at_byte 0) ∷ []
 item_table sums (Component component) =
-    (nat_lt 0 (length component.number) else_fault ParseError.DurationInvalidNumber)
+    (nat_lt 0 (length component.number) else_fault ParseError.DurationInvalidNumber at_byte 0)
     ∷ (nat_le (digits_value component.number) 4294967295
-    else_fault ParseError.DurationValueTooLarge)
-    ∷ (not sums.has_fraction else_fault ParseError.DurationInvalidFraction)
+    else_fault ParseError.DurationValueTooLarge at_byte 0)
+    ∷ (not sums.has_fraction else_fault ParseError.DurationInvalidFraction at_byte 0)
     ∷ (is_some (unit_in (units sums.is_time) component.designator)
     else_fault (if sums.is_time then ParseError.DurationInvalidTimeUnit
-    else ParseError.DurationInvalidDateUnit))
+    else ParseError.DurationInvalidDateUnit) at_byte designator_place component)
     ∷ (is_some (unit_in sums.next_units component.designator)
-    else_fault ParseError.DurationUnitOrder)
+    else_fault ParseError.DurationUnitOrder at_byte designator_place component)
     ∷ (are_counted (with_item (Component component) sums)
-    else_fault ParseError.DurationValueTooLarge)
+    else_fault ParseError.DurationValueTooLarge at_byte 0)
     ∷ []
 
 -- the sums of a list of items after others

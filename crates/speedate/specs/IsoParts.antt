@@ -3,6 +3,8 @@ use Rattle.std.specs.Prelude.{Bool, ◌≡◌, [], ◌∷◌, ◌==◌, length, 
 use Rattle.speedate_base.specs.Requirement.{first_fault_or}
 use Rattle.speedate.specs.declared.duration.iso.DurationUnit.{DurationUnit}
 use Rattle.speedate.specs.declared.duration.iso.Sums.{Sums}
+use Rattle.speedate.specs.declared.duration.iso.error_place.Bound.{Bound}
+use Rattle.speedate.specs.DurationNumbers.{DurationNumbers, has_days_up_to, has_seconds_up_to}
 use Rattle.speedate_civil.specs.Base.{ParseError}
 use Rattle.speedate.specs.IsoForm.{
   IsoUnit,
@@ -47,3 +49,8 @@ sums_parts sums = record {
 abbrev pub item_front : IsoSums → Item → Result (IsoSums × ℕ) ParseError
 item_front sums item =
     first_fault_or (item_table sums item) (Ok (with_item item sums, length (item_text item)))
+
+-- a bound of the normal form as a test of numbers
+abbrev pub bound_test : Bound → DurationNumbers → Bool
+bound_test Bound.Seconds = has_seconds_up_to 4294967295
+bound_test (Bound.Days largest) = has_days_up_to largest

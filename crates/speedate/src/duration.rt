@@ -13,6 +13,7 @@ ghost use Rattle.speedate.specs.DurationNumbers.{
 mod arithmetic;
 mod clock;
 mod days;
+mod error_place;
 mod iso;
 mod order;
 mod parse;

@@ -15,9 +15,11 @@ ghost use Rattle.speedate.specs.DurationNumbers.{
   signed_seconds,
   duration_order,
 };
-ghost use Rattle.speedate.specs.Requirement.{result_map};
+ghost use Rattle.speedate.specs.DurationPlace.{duration_table};
+ghost use Rattle.speedate.specs.Requirement.{first_place, result_map};
 ghost use Rattle.speedate_c.specs.Written.{
   written_answer,
+  written_place,
   written_text,
   written_value,
   with_option,
@@ -35,7 +37,7 @@ ghost use Rattle.speedate_c.specs.Duration.{duration_of, numbers_of, shown_durat
 
 use crate::code::{SUCCESS, VALUE_OUT_OF_RANGE, order_number};
 use crate::config::SpeedateConfig;
-use crate::text::write_text;
+use crate::text::{write_place, write_text};
 use arrayvec::ArrayString;
 use speedate::{DAYS_MAX, Duration, ParseError};
 
@@ -125,6 +127,26 @@ pub extern "C" fn speedate_duration_parse(
     let config = config_or_return!(config.to_config());
     let answer = Duration::parse_bytes_with_config(text, &config.time_config);
     write_duration(answer, out)
+}
+
+/// Writes the byte at which the error lies for which [`speedate_duration_parse`] refuses a text, as
+/// [`Duration::error_place`] gives it, and gives the code of that call: 4 for `P1D1Q`.
+///
+/// Nothing is written for a text that it accepts, and where the code is `CONFIG_OUT_OF_RANGE`.
+#[unsafe(no_mangle)]
+pub extern "C" fn speedate_duration_error_place(
+    text: &[u8],
+    config: SpeedateConfig,
+    place: &mut usize,
+) -> i32
+    ensures answer { (result, place.new)
+        ≡ with_option (choices_of config) (config_out_of_range, place.old)
+        (λ config. written_place (duration_answer config.order config.behavior text.now)
+        (first_place (duration_table config.order config.behavior text.now)) place.old) }
+{
+    let config = config_or_return!(config.to_config());
+    write_place(Duration::error_place(text, &config.time_config), place);
+    code_of!(Duration::parse_bytes_with_config(text, &config.time_config))
 }
 
 /// The duration of days, seconds and microseconds of any size, brought into their ranges,

@@ -1,7 +1,7 @@
 //! The places of errors: refused texts of each row of each table, and the byte at which the error lies.
 
 use crate::rows::{date_time_config, quoted, same, time_config, value, words};
-use speedate::{Date, DateConfig, DateTime, Time, TimestampUnit};
+use speedate::{Date, DateConfig, DateTime, Duration, Time, TimestampUnit};
 use std::process::Abort;
 
 /// Texts that are refused as a date of RFC 3339, as a date or a timestamp, and at the front: the place of
@@ -171,6 +171,141 @@ infer error     '2020-02-29T12:13:60'    17
 infer error     '2020-02-29 '            11
 infer error     '2020-02-29T12:13'       -";
 
+/// A behavior and an order, and texts that are refused as an ISO 8601 duration: the place of each error.
+const ISO_DURATIONS: &str = "\
+error    - lax    ''                                   0
+error    - lax    '-'                                  1
+error    - lax    '+'                                  1
+error    - lax    'P'                                  1
+error    - lax    '-P'                                 2
+error    - lax    'PT'                                 2
+error    - lax    'PTT'                                2
+error    - lax    'P1DT1HT'                            6
+error    - lax    'PD'                                 1
+error    - lax    'P-1D'                               1
+error    - lax    'P1D-1D'                             3
+error    - lax    'PY1D'                               1
+error    - lax    'P1DT1HxM'                           6
+error    - lax    'P1'                                 2
+error    - lax    'P1D1'                               4
+error    - lax    'P12.5'                              5
+error    - lax    'P1D1Q'                              4
+error    - lax    '+P1D1Q'                             5
+error    - lax    'P1.5X'                              4
+error    - lax    'P1.'                                3
+error    - lax    'P1H'                                2
+error    - lax    'PT1D'                               3
+error    - lax    'PT1'                                3
+error    - lax    'PT12.25D'                           7
+error    - lax    'P1é'                                2
+error    - lax    'Pé'                                 1
+error    - lax    'P4294967296D'                       1
+error    - lax    '-P1D4294967296D'                    4
+error    - lax    'P4294967296Q'                       1
+error    - lax    'P1.D1Y'                             4
+error    - lax    'P1.5DT1H'                           6
+error    - lax    'P1.5DT1Q'                           6
+error    - lax    'P4294967295D1D'                     12
+error    - lax    'PT4294967295S1S'                    13
+error    - lax    'P1Y4294967295D'                     3
+error    - lax    'P1D12.5Y'                           -
+error    - lax    'P1000000000D'                       1
+error    - lax    'P1000000000DT1S'                    1
+error    - lax    'P999999999DT86399S'                 -
+error    - lax    'P999999999DT86400S'                 12
+error    - lax    '-P999999999DT86400S1S'              13
+error    - lax    'P999999999DT23H60M60M'              15
+error    - lax    'P1D999999999D1D'                    3
+error    - lax    'P4294967295DT86400S'                13
+error    - lax    'PT4294967295.9999999S'              2
+error    - lax    'PT4294967295S0.9999999S'            13
+error    - lax    'P4294967295DT4294967295S0.9999999S' 24
+error    - lax    'P4294967295DT86399.9999999S'        13
+error    - strict 'P1D1Y'                              4
+error    - strict 'P1Y1Y'                              4
+error    - strict 'PT1M1H'                             5
+error    - strict 'P1D12.5Y'                           7
+error    - strict 'P1D1Q'                              4
+error    - strict 'P1D1'                               4
+error    - strict 'P1D4294967296Y'                     3
+error    - strict 'P1M1YT1D'                           4
+error    - strict 'P1Y1DT1H'                           -
+truncate - lax    'PT0.12345678Q'                      12";
+
+/// The same for texts that are refused as days, with a clock or alone.
+const DAYS: &str = "\
+error    - lax    'days'                   0
+error    - lax    'p1d'                    0
+error    - lax    '4294967296d'            0
+error    - lax    '1'                      1
+error    - lax    '12 '                    3
+error    - lax    '1:30'                   1
+error    - lax    '1é'                     1
+error    - lax    '1  day'                 2
+error    - lax    '1 x d'                  2
+error    - lax    '1 dax'                  3
+error    - lax    '1da'                    2
+error    - lax    '1D aye'                 6
+error    - lax    '1 dAy'                  3
+error    - lax    '1dAY'                   -
+error    - lax    '1 d a'                  5
+error    - lax    '1 day 1:30'             10
+error    - lax    '1 day,'                 -
+error    - lax    '1 days,,10:20'          7
+error    - lax    '1d12345'                7
+error    - lax    '1 day, 24:60'           10
+error    - lax    '1 day, 24:00'           7
+error    - lax    '-1 day, 24:00'          8
+error    - lax    '1d2400000001:00'        2
+error    - lax    '1 day, 10:20:30x'       15
+error    - lax    '1 day 10:20:30.1234567' 21
+truncate - lax    '1 day 10:20:30.1234567' -
+error    - lax    '999999999d'             -
+error    - lax    '1000000000d'            0
+error    - lax    '-1000000000 days'       1
+error    - lax    '1000000000d 24:00'      12
+error    - lax    '1000000000d 23:00'      0";
+
+/// The same for texts that are refused as a clock.
+const CLOCKS: &str = "\
+error    - lax    '12345'             5
+error    - lax    '-12345'            6
+error    - lax    '12x45'             2
+error    - lax    'abcefg'            0
+error    - lax    '1h30m'             1
+error    - lax    'x12:30'            0
+error    - lax    '1x:30:00'          0
+error    - lax    '1x:30:99'          0
+error    - lax    '00000000001:00'    0
+error    - lax    'xxxxxxxxxxx:00'    0
+error    - lax    '2400000001:00'     0
+error    - lax    '2400000001:'       0
+error    - lax    '2400000000:00'     -
+error    - lax    '00:00:00.1234567'  15
+error    - lax    '-00:00:00.1234567' 16
+error    - lax    '01:03.123456789'   5
+error    - lax    '01:03.1234567890'  15
+error    - lax    '00:0xxxxxxxxxxxx'  15
+error    - lax    '0000:'             5
+error    - lax    '0000:1'            6
+error    - lax    '00:1x:00'          3
+error    - lax    '00:60:00'          3
+error    - lax    ':60:00'            1
+error    - lax    ':3000'             3
+error    - lax    '00:0ééé'           3
+error    - lax    '00:00:1'           6
+error    - lax    '00:00:'            6
+error    - lax    '00:00:60'          6
+error    - lax    '00:00:00.'         9
+error    - lax    '100:00:00,'        10
+error    - lax    '00:00x'            5
+error    - lax    '00:00:00x'         8
+error    - lax    '00:00:00.5x'       10
+truncate - lax    '00:00:00.1234567'  -
+truncate - lax    '00:00:00.1234567x' 16
+truncate - lax    '00:00:00.123456x'  15
+error    - strict '01:30'             -";
+
 /// The place is to be the one that the row wants.
 fn expect_place<R: Abort>(rt: &R, found: Option<usize>, want: &str, row: &str) {
     match found {
@@ -236,5 +371,17 @@ fn timestamps(rt: HostRuntime) {
         let config = date_time_config(&rt, config.trim());
         let place = DateTime::error_place(text.as_bytes(), &config);
         expect_place(&rt, place, want, row);
+    }
+}
+
+#[test]
+fn durations(rt: HostRuntime) {
+    for rows in [ISO_DURATIONS, DAYS, CLOCKS] {
+        for row in rows.lines() {
+            let (choices, text, want) = quoted(&rt, row);
+            let config = time_config(&rt, choices);
+            let place = Duration::error_place(text.as_bytes(), &config);
+            expect_place(&rt, place, want, row);
+        }
     }
 }

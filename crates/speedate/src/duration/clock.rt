@@ -22,10 +22,10 @@ use speedate_civil::time::PureTime;
 const HOURS_LENGTH_MAX: usize = 10;
 
 /// How many hours a clock shows at most.
-const HOURS_MAX: u64 = 2_400_000_000;
+pub(super) const HOURS_MAX: u64 = 2_400_000_000;
 
 /// How many bytes follow the hours at most if digits are refused, as in `01:03.123456`.
-const REST_LENGTH_MAX: usize = 12;
+pub(super) const REST_LENGTH_MAX: usize = 12;
 
 impl UnsignedDuration {
     /// Parses a duration as a clock shows it, whose hours are the digits at its front: a day, an hour
@@ -74,7 +74,7 @@ impl UnsignedDuration {
 
 /// Where the hours at the front end, whose digits end at `end`: at the `:` that follows them.
 #[inline(always)]
-fn hours_end(bytes: &[u8], end: usize) -> Result<usize, ParseError>
+pub(super) fn hours_end(bytes: &[u8], end: usize) -> Result<usize, ParseError>
     requires { end ≡ run_length bytes.now 0 }
     ensures answer { result ≡ first_fault_or (hours_table bytes.now) (Ok (colon_place bytes.now)) }
     ensures within { IfOk result (λ place. place < length bytes.now) }
@@ -114,7 +114,7 @@ fn hours_fault(bytes: &[u8]) -> ParseError
 }
 
 /// The place of the first `:`.
-fn colon_place(bytes: &[u8]) -> Option<usize>
+pub(super) fn colon_place(bytes: &[u8]) -> Option<usize>
     ensures place { result ≡ position (λ byte. byte == colon) bytes.now }
 {
     bytes.iter().position(|&byte| byte == b':')

@@ -60,7 +60,7 @@ impl UnsignedDuration {
 /// How many days the digits at the front are, and how many bytes they take with the word and the gap that
 /// follow them.
 #[inline(always)]
-fn days_at_front(bytes: &[u8], days: DigitRun) -> Result<(u32, usize), ParseError>
+pub(super) fn days_at_front(bytes: &[u8], days: DigitRun) -> Result<(u32, usize), ParseError>
     requires length { days.length ≡ run_length bytes.now 0 }
     requires value { days.value ≡ min (run_value bytes.now 0) (2 ^ 64 - 1) }
     ensures answer { result ≡ days_front bytes.now }

@@ -19,10 +19,13 @@ ghost use Rattle.speedate.specs.IsoForm.{
   component_at,
   item_at,
   are_counted,
+  no_sums,
   with_number,
   with_item,
   sums_amount,
 };
+
+mod error_place;
 
 use super::unsigned::UnsignedDuration;
 use speedate_base::config::IsoOrder;
@@ -157,7 +160,18 @@ impl Sums {
     pub(super) fn parse(body: &[u8], order: IsoOrder) -> Result<UnsignedDuration, ParseError>
         ensures answer { result ≡ iso_form order body.now }
     {
-        let none = Sums {
+        let none = Sums::none(order);
+        let (days, rest) = none.with_short_components(body);
+        let (sums, rest) = days.with_short_time(rest);
+        sums.parse_items(rest)
+    }
+
+    /// The sums of no items.
+    #[inline(always)]
+    fn none(order: IsoOrder) -> Self
+        ensures sums { sums_parts result ≡ no_sums order }
+    {
+        Sums {
             order,
             next_place: 0,
             is_time: false,
@@ -166,10 +180,7 @@ impl Sums {
             day: 0,
             second: 0,
             microsecond: 0,
-        };
-        let (days, rest) = none.with_short_components(body);
-        let (sums, rest) = days.with_short_time(rest);
-        sums.parse_items(rest)
+        }
     }
 
     /// The sums with the short components after a `T`, if a first one begins a text, and what follows them.
@@ -289,11 +300,19 @@ impl Sums {
         if !self.has_component {
             return Err(ParseError::TooShort);
         }
-        Ok(UnsignedDuration {
+        Ok(self.sum())
+    }
+
+    /// The amount of sums.
+    #[inline(always)]
+    fn sum(self) -> UnsignedDuration
+        ensures amount { result ≡ sums_amount (sums_parts self) }
+    {
+        UnsignedDuration {
             day: self.day,
             second: self.second,
             microsecond: self.microsecond,
-        })
+        }
     }
 
     /// Parses the items of a text one by one, with all that may be wrong in them, and adds them.

@@ -76,7 +76,7 @@ impl UnsignedDuration {
 /// Whether a text has days, whose first digits end at `end`: the letter of a day stands anywhere in it,
 /// or it is too short for a clock.
 #[tactic(auto, using(crate::proofs::ClockFormLemmas::letter_rules))]
-fn has_days(bytes: &[u8], end: usize) -> bool
+pub(super) fn has_days(bytes: &[u8], end: usize) -> bool
     requires end { end ≡ run_length bytes.now 0 }
     requires within { end ≤ length bytes.now }
     ensures { result ≡ has_days bytes.now }
