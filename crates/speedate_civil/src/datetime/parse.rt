@@ -44,7 +44,10 @@ use speedate_base::util::{
 };
 use std::str::FromStr;
 
-/// The place of the time, after the ten bytes of a date and a separator.
+/// The place of the separator, after the ten bytes of a date.
+pub(super) const SEPARATOR_PLACE: usize = 10;
+
+/// The place of the time, after the separator.
 pub(super) const TIME_PLACE: usize = 11;
 
 impl DateTime {
@@ -356,7 +359,7 @@ pub(super) fn has_separator(bytes: &[u8]) -> bool
     ensures value { result ≡ is_separator (slice_index bytes.now 10) }
     ensures there { IsTrue result → 11 ≤ length bytes.now }
 {
-    let byte = byte_at(bytes, 10);
+    let byte = byte_at(bytes, SEPARATOR_PLACE);
     matches!(byte, b'T' | b't' | b' ' | b'_')
 }
 
@@ -383,7 +386,7 @@ pub(super) fn has_letter_t(text: &[u8]) -> bool
         ≡ ((slice_index text.now 10 == capital_t) || (slice_index text.now 10 == small_t)) }
     ensures there { IsTrue result → 11 ≤ length text.now }
 {
-    let byte = byte_at(text, 10);
+    let byte = byte_at(text, SEPARATOR_PLACE);
     byte == b'T' || byte == b't'
 }
 
