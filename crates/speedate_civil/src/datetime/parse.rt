@@ -369,7 +369,7 @@ pub(super) fn has_separator(bytes: &[u8]) -> bool
 /// # Errors
 ///
 /// Those of [RFC 3339 alone](docs/GRAMMAR.md#rfc-3339-alone), in the order of the rows.
-#[inline]
+#[inline(always)]
 #[tactic(auto, using(std::proofs::lemmas::List::take_rest))]
 pub fn require_standard_date_time(text: &[u8]) -> Result<(), ParseError>
     ensures answer { result ≡ first_fault_or (standard_date_time text.now) (Ok tt) }
@@ -381,6 +381,7 @@ pub fn require_standard_date_time(text: &[u8]) -> Result<(), ParseError>
 }
 
 /// Whether `T` or `t` follows the ten bytes of a date.
+#[inline(always)]
 pub(super) fn has_letter_t(text: &[u8]) -> bool
     ensures value { result
         ≡ ((slice_index text.now 10 == capital_t) || (slice_index text.now 10 == small_t)) }
