@@ -37,6 +37,7 @@ pub fn int_parse_str(text: &str) -> Option<i64>
 
 /// The whole number that the bytes are: -12 for `b"-012"`. The bytes need not be text; the rest is as
 /// for [`int_parse_str`].
+#[inline(always)]
 pub fn int_parse_bytes(bytes: &[u8]) -> Option<i64>
     ensures answer { result ≡ whole_number bytes.now }
 {

@@ -1,6 +1,5 @@
--- The whole table of dates: its answer is that of the grammar, and its places lie within the text.
-use Rattle.std.proofs.Common.{◌≡◌, ◌∙◌, ℕ, List, ◌++◌, length, true, Ok, is_err, is_some, refl, sym, arith}
-use Rattle.std.proofs.lemmas.Bool.Decides.{nat_tests}
+-- The whole table of dates: its answer is that of the grammar.
+use Rattle.std.proofs.Common.{◌≡◌, ◌∙◌, ℕ, List, ◌++◌, true, Ok, is_err, is_some, refl, sym}
 use Rattle.speedate_civil.specs.Base.{ParseError, TimestampUnit}
 use Rattle.speedate_base.specs.Requirement.{
   IsAnswerOf,
@@ -13,7 +12,6 @@ use Rattle.speedate_base.specs.Requirement.{
   whole_or_fault,
 }
 use Rattle.speedate_base.proofs.RequirementLemmas.{
-  AreWithin,
   first_fault_or-and_then,
   first_fault_or-append,
   fault_at_byte-is_some,
@@ -53,14 +51,7 @@ date_answer-table text = (
 pub date_front-table : (text : List ℕ) → IsAnswerOf (date_table text) (date_front text)
 date_front-table text = ((date_numbers text, 10), refl)
 
--- the places of a date's table lie within a text
-pub date_table-within : (text : List ℕ) → AreWithin (length text) (date_table text)
-date_table-within text = grind (arith, nat_tests)
-
-pub whole_date_table-within : (text : List ℕ) → AreWithin (length text) (whole_date_table text)
-whole_date_table-within text = grind (arith, nat_tests)
-
--- so a text has a place if and only if it is refused
+-- a text has a place if and only if it is refused
 pub date-is_some : (text : List ℕ)
     → is_some (first_place (whole_date_table text)) ≡ is_err (date_answer text)
 date-is_some text =

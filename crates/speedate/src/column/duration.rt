@@ -40,7 +40,8 @@ impl LineReader for DurationReader {
     ghost answer = { duration_number };
 
     fn number(&self, line: &[u8]) -> Result<i64, LineError> {
-        match Duration::parse_bytes_with_config(line, &self.config) {
+        let behavior = self.config.microseconds_precision_overflow_behavior;
+        match Duration::parse::<true>(line, self.config.iso_order, behavior) {
             Ok(duration) => Self::microseconds(&duration),
             Err(fault) => Err(LineError::Parse(fault)),
         }

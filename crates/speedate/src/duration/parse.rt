@@ -92,7 +92,7 @@ impl Duration {
     pub fn parse_bytes(bytes: &[u8]) -> Result<Self, ParseError>
         ensures answer { result gives duration_answer IsoOrder.Lax Behavior.Error bytes.now }
     {
-        Self::parse(
+        Self::parse::<false>(
             bytes,
             IsoOrder::Lax,
             MicrosecondsPrecisionOverflowBehavior::Error,
@@ -135,7 +135,7 @@ impl Duration {
             → result gives duration_answer (time_choices config.now).order
             (time_choices config.now).behavior other }
     {
-        Self::parse(
+        Self::parse::<false>(
             bytes,
             config.iso_order,
             config.microseconds_precision_overflow_behavior,
@@ -144,9 +144,12 @@ impl Duration {
 
     /// Parses a duration, with or without a sign. The order and the behavior are arguments of their own,
     /// and no configuration: the compiler sees a constant argument, but none in a struct.
+    ///
+    /// `COLUMN` changes no answer. It gives columns a copy of their own: functions as long as these are
+    /// inlined only where they have one caller.
     #[inline(always)]
     #[tactic(auto, using(std::proofs::lemmas::List::take_rest))]
-    fn parse(
+    pub(crate) fn parse<const COLUMN: bool>(
         bytes: &[u8],
         order: IsoOrder,
         behavior: MicrosecondsPrecisionOverflowBehavior,
@@ -154,7 +157,7 @@ impl Duration {
         ensures answer { result gives duration_answer order behavior bytes.now }
     {
         let (negative, size) = sign(bytes);
-        let amount = UnsignedDuration::parse(&bytes[size..], order, behavior)?;
+        let amount = UnsignedDuration::parse::<COLUMN>(&bytes[size..], order, behavior)?;
         Self::with_sign(!negative, amount)
     }
 

@@ -25,7 +25,7 @@ impl UnsignedDuration {
     /// Parses a duration after its sign, in the form that its text has.
     #[inline(always)]
     #[tactic(auto, unfolding(crate::specs::Duration::unsigned_answer))]
-    pub(super) fn parse(
+    pub(super) fn parse<const COLUMN: bool>(
         bytes: &[u8],
         order: IsoOrder,
         behavior: Behavior,
@@ -35,13 +35,16 @@ impl UnsignedDuration {
         if byte_at(bytes, 0) == b'P' {
             return Sums::parse(&bytes[1..], order);
         }
-        Self::days_or_clock(bytes, behavior)
+        Self::days_or_clock::<COLUMN>(bytes, behavior)
     }
 
     /// Parses a duration of days, or one that a clock shows.
     #[inline(always)]
     #[tactic(auto, unfolding(crate::specs::Duration::form_answer))]
-    fn days_or_clock(bytes: &[u8], behavior: Behavior) -> Result<Self, ParseError>
+    fn days_or_clock<const COLUMN: bool>(
+        bytes: &[u8],
+        behavior: Behavior,
+    ) -> Result<Self, ParseError>
         ensures answer { result ≡ form_answer behavior bytes.now }
     {
         if bytes.is_empty() {
@@ -58,7 +61,9 @@ impl UnsignedDuration {
         if has_days(bytes, number.length) {
             return Self::from_days(bytes, number, behavior);
         }
-        Self::refused_clock(bytes, number, behavior)
+        // As the answer itself, the call's result would keep the answer in memory on the other ways too.
+        let clock = Self::refused_clock(bytes, number, behavior);
+        clock
     }
 
     /// Parses a refused clock again, for its error: out of line, so that it does not lengthen the way of

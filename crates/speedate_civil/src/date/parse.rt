@@ -74,6 +74,7 @@ impl Date {
     ///
     /// Of a timestamp those of [this table](docs/GRAMMAR.md#timestamps), of any other text those of
     /// [a date](docs/GRAMMAR.md#date), in the order of the rows.
+    #[inline(always)]
     pub fn parse_bytes_with_config(bytes: &[u8], config: &DateConfig) -> Result<Self, ParseError>
         ensures answer { result gives date_or_timestamp config.now.timestamp_unit bytes.now }
     {

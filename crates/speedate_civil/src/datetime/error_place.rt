@@ -20,7 +20,7 @@ ghost use Rattle.speedate_civil.specs.ErrorPlace.{
 ghost use Rattle.speedate_civil.specs.Standard.{standard_date_time, strict_date_time_answer};
 
 use super::DateTime;
-use super::parse::{TIME_PLACE, has_letter_t, has_separator};
+use super::parse::{SEPARATOR_PLACE, TIME_PLACE, has_letter_t, has_separator};
 use crate::date::Date;
 use crate::time::Time;
 use speedate_base::config::{DateTimeConfig, MicrosecondsPrecisionOverflowBehavior, TimeConfig};
@@ -146,7 +146,7 @@ impl DateTime {
             return Some(place);
         }
         if !has_separator(bytes) {
-            return Some(10);
+            return Some(SEPARATOR_PLACE);
         }
         match Time::front_error_place(&bytes[TIME_PLACE..], behavior) {
             Some(place) => Some(TIME_PLACE + place),
@@ -160,7 +160,7 @@ fn standard_error_place(bytes: &[u8]) -> Option<usize>
     ensures place { result ≡ first_place (standard_date_time bytes.now) }
 {
     if !has_letter_t(bytes) {
-        return Some(10);
+        return Some(SEPARATOR_PLACE);
     }
     match Time::standard_error_place(&bytes[TIME_PLACE..]) {
         Some(place) => Some(TIME_PLACE + place),

@@ -44,7 +44,10 @@ use speedate_base::util::{
 };
 use std::str::FromStr;
 
-/// The place of the time, after the ten bytes of a date and a separator.
+/// The place of the separator, after the ten bytes of a date.
+pub(super) const SEPARATOR_PLACE: usize = 10;
+
+/// The place of the time, after the separator.
 pub(super) const TIME_PLACE: usize = 11;
 
 impl DateTime {
@@ -356,7 +359,7 @@ pub(super) fn has_separator(bytes: &[u8]) -> bool
     ensures value { result ≡ is_separator (slice_index bytes.now 10) }
     ensures there { IsTrue result → 11 ≤ length bytes.now }
 {
-    let byte = byte_at(bytes, 10);
+    let byte = byte_at(bytes, SEPARATOR_PLACE);
     matches!(byte, b'T' | b't' | b' ' | b'_')
 }
 
@@ -366,7 +369,7 @@ pub(super) fn has_separator(bytes: &[u8]) -> bool
 /// # Errors
 ///
 /// Those of [RFC 3339 alone](docs/GRAMMAR.md#rfc-3339-alone), in the order of the rows.
-#[inline]
+#[inline(always)]
 #[tactic(auto, using(std::proofs::lemmas::List::take_rest))]
 pub fn require_standard_date_time(text: &[u8]) -> Result<(), ParseError>
     ensures answer { result ≡ first_fault_or (standard_date_time text.now) (Ok tt) }
@@ -378,12 +381,13 @@ pub fn require_standard_date_time(text: &[u8]) -> Result<(), ParseError>
 }
 
 /// Whether `T` or `t` follows the ten bytes of a date.
+#[inline(always)]
 pub(super) fn has_letter_t(text: &[u8]) -> bool
     ensures value { result
         ≡ ((slice_index text.now 10 == capital_t) || (slice_index text.now 10 == small_t)) }
     ensures there { IsTrue result → 11 ≤ length text.now }
 {
-    let byte = byte_at(text, 10);
+    let byte = byte_at(text, SEPARATOR_PLACE);
     byte == b'T' || byte == b't'
 }
 

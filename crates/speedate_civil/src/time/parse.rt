@@ -111,6 +111,7 @@ impl Time {
     /// - with `TzRequired`, if there is no offset;
     /// - with `InvalidCharTzSign`, if the sign of the offset is U+2212;
     /// - with `InvalidCharTzMinute`, if no `:` follows the hour of the offset.
+    #[inline(always)]
     pub fn parse_bytes_strict(
         bytes: &[u8],
         behavior: MicrosecondsPrecisionOverflowBehavior,
