@@ -712,7 +712,7 @@ function readLines(column, isEnd, parts, refusals) {
   const { bytes, view, calls: inC } = library;
   const addressOf = (place) => BigInt(library.start + place);
   const hasErrors = numbers.refusals !== undefined;
-  const call = inC[`speedate_${name}_column${hasErrors ? "_with_errors" : ""}`];
+  const call = inC[`speedate_${name}${hasErrors ? "_with_errors" : ""}`];
   const configs = [putConfig(library, numbers), putColumnConfig(library, numbers, isEnd)];
   const room = BigInt(LINES_AT_ONCE);
   const errors = hasErrors ? [addressOf(COLUMN.errors), room] : [];
@@ -778,12 +778,12 @@ function concatenated(parts, Numbers) {
 function newDateColumn(options) {
   const numbers = numbersOf(options, OPTIONS_OF.dateColumn);
   start();
-  return columnOf("date", DAYS, numbers);
+  return columnOf("date_column", DAYS, numbers);
 }
 function newDateTimeColumn(options) {
   const numbers = numbersOf(options, OPTIONS_OF.dateTimeColumn);
   start();
-  return columnOf("datetime", numbers.unit === 1 ? MICROSECONDS : MILLISECONDS, numbers);
+  return columnOf("datetime_column", numbers.unit === 1 ? MICROSECONDS : MILLISECONDS, numbers);
 }
 const readerOf = (column) => ({
   read: (text) => readPiece(column, text, false),

@@ -314,6 +314,8 @@ assert.deepEqual(inCommonJs.parseDate("2020-02-29"), date);
 assert.equal(require("speedate/package.json").name, "speedate");
 // A runner of tests, such as Jest, loads a script in a realm of its own.
 const file = require.resolve("speedate");
+for (const { name } of WebAssembly.Module.exports(wasm).filter((it) => it.name.startsWith("speedate_")))
+  assert.match(readFileSync(file, "utf8"), new RegExp(`["_]${name.replace(/^speedate_|_with_errors$/g, "")}\\b`), "no function that is not called");
 const inRealm = { exports: {} };
 runInNewContext(`(function (module, require, __dirname) {${readFileSync(file, "utf8")}\n})`, { TextEncoder })(inRealm, require, dirname(file));
 assert.equal(inRealm.exports.format(inRealm.exports.parseDateTime(Buffer.from("2020-02-29 12:13"), { overflow: "truncate" })), "2020-02-29T12:13:00");
