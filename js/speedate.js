@@ -519,6 +519,8 @@ function findDateTime(library, size, it) {
   const find = it.timestamps !== undefined ? inC.speedate_datetime_error_place : lax;
   return find(address.text, size, putConfig(library, it), address.taken);
 }
+const findDuration = (library, size, it) =>
+  library.calls.speedate_duration_error_place(address.text, size, putConfig(library, it), address.taken);
 const findDateFront = ({ calls }, size) => calls.speedate_date_error_place_front(address.text, size, address.taken);
 const findTimeFront = (library, size, it) =>
   library.calls.speedate_time_error_place_front(address.text, size, putConfig(library, it), address.taken);
@@ -600,7 +602,8 @@ export function parseDateTime(text, options) {
   return DATE_TIME.read(kept);
 }
 export function parseDuration(text, options) {
-  accept(codeOfDuration(text, options));
+  const code = codeOfDuration(text, options);
+  if (code !== 0) throw errorOf(code, text, options, findDuration);
   return DURATION.read(kept);
 }
 export function safeParseDate(text, options) {
@@ -617,7 +620,7 @@ export function safeParseDateTime(text, options) {
 }
 export function safeParseDuration(text, options) {
   const code = codeOfDuration(text, options);
-  return code === 0 ? { ok: true, value: DURATION.read(kept) } : new Refusal(faultOf(code));
+  return code === 0 ? { ok: true, value: DURATION.read(kept) } : refusal(code, text, options, findDuration);
 }
 
 /** A value that was read at the front of a text, with its size. */

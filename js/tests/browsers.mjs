@@ -153,20 +153,26 @@ const SAID = {
 };
 /** Texts, and by kind how the page marks where each is wrong, and says it. */
 const MARKED = {
-  "2021-02-29": ["Date 2021-02-[29] from character 9 on: ", "Time 20[21-02-29] from character 3 on: ", "Date-time 2021-02-[29] from character 9 on: "],
-  "2020-13-01": ["Date 2020-[13-01] from character 6 on: ", "Time 20[20-13-01] from character 3 on: ", "Date-time 2020-[13-01] from character 6 on: "],
-  "12:1": ["Date 12:1[] at the end: ", "Time 12:1[] at the end: ", "Date-time 12:1[] at the end: "],
-  "": ["Date [] at the end: ", "Time [] at the end: ", "Date-time [] at the end: "],
+  "2021-02-29": ["Date 2021-02-[29] from character 9 on: ", "Time 20[21-02-29] from character 3 on: ", "Date-time 2021-02-[29] from character 9 on: ", "Duration 2021[-02-29] from character 5 on: "],
+  "2020-13-01": ["Date 2020-[13-01] from character 6 on: ", "Time 20[20-13-01] from character 3 on: ", "Date-time 2020-[13-01] from character 6 on: ", "Duration 2020[-13-01] from character 5 on: "],
+  "P1D1Q": ["Date P1D1Q[] at the end: ", "Time [P1D1Q] from character 1 on: ", "Date-time P1D1Q[] at the end: ", "Duration P1D1[Q] from character 5 on: "],
+  "12:1": ["Date 12:1[] at the end: ", "Time 12:1[] at the end: ", "Date-time 12:1[] at the end: ", "Duration 12[:1] from character 3 on: "],
+  "": ["Date [] at the end: ", "Time [] at the end: ", "Date-time [] at the end: ", "Duration [] at the end: "],
   "2020-02-29T12:13\u221201:60": [
     "Date 2020-02-29[T12:13\u221201:60] from character 11 on: ", "Time 20[20-02-29T12:13\u221201:60] from character 3 on: ",
-    "Date-time 2020-02-29T12:13\u221201:[60] from character 21 on: ",
+    "Date-time 2020-02-29T12:13\u221201:[60] from character 21 on: ", "Duration [2020-02-29T12:13\u221201:60] from character 1 on: ",
   ],
   "12:13:14\u{1f552}": [
     "Date [12:13:14\u{1f552}] from character 1 on: ", "Time 12:13:14[\u{1f552}] from character 9 on: ",
-    "Date-time [12:13:14\u{1f552}] from character 1 on: ",
+    "Date-time [12:13:14\u{1f552}] from character 1 on: ", "Duration 12:13:14[\u{1f552}] from character 9 on: ",
+  ],
+  "00:0\u{1f600}\u{1f600}\u{1f600}": [
+    "Date [00:0\u{1f600}\u{1f600}\u{1f600}] from character 1 on: ", "Time 00:[0\u{1f600}\u{1f600}\u{1f600}] from character 4 on: ",
+    "Date-time [00:0\u{1f600}\u{1f600}\u{1f600}] from character 1 on: ", "Duration 00:0\u{1f600}\u{1f600}[\u{1f600}] from character 7 on: ",
   ],
   "\u{1f552}\u{1f552}": [
     "Date \u{1f552}\u{1f552}[] at the end: ", "Time [\u{1f552}\u{1f552}] from character 1 on: ", "Date-time \u{1f552}\u{1f552}[] at the end: ",
+    "Duration [\u{1f552}\u{1f552}] from character 1 on: ",
   ],
 };
 /** Texts with options, what the page offers by which they would be read, and after a click the options and what is shown first. */
@@ -196,7 +202,7 @@ const STEPS = [
   "Date-time: Saturday, 29 February 2020, 12:13:14.5, 1:30 east of UTC: 10:43:14.5 UTC.",
   2, "?text=12%3A13",
   "Date: day value is outside expected range, from character 9 on. Time: invalid time separator, expected `:`, from character 3 on. " +
-    "Date-time: day value is outside expected range, from character 9 on. Duration: invalid character in hour.",
+    "Date-time: day value is outside expected range, from character 9 on. Duration: invalid character in hour, from character 5 on.",
 ];
 
 /** The rows, the examples and the drawn texts. */

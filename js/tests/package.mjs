@@ -201,6 +201,9 @@ const PLACES = [
   ["Time", "12:13:14,5Z", 8, 8, { strict: true }], ["Time", "12:13:14.5", 10, 10, { strict: true }], ["Time", "12:13:14\u221208:00", 8, 8, { strict: true }],
   ["DateTime", "2020-02-29T12:60", 14, 14], ["DateTime", "1.0000000", 8, 8, { timestamps: "s" }], ["DateTime", "1.0", 2, 2, { timestamps: "us" }], ["DateTime", "1.0", 3, 3],
   ["DateTime", "2020-02-29 12:13:14Z", 10, 10, { strict: true }], ["DateTime", "2020-02-29T12:13:14.1234567\u22121", 28, 30, { overflow: "truncate" }],
+  ["Duration", "P1D1Q", 4, 4], ["Duration", "PT", 2, 2], ["Duration", "12345", 5, 5], ["Duration", "1 dax", 3, 3], ["Duration", "\u{1f552}", 0, 0],
+  ["Duration", `00:0${"\u00e9".repeat(7)}`, 9, 15], ["Duration", `00:0${"\u2212".repeat(4)}`, 7, 15], ["Duration", `00:0${"\u{1f600}".repeat(3)}`, 8, 15],
+  ["Duration", "P1D1Y", 4, 4, { isoOrder: "strict" }], ["Duration", "00:00:00.1234567x", 15, 15], ["Duration", "00:00:00.1234567x", 16, 16, { overflow: "truncate" }],
   ["DateFront", "2020-02-3 opening", 8, 8], ["TimeFront", "12:13\u22121 opening", 6, 8], ["DateTimeFront", "2020-02-29 opening", 11, 11],
 ];
 for (const [name, text, units, bytes, options] of PLACES) {
@@ -237,11 +240,12 @@ memory.grow(1);
 const [OUT, TAKEN, CONFIG, TEXT] = [0, 16, 24, 32].map((it) => Number(base.value) + it);
 const UNITS = ["infer", "s", "ms", "us"];
 /** The code that C gives of a text, and in bytes the size of a front, or the place of the error. */
-function answerInC(kind, how, bytes, { timestamps = "infer", overflow = "error" }) {
+function answerInC(kind, how, bytes, { timestamps = "infer", overflow = "error", isoOrder = "lax" }) {
   const view = new DataView(memory.buffer);
   new Uint8Array(memory.buffer).set(bytes, TEXT);
   view.setUint8(CONFIG + 5, UNITS.indexOf(timestamps));
   view.setUint8(CONFIG + 6, overflow === "truncate" ? 1 : 0);
+  view.setUint8(CONFIG + 7, isoOrder === "strict" ? 1 : 0);
   const config = kind === "date" && how !== "" ? [] : [BigInt(CONFIG)];
   const given = [BigInt(TEXT), BigInt(bytes.length), ...config];
   const taken = how === "_front" ? [BigInt(TAKEN)] : [];
@@ -267,7 +271,7 @@ const RESTS = ["", " x", "x".repeat(70), "7".repeat(200), "\u{1f600}".repeat(50)
 const MARKS = ["", "0", "9", "-", ":", ".", ",", "+", "T", "Z", " ", "\u00e9", "\u2212", "\u{1f600}", "\ud83d"];
 /** A value with what may follow it, or a short text of which one character is another. */
 function drawText() {
-  const [value, zone] = [one([...VALUES, "86400000", "20000000001.00001"]), one(ZONES)];
+  const [value, zone] = [one([...VALUES, "86400000", "20000000001.00001", "P1Y2M3DT4H5M6.5S", "-PT90M", "1 day, 10:20", "00:00:00.1234567"]), one(ZONES)];
   if (one([true, false])) return value + one(DIGITS) + zone + one(RESTS);
   const at = one([...value].map((_, i) => i));
   return value.slice(0, at) + one(MARKS) + (value + zone).slice(at + 1);
@@ -277,8 +281,9 @@ const READ = [
   ["Time", "time", "", "overflow"], ["Time", "time", "_strict", "overflow", "strict"], ["TimeFront", "time", "_front", "overflow"],
   ["DateTime", "datetime", "_rfc3339", "overflow"], ["DateTime", "datetime", "", "timestamps", "overflow"],
   ["DateTime", "datetime", "_strict", "overflow", "strict"], ["DateTimeFront", "datetime", "_front", "overflow"],
+  ["Duration", "duration", "", "overflow", "isoOrder"],
 ];
-const drawOption = { timestamps: () => one(UNITS), overflow: () => one(["error", "truncate"]), strict: () => true };
+const drawOption = { timestamps: () => one(UNITS), overflow: () => one(["error", "truncate"]), isoOrder: () => one(["lax", "strict"]), strict: () => true };
 for (let i = 0; i < 5000; i++) {
   const text = drawText();
   for (const [name, kind, how, ...names] of READ) {

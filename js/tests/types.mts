@@ -17,7 +17,7 @@ export const shapes = [
   same<number, SpeedateDate["year" | "month" | "day"]>(true, 0),
   same<number | null, SpeedateTime["offsetSeconds"]>(true, null), same<number, SpeedateTime["hour" | "minute" | "second" | "millisecond" | "microsecond"]>(true, 0),
   same<number | null, SpeedateDateTime["offsetSeconds"]>(true, null), same<number, Exclude<SpeedateDateTime[keyof SpeedateDateTime], null>>(true, 0),
-  same<Refusal["place"], number | undefined>(true, 0), same<speedate.SpeedateError["place"], number | undefined>(true, 0),
+  same<Refusal["place"], number>(true, 0), same<speedate.SpeedateError["place"], number | undefined>(true, 0),
   same<SpeedateDuration["sign"], 1 | -1>(true, second.sign), same<SpeedateDuration[keyof SpeedateDuration], number>(true, second.days),
 ];
 const bytes = new Uint8Array([49, 50, 58, 49, 51]);
