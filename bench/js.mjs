@@ -31,6 +31,13 @@ async function measure(addresses) {
     const of = (name, kind, others = []) => [`${name}, ${kind}`, speedate[name], values[kind], others];
     const named = (name, [, ...row]) => [name, ...row];
     const bytes = texts.DateTime.map((it) => new TextEncoder().encode(it));
+    const thrown = (call) => (text) => {
+      try {
+        return call(text);
+      } catch (error) {
+        return error;
+      }
+    };
     const lines = (size) => texts.DateTime.map((it) => `${it} `.padEnd(size, "GET /"));
     return [
       ["new Date(text)", (text) => new Date(text), texts.DateTime, []],
@@ -38,6 +45,7 @@ async function measure(addresses) {
       ...kinds.map((it) => reading(`parse${it}`, texts[it])), reading("safeParseDateTime", texts.DateTime),
       named("parseDateTime, an option", reading("parseDateTime", texts.DateTime, always({ overflow: "truncate" }))),
       named("parseDateTime, bytes", reading("parseDateTime", bytes)), named("safeParseDate, refused", reading("safeParseDate", texts.Time)),
+      ["parseDate, thrown", thrown(speedate.parseDate), texts.Time, []],
       named("parseDateTimeFront, 40 units", reading("parseDateTimeFront", lines(40))),
       named("parseDateTimeFront, 1000 units", reading("parseDateTimeFront", lines(1000))),
       reading("dateTimeFromTimestamp", days, always("s")), ...kinds.map((it) => of("format", it)),

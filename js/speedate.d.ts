@@ -34,12 +34,14 @@ export class SpeedateError extends RangeError {
   private constructor();
   readonly fault: Fault;
   /** The number of the fault in C. */ readonly code: number;
+  /** Where in the text the fault lies, as a Refusal has it. */ readonly place?: number;
   /** Of a line of a column its index, from 0. */ readonly index?: number;
 }
 /** The result of a `safe` call, which returns a refusal where another throws it. */
 export type Answer<Value> = { readonly ok: true; readonly value: Value } | Refusal;
-/** A refusal as a `safe` call returns it. */
-export type Refusal = { readonly ok: false; readonly fault: Fault; readonly code: number; readonly message: string };
+/** A refusal as a `safe` call returns it. `place` is where in the text the fault lies, in units of a string, otherwise in bytes: 5 of
+ * `2020-13-01`, and the length of a text that is too short. Within a character it is that of its beginning. It is found when it is read, so copies do not have it. */
+export type Refusal = { readonly ok: false; readonly fault: Fault; readonly code: number; readonly message: string; readonly place: number };
 /** The value at the front of a text, and its size in bytes of UTF-8, and in units of a string: 10 of `2020-02-29 rent`. */
 export type Front<Value, Text> = { readonly value: Value; readonly size: number } & (Text extends string ? { readonly length: number } : unknown);
 

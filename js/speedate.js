@@ -3,7 +3,7 @@
 
 /** The functions of speedate.h, a WebAssembly module. */
 const moduleBytes = () => decoded("@MODULE@");
-const NEEDED = "speedate needs WebAssembly with BigInt and bulk memory (Node 20, Chrome 115, Firefox 79, Safari 15) that a policy allows";
+const NEEDED = "speedate needs WebAssembly with BigInt and bulk memory (Node 20, Chrome 115, Firefox 90, Safari 15) that a policy allows";
 
 /** Where what goes in and comes out stands in the memory, from the end of the module's own part. */
 const PLACE = { out: 0, taken: 16, config: 24, defaultConfig: 32, first: 40, second: 56, buffer: 72, text: 136 };
@@ -28,10 +28,42 @@ export class SpeedateError extends RangeError {
   name = "SpeedateError";
   fault;
   code;
-  constructor({ fault, code, message }) {
+  #text;
+  #numbers;
+  #find;
+  constructor({ fault, code, message }, text, numbers, find) {
     super(message);
     this.fault = fault;
     this.code = code;
+    this.#text = text;
+    this.#numbers = numbers;
+    this.#find = find;
+  }
+  // A proxy has nothing that is private.
+  get place() {
+    return #text in this ? placeOf(this.#text, this.#numbers, this.#find) : undefined;
+  }
+}
+
+/** The answer to a text that is refused. */
+class Refusal {
+  ok = false;
+  fault;
+  code;
+  message;
+  #text;
+  #numbers;
+  #find;
+  constructor({ fault, code, message }, text, numbers, find) {
+    this.fault = fault;
+    this.code = code;
+    this.message = message;
+    this.#text = text;
+    this.#numbers = numbers;
+    this.#find = find;
+  }
+  get place() {
+    return #text in this ? placeOf(this.#text, this.#numbers, this.#find) : undefined;
   }
 }
 
@@ -100,17 +132,14 @@ function told(call, code) {
   return printed();
 }
 
-/** The answer to what is refused. */
-function refusal(code) {
-  const { fault, message } = (faults[code] ??= {
-    fault: told(calls.speedate_code_name, code), message: told(calls.speedate_code_documentation, code),
-  });
-  return { ok: false, fault, code, message };
+function faultOf(code) {
+  faults[code] ??= { fault: told(calls.speedate_code_name, code), code, message: told(calls.speedate_code_documentation, code) };
+  return faults[code];
 }
 
 /** Throws if this is the code of a call that refused. */
 function accept(code) {
-  if (code !== 0) throw new SpeedateError(refusal(code));
+  if (code !== 0) throw new SpeedateError(faultOf(code));
 }
 
 /** The size that a call has written: of its 64 bits a memory needs 32. */
@@ -475,62 +504,123 @@ const callTimeFront = (library, size, it) =>
 const callDateTimeFront = (library, size, it) =>
   library.calls.speedate_datetime_parse_front(address.text, size, putConfig(library, it), address.out, address.taken);
 
+// Beside each call stands the one that finds the place of an error in a text that it refuses.
+function findDate(library, size, it) {
+  if (it.timestamps === undefined) return library.calls.speedate_date_error_place_rfc3339(address.text, size, address.taken);
+  return library.calls.speedate_date_error_place(address.text, size, putConfig(library, it), address.taken);
+}
+function findTime(library, size, it) {
+  const { speedate_time_error_place: lax, speedate_time_error_place_strict: strict } = library.calls;
+  return (it.strict === 1 ? strict : lax)(address.text, size, putConfig(library, it), address.taken);
+}
+function findDateTime(library, size, it) {
+  const { calls: inC } = library;
+  const lax = it.strict === 1 ? inC.speedate_datetime_error_place_strict : inC.speedate_datetime_error_place_rfc3339;
+  const find = it.timestamps !== undefined ? inC.speedate_datetime_error_place : lax;
+  return find(address.text, size, putConfig(library, it), address.taken);
+}
+const findDuration = (library, size, it) =>
+  library.calls.speedate_duration_error_place(address.text, size, putConfig(library, it), address.taken);
+const findDateFront = ({ calls }, size) => calls.speedate_date_error_place_front(address.text, size, address.taken);
+const findTimeFront = (library, size, it) =>
+  library.calls.speedate_time_error_place_front(address.text, size, putConfig(library, it), address.taken);
+const findDateTimeFront = (library, size, it) =>
+  library.calls.speedate_datetime_error_place_front(address.text, size, putConfig(library, it), address.taken);
+
+/** The numbers of the options of the last text for which there were any. */
+let lastNumbers;
+
 // Options come first, since their getters may call this too.
 function codeOfDate(text, options) {
   const size = options === undefined ? putShort(text) : undefined;
   if (size !== undefined) return calls.speedate_date_parse_rfc3339(address.text, size, address.out);
-  return read(text, false, numbersOf(options, OPTIONS_OF.date), callDate);
+  return read(text, false, lastNumbers = numbersOf(options, OPTIONS_OF.date), callDate);
 }
 function codeOfTime(text, options) {
   const size = options === undefined ? putShort(text) : undefined;
   if (size !== undefined) return calls.speedate_time_parse(address.text, size, address.defaultConfig, address.out);
-  return read(text, false, numbersOf(options, OPTIONS_OF.time), callTime);
+  return read(text, false, lastNumbers = numbersOf(options, OPTIONS_OF.time), callTime);
 }
 function codeOfDateTime(text, options) {
   const size = options === undefined ? putShort(text) : undefined;
   if (size !== undefined) return calls.speedate_datetime_parse_rfc3339(address.text, size, address.defaultConfig, address.out);
-  return read(text, false, numbersOf(options, OPTIONS_OF.dateTime), callDateTime);
+  return read(text, false, lastNumbers = numbersOf(options, OPTIONS_OF.dateTime), callDateTime);
 }
 function codeOfDuration(text, options) {
   const size = options === undefined ? putShort(text) : undefined;
   if (size !== undefined) return calls.speedate_duration_parse(address.text, size, address.defaultConfig, address.out);
-  return read(text, false, numbersOf(options, OPTIONS_OF.duration), callDuration);
+  return read(text, false, lastNumbers = numbersOf(options, OPTIONS_OF.duration), callDuration);
 }
-const codeOfDateFront = (text, options) => read(frontOf(text), true, numbersOf(options, OPTIONS_OF.dateFront), callDateFront);
-const codeOfTimeFront = (text, options) => read(frontOf(text), true, numbersOf(options, OPTIONS_OF.front), callTimeFront);
-const codeOfDateTimeFront = (text, options) => read(frontOf(text), true, numbersOf(options, OPTIONS_OF.front), callDateTimeFront);
+const codeOfDateFront = (text, options) => read(frontOf(text), true, lastNumbers = numbersOf(options, OPTIONS_OF.dateFront), callDateFront);
+const codeOfTimeFront = (text, options) => read(frontOf(text), true, lastNumbers = numbersOf(options, OPTIONS_OF.front), callTimeFront);
+const codeOfDateTimeFront = (text, options) => read(frontOf(text), true, lastNumbers = numbersOf(options, OPTIONS_OF.front), callDateTimeFront);
+
+/** What a reader of a front looks at in bytes. */
+const seenOf = (text) =>
+  typeof text === "string" ? text : new Uint8Array(bufferOf.call(text), byteOffset.call(text), frontSize(text, byteCount.call(text), byteAt));
+
+// A refusal keeps what the place of its error is found from, once it is asked for. Bytes may have been written by then.
+const keptText = (text) => (typeof text === "string" ? text : new Uint8Array(text));
+const keptNumbers = (options) => (options === undefined ? NO_OPTIONS : lastNumbers);
+
+/** The answer to a text that a call has refused with this code, and the error. */
+const refusal = (code, text, options, find) => new Refusal(faultOf(code), keptText(text), keptNumbers(options), find);
+const errorOf = (code, text, options, find) => new SpeedateError(faultOf(code), keptText(text), keptNumbers(options), find);
+
+/** The place of an error, if a text was refused. */
+function placeOf(text, numbers, find) {
+  if (text === undefined) return undefined;
+  read(text, false, numbers, find);
+  const place = takenSize();
+  return typeof text === "string" ? unitsBefore(text, place) : place;
+}
+
+/** The units of a string before this many of its bytes: whole characters alone, since a place may lie within one. */
+function unitsBefore(text, size) {
+  let units = 0;
+  for (let bytes = 0; bytes < size; ) {
+    const point = text.codePointAt(units);
+    bytes += point < 0x80 ? 1 : point < 0x800 ? 2 : point < 0x10000 ? 3 : 4;
+    if (bytes <= size) units += point < 0x10000 ? 1 : 2;
+  }
+  return units;
+}
 
 export function parseDate(text, options) {
-  accept(codeOfDate(text, options));
+  const code = codeOfDate(text, options);
+  if (code !== 0) throw errorOf(code, text, options, findDate);
   return DATE.read(kept);
 }
 export function parseTime(text, options) {
-  accept(codeOfTime(text, options));
+  const code = codeOfTime(text, options);
+  if (code !== 0) throw errorOf(code, text, options, findTime);
   return TIME.read(kept);
 }
 export function parseDateTime(text, options) {
-  accept(codeOfDateTime(text, options));
+  const code = codeOfDateTime(text, options);
+  if (code !== 0) throw errorOf(code, text, options, findDateTime);
   return DATE_TIME.read(kept);
 }
 export function parseDuration(text, options) {
-  accept(codeOfDuration(text, options));
+  const code = codeOfDuration(text, options);
+  if (code !== 0) throw errorOf(code, text, options, findDuration);
   return DURATION.read(kept);
 }
 export function safeParseDate(text, options) {
   const code = codeOfDate(text, options);
-  return code === 0 ? { ok: true, value: DATE.read(kept) } : refusal(code);
+  return code === 0 ? { ok: true, value: DATE.read(kept) } : refusal(code, text, options, findDate);
 }
 export function safeParseTime(text, options) {
   const code = codeOfTime(text, options);
-  return code === 0 ? { ok: true, value: TIME.read(kept) } : refusal(code);
+  return code === 0 ? { ok: true, value: TIME.read(kept) } : refusal(code, text, options, findTime);
 }
 export function safeParseDateTime(text, options) {
   const code = codeOfDateTime(text, options);
-  return code === 0 ? { ok: true, value: DATE_TIME.read(kept) } : refusal(code);
+  return code === 0 ? { ok: true, value: DATE_TIME.read(kept) } : refusal(code, text, options, findDateTime);
 }
 export function safeParseDuration(text, options) {
   const code = codeOfDuration(text, options);
-  return code === 0 ? { ok: true, value: DURATION.read(kept) } : refusal(code);
+  return code === 0 ? { ok: true, value: DURATION.read(kept) } : refusal(code, text, options, findDuration);
 }
 
 /** A value that was read at the front of a text, with its size. */
@@ -547,28 +637,31 @@ function unitsOf(text, size) {
 }
 
 export function parseDateFront(text, options) {
-  accept(codeOfDateFront(text, options));
+  const code = codeOfDateFront(text, options);
+  if (code !== 0) throw errorOf(code, seenOf(text), options, findDateFront);
   return frontAnswer(DATE.read(kept), text);
 }
 export function parseTimeFront(text, options) {
-  accept(codeOfTimeFront(text, options));
+  const code = codeOfTimeFront(text, options);
+  if (code !== 0) throw errorOf(code, seenOf(text), options, findTimeFront);
   return frontAnswer(TIME.read(kept), text);
 }
 export function parseDateTimeFront(text, options) {
-  accept(codeOfDateTimeFront(text, options));
+  const code = codeOfDateTimeFront(text, options);
+  if (code !== 0) throw errorOf(code, seenOf(text), options, findDateTimeFront);
   return frontAnswer(DATE_TIME.read(kept), text);
 }
 export function safeParseDateFront(text, options) {
   const code = codeOfDateFront(text, options);
-  return code === 0 ? { ok: true, value: frontAnswer(DATE.read(kept), text) } : refusal(code);
+  return code === 0 ? { ok: true, value: frontAnswer(DATE.read(kept), text) } : refusal(code, seenOf(text), options, findDateFront);
 }
 export function safeParseTimeFront(text, options) {
   const code = codeOfTimeFront(text, options);
-  return code === 0 ? { ok: true, value: frontAnswer(TIME.read(kept), text) } : refusal(code);
+  return code === 0 ? { ok: true, value: frontAnswer(TIME.read(kept), text) } : refusal(code, seenOf(text), options, findTimeFront);
 }
 export function safeParseDateTimeFront(text, options) {
   const code = codeOfDateTimeFront(text, options);
-  return code === 0 ? { ok: true, value: frontAnswer(DATE_TIME.read(kept), text) } : refusal(code);
+  return code === 0 ? { ok: true, value: frontAnswer(DATE_TIME.read(kept), text) } : refusal(code, seenOf(text), options, findDateTimeFront);
 }
 
 // ---- Columns ----
@@ -622,7 +715,7 @@ function readLines(column, isEnd, parts, refusals) {
   const { bytes, view, calls: inC } = library;
   const addressOf = (place) => BigInt(library.start + place);
   const hasErrors = numbers.refusals !== undefined;
-  const call = inC[`speedate_${name}_column${hasErrors ? "_with_errors" : ""}`];
+  const call = inC[`speedate_${name}${hasErrors ? "_with_errors" : ""}`];
   const configs = [putConfig(library, numbers), putColumnConfig(library, numbers, isEnd)];
   const room = BigInt(LINES_AT_ONCE);
   const errors = hasErrors ? [addressOf(COLUMN.errors), room] : [];
@@ -634,7 +727,7 @@ function readLines(column, isEnd, parts, refusals) {
     lines = view.getUint32(COLUMN.progress, true);
     at += view.getUint32(COLUMN.progress + 8, true);
     const error = view.getInt32(COLUMN.progress + 16, true);
-    if (error !== 0) throw Object.assign(new SpeedateError(refusal(error)), { index: column.lines + lines });
+    if (error !== 0) throw Object.assign(new SpeedateError(faultOf(error)), { index: column.lines + lines });
     parts.push(numbersIn(view, lines, column));
     if (hasErrors) addRefusals(refusals, bytes.subarray(COLUMN.errors, COLUMN.errors + lines), column.lines);
     column.lines += lines;
@@ -652,8 +745,7 @@ function numbersIn(view, lines, { Numbers, numberAt }) {
 function addRefusals(refusals, errors, first) {
   for (let i = 0; i < errors.length; i++) {
     if (errors[i] === 0) continue;
-    const { fault, code, message } = refusal(errors[i]);
-    refusals.push({ index: first + i, fault, code, message });
+    refusals.push({ index: first + i, ...faultOf(errors[i]) });
   }
 }
 
@@ -689,12 +781,12 @@ function concatenated(parts, Numbers) {
 function newDateColumn(options) {
   const numbers = numbersOf(options, OPTIONS_OF.dateColumn);
   start();
-  return columnOf("date", DAYS, numbers);
+  return columnOf("date_column", DAYS, numbers);
 }
 function newDateTimeColumn(options) {
   const numbers = numbersOf(options, OPTIONS_OF.dateTimeColumn);
   start();
-  return columnOf("datetime", numbers.unit === 1 ? MICROSECONDS : MILLISECONDS, numbers);
+  return columnOf("datetime_column", numbers.unit === 1 ? MICROSECONDS : MILLISECONDS, numbers);
 }
 const readerOf = (column) => ({
   read: (text) => readPiece(column, text, false),

@@ -17,7 +17,7 @@ const source = (name) => readFileSync(`${root}/${name}`, "utf8");
 /** What the page to try shows by its address and after each step of a visitor; what is wrong with how it looks and is reached,
  * which should be nothing; the calls that it shows; and the least milliseconds in which it shows what a typed text is: the
  * machine may be busy. */
-async function visit(SAID) {
+async function visit({ SAID, MARKED, OFFERED }) {
   const form = document.forms[0];
   const [nav, options, main, status] = ["nav", "details", "main", "[role=status]"].map((it) => document.querySelector(it));
   const sleep = (milliseconds) => new Promise((resolve) => setTimeout(resolve, milliseconds));
@@ -53,6 +53,24 @@ async function visit(SAID) {
     type(it);
     steps.push(all(".said", (it) => it.textContent).join(" or "));
   }
+  const marks = MARKED.map((it) => {
+    type(it);
+    return all(".why code", (code) => [code.closest("summary"), code.querySelector("span"), code.querySelector("mark"), code.nextSibling])
+      .map(([row, right, wrong, words]) => `${row.firstChild.textContent} ${right?.textContent ?? ""}[${wrong.textContent}] ${words.textContent}`);
+  });
+  // A frame from disk is given no focus by WebKit.
+  let isFocused;
+  main.focus = () => (isFocused = main.hasAttribute("tabindex"));
+  const offers = OFFERED.map(([text, fields]) => {
+    form.reset();
+    isFocused = false;
+    for (const [name, value] of Object.entries(fields)) form[name][value === true ? "checked" : "value"] = value;
+    type(text);
+    const offered = all("#refused button", (it) => `${it.closest("#refused > div").querySelector("b").textContent}: ${it.textContent}`);
+    main.querySelector("#refused button")?.click();
+    return [text, fields, offered, options.querySelector("summary").textContent, (isFocused || offered.length === 0) && shown().replace(/, .*/, "")];
+  });
+  form.reset();
   const least = Math.min(...Array.from(typed, (_, i) => type(typed.slice(0, i + 1))));
   steps.push(changes, main.querySelector(".said").textContent, all(".said span, dd span", (it) => `${it.className} ${it.textContent}`).join("|"));
   await sleep(900);
@@ -60,6 +78,9 @@ async function visit(SAID) {
   type("12:13");
   await sleep(450);
   steps.push(changes, location.search);
+  type("2021-02-29");
+  await sleep(900);
+  steps.push(status.textContent);
 
   const wrong = [];
   const has = (holds, what) => holds || wrong.push(what);
@@ -72,6 +93,21 @@ async function visit(SAID) {
     const [red, green, blue] = color.match(/[\d.]+/g).map((it) => (it / 255 <= 0.03928 ? it / 255 / 12.92 : ((it / 255 + 0.055) / 1.055) ** 2.4));
     return 0.2126 * red + 0.7152 * green + 0.0722 * blue;
   };
+  /** Whether each mark is seen within its line, and as a line, not as a colour alone. */
+  const isMarked = (name) => {
+    for (const mark of all("mark", (it) => it)) {
+      const { borderBottomWidth, borderBottomColor } = getComputedStyle(mark);
+      has(parseFloat(borderBottomWidth) >= 2 && 1.05 / (light(borderBottomColor) + 0.05) >= 3, `${name}: the line of ${mark.textContent}`);
+      const { left, right, width, height } = mark.getBoundingClientRect();
+      const line = mark.closest(".why").getBoundingClientRect();
+      has(width >= 8 && height >= 12 && left >= line.left && right <= line.right + 0.5, `${name}: ${mark.textContent} from ${left} to ${right}`);
+    }
+  };
+  for (const it of ["", "2020-02-29".padEnd(300, "x"), `12:13:14.${"1".repeat(300)}x`]) {
+    type(it);
+    isMarked(`${it.length} units`);
+    for (const details of all("details", (it) => it)) has(details.getBoundingClientRect().height < 50, `${it.length} units: a refusal in a line`);
+  }
   const calls = [];
   for (const link of nav.querySelectorAll("a")) {
     link.click();
@@ -83,6 +119,7 @@ async function visit(SAID) {
       const { borderTopWidth, borderTopColor } = getComputedStyle(it);
       has(borderTopWidth === "0px" || 1.05 / (light(borderTopColor) + 0.05) >= 3, `${name}: the border of ${it.textContent || it.name}`);
     }
+    isMarked(name);
     for (const it of all("dd", (it) => it)) has(it.scrollWidth <= it.clientWidth, `${name}: ${it.textContent} in one line`);
     for (const section of all("section", (it) => it)) {
       const value = section.querySelector("dd:last-child").textContent;
@@ -103,7 +140,7 @@ async function visit(SAID) {
     has(bottom < 640, `${link.textContent} is answered at ${bottom} points`);
     for (const it of all("details", (it) => it)) has(it.getBoundingClientRect().height < 50, `${link.textContent}: a refusal in a line`);
   }
-  report({ width: innerWidth, steps, wrong, calls, least });
+  report({ width: innerWidth, steps, marks, offers, wrong, calls, least });
 }
 /** Texts, and what the page says of each. */
 const SAID = {
@@ -114,6 +151,42 @@ const SAID = {
   "9999-12-31T23:30-01:00": "Friday, 31 December 9999, 23:30, 1:00 west of UTC: in UTC outside the years 0 to 9999",
   "-P1DT1H1M1.5S": "minus 1 day 1 hour 1 minute 1.5 seconds", "P1Y2M": "425 days", PT0S: "0 seconds", "-PT0.01S": "minus 0.01 seconds", PT1S: "1 second",
 };
+/** Texts, and by kind how the page marks where each is wrong, and says it. */
+const MARKED = {
+  "2021-02-29": ["Date 2021-02-[29] from character 9 on: ", "Time 20[21-02-29] from character 3 on: ", "Date-time 2021-02-[29] from character 9 on: ", "Duration 2021[-02-29] from character 5 on: "],
+  "2020-13-01": ["Date 2020-[13-01] from character 6 on: ", "Time 20[20-13-01] from character 3 on: ", "Date-time 2020-[13-01] from character 6 on: ", "Duration 2020[-13-01] from character 5 on: "],
+  "P1D1Q": ["Date P1D1Q[] at the end: ", "Time [P1D1Q] from character 1 on: ", "Date-time P1D1Q[] at the end: ", "Duration P1D1[Q] from character 5 on: "],
+  "12:1": ["Date 12:1[] at the end: ", "Time 12:1[] at the end: ", "Date-time 12:1[] at the end: ", "Duration 12[:1] from character 3 on: "],
+  "": ["Date [] at the end: ", "Time [] at the end: ", "Date-time [] at the end: ", "Duration [] at the end: "],
+  "2020-02-29T12:13\u221201:60": [
+    "Date 2020-02-29[T12:13\u221201:60] from character 11 on: ", "Time 20[20-02-29T12:13\u221201:60] from character 3 on: ",
+    "Date-time 2020-02-29T12:13\u221201:[60] from character 21 on: ", "Duration [2020-02-29T12:13\u221201:60] from character 1 on: ",
+  ],
+  "12:13:14\u{1f552}": [
+    "Date [12:13:14\u{1f552}] from character 1 on: ", "Time 12:13:14[\u{1f552}] from character 9 on: ",
+    "Date-time [12:13:14\u{1f552}] from character 1 on: ", "Duration 12:13:14[\u{1f552}] from character 9 on: ",
+  ],
+  "00:0\u{1f600}\u{1f600}\u{1f600}": [
+    "Date [00:0\u{1f600}\u{1f600}\u{1f600}] from character 1 on: ", "Time 00:[0\u{1f600}\u{1f600}\u{1f600}] from character 4 on: ",
+    "Date-time [00:0\u{1f600}\u{1f600}\u{1f600}] from character 1 on: ", "Duration 00:0\u{1f600}\u{1f600}[\u{1f600}] from character 7 on: ",
+  ],
+  "\u{1f552}\u{1f552}": [
+    "Date \u{1f552}\u{1f552}[] at the end: ", "Time [\u{1f552}\u{1f552}] from character 1 on: ", "Date-time \u{1f552}\u{1f552}[] at the end: ",
+    "Duration [\u{1f552}\u{1f552}] from character 1 on: ",
+  ],
+};
+/** Texts with options, what the page offers by which they would be read, and after a click the options and what is shown first. */
+const OFFERED = [
+  ["2020-02-29T12:13:14.123456789Z", {}, ["Date-time: six digits are read: drop the others"], "Options, overflow: truncate", "Date-time: 2020-02-29T12:13:14.123456Z"],
+  ["20200229", {}, ["Date-time: timestamps are not read: allow them"], "Options, timestamps: infer", "Date-time: 1970-08-22T19:10:29"],
+  ["2020-02-29T12:13:14", { strict: true }, ["Date-time: only RFC 3339 is read: allow more"], "Options", "Date-time: 2020-02-29T12:13:14"],
+  ["P1D1Y", { isoOrder: "strict" }, ["Duration: one order is read: allow any"], "Options", "Duration: P1Y1D"],
+  ["1.0000", { timestamps: "ms" }, ["Date-time: three digits are read: drop the others"], "Options, timestamps: ms, overflow: truncate", "Date-time: 1970-01-01T00:00:00.001000"],
+  ["1.0", { timestamps: "us" }, ["Date-time: whole numbers are read: drop the others"], "Options, timestamps: us, overflow: truncate", "Date-time: 1970-01-01T00:00:00.000001"],
+  ["86400", { timestamps: "s", strict: true }, ["Date-time: only RFC 3339 is read: allow more"], "Options, timestamps: s", "Date: 1970-01-02"],
+  ["1", { timestamps: "s" }, [], "Options, timestamps: s", "Date-time: 1970-01-01T00:00:01"],
+  ["2021-02-29", {}, [], "Options", "Date: out_of_range_day"],
+];
 const STEPS = [
   "Date: out_of_range_day, Time: invalid_char_time_sep, Date-time: out_of_range_day, Duration: invalid_char_hour",
   "../docs/GRAMMAR.md#fault-out_of_range_day", true,
@@ -128,6 +201,8 @@ const STEPS = [
   1, "?text=2020-02-29T12%3A13%3A14.5%2B01%3A30",
   "Date-time: Saturday, 29 February 2020, 12:13:14.5, 1:30 east of UTC: 10:43:14.5 UTC.",
   2, "?text=12%3A13",
+  "Date: day value is outside expected range, from character 9 on. Time: invalid time separator, expected `:`, from character 3 on. " +
+    "Date-time: day value is outside expected range, from character 9 on. Duration: invalid character in hour, from character 5 on.",
 ];
 
 /** The rows, the examples and the drawn texts. */
@@ -156,7 +231,7 @@ const reporting = `<script>
 files["all.html"] = `<!DOCTYPE html>${reporting}
   <script type="importmap">{ "imports": { "speedate": "./speedate.js", "node:assert/strict": "./shim.mjs", "node:fs": "./shim.mjs" } }</script>
   <script type="module">(${readAll})()</script>`;
-writeFileSync("try.html", `${source("out/try.html")}${reporting}<script type="module">(${visit})(${JSON.stringify(Object.keys(SAID))})</script>`);
+writeFileSync("try.html", `${source("out/try.html")}${reporting}<script type="module">(${visit})(${JSON.stringify({ SAID: Object.keys(SAID), MARKED: Object.keys(MARKED), OFFERED })})</script>`);
 writeFileSync("frames.html", `<!DOCTYPE html><body><script>
   const frames = [[360, "try.html?text=2021-02-29"], [1280, "try.html?text=2021-02-29"], [100, "http://127.0.0.1:${port}/all.html"]];
   const add = ([width, src]) => document.body.append(Object.assign(document.createElement("iframe"), { width, src, height: 800 }));
@@ -174,7 +249,7 @@ const all = await told(240, "the rows and the drawn texts");
 assert.deepEqual(all.drawn, { ...readDrawn(), wrong: [] });
 for (const [i, width] of [360, 1280].entries()) {
   const { calls, least, ...others } = visits[i];
-  assert.deepEqual(others, { width, steps: STEPS, wrong: [] });
+  assert.deepEqual(others, { width, steps: STEPS, marks: Object.values(MARKED), offers: OFFERED, wrong: [] });
   assert.ok(least < 16, `what is typed is shown after ${least} milliseconds`);
 }
 

@@ -9,7 +9,7 @@ const FORMS = [
   ["date", "Temporal", "####0#1#", "+00####-0#-1#", "####-0#-1#T0#:%#", "####-0#-1#[u-ca=iso8601]"],
   ["time", "both", "##:%#", "##:%#:%#", "##:%#:%#.###", "##:%#:%#,######", "##:%#+0#:%#", "##:%#:%#-1#%#"],
   ["time", "Temporal", "1#", "1#%#", "T1#:%#", "1#:%#:60", "1#:%#:%#.#######", "1#:%#+0#", "1#:%#-0#:%#:%#", "1#:%#[UTC]"],
-  ["time", "speedate", "1#:%#Z", "1#:%#z", "1#:%#\u22120#:%#"],
+  ["time", "speedate", "1#:%#Z", "1#:%#z", "1#:%#\u22120#:%#", "1#:%#\u2212%#:##"],
   ["date-time", "both", "####-0#-##T##:%#", "####-1#-2#t##:%#:%#Z", "####-0#-1# ##:%#:%#.###+1#:%#", "####-0#-1# ##:%#:%#,######-0#%#"],
   ["date-time", "Temporal", "####-0#-1#", "####0#1#T1#:%#", "+00####-0#-1#T1#:%#Z", "####-0#-1#T1#%#", "####-0#-1#T1#:%#:60"],
   ["date-time", "Temporal", "####-0#-1#T1#:%#:%#.#######", "####-0#-1#T1#:%#+0#", "####-0#-1#T1#:%#Z[UTC]"],
@@ -92,7 +92,7 @@ export function readDrawn() {
       texts.push(text);
       all.push(it);
       if (it.ok) last ??= it.value;
-      for (const unit of JSON.stringify([it, it.ok && answers(it.value, last)])) hash = (hash * 31 + unit.charCodeAt(0)) | 0;
+      for (const unit of JSON.stringify([it, it.place, it.ok && answers(it.value, last)])) hash = (hash * 31 + unit.charCodeAt(0)) | 0;
       const other = hasTemporal ? taken(from, text, text) : undefined;
       counts.here += it.ok;
       counts.there += other !== undefined;

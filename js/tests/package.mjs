@@ -1,5 +1,5 @@
-// Wrong arguments, options, values, other realms and prototypes, long texts, many calls, CommonJS, how a module is found, and the
-// examples of documents: node package.mjs DOCUMENT..
+// Wrong arguments, options, values, other realms and prototypes, long texts, places of errors, many calls, CommonJS, how a module is
+// found, and the examples of documents: node package.mjs DOCUMENT..
 import assert from "node:assert/strict";
 import { readFileSync, writeFileSync } from "node:fs";
 import { createRequire } from "node:module";
@@ -132,7 +132,7 @@ for (const make of [() => parseDate("2020-02-29"), () => parseTime("12:13"), () 
   const before = structuredClone(make());
   const it = make();
   for (const name of Object.keys(it)) it[name] = "changed";
-  assert.deepEqual(make(), before, "what is handed out is the caller's");
+  assert.deepEqual({ ...make() }, before, "what is handed out is the caller's");
 }
 
 // ---- Other realms, prototypes that others have changed, and arrays that are not what they say ----
@@ -143,9 +143,9 @@ assert.equal(format(fromDate(elsewhere("new Date(0)"))), "1970-01-01T00:00:00Z")
 assert.deepEqual(parseTime(elsewhere("new Uint8Array([49, 50, 58, 49, 51])")), parseTime("12:13"));
 assert.equal(format(elsewhere("({ year: 2020, month: 2, day: 29 })")), "2020-02-29");
 
-const polluted = { timestamps: "s", timestampOffset: 0, overflow: "truncate", isoOrder: "strict", strict: true, exact: false, missingOffset: "utc", unit: "us", refusals: [], index: 5, offsetSeconds: 90, year: -1, hour: 1, kind: 1 };
+const polluted = { timestamps: "s", timestampOffset: 0, overflow: "truncate", isoOrder: "strict", strict: true, exact: false, missingOffset: "utc", unit: "us", refusals: [], index: 5, place: 5, offsetSeconds: 90, year: -1, hour: 1, kind: 1 };
 const unchanged = () => [safeParseDate("86400"), safeParseDate("86400", {}), speedate.safeParseTime("12:13:14.1234567", {}), speedate.safeParseDateTime("2020-02-29 12:13"),
-  speedate.safeParseDateTime("1.5", { overflow: "truncate" }), speedate.safeParseDuration("P1D1Y"), thrown(() => dateFromTimestamp(1, "s")).fault,
+  speedate.safeParseDateTime("1.5", { overflow: "truncate" }), speedate.safeParseDuration("P1D1Y"), Object.entries(thrown(() => dateFromTimestamp(1, "s"))),
   thrown(() => inTimezone(parseTime("12:13"), 0)).fault, thrown(() => speedate.dateTimeColumn("2020-02-29T12:13", {})).fault,
   speedate.dateTimeColumn("2020-02-29T12:13Z", {}), speedate.dateTimeColumn("2020-02-29T12:13Z"), speedate.dateColumn("2020-02-29", {}), thrown(() => speedate.dateColumn("86400")).fault,
   speedate.dateTimeFromTimestamp(1, "s"), speedate.dateTimeFromTimestamp(1, "s", {}), format(date), format(duration), speedate.dayOfYear(date)];
@@ -174,7 +174,7 @@ assert.deepEqual(parseDate("2020-02-29"), date);
 // ---- Values, long texts, and many ----
 
 assert.deepEqual(duration, { sign: -1, days: -1, seconds: 0, milliseconds: -1, microseconds: -2 });
-assert.deepEqual(safeParseDate("x"), { ok: false, fault: "too_short", code: 1, message: "input is too short" });
+assert.deepEqual({ ...safeParseDate("x") }, { ok: false, fault: "too_short", code: 1, message: "input is too short" });
 assert.deepEqual(fromDate(toDate(dateTime)), dateTime);
 const seen = [];
 format(new Proxy(dateTime, { get: (it, name) => (seen.push(name), it[name]) }));
@@ -189,19 +189,78 @@ for (const size of [63, 64, 65, 65000, 66000, 2 ** 24, 2 ** 24 + 1]) {
   assert.deepEqual(parseDateFront(`2020-02-29${"\u2212".repeat(size)}`), { value: date, size: 10, length: 10 });
 }
 
-// Of a long line a reader of fronts gets no more than it can look at. The functions of C get all of it, and answer alike.
+// ---- Places of errors: in units of a string, otherwise in bytes ----
+
+/** A reader, a text that it refuses, and the place in a string and in bytes. */
+const PLACES = [
+  ["Date", "2020-13-01", 5, 5], ["Date", "20200229", 8, 8], ["Date", "86400", 0, 0, { timestamps: "us" }], ["Date", "", 0, 0],
+  ["Date", "\u00e9", 1, 2], ["Date", "\u2212", 1, 3], ["Date", "\u{1f600}", 2, 4], ["Date", "\ud83d", 1, 3], ["Date", "\ud83d\u{1f600}\ude00", 0, 0],
+  ["Date", "2020-02-29\u{1f600}", 10, 10], ["Date", `2020-01-01${"\u00e9".repeat(70)}`, 10, 10], ["Date", `2020-01-01${"x".repeat(2 ** 24)}`, 10, 10],
+  ["Time", "12:13:60", 6, 6], ["Time", "12:13\u221201:60", 9, 11], ["Time", "12:13\u221208:00\u{1f600}", 11, 13], ["Time", "12:13:14\u{1f552}", 8, 8],
+  ["Time", "12:13:14.1234567x", 15, 15], ["Time", "12:13:14.1234567x", 16, 16, { overflow: "truncate" }], ["Time", "\u00e9\u00e9", 2, 4],
+  ["Time", "12:13:14,5Z", 8, 8, { strict: true }], ["Time", "12:13:14.5", 10, 10, { strict: true }], ["Time", "12:13:14\u221208:00", 8, 8, { strict: true }],
+  ["DateTime", "2020-02-29T12:60", 14, 14], ["DateTime", "1.0000000", 8, 8, { timestamps: "s" }], ["DateTime", "1.0", 2, 2, { timestamps: "us" }], ["DateTime", "1.0", 3, 3],
+  ["DateTime", "2020-02-29 12:13:14Z", 10, 10, { strict: true }], ["DateTime", "2020-02-29T12:13:14.1234567\u22121", 28, 30, { overflow: "truncate" }],
+  ["Duration", "P1D1Q", 4, 4], ["Duration", "PT", 2, 2], ["Duration", "12345", 5, 5], ["Duration", "1 dax", 3, 3], ["Duration", "\u{1f552}", 0, 0],
+  ["Duration", `00:0${"\u00e9".repeat(7)}`, 9, 15], ["Duration", `00:0${"\u2212".repeat(4)}`, 7, 15], ["Duration", `00:0${"\u{1f600}".repeat(3)}`, 8, 15],
+  ["Duration", "P1D1Y", 4, 4, { isoOrder: "strict" }], ["Duration", "00:00:00.1234567x", 15, 15], ["Duration", "00:00:00.1234567x", 16, 16, { overflow: "truncate" }],
+  ["DateFront", "2020-02-3 opening", 8, 8], ["TimeFront", "12:13\u22121 opening", 6, 8], ["DateTimeFront", "2020-02-29 opening", 11, 11],
+];
+for (const [name, text, units, bytes, options] of PLACES) {
+  for (const [it, place] of [[text, units], [Buffer.from(text), bytes]]) {
+    assert.equal(speedate[`safeParse${name}`](it, options).place, place, text);
+    assert.equal(thrown(() => speedate[`parse${name}`](it, options)).place, place, text);
+  }
+}
+const options = { overflow: "truncate" };
+const [answer, raised] = [speedate.safeParseTime("12:13:14.1234567x", options), thrown(() => parseTime("12:13:14.1234567x", options))];
+const fields = { fault: "invalid_char_tz_sign", code: 14 };
+for (const copy of [JSON.parse(JSON.stringify(answer)), structuredClone(answer), { ...answer }]) assert.deepEqual(copy, { ok: false, ...fields, message: raised.message });
+assert.deepEqual(Object.keys(raised), ["name", "fault", "code"]);
+for (const it of [answer, raised]) {
+  assert.throws(() => (it.place = 1), TypeError);
+  assert.equal(new Proxy(it, {}).place, undefined, "a proxy has no place");
+}
+options.overflow = "error";
+safeParseDate("2020-02-29", { get timestamps() { assert.equal(raised.place, 16); } });
+assert.equal(parseTime("12:13:14.1234567", { get overflow() { assert.equal(answer.place, 16); return "truncate"; } }).microsecond, 456);
+assert.deepEqual([answer.place, raised.place, answer.place], [16, 16, 16], "a place is that by the options that were given");
+for (const [call, text, place] of [["Time", "12:13:60", 6], ["TimeFront", `12:13:60${" ".repeat(2 ** 20)}`, 6]]) {
+  const changed = Buffer.from(text);
+  const both = [speedate[`safeParse${call}`](changed), thrown(() => speedate[`parse${call}`](changed))];
+  changed.fill(0);
+  assert.deepEqual(both.map((it) => it.place), [place, place], "a place is that of the bytes that were refused");
+}
+for (const call of [() => addDays({ ...date, day: 32 }, 1), () => format({ ...date, day: 32 }), () => dateFromTimestamp(1, "s"), () => parseDate("x", { other: 1 }), () => speedate.dateColumn("x")])
+  assert.equal(thrown(call).place, undefined, "a place is that of a text");
+
+// Readers answer as the functions of C do. Of a long line one of fronts gets no more than it can look at, and C all of it.
 const { memory, __heap_base: base, ...inC } = new WebAssembly.Instance(wasm).exports;
 memory.grow(1);
 const [OUT, TAKEN, CONFIG, TEXT] = [0, 16, 24, 32].map((it) => Number(base.value) + it);
-/** The code and the size that C gives of the front of a text. */
-function frontInC(kind, text, isTruncated) {
-  const bytes = Buffer.from(text);
+const UNITS = ["infer", "s", "ms", "us"];
+/** The code that C gives of a text, and in bytes the size of a front, or the place of the error. */
+function answerInC(kind, how, bytes, { timestamps = "infer", overflow = "error", isoOrder = "lax" }) {
   const view = new DataView(memory.buffer);
   new Uint8Array(memory.buffer).set(bytes, TEXT);
-  view.setUint8(CONFIG + 6, isTruncated ? 1 : 0);
-  const config = kind === "date" ? [] : [BigInt(CONFIG)];
-  const code = inC[`speedate_${kind}_parse_front`](BigInt(TEXT), BigInt(bytes.length), ...config, BigInt(OUT), BigInt(TAKEN));
-  return [code, code === 0 ? view.getUint32(TAKEN, true) : undefined];
+  view.setUint8(CONFIG + 5, UNITS.indexOf(timestamps));
+  view.setUint8(CONFIG + 6, overflow === "truncate" ? 1 : 0);
+  view.setUint8(CONFIG + 7, isoOrder === "strict" ? 1 : 0);
+  const config = kind === "date" && how !== "" ? [] : [BigInt(CONFIG)];
+  const given = [BigInt(TEXT), BigInt(bytes.length), ...config];
+  const taken = how === "_front" ? [BigInt(TAKEN)] : [];
+  const code = inC[`speedate_${kind}_parse${how}`](...given, BigInt(OUT), ...taken);
+  if (code !== 0) assert.equal(inC[`speedate_${kind}_error_place${how}`](...given, BigInt(TAKEN)), code);
+  return [code, code === 0 && how !== "_front" ? undefined : view.getUint32(TAKEN, true)];
+}
+/** How many units of a string end at a byte of its UTF-8 or before. */
+function unitsAt(text, byte) {
+  let [units, bytes] = [0, 0];
+  for (const it of text) {
+    bytes += Buffer.byteLength(it);
+    if (bytes <= byte) units += it.length;
+  }
+  return units;
 }
 let drawn = 1;
 const one = (all) => all[(drawn = (drawn * 48271) % 2147483647) % all.length];
@@ -209,16 +268,33 @@ const VALUES = ["2020-02-29", "2020-02-29T12:13", "2020-02-29T12:13:14", "2020-0
 const DIGITS = ["", "", "0".repeat(12), "1".repeat(31), "2".repeat(40), "3".repeat(100)];
 const ZONES = ["", "Z", "+01:00", "-0130", "\u221208:00", "\u22128:00", "+25:00", "+01:0", "+", "\u00e2\u0088\u009208:00", "9", "-00:00", "\u{1f600}", "\ud83d"];
 const RESTS = ["", " x", "x".repeat(70), "7".repeat(200), "\u{1f600}".repeat(50), "+01:00".repeat(40), " ".repeat(1000)];
-const FRONT_KINDS = { date: speedate.safeParseDateFront, time: speedate.safeParseTimeFront, datetime: speedate.safeParseDateTimeFront };
+const MARKS = ["", "0", "9", "-", ":", ".", ",", "+", "T", "Z", " ", "\u00e9", "\u2212", "\u{1f600}", "\ud83d"];
+/** A value with what may follow it, or a short text of which one character is another. */
+function drawText() {
+  const [value, zone] = [one([...VALUES, "86400000", "20000000001.00001", "P1Y2M3DT4H5M6.5S", "-PT90M", "1 day, 10:20", "00:00:00.1234567"]), one(ZONES)];
+  if (one([true, false])) return value + one(DIGITS) + zone + one(RESTS);
+  const at = one([...value].map((_, i) => i));
+  return value.slice(0, at) + one(MARKS) + (value + zone).slice(at + 1);
+}
+const READ = [
+  ["Date", "date", "_rfc3339"], ["Date", "date", "", "timestamps"], ["DateFront", "date", "_front"],
+  ["Time", "time", "", "overflow"], ["Time", "time", "_strict", "overflow", "strict"], ["TimeFront", "time", "_front", "overflow"],
+  ["DateTime", "datetime", "_rfc3339", "overflow"], ["DateTime", "datetime", "", "timestamps", "overflow"],
+  ["DateTime", "datetime", "_strict", "overflow", "strict"], ["DateTimeFront", "datetime", "_front", "overflow"],
+  ["Duration", "duration", "", "overflow", "isoOrder"],
+];
+const drawOption = { timestamps: () => one(UNITS), overflow: () => one(["error", "truncate"]), isoOrder: () => one(["lax", "strict"]), strict: () => true };
 for (let i = 0; i < 5000; i++) {
-  const text = one(VALUES) + one(DIGITS) + one(ZONES) + one(RESTS);
-  for (const [kind, parse] of Object.entries(FRONT_KINDS)) {
-    const isTruncated = kind !== "date" && one([true, false]);
-    const options = isTruncated ? { overflow: "truncate" } : undefined;
-    for (const it of [text, Buffer.from(text)]) {
-      const { ok, code = 0, value } = parse(it, options);
-      assert.deepEqual([code, value?.size], frontInC(kind, text, isTruncated), text);
-      if (ok && it === text) assert.equal(Buffer.byteLength(text.slice(0, value.length)), value.size, text);
+  const text = drawText();
+  for (const [name, kind, how, ...names] of READ) {
+    const options = one([true, false]) || names.some((it) => it !== "overflow") ? Object.fromEntries(names.map((it) => [it, drawOption[it]()])) : undefined;
+    const bytes = Buffer.from(text);
+    const [wanted, size] = answerInC(kind, how, bytes, options ?? {});
+    for (const it of [text, bytes]) {
+      const { ok, code = 0, value, place } = speedate[`safeParse${name}`](it, options);
+      const counted = wanted === 0 || it === bytes ? size : unitsAt(text, size);
+      assert.deepEqual([code, ok ? value.size : place], [wanted, counted], text);
+      if (ok && value.length !== undefined) assert.equal(Buffer.byteLength(text.slice(0, value.length)), value.size, text);
     }
   }
 }
@@ -243,6 +319,8 @@ assert.deepEqual(inCommonJs.parseDate("2020-02-29"), date);
 assert.equal(require("speedate/package.json").name, "speedate");
 // A runner of tests, such as Jest, loads a script in a realm of its own.
 const file = require.resolve("speedate");
+for (const { name } of WebAssembly.Module.exports(wasm).filter((it) => it.name.startsWith("speedate_")))
+  assert.match(readFileSync(file, "utf8"), new RegExp(`["_]${name.replace(/^speedate_|_with_errors$/g, "")}\\b`), "no function that is not called");
 const inRealm = { exports: {} };
 runInNewContext(`(function (module, require, __dirname) {${readFileSync(file, "utf8")}\n})`, { TextEncoder })(inRealm, require, dirname(file));
 assert.equal(inRealm.exports.format(inRealm.exports.parseDateTime(Buffer.from("2020-02-29 12:13"), { overflow: "truncate" })), "2020-02-29T12:13:00");

@@ -3,7 +3,8 @@
 // the safe one, with the options that it has of a configuration. The fault is that of C's `_check` where C has
 // VALUE_OUT_OF_RANGE; an offset with another flag than 0 and 1 is 24 hours, and a sign with another is 2; a timestamp and
 // microseconds are one number; Unix time needs an offset. Rows of calls that are not here are counted, as are those of a
-// configuration or an exact flag without meaning, and of a time over 64 bits of microseconds.
+// configuration or an exact flag without meaning, and of a time over 64 bits of microseconds. A call `error_place` of C is the place
+// of the error that the same reader gives.
 import assert from "node:assert/strict";
 import { readFileSync } from "node:fs";
 import * as speedate from "speedate";
@@ -66,6 +67,16 @@ const CALLS = {
 /** What no call here can be given, by the call of C and its code. */
 const LEFT_OUT = / config_out_of_range|^date_from_timestamp value_out_of_range|^datetime_from_timestamp time_too_large/;
 
+/** How many units of a string end at a byte of its UTF-8 or before. */
+function unitsAt(text, byte) {
+  let [units, bytes] = [0, 0];
+  for (const it of text) {
+    bytes += Buffer.from(it).length;
+    if (bytes <= byte) units += it.length;
+  }
+  return units;
+}
+
 /** What a call answers, a number as a text, or its fault. */
 function outcome(call, ...args) {
   try {
@@ -73,7 +84,8 @@ function outcome(call, ...args) {
     return { ok: true, value: typeof it === "number" ? String(it) : it };
   } catch (error) {
     if (!(error instanceof SpeedateError)) throw error;
-    return { ok: false, fault: error.fault, code: error.code, message: error.message };
+    const { fault, code, message, place } = error;
+    return { ok: false, fault, code, message, place };
   }
 }
 
@@ -84,7 +96,8 @@ function read([, kind, names], how, fields) {
   if (how === "_strict") chosen.strict = true;
   return [fields.at(-1), Buffer.from(fields.at(-1))].map((text) => {
     const result = outcome(speedate[`parse${name}`], text, chosen);
-    assert.deepEqual(speedate[`safeParse${name}`](text, chosen), result);
+    const safe = speedate[`safeParse${name}`](text, chosen);
+    assert.deepEqual(safe.ok ? safe : { ...safe, place: safe.place }, result);
     return result;
   });
 }
@@ -93,12 +106,14 @@ const rows = readFileSync(process.argv[2], "utf8").split("\n").filter((it) => it
 /** The faults by which `_check` calls refuse values. */
 const checked = new Map(rows.map((row) => row.split("|")).filter(([call, , fault]) => call.endsWith("_check") && fault !== "ok")
   .map(([, value, fault]) => [value, fault]));
+/** The calls whose places were compared. */
+const placed = new Set();
 let ran = 0;
 const left = {};
 for (const row of rows) {
   const [call, ...fields] = row.split("|");
   const [, kind, name] = /^([a-z]+)_?(.*)$/.exec(call);
-  const [, how] = /^parse(|_rfc3339|_strict|_front)$/.exec(name) ?? [];
+  const [, isPlace, how] = /^(?:parse|(error_place))(|_rfc3339|_strict|_front)$/.exec(name) ?? [];
   const at = fields.findIndex((it) => /^(ok|[a-z]+_[a-z_]+)$/.test(it));
   const [args, [code, written, size]] = [fields.slice(0, at), fields.slice(at)];
   if (!(kind in KINDS && (how !== undefined || name in CALLS)) || LEFT_OUT.test(`${call} ${code}`)) {
@@ -107,12 +122,19 @@ for (const row of rows) {
   }
   ran++;
   const hasNoOffset = name.startsWith("timestamp_tz") && args[0].split(" ")[6] === "0";
-  for (const { fault = "ok", value } of how === undefined ? [outcome(CALLS[name], KINDS[kind][0], ...args)] : read(KINDS[kind], how, args)) {
+  const outcomes = how === undefined ? [outcome(CALLS[name], KINDS[kind][0], ...args)] : read(KINDS[kind], how, args);
+  if (isPlace) {
+    placed.add(call);
+    const places = written === undefined ? [undefined, undefined] : [unitsAt(args.at(-1), Number(written)), Number(written)];
+    assert.deepEqual(outcomes.map((it) => it.place), places, row);
+  }
+  for (const { fault = "ok", value } of outcomes) {
     if (code === "value_out_of_range") assert.equal(fault, args.map((it) => checked.get(it)).find(Boolean), row);
     else assert.equal(fault, hasNoOffset ? "tz_required" : code, row);
     if (size) assert.equal(value.size, Number(size), row);
     if (fault === "ok" && written !== undefined) assert.deepEqual(size ? value.value : value, answered(written), row);
   }
 }
-assert.ok(ran > 200);
+assert.ok(ran > 260);
+assert.equal(placed.size, 11);
 console.log(`${ran} rows; not those of ${Object.entries(left).map(([call, count]) => `${call} (${count})`).join(", ")}`);

@@ -17,6 +17,7 @@ export const shapes = [
   same<number, SpeedateDate["year" | "month" | "day"]>(true, 0),
   same<number | null, SpeedateTime["offsetSeconds"]>(true, null), same<number, SpeedateTime["hour" | "minute" | "second" | "millisecond" | "microsecond"]>(true, 0),
   same<number | null, SpeedateDateTime["offsetSeconds"]>(true, null), same<number, Exclude<SpeedateDateTime[keyof SpeedateDateTime], null>>(true, 0),
+  same<Refusal["place"], number>(true, 0), same<speedate.SpeedateError["place"], number | undefined>(true, 0),
   same<SpeedateDuration["sign"], 1 | -1>(true, second.sign), same<SpeedateDuration[keyof SpeedateDuration], number>(true, second.days),
 ];
 const bytes = new Uint8Array([49, 50, 58, 49, 51]);
@@ -68,7 +69,7 @@ const uses: Record<keyof typeof speedate, unknown> = {
   totalSeconds: same<number, ReturnType<typeof speedate.totalSeconds>>(true, speedate.totalSeconds(second)),
   inTimezone: [((it: SpeedateTime) => it.hour)(speedate.inTimezone(time, 0)), same<SpeedateDateTime, ReturnType<typeof speedate.inTimezone>>(true, speedate.inTimezone(moment, 3600))],
   init: ((call: (module: object) => void): string => call.name)(speedate.init),
-  SpeedateError: ((it: speedate.SpeedateError): [Fault, number, string, number | undefined] => [it.fault, it.code, it.message, it.index]).length,
+  SpeedateError: ((it: speedate.SpeedateError): [Fault, number, string, number | undefined, number | undefined] => [it.fault, it.code, it.message, it.place, it.index]).length,
 };
 // An import of CommonJS has a default too.
 assert.deepEqual(Object.keys(uses).sort(), Object.keys(speedate).filter((it) => it !== "default").sort());
@@ -119,4 +120,10 @@ export const unsaid = [
   () => speedate.parseTimeFront(bytes).length,
   // @ts-expect-error
   () => (speedate.parseDate("2020-02-29").day = 1),
+  // @ts-expect-error
+  (it: Refusal) => (it.place = 1),
+  // @ts-expect-error
+  (it: Answer<SpeedateDate>) => it.place,
+  // @ts-expect-error
+  (it: LineRefusal) => it.place,
 ];
