@@ -7,9 +7,8 @@ use Rattle.std.specs.Char.{is_ascii_digit}
 use Rattle.std.specs.List.{list_all}
 use Rattle.std.specs.Option.{option_map}
 use Rattle.std.proofs.Math.Nat.{pow-succ'}
-use Rattle.std.proofs.lemmas.Bool.{cases_lt}
 use Rattle.std.proofs.lemmas.Bool.Decides.{nat_tests}
-use Rattle.std.proofs.lemmas.List.{get_or_past, length-drop}
+use Rattle.std.proofs.lemmas.List.{length-drop}
 use Rattle.std.proofs.lemmas.List.Sums.{prefix_len-le-length}
 use Rattle.speedate_civil.specs.Base.{Behavior, ParseError}
 use Rattle.speedate_base.specs.Config.{refuses_digits}
@@ -36,7 +35,6 @@ use Rattle.speedate_base.proofs.DigitRunLemmas.{one_digit_value-le}
 use Rattle.speedate_base.proofs.NearestLemmas.{scale-some}
 use Rattle.speedate_base.proofs.NumberLemmas.{run-digits}
 use Rattle.speedate_base.proofs.RequirementLemmas.{
-  AreWithin,
   all_hold-append,
   first_fault_or-and_then,
   first_fault_or-append,
@@ -51,6 +49,7 @@ use Rattle.speedate_base.proofs.RequirementLemmas.{
   first_place-stays,
   first_place-within,
 }
+use Rattle.speedate_civil.proofs.TimePlaceLemmas.{minute-within}
 use Rattle.speedate_civil.specs.Time.{
   Clock,
   clock_answer,
@@ -180,40 +179,6 @@ no_seventh behavior rest short =
 true_false : true ≡ false → ⊥
 true_false same = cc
 
-asked-if : (there asked : Bool) → (there implies asked) ≡ false → there ≡ true
-asked-if true asked fails = refl
-asked-if false asked fails = absurd (cc)
-
-second-within : (rest : List ℕ) → has_second rest ≡ true → 3 ≤ length rest
-second-within rest has = grind (arith, nat_tests, cases_lt, get_or_past)
-
-fraction-within : (rest : List ℕ) → has_fraction rest ≡ true → 6 ≤ length rest
-fraction-within rest has = grind (arith, nat_tests, cases_lt, get_or_past)
-
--- the places of a minute and of what follows it lie within a text
-minute-within : (behavior : Behavior) (rest : List ℕ)
-    → (refuses_digits behavior implies nat_le (length rest) 12) ≡ true
-    → AreWithin (length rest) (minute_digits rest ++ minute_table behavior rest)
-minute-within behavior rest short = (
-  λ fails. omega arith,
-  λ minute. (
-    λ fails. omega arith,
-    λ range. (
-      λ fails. second-within rest (asked-if _ _ fails),
-      λ second. (
-        λ fails. second-within rest (asked-if _ _ fails),
-        λ last. (
-          λ fails. fraction-within rest (asked-if _ _ fails),
-          λ some. (
-            λ fails. absurd (true_false (sym (no_seventh behavior rest short) ∙ fails)),
-            λ few. tt,
-          ),
-        ),
-      ),
-    ),
-  ),
-)
-
 -- so any other fault of what follows them is that of a missing fraction
 pub fraction-place : (behavior : Behavior) (rest : List ℕ) (fault : ParseError)
     → (refuses_digits behavior implies nat_le (length rest) 12) ≡ true
@@ -249,7 +214,7 @@ fraction-place behavior rest fault short some refused no_minute no_range no_seco
       sym (first_place-all (rest_table behavior rest) (rows ++ end) (short, (some, tt))
           ∙ first_place-refused rows end (minute_clock rest) fault (sym refused) ∙ place),
       subst (λ (place : Option ℕ). IfSome place (λ place. place ≤ length rest)) place
-          (first_place-within (length rest) rows (minute-within behavior rest short)),
+          (first_place-within (length rest) rows (minute-within behavior rest)),
     )
 
 -- what follows the hours of a clock, and the clock

@@ -1,6 +1,6 @@
 -- The whole table of ISO 8601 durations: its answer is that of the grammar, and its places lie
 -- within the text.
-use Rattle.std.proofs.Common.{◌≡◌, ◌≤◌, ◌<◌, ◌+◌, ◌-◌, ◌∙◌, Bool, true, false, ℕ, zero, suc, List, [], ◌∷◌, ◌++◌, length, drop, if◌then◌else◌, Option, Some, None, Result, Ok, Err, refl, sym, ap, add-zero, append_assoc, lt_irrefl, arith}
+use Rattle.std.proofs.Common.{◌≡◌, ◌≤◌, ◌<◌, ◌+◌, ◌-◌, ◌∙◌, Bool, true, false, ℕ, zero, suc, List, [], ◌∷◌, ◌++◌, length, drop, if◌then◌else◌, Some, None, Result, Ok, Err, refl, sym, ap, add-zero, append_assoc, lt_irrefl, arith}
 use Rattle.std.specs.Option.{option_map}
 use Rattle.std.proofs.lemmas.List.{append-nil, drop-drop, length-drop}
 use Rattle.speedate_civil.specs.Base.{IsoOrder, ParseError}
@@ -14,6 +14,8 @@ use Rattle.speedate_base.specs.Requirement.{
   moved,
 }
 use Rattle.speedate_base.proofs.RequirementLemmas.{
+  all_hold-move,
+  refused_place,
   first_fault_or-append,
   first_fault_or-moved,
   first_fault_or-value,
@@ -152,10 +154,6 @@ good_step body sums next place size more read small =
       summed = ap (λ (front : IsoSums × ℕ). front.0) held.1;
     }
 
-all_hold-to_moved : (start : ℕ) (rows : List TextRow) → AllHold rows → AllHold (moved start rows)
-all_hold-to_moved start [] all = tt
-all_hold-to_moved start (row ∷ rows) all = (all.0, all_hold-to_moved start rows all.1)
-
 -- a good item leads to the next rest
 pub is_rest-step : (order : IsoOrder) (body : List ℕ) (sums next : IsoSums) (place size : ℕ)
     → IsRest order body sums place → place < length body
@@ -175,28 +173,12 @@ is_rest-step order body sums next place size is more read small =
           ∙ ap (λ items. first_place (items_table sums items ++ after)) step.items
           ∙ ap first_place (append_assoc rows (items_table (with_item item sums) others) after)
           ∙ first_place-all rows (items_table (with_item item sums) others ++ after)
-          (all_hold-to_moved place (item_table sums item) step.holds)
+          (all_hold-move place (item_table sums item) step.holds)
           ∙ ap (λ (sums : IsoSums). first_place (items_table sums others ++ after)) step.summed;
       total =
           is.total ∙ ap (λ items. with_placed_items items sums) step.items
           ∙ ap (with_placed_items others) step.summed;
     }
-
-by_row : {A : Type 0} (holds : Bool) (place : ℕ) (next : Result A ParseError) (own : ParseError)
-    (others : Option ℕ) (fault : ParseError)
-    → (if holds then next else Err own) ≡ Err fault
-    → (next ≡ Err fault → (place : ℕ) × (Some place ≡ others))
-    → (found : ℕ) × (Some found ≡ (if holds then others else Some place))
-by_row true place next own others fault refused more = more refused
-by_row false place next own others fault refused more = (place, refl)
-
--- a table that refuses has a place
-refused_place : {A : Type 0} (rows : List TextRow) (value : A) (fault : ParseError)
-    → first_fault_or rows (Ok value) ≡ Err fault → (place : ℕ) × (Some place ≡ first_place rows)
-refused_place [] value fault refused = absurd (cc)
-refused_place (row ∷ rows) value fault refused = by_row row.holds row.place
-    (first_fault_or rows (Ok value)) row.fault (first_place rows) fault refused
-    (refused_place rows value fault)
 
 some_none : (place : ℕ) → Some place ≡ None → ⊥
 some_none place same = cc

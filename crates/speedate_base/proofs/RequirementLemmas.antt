@@ -144,6 +144,10 @@ pub all_hold-moved : (start : ℕ) (rows : List TextRow) → AllHold (moved star
 all_hold-moved start [] all = tt
 all_hold-moved start (row ∷ rows) all = (all.0, all_hold-moved start rows all.1)
 
+pub all_hold-move : (start : ℕ) (rows : List TextRow) → AllHold rows → AllHold (moved start rows)
+all_hold-move start [] all = tt
+all_hold-move start (row ∷ rows) all = (all.0, all_hold-move start rows all.1)
+
 -- if a value was read, the place is that of the text's end, if it goes on
 pub end_table-place : {A : Type 0} (rows : List TextRow) (fault : ParseError) (text : List ℕ)
     (given value : A) (end size : ℕ)
@@ -184,6 +188,16 @@ first_place-is_some (row ∷ rows) value = search (rules, first_place-is_some ro
 pub is_answer_of-is_some : {A : Type 0} (rows : List TextRow) (answer : Result A ParseError)
     → IsAnswerOf rows answer → is_some (first_place rows) ≡ is_err answer
 is_answer_of-is_some rows answer is = search (rules, first_place-is_some rows is.0)
+
+-- so where it is refused, there is one
+there : (place : Option ℕ) → true ≡ is_some place → (found : ℕ) × (Some found ≡ place)
+there None same = absurd (cc)
+there (Some place) same = (place, refl)
+
+pub refused_place : {A : Type 0} (rows : List TextRow) (value : A) (fault : ParseError)
+    → first_fault_or rows (Ok value) ≡ Err fault → (place : ℕ) × (Some place ≡ first_place rows)
+refused_place rows value fault refused =
+    there (first_place rows) (sym (first_place-is_some rows value ∙ ap is_err refused))
 
 -- where the answer of a table is a value, there is no place
 pub first_place-value : {A : Type 0} (rows : List TextRow) (given value : A)

@@ -144,9 +144,16 @@ pub extern "C" fn speedate_duration_error_place(
         (λ config. written_place (duration_answer config.order config.behavior text.now)
         (first_place (duration_table config.order config.behavior text.now)) place.old) }
 {
-    let config = config_or_return!(config.to_config());
-    write_place(Duration::error_place(text, &config.time_config), place);
-    code_of!(Duration::parse_bytes_with_config(text, &config.time_config))
+    let choices = config_or_return!(config.to_config());
+    write_place(Duration::error_place(text, &choices.time_config), place);
+    // A second caller of the parser itself would keep it from being inlined into the first.
+    let mut duration = SpeedateDuration {
+        negative: 0,
+        day: 0,
+        second: 0,
+        microsecond: 0,
+    };
+    speedate_duration_parse(text, config, &mut duration)
 }
 
 /// The duration of days, seconds and microseconds of any size, brought into their ranges,

@@ -22,7 +22,7 @@ mod OffsetMoveLemmas
 mod ReadLemmas
 mod Rfc3339Lemmas
 mod TimeLemmas
-mod TimePlaceLemmas
+pub mod TimePlaceLemmas
 pub mod ValueLemmas
 pub mod MonthLemmas
 mod YearLemmas

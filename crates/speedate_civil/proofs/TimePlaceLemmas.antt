@@ -314,31 +314,52 @@ offset_numbers-within numbers = (
   ),
 )
 
--- a mark after a second, and a run of digits after it
-second-within : (text : List ℕ) → has_second (drop 3 text) ≡ true → 6 ≤ length text
-second-within text has =
-    let there = byte-within (drop 3 text) 2 colon (search rules) has in
-    omega (arith, length-drop 3 text)
+-- a second, a mark after it, and a run of digits after that, from the minute on
+second-within : (rest : List ℕ) → has_second rest ≡ true → 3 ≤ length rest
+second-within rest has =
+    let there = byte-within rest 2 colon (search rules) has in omega (arith, there)
 
-fraction-within : (text : List ℕ) → has_fraction (drop 3 text) ≡ true → 9 ≤ length text
-fraction-within text has =
-    let mark = mark-within (drop 3 text) 5 (search rules) in
-    omega (arith, length-drop 3 text)
+fraction-within : (rest : List ℕ) → has_fraction rest ≡ true → 6 ≤ length rest
+fraction-within rest has =
+    let mark = mark-within rest 5 (search rules) in omega (arith, mark)
 
 asked-if : (there asked : Bool) → (there implies asked) ≡ false → (there ≡ true) × (asked ≡ false)
 asked-if true asked fails = (refl, fails)
 asked-if false asked fails = search rules
 
-long-within : (text : List ℕ) → nat_le (run_length (drop 3 text) 6) 6 ≡ false → 15 ≤ length text
-long-within text fails =
-    let run = prefix_len-le-length is_ascii_digit (drop 6 (drop 3 text)) in
-    let one = length-drop 6 (drop 3 text) in
-    let two = length-drop 3 text in
+long-within : (rest : List ℕ) → nat_le (run_length rest 6) 6 ≡ false → 12 ≤ length rest
+long-within rest fails =
+    let run = prefix_len-le-length is_ascii_digit (drop 6 rest) in
+    let left = length-drop 6 rest in
     grind (arith, nat_tests)
+
+-- so the places of a minute, and of what follows it, lie within a text
+pub minute-within : (behavior : Behavior) (rest : List ℕ)
+    → AreWithin (length rest) (minute_digits rest ++ minute_table behavior rest)
+minute-within behavior rest = (
+  λ fails. omega arith,
+  λ minute. (
+    λ fails. omega arith,
+    λ range. (
+      λ fails. second-within rest (asked-if _ _ fails).0,
+      λ second. (
+        λ fails. second-within rest (asked-if _ _ fails).0,
+        λ last. (
+          λ fails. fraction-within rest (asked-if _ _ fails).0,
+          λ some. (λ fails. long-within rest (asked-if _ _ fails).1, λ few. tt),
+        ),
+      ),
+    ),
+  ),
+)
+
+after_hour : (text : List ℕ) (place : ℕ) → 0 < place → place ≤ length (drop 3 text)
+    → 3 + place ≤ length text
+after_hour text place some within = omega (arith, length-drop 3 text, within)
 
 clock-within : (behavior : Behavior) (text : List ℕ)
     → AreWithin (length text) (clock_table behavior text)
-clock-within behavior text = (
+clock-within behavior text = let rest = drop 3 text in let later = after_hour text in (
   λ fails. omega arith,
   λ enough. let five : 5 ≤ length text = grind (arith, nat_tests) in (
     λ fails. omega arith,
@@ -351,13 +372,15 @@ clock-within behavior text = (
           λ small. (
             λ fails. omega arith,
             λ less. (
-              λ fails. second-within text (asked-if _ _ fails).0,
+              λ fails. later 3 (search rules) (second-within rest (asked-if _ _ fails).0),
               λ second. (
-                λ fails. second-within text (asked-if _ _ fails).0,
+                λ fails. later 3 (search rules) (second-within rest (asked-if _ _ fails).0),
                 λ range. (
-                  λ fails. fraction-within text (asked-if _ _ fails).0,
-                  λ some.
-                      (λ fails. long-within text (asked-if _ _ fails).1, λ few. tt),
+                  λ fails. later 6 (search rules) (fraction-within rest (asked-if _ _ fails).0),
+                  λ some. (
+                    λ fails. later 12 (search rules) (long-within rest (asked-if _ _ fails).1),
+                    λ few. tt,
+                  ),
                 ),
               ),
             ),

@@ -293,6 +293,7 @@ error    - lax    '00:60:00'          3
 error    - lax    ':60:00'            1
 error    - lax    ':3000'             3
 error    - lax    '00:0ééé'           3
+error    - lax    '00:0ééééééé'       15
 error    - lax    '00:00:1'           6
 error    - lax    '00:00:'            6
 error    - lax    '00:00:60'          6
