@@ -127,7 +127,7 @@ _CALLS = {
 }
 _PLACES = {
     name.replace("_parse", "_error_place"): [*_TEXT, *[_Config] * (_Config in types), _SIZE]
-    for name, types in _CALLS.items() if "_parse" in name and "duration" not in name}
+    for name, types in _CALLS.items() if "_parse" in name}
 
 
 def _load(path):

@@ -173,7 +173,7 @@ place(date_time_strict, "2020-02-29T12:13:14\u221201:00"), place(date_time_stric
 place(date_time_strict, "2020-02-29T12:13:14+0100"), place(date_time, "2020-02-29T12:13:14+0100 ") -> (22, 24)
 place(date_front, "2020-02-3 opening"), place(date_time_front, "2020-02-29 opening"), place(time_front, "12:13\u22121") -> (8, 11, 6)
 place(time, memoryview(b"2x1x.x2x1")[::-2]), place(time, memoryview(bytearray(b"12:13:60"))) -> (2, 6)
-place(date, "2020-02-29"), place(duration, "x"), place(duration, b"P1D ") -> (None, None, None)
+place(date, "2020-02-29"), place(duration, "x"), place(duration, b"P1D ") -> (None, 0, 3)
 place(date_from_timestamp, 1), place(time_from_timestamp, 86_400), place(Fault, 43), place(date_column, ["x"]) -> (None, None, None, None)
 Fault(1).place, Fault(1, 0).place, copy.copy(Fault(1)).place -> (None, None, None)
 Fault(43) -> Fault: value_out_of_range

@@ -380,7 +380,8 @@ fn days(text: &[u8], behavior: MicrosecondsPrecisionOverflowBehavior) -> Taken {
         (matches!(at(text, letter), b'd' | b'D'), ParseError::DurationInvalidDays, letter),
     ])?;
     let rest = &text[ending..];
-    let word = ["ays", "AYS", "ay", "AY"].iter().find(|word| rest.starts_with(word.as_bytes())).map_or(0, |it| it.len());
+    let word =
+        ["ays", "AYS", "ay", "AY"].iter().find(|word| rest.starts_with(word.as_bytes())).map_or(0, |it| it.len());
     first(&[(word > 0 || !matches!(at(rest, 0), b'a' | b'A'), ParseError::DurationInvalidDays, ending)])?;
     let rest = &rest[word..];
     let gap = [", ", ",", " "].iter().find(|gap| rest.starts_with(gap.as_bytes())).map_or(0, |it| it.len());
@@ -394,10 +395,7 @@ fn days(text: &[u8], behavior: MicrosecondsPrecisionOverflowBehavior) -> Taken {
 }
 
 /// The hours of a clock that takes all of a text.
-fn hours_and_clock(
-    text: &[u8],
-    behavior: MicrosecondsPrecisionOverflowBehavior,
-) -> Result<u128, (ParseError, usize)> {
+fn hours_and_clock(text: &[u8], behavior: MicrosecondsPrecisionOverflowBehavior) -> Result<u128, (ParseError, usize)> {
     let end = text.len();
     first(&[(end >= 5, ParseError::TooShort, end)])?;
     let Some(colon) = text.iter().position(|&byte| byte == b':') else {
