@@ -47,7 +47,7 @@ unfolding days_of_months
 year_length-is year = let february = february_length-is year in omega arith
 
 -- how many leap years there are
-leap_day-counts : (year : ℕ)
+pub leap_day-counts : (year : ℕ)
     → leap_day year + (year + 399) / 4 + (year + 400) / 100 + (year + 399) / 400
     ≡ (year + 400) / 4 + (year + 399) / 100 + (year + 400) / 400
 leap_day-counts year = grind arith

@@ -1,40 +1,73 @@
--- The year of a day number, by cycles of 400 years, centuries, four years and years.
-use Rattle.std.proofs.Common.{◌≡◌, ℕ, ◌+◌, ◌*◌, ◌/◌, ◌%◌, ◌<◌, ◌≤◌, min, arith}
-use Rattle.speedate_civil.specs.Calendar.{year_length, days_before_year}
-use Rattle.speedate_civil.proofs.DayNumberLemmas.{year_length-is, days_before_year-is}
+-- Years that begin in March, so that a 29 February is the last day of its year: their days, counted
+-- from 1 March of the year -400 on, and the dates of these.
+use Rattle.std.proofs.Common.{◌≡◌, ℕ, ◌+◌, ◌-◌, ◌*◌, ◌/◌, ◌≤◌, IsTrue, arith}
+use Rattle.std.proofs.lemmas.Bool.Decides.{nat_tests}
+use Rattle.speedate_civil.specs.Calendar.{
+  days_before_year,
+  day_number,
+  is_leap_year,
+}
+use Rattle.speedate_civil.proofs.DayNumberLemmas.{
+  days_before_year-is,
+  february_length-is,
+  leap_day,
+  leap_day-counts,
+  leap_day-small,
+  year_length-is,
+}
+use Rattle.speedate_civil.proofs.MonthLemmas.{
+  IsOrdinal,
+  day_in_month,
+  long_month,
+  ordinal-at,
+}
 
--- the days before a century of the first cycle
-pub days_before_century : (century : ℕ) → century ≤ 3
-    → days_before_year (100 * century) ≡ 36524 * century + min century 1
-days_before_century century few = omega (arith, days_before_year-is (100 * century))
+-- the days before a year, by years of March
+pub days_before_march : (year : ℕ)
+    → days_before_year year + leap_day year + 146096 + (year + 400) / 100
+    ≡ 365 * (year + 400) + (year + 400) / 4 + (year + 400) / 400
+days_before_march year = omega (arith, days_before_year-is year, leap_day-counts year)
 
--- and before a later year of that century
-pub days_before_year-later : (century year : ℕ) → century ≤ 3 → year ≤ 99 → 1 ≤ year
-    → days_before_year (100 * century + year) ≡ 36524 * century + 365 * year + (year + 3) / 4
-days_before_year-later century year few small some =
-    omega (arith, days_before_year-is (100 * century + year))
+-- that a date has the number of a day of a year of March; the date is given by its year and by its
+-- day of the year as if February had 30 days
+abbrev pub HasNumber : ℕ → ℕ → ℕ → ℕ → Type 0
+HasNumber years day year days =
+    day_number (record { year = year; month = long_month days; day = day_in_month days })
+    + 146037 + years / 100 ≡ 365 * years + years / 4 + years / 400 + day
 
--- the calendar repeats after 400 years
-pub days_before_year-cycle : (cycle century year : ℕ)
-    → days_before_year (400 * cycle + 100 * century + year)
-    ≡ 146097 * cycle + days_before_year (100 * century + year)
-days_before_year-cycle cycle century year =
-    omega (
-      arith,
-      days_before_year-is (400 * cycle + 100 * century + year),
-      days_before_year-is (100 * century + year),
-    )
+-- from March to December
+march_day-late : (years day : ℕ) → 400 ≤ years → day ≤ 305
+    → HasNumber years day (years - 400) (day + 61)
+march_day-late years day first late =
+    let year : ℕ = years - 400 in
+    let leap = leap_day-small year in
+    let february = february_length-is year in
+    let length = year_length-is year in
+    let ordinal : IsOrdinal year (day + 59 + leap_day year) (long_month (day + 61))
+    (day_in_month (day + 61)) =
+    ordinal-at year (day + 59 + leap_day year) (day + 61) (omega arith) (grind (arith, nat_tests)) in
+    omega (arith, days_before_march year, ordinal.ordinal, ordinal.day_in_range.0)
 
-pub year_length-cycle : (cycle century year : ℕ)
-    → year_length (400 * cycle + 100 * century + year) ≡ year_length (100 * century + year)
-year_length-cycle cycle century year = grind (arith, year_length-is)
+-- in January and February, of the next year
+march_day-early : (years day : ℕ) → 399 ≤ years → 306 ≤ day → day ≤ 365
+    → (day ≡ 365 → IsTrue (is_leap_year (years - 399)))
+    → HasNumber years day (years - 399) (day - 306)
+march_day-early years day first early within full =
+    let year : ℕ = years - 399 in
+    let february = february_length-is year in
+    let length = year_length-is year in
+    let ordinal : IsOrdinal year (day - 306) (long_month (day - 306)) (day_in_month (day - 306)) =
+    ordinal-at year (day - 306) (day - 306) (omega arith) (grind (arith, nat_tests)) in
+    omega (arith, days_before_year-is year, ordinal.ordinal, ordinal.day_in_range.0)
 
--- a day of a century's first year is one of that year's days
-pub first_day-left : (century day : ℕ) → century ≤ 3 → day + min century 1 < 366
-    → day < year_length (100 * century + 0)
-first_day-left century day few within = grind (arith, year_length-is (100 * century + 0))
+-- the same of a year and a day that are known otherwise
+pub march_number-late : (years day year days : ℕ) → 400 ≤ years → day ≤ 305
+    → year ≡ years - 400 → days ≡ day + 61 → HasNumber years day year days
+march_number-late years day year days first late same_year same_days =
+    rw same_year (rw same_days (march_day-late years day first late))
 
--- and so is a day of a later year, if its year has a 366th day only where four years begin
-pub later_day-left : (century year day : ℕ) → century ≤ 3 → year ≤ 99 → 1 ≤ year → day ≤ 365
-    → (day ≡ 365 → year % 4 ≡ 0) → day < year_length (100 * century + year)
-later_day-left century year day few small some within full = grind (arith, year_length-is)
+pub march_number-early : (years day year days : ℕ) → 399 ≤ years → 306 ≤ day → day ≤ 365
+    → (day ≡ 365 → IsTrue (is_leap_year (years - 399)))
+    → year ≡ years - 399 → days ≡ day - 306 → HasNumber years day year days
+march_number-early years day year days first early within full same_year same_days =
+    rw same_year (rw same_days (march_day-early years day first early within full))

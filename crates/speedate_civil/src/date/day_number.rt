@@ -1,15 +1,14 @@
 //! Days counted from 0000-01-01, and what follows from the count: the next day, days added and
 //! between, and the day of the year.
 
-ghost use Rattle.std.specs.Prelude.{◌≡◌, ◌+◌, ◌-◌, ◌*◌, ◌<◌, ◌≤◌, min, Some, IfSome, pos, unsigned_abs};
+ghost use Rattle.std.specs.Prelude.{◌≡◌, ◌+◌, ◌-◌, ◌*◌, ◌/◌, ◌%◌, ◌≤◌, IsTrue, Some, IfSome, pos, unsigned_abs};
 ghost use Rattle.std.specs.Int.{IsInRange};
 ghost use Rattle.std.specs.Option.{option_map};
 ghost use Rattle.std.specs.Ordering.{int_cmp};
 ghost use Rattle.speedate_civil.specs.Date.{ymd};
 ghost use Rattle.speedate_civil.specs.Calendar.{
   days_of_months,
-  days_before_year,
-  year_length,
+  is_leap_year,
   ordinal_day,
   day_number,
   date_of_number,
@@ -25,19 +24,27 @@ use super::{Date, is_leap_year, month_length};
 /// The day number of 9999-12-31.
 const LAST_DAY_NUMBER: u32 = 3_652_424;
 
-/// The days of the 399 years before the year 0. Years are counted from the first of them, so that
-/// the last of each four years is the one that may be leap, and the last of each four centuries
-/// the one that has a day more.
-const DAYS_BEFORE_YEAR_0: u32 = 145_731;
+/// The days before the year 0 from 1 March of the year -400 on, from which years of March are counted: a
+/// 29 February then is the last day of its year, of its four years, and of its 400 years.
+const DAYS_BEFORE_YEAR_0: u32 = 146_037;
 
 /// The days of 400 years, after which the calendar repeats.
 const CYCLE_DAYS: u32 = 146_097;
 
-/// The first days of the centuries of a cycle, whose first century has a day more than the others.
-const CENTURY_STARTS: [u32; 4] = [0, 36_525, 73_049, 109_573];
+/// The days of four years.
+const FOUR_YEARS_DAYS: u32 = 1_461;
 
-/// The first days of four years, whose first year is leap.
-const YEAR_STARTS: [u32; 4] = [0, 366, 731, 1_096];
+/// The first day of January in a year of March.
+const JANUARY_START: u32 = 306;
+
+/// The days of the months before a month of a year, if February has 30 days: they lie on a line of 367
+/// days to twelve months.
+fn long_days_before_month(month: u8) -> u16
+    requires { IsInRange 1 12 month }
+    ensures { result ≡ (367 * month - 362) / 12 }
+{
+    (367 * u16::from(month) - 362) / 12
+}
 
 /// The days of the months before a month of a year.
 #[tactic(auto, using(crate::proofs::MonthLemmas::days_of_months_is))]
@@ -45,8 +52,7 @@ fn days_before_month(year: u16, month: u8) -> u16
     requires { IsInRange 1 12 month }
     ensures { result ≡ days_of_months year (month - 1) }
 {
-    // On a line of 367 days to twelve months, which fits if February has 30 days.
-    let days = (367 * u16::from(month) - 362) / 12;
+    let days = long_days_before_month(month);
     if month <= 2 {
         days
     } else if is_leap_year(year) {
@@ -56,69 +62,55 @@ fn days_before_month(year: u16, month: u8) -> u16
     }
 }
 
-/// The century of a day of a cycle, and the day of that century, both counted from 0.
-#[tactic(auto, using(crate::proofs::YearLemmas::days_before_century))]
-fn century(day: u32) -> (u32, u32)
-    requires { day < 146097 }
-    ensures century { result.0 ≤ 3 }
-    ensures day { days_before_year (100 * result.0) + result.1 ≡ day }
-    ensures within { result.1 + min result.0 1 < 36525 }
-{
-    let century = day.saturating_sub(1) / 36_524;
-    (century, day - CENTURY_STARTS[century as usize])
-}
-
-/// The four years of a day of a century, and the day of these four years, both counted from 0.
+/// The century of a day, and the day of that century, both counted from 0, the day from a 1 March on.
 ///
-/// Only the first century of a cycle begins with a leap year. The first four years of another one lack
-/// a day; their days are counted from 1, as if the day that they lack went before them.
-fn four_years(century: u32, day: u32) -> (u32, u32)
-    requires { day + min century 1 < 36525 }
-    ensures day { 1461 * result.0 + result.1 ≡ day + min century 1 }
-    ensures within { result.1 < 1461 }
+/// Four centuries have 146,097 days, so a day has 4 of 146,097 parts of a century, and the last of four
+/// centuries has a day more than the others.
+fn century(days: u32) -> (u32, u32)
+    requires { days ≤ 3798461 }
+    ensures day { 36524 * result.0 + result.0 / 4 + result.1 ≡ days }
+    ensures within { result.1 ≤ 36524 }
+    ensures last { result.1 ≡ 36524 → result.0 % 4 ≡ 3 }
 {
-    let counted = if century == 0 { day } else { day + 1 };
-    (counted / 1_461, counted % 1_461)
+    let parts = 4 * days + 3;
+    (parts / CYCLE_DAYS, parts % CYCLE_DAYS / 4)
 }
 
-/// The year of a day of a century, and the day of that year, both counted from 0.
-fn year_of_century(century: u32, day: u32) -> (u32, u32)
-    requires century { century ≤ 3 }
-    requires day { day + min century 1 < 36525 }
+/// The year of a day of a century, and the day of that year, both counted from 0 and the day from 1 March
+/// on. The last of four years has a day more than the others.
+fn year_of_century(day: u32) -> (u32, u32)
+    requires { day ≤ 36524 }
+    ensures day { 365 * result.0 + result.0 / 4 + result.1 ≡ day }
     ensures year { result.0 ≤ 99 }
-    ensures day { days_before_year (100 * century + result.0) + result.1
-        ≡ days_before_year (100 * century) + day }
-    ensures within { result.1 < year_length (100 * century + result.0) }
+    ensures within { result.1 ≤ 365 }
+    ensures last { result.1 ≡ 365 → result.0 % 4 ≡ 3 }
 {
-    let (four_years, in_four_years) = four_years(century, day);
-    let last = in_four_years.saturating_sub(1) / 365;
-    let year = 4 * four_years + last;
-    if year == 0 {
-        (0, day)
-    } else {
-        (year, in_four_years - YEAR_STARTS[last as usize])
-    }
+    let parts = 4 * day + 3;
+    (parts / FOUR_YEARS_DAYS, parts % FOUR_YEARS_DAYS / 4)
 }
 
-/// A day of a year, counted from 0.
+/// The date of a day of a year, both counted from 1 March, the years from that of the year -400 on.
 ///
-/// If February had 30 days, a line through the months would tell the month of a day; so the days
-/// from March on are moved by what February lacks of them.
-fn day_of_year(year: u16, day: u16) -> Date
-    requires year { year ≤ 9999 }
-    requires day { day < year_length year }
-    ensures year { result.year ≡ year }
-    ensures day { ordinal_day (ymd result) ≡ day + 1 }
+/// If February had 30 days, a line through the months would tell the month of a day; so the days from
+/// March on are counted as if it had.
+fn day_of_year(years: u32, day: u32) -> Date
+    requires first { (399 ≤ years) × (years ≡ 399 → 306 ≤ day) }
+    requires last { (years ≤ 10399) × (years ≡ 10399 → day ≤ 305) }
+    requires within { day ≤ 365 }
+    requires leap { day ≡ 365 → IsTrue (is_leap_year (years - 399)) }
+    ensures number { day_number (ymd result) + 146037 + years / 100
+        ≡ 365 * years + years / 4 + years / 400 + day }
 {
-    let february = u16::from(month_length(year, 2));
-    let long_day = if day < 31 + february {
-        day
+    let is_later = day >= JANUARY_START;
+    let year = years + u32::from(is_later) - 400;
+    let long_day = if is_later {
+        day - JANUARY_START
     } else {
-        day + 30 - february
+        day + 61
     };
     let scaled = 12 * long_day + 373;
     Date {
-        year,
+        year: year as u16,
         month: (scaled / 367) as u8,
         day: (scaled % 367 / 12 + 1) as u8,
     }
@@ -134,10 +126,15 @@ impl Date {
         ensures number { result ≡ day_number (ymd self.now) }
         ensures numbered { date_numbered result ≡ Some (ymd self.now) }
     {
-        let years = u32::from(self.year) + 399;
+        // A year that begins in March needs no look at whether it is leap.
+        let is_early = self.month <= 2;
+        let years = u32::from(self.year) + 400 - u32::from(is_early);
         let centuries = years / 100;
-        let before_year = 1461 * years / 4 - centuries + centuries / 4 - DAYS_BEFORE_YEAR_0;
-        before_year + u32::from(self.ordinal_day()) - 1
+        let before_year = 1461 * years / 4 - centuries + centuries / 4;
+        let days = before_year
+            + u32::from(long_days_before_month(self.month))
+            + u32::from(self.day);
+        days - if is_early { 145_732 } else { 146_099 }
     }
 
     /// The date of a day number: 0000-02-29 for 59. It is the date that many days after 0000-01-01.
@@ -158,10 +155,9 @@ impl Date {
         ensures date { ymd result ≡ date_of_number number }
         ensures number { day_number (ymd result) ≡ number }
     {
-        let (century, day) = century(number % CYCLE_DAYS);
-        let (year, day) = year_of_century(century, day);
-        let year = 400 * (number / CYCLE_DAYS) + 100 * century + year;
-        day_of_year(year as u16, day as u16)
+        let (century, day) = century(number + DAYS_BEFORE_YEAR_0);
+        let (year, day) = year_of_century(day);
+        day_of_year(100 * century + year, day)
     }
 
     /// The day after the date: 2000-01-01 for 1999-12-31. `None` for 9999-12-31.

@@ -1,39 +1,19 @@
-use Rattle.std.proofs.Common.{rules, ◌≡◌, ◌≤◌, arith}
-use Rattle.speedate_civil.proofs.DayNumberLemmas.{year_length-is, leap_day-small}
-use Rattle.speedate_civil.proofs.MonthLemmas.{long_day, long_day-small, ordinal-at}
+use Rattle.std.proofs.Common.{rules}
+use Rattle.speedate_civil.proofs.YearLemmas.{march_number-early, march_number-late}
+use Rattle.speedate_civil.proofs.date.day_number.day_of_year.Goals.{then-is_later, else-is_later}
 use Rattle.speedate_civil.proofs.date.day_number.day_of_year.Goals as goal
 
-pub overflow_add-long_day : goal.overflow_add-long_day
-overflow_add-long_day c = grind (arith, year_length-is, leap_day-small)
-
-long_day-is : (c : goal.After-row_known-1)
-    → c.if-day-february.long_day ≡ long_day c.args.year c.args.day
-long_day-is c = search rules
-
-small : (c : goal.After-row_known-1) → c.if-day-february.long_day ≤ 366
-small c = omega (arith, long_day-is c, long_day-small c.args.year c.args.day c.requires.day)
-
-pub overflow_mul-scaled : goal.overflow_mul-scaled
-overflow_mul-scaled c = search (rules, small)
-
-pub overflow_add-scaled : goal.overflow_add-scaled
-overflow_add-scaled c = search (rules, small)
-
-pub overflow_cast-result : goal.overflow_cast-result
-overflow_cast-result c = search (rules, small)
-
-pub invariant_of-result : goal.invariant_of-result
-invariant_of-result c =
-    let ordinal =
-    ordinal-at c.args.year c.args.day c.if-day-february.long_day c.requires.day
-    (long_day-is c) in
-    record {
-      year_in_range = c.requires.year;
-      month_in_range = ordinal.month_in_range;
-      day_in_range = ordinal.day_in_range;
-    }
-
-pub returns-clause-day : goal.returns-clause-day
-returns-clause-day c =
-    (ordinal-at c.args.year c.args.day c.if-day-february.long_day c.requires.day
-    (search rules)).ordinal
+pub returns : goal.returns
+returns c =
+    elim c.if-is_later.branch [
+      then-is_later w ↦ record {
+        number =
+        march_number-early c.args.years c.args.day _ _ c.requires.first.0 (search rules)
+        c.requires.within c.requires.leap (search rules) w.long_day-is;
+      }
+    | else-is_later w ↦ record {
+        number =
+        march_number-late c.args.years c.args.day _ _ (search rules) (search rules)
+        (search rules) w.long_day-is;
+      }
+    ]
