@@ -7,6 +7,7 @@ use Rattle.speedate.specs.DateTime.{
   DateAndTime,
   date_time_front,
   date_time_instant_order,
+  local_second,
   utc_second,
 }
 
@@ -25,6 +26,10 @@ is_between behavior first last line = lies_between first last (date_time_front b
 -- counts, and its microsecond
 abbrev pub instant_key : DateAndTime → ℤ × ℕ
 instant_key value = (utc_second value, value.time.microsecond)
+
+-- what tells the instant that the clock of a date-time shows: its second and its microsecond
+abbrev pub local_key : DateAndTime → ℤ × ℕ
+local_key value = (local_second value, value.time.microsecond)
 
 -- the order of keys that tell instants: by second, then by microsecond
 abbrev pub instant_key_order : ℤ × ℕ → ℤ × ℕ → Ordering

@@ -3,12 +3,16 @@
 ghost use Rattle.std.specs.Prelude.{◌≡◌, ℕ, IfOk, List, OnErr, OnOk, drop, filter};
 ghost use Rattle.std.specs.List.Sorted.{IsPermutation, IsSortedByKey, IsStableByKey};
 ghost use Rattle.speedate.specs.Config.{time_choices};
-ghost use Rattle.speedate.specs.DateTime.{DateAndTime, date_and_time, date_time_front};
+ghost use Rattle.speedate.specs.DateTime.{DateAndTime, date_and_time, date_time_front, date_time_instant_order};
 ghost use Rattle.speedate.specs.Requirement.{result_map};
-ghost use Rattle.speedate_uses.specs.Log.{instant_key, instant_key_order, is_between};
+ghost use Rattle.speedate_uses.specs.Log.{instant_key, instant_key_order, is_between, local_key};
 
 use speedate::{DateTime, ParseError, TimeConfig};
 use std::alloc::{AllocError, Allocator};
+use std::cmp::Ordering;
+
+/// How many date-times are sorted without memory.
+const FEW: usize = 20;
 
 /// The date-time at the front of a line of a log, and what follows it there: 12:13:14 in UTC on
 /// 22 November 2026, and ` GET /`, of `2026-11-22T12:13:14Z GET /`.
@@ -25,14 +29,72 @@ pub fn log_entry<'a>(
     Ok((value, &line[size..]))
 }
 
+/// A date-time, and its second and microsecond in UTC and as its clock shows them: what its instant is
+/// compared by, so that those of two bounds are calculated once for all lines.
+#[derive(Clone, Copy)]
+struct Moments {
+    value: DateTime,
+    utc: (i64, u32),
+    local: (i64, u32),
+    ghost utc_is: { (utc.0, utc.1) ≡ instant_key (date_and_time value) },
+    ghost local_is: { (local.0, local.1) ≡ local_key (date_and_time value) },
+}
+
+impl Moments {
+    /// The moments of a date-time.
+    #[inline(always)]
+    fn of(value: &DateTime) -> Self
+        ensures value { result.value ≡ value.now }
+    {
+        Moments {
+            value: *value,
+            utc: instant_key(value),
+            local: (value.timestamp(), value.time.microsecond),
+        }
+    }
+
+    /// The order of two date-times, which is that of [`DateTime::cmp_instant`].
+    #[inline(always)]
+    fn cmp(&self, other: &Self) -> Ordering
+        ensures order { result ≡ date_time_instant_order (date_and_time self.now.value)
+            (date_and_time other.now.value) }
+    {
+        if self.value.time.tz_offset.is_some() && other.value.time.tz_offset.is_some() {
+            self.utc.cmp(&other.utc)
+        } else {
+            self.local.cmp(&other.local)
+        }
+    }
+}
+
+/// What tells the instant of a date-time: its second in UTC and its microsecond.
+#[inline(always)]
+fn instant_key(value: &DateTime) -> (i64, u32)
+    ensures key { (result.0, result.1) ≡ instant_key (date_and_time value.now) }
+{
+    (value.timestamp_tz(), value.time.microsecond)
+}
+
 /// Whether a line of a log begins with a date-time between two others, both among them, by instant:
 /// `2026-11-22T12:13:14Z GET /` lies between 12:13 and 12:14 in UTC on that day.
 pub fn is_between(line: &[u8], config: &TimeConfig, first: &DateTime, last: &DateTime) -> bool
     ensures kept { result ≡ is_between (time_choices config.now).behavior
         (date_and_time first.now) (date_and_time last.now) line.now }
 {
+    lies_between(line, config, &Moments::of(first), &Moments::of(last))
+}
+
+/// Whether a line begins with a date-time between two others.
+#[inline(always)]
+fn lies_between(line: &[u8], config: &TimeConfig, first: &Moments, last: &Moments) -> bool
+    ensures kept { result ≡ is_between (time_choices config.now).behavior
+        (date_and_time first.now.value) (date_and_time last.now.value) line.now }
+{
     match DateTime::parse_front(line, config) {
-        Ok((value, _)) => first.cmp_instant(&value).is_le() && value.cmp_instant(last).is_le(),
+        Ok((value, _)) => {
+            let value = Moments::of(&value);
+            first.cmp(&value).is_le() && value.cmp(last).is_le()
+        }
         Err(_) => false,
     }
 }
@@ -49,10 +111,12 @@ pub fn lines_between<'a, A: Allocator>(
         ≡ filter (λ line. is_between (time_choices config.now).behavior
         (date_and_time first.now) (date_and_time last.now) line.now) lines.now) }
 {
+    let first = Moments::of(first);
+    let last = Moments::of(last);
     lines
         .iter()
         .copied()
-        .filter(|line| is_between(line, config, first, last))
+        .filter(|line| lies_between(line, config, &first, &last))
         .collect(alloc)
 }
 
@@ -69,5 +133,9 @@ pub fn sort_by_instant<A: Allocator>(alloc: A, times: &mut [DateTime]) -> Result
         times.old times.new }
     ensures err { OnErr result (times.new ≡ times.old) }
 {
-    times.sort_by_key(alloc, |time| (time.timestamp_tz(), time.time.microsecond))
+    // So few are sorted without memory.
+    if times.len() <= FEW {
+        return times.sort_by_key(alloc, |time| instant_key(time));
+    }
+    times.sort_by_cached_key(alloc, |time| instant_key(time))
 }
