@@ -1,6 +1,6 @@
 -- Laws of the order of dates: it is that of the day numbers, and that of the texts. Each date of
 -- the years to 9999 is the date of its day number, and days are counted as the dates are in order.
-use Rattle.std.proofs.Common.{◌≡◌, ℕ, ◌+◌, ◌-◌, ◌/◌, ◌%◌, ◌<◌, ◌≤◌, ℤ, pos, ◌+ℤ◌, ◌-ℤ◌, Option, Some, IfSome, int_cmp, List, [], ◌++◌, refl, nat_cmp, Ordering, Equal, rules, arith, ◌∙◌, ap}
+use Rattle.std.proofs.Common.{◌≡◌, ℕ, ◌+◌, ◌-◌, ◌*◌, ◌/◌, ◌%◌, ◌<◌, ◌≤◌, ℤ, pos, ◌+ℤ◌, ◌-ℤ◌, Option, Some, IfSome, int_cmp, List, [], ◌++◌, refl, nat_cmp, Ordering, Equal, rules, arith, ◌∙◌, ap}
 use Rattle.std.specs.Cmp.Lexicographic.{slice_cmp}
 use Rattle.std.specs.Ordering.{ordering_then}
 use Rattle.std.proofs.lemmas.Bool.Decides.{nat_tests}
@@ -93,6 +93,26 @@ pub date_text-order : (first second : Ymd)
     → slice_cmp nat_cmp (date_text first) (date_text second) ≡ date_order first second
 date_text-order first second =
     date_text-front-order first second [] [] ∙ last-order (date_order first second)
+
+-- dates are ordered as the numbers that year, month and day are one after another
+fields-order : (first second : Ymd) → first.month < 256 → first.day < 256
+    → second.month < 256 → second.day < 256
+    → nat_cmp (65536 * first.year + 256 * first.month + first.day)
+    (65536 * second.year + 256 * second.month + second.day)
+    ≡ date_order first second
+fields-order first second one two three four = grind (arith, nat_tests)
+
+-- a day has two digits
+day-small : (date : Ymd) → IsDay date → date.day < 256
+day-small date valid = grind arith
+
+pub date_order-number : (first second : Ymd) → IsDay first → IsDay second
+    → nat_cmp (65536 * first.year + 256 * first.month + first.day)
+    (65536 * second.year + 256 * second.month + second.day)
+    ≡ date_order first second
+date_order-number first second one two =
+    fields-order first second (omega (arith, one.month.1)) (day-small first one)
+    (omega (arith, two.month.1)) (day-small second two)
 
 -- as many steps as its day number counts lead to a date
 pub date_of_number-day_number : (date : Ymd) → IsDay date → date_of_number (day_number date) ≡ date

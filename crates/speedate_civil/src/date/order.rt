@@ -1,7 +1,7 @@
 //! The order of dates: by year, month and day, which is that of their texts and that of their day
 //! numbers.
 
-ghost use Rattle.std.specs.Prelude.{◌≡◌, Some};
+ghost use Rattle.std.specs.Prelude.{◌≡◌, ◌+◌, ◌*◌, Some};
 ghost use Rattle.std.proofs.Common.{rules};
 ghost use Rattle.std.specs.Cmp.{po, on_total};
 ghost use Rattle.std.specs.Cmp.Lexicographic.{slice_cmp};
@@ -12,6 +12,16 @@ ghost use Rattle.speedate_civil.specs.Calendar.{date_order, date_order-total, da
 
 use super::Date;
 use std::cmp::Ordering;
+
+impl Date {
+    /// A number by which dates are compared at once: the year, the month and the day one after another.
+    #[inline(always)]
+    fn order_number(&self) -> u32
+        ensures { result ≡ 65536 * self.now.year + 256 * self.now.month + self.now.day }
+    {
+        65_536 * u32::from(self.year) + 256 * u32::from(self.month) + u32::from(self.day)
+    }
+}
 
 impl Ord for Date {
     ghost cmp = { on ymd date_order };
@@ -31,10 +41,7 @@ impl Ord for Date {
         ensures day_order { result
             ≡ nat_cmp (day_number (ymd self.now)) (day_number (ymd other.now)) }
     {
-        self.year
-            .cmp(&other.year)
-            .then(self.month.cmp(&other.month))
-            .then(self.day.cmp(&other.day))
+        self.order_number().cmp(&other.order_number())
     }
 }
 

@@ -6,14 +6,14 @@ use Rattle.speedate_civil.proofs.date.day_number.day_of_year.Goals as goal
 pub returns : goal.returns
 returns c =
     elim c.if-is_later.branch [
-      then-is_later w ↦ record {
+      | then-is_later w ↦ record {
         number =
-        march_number-early c.args.years c.args.day _ _ c.requires.first.0 (search rules)
-        c.requires.within c.requires.leap (search rules) w.long_day-is;
+            march_number-early c.args.years c.args.day _ _ c.requires.first.0 (search rules)
+            c.requires.within c.requires.leap (search rules) w.long_day-is;
       }
-    | else-is_later w ↦ record {
+      | else-is_later w ↦ record {
         number =
-        march_number-late c.args.years c.args.day _ _ (search rules) (search rules)
-        (search rules) w.long_day-is;
+            march_number-late c.args.years c.args.day _ _ (search rules) (search rules)
+            (search rules) w.long_day-is;
       }
     ]
