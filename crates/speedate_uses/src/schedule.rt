@@ -66,5 +66,27 @@ fn next_multiple(gone: i128, every: i128) -> i128
     requires every { unsigned_abs every < 86400000000000000000 }
     ensures { result ≡ pos (next_count (unsigned_abs every) gone * unsigned_abs every) }
 {
+    match (i64::try_from(gone), i64::try_from(every)) {
+        (Ok(gone), Ok(every)) => next_short_multiple(gone, every),
+        _ => next_long_multiple(gone, every),
+    }
+}
+
+/// The first positive multiple of `every` that is larger than `gone`, in 64 bits, which nearly always do:
+/// a division of 128 bits is a call.
+fn next_short_multiple(gone: i64, every: i64) -> i128
+    requires positive { pos 0 <ℤ every }
+    ensures { result ≡ pos (next_count (unsigned_abs every) gone * unsigned_abs every) }
+{
+    (i128::from(gone.max(0) / every) + 1) * i128::from(every)
+}
+
+/// The first positive multiple of `every` that is larger than `gone`.
+fn next_long_multiple(gone: i128, every: i128) -> i128
+    requires positive { pos 0 <ℤ every }
+    requires gone { unsigned_abs gone < 86400000000000000000 }
+    requires every { unsigned_abs every < 86400000000000000000 }
+    ensures { result ≡ pos (next_count (unsigned_abs every) gone * unsigned_abs every) }
+{
     (gone.max(0) / every + 1) * every
 }

@@ -149,6 +149,10 @@ impl Duration {
         ensures length { IfOk result (λ duration. signed_amount (duration_numbers duration)
             ≡ microseconds) }
     {
+        // Most durations fit 64 bits, in which a division by a constant is a multiplication.
+        if let Ok(amount) = i64::try_from(microseconds) {
+            return Ok(Self::from_microseconds(amount));
+        }
         let size = microseconds.unsigned_abs();
         let (seconds, per_day) = (size / 1_000_000, u128::from(SECONDS_PER_DAY));
         let day = seconds / per_day;

@@ -1,6 +1,6 @@
 use Rattle.std.proofs.Common.{arith}
 use Rattle.std.proofs.lemmas.Grind.{common_steps}
-use Rattle.speedate_uses.proofs.schedule.next_multiple.Goals as goal
+use Rattle.speedate_uses.proofs.schedule.next_long_multiple.Goals as goal
 
 pub nonzero_div-result : goal.nonzero_div-result
 nonzero_div-result c = grind (arith, common_steps)
