@@ -1,2 +1,3 @@
+mod LedgerLemmas
 mod LengthsLemmas
 mod ScheduleLemmas

@@ -1,34 +1,69 @@
 //! A ledger: lines that begin with dates, in order and sorted, and amounts in cents.
 
-ghost use Rattle.std.specs.Prelude.{◌≡◌, OnErr, OnOk};
+ghost use Rattle.std.specs.Prelude.{◌≡◌, ℕ, ◌<◌, List, OnErr, OnOk, length, slice_index_or};
+ghost use Rattle.std.specs.Borrow.{Bor};
 ghost use Rattle.std.specs.List.{IsAllAdjacentAnswer};
 ghost use Rattle.std.specs.List.Sorted.{IsPermutation, IsSortedByKey, IsStableByKey};
-ghost use Rattle.speedate.specs.Date.{ymd};
+ghost use Rattle.speedate.specs.Date.{date_front, ymd, ◌gives_front◌};
+ghost use Rattle.speedate.specs.Requirement.{result_map, with_size};
 ghost use Rattle.speedate.specs.Calendar.{date_order};
 ghost use Rattle.speedate.specs.Numbers.{number_answer, scaled_number};
-ghost use Rattle.speedate_uses.specs.Ledger.{is_in_order};
+ghost use Rattle.speedate_uses.specs.Ledger.{dates_in_order, is_in_order};
 
-use speedate::{Date, float_parse_bytes};
+use speedate::{Date, ParseError, float_parse_bytes};
 use std::alloc::{AllocError, Allocator};
+
+/// What the front of a line is read as.
+type Front = Result<(Date, usize), ParseError>;
 
 /// Whether two lines of a ledger begin with dates, and the second's is not before the first's: false
 /// for `2026-11-22 opening balance` and `2026-11-21 rent`.
 pub fn is_in_order(line: &[u8], next: &[u8]) -> bool
     ensures order { result ≡ is_in_order line.now next.now }
 {
-    match (Date::parse_front(line), Date::parse_front(next)) {
-        (Ok((date, _)), Ok((later, _))) => date.cmp(&later).is_le(),
+    are_dates_in_order(&Date::parse_front(line), &Date::parse_front(next))
+}
+
+/// Whether two fronts are dates, and the second is not before the first.
+#[inline(always)]
+fn are_dates_in_order(front: &Front, next: &Front) -> bool
+    ensures order { result ≡ dates_in_order (result_map (with_size ymd) front.now)
+        (result_map (with_size ymd) next.now) }
+{
+    match (front, next) {
+        (Ok((date, _)), Ok((later, _))) => date.cmp(later).is_le(),
         _ => false,
     }
 }
 
 /// Whether the lines of a ledger are in order, each and the next one: false where one of several
-/// begins with no date.
+/// begins with no date. Each line is parsed once.
 pub fn are_in_order(lines: &[&[u8]]) -> bool
     ensures order { IsAllAdjacentAnswer
         (λ line next answer. answer ≡ is_in_order line.now next.now) lines.now result }
 {
-    lines.is_sorted_by(|line, next| is_in_order(line, next))
+    if lines.is_empty() {
+        return true;
+    }
+    let mut last = front_at(lines, 0);
+    for place in 1..lines.len() {
+        let next = front_at(lines, place);
+        if !are_dates_in_order(&last, &next) {
+            return false;
+        }
+        last = next;
+    }
+    true
+}
+
+/// What the front of a line at a place is read as.
+#[inline(always)]
+fn front_at(lines: &[&[u8]], place: usize) -> Front
+    requires { place < length lines.now }
+    ensures front { (line : Bor (List ℕ))
+        → result gives_front date_front (slice_index_or lines.now place line).now }
+{
+    Date::parse_front(lines[place])
 }
 
 /// An entry of a ledger: 42.50 paid on 30 November 2026 has the date 2026-11-30 and -4,250 cents.

@@ -1,13 +1,34 @@
-use Rattle.std.proofs.Common.{rules}
-use Rattle.std.proofs.lemmas.List.Sorted.{answers_always}
-use Rattle.speedate_uses.specs.Ledger.{is_in_order}
+use Rattle.std.proofs.Common.{Bor, List, ℕ, arith, sym}
+use Rattle.speedate.specs.Date.{date_front, ymd}
+use Rattle.speedate.specs.Requirement.{result_map, with_size}
+use Rattle.speedate_uses.specs.Ledger.{dates_in_order}
+use Rattle.speedate_uses.proofs.LedgerLemmas.{read-all, read-first, read-next, read-stopped}
 use Rattle.speedate_uses.proofs.ledger.are_in_order.Goals as goal
 
--- each call of the closure answers whether two lines are in order
+pub loop-place-init : goal.loop-place-init
+loop-place-init c =
+    read-first (λ (line : Bor (List ℕ)). date_front line.now) dates_in_order c.args.lines.now
+    (result_map (with_size ymd) c.front_at-last.result) c.front_at-last.ensures.front
+
+pub returns-then-not-are_dates_in_order : goal.returns-then-not-are_dates_in_order
+returns-then-not-are_dates_in_order c = record {
+  order = read-stopped (λ (line : Bor (List ℕ)). date_front line.now) dates_in_order
+      c.args.lines.now (result_map (with_size ymd) c.loop-place.last)
+      (result_map (with_size ymd) c.front_at-next.result) c.loop-place.place c.loop-place.invariant
+      c.loop-place.auto.place c.loop-place-test.true c.front_at-next.ensures.front
+      (sym c.if-not-are_dates_in_order.ensures.order);
+}
+
+pub loop-place-preserved : goal.loop-place-preserved
+loop-place-preserved c =
+    read-next (λ (line : Bor (List ℕ)). date_front line.now) dates_in_order c.args.lines.now
+    (result_map (with_size ymd) c.loop-place.last) (result_map (with_size ymd) c.front_at-next.result)
+    c.loop-place.place c.loop-place.invariant c.front_at-next.ensures.front
+    (sym (c.if-not-are_dates_in_order.ensures.order))
+
 pub returns : goal.returns
-returns c =
-    let called = answers_always _ _ _ (λ closure lines answer after called. search rules) in
-    record {
-      order = c.is_sorted_by.ensures.cases (λ line next. is_in_order line.now next.now)
-          called;
-    }
+returns c = record {
+  order = read-all (λ (line : Bor (List ℕ)). date_front line.now) dates_in_order c.args.lines.now
+      (result_map (with_size ymd) c.loop-place.last) c.loop-place.place c.loop-place.invariant
+      (omega arith);
+}
