@@ -1,11 +1,16 @@
 //! Columns of date-times.
 
-ghost use Rattle.std.specs.Prelude.{◌≡◌};
+ghost use Rattle.std.specs.Prelude.{◌≡◌, ◌+ℤ◌, ◌-ℤ◌, ◌≤ℤ◌, pos};
+ghost use Rattle.std.specs.Option.{ForSome};
+ghost use Rattle.speedate_base.specs.Offset.{IsOffset};
+ghost use Rattle.speedate_base.specs.Timestamp.{IsInYears, first_second, last_second, unix_instant};
+ghost use Rattle.speedate_civil.specs.DateTime.{date_time_at, utc_microsecond, utc_second};
 ghost use Rattle.speedate_civil.specs.ParserParts.{refusal_size};
 
 use super::{LineError, LineFront, LineReader};
 use speedate_base::config::{DateTimeConfig, MicrosecondsPrecisionOverflowBehavior, TimeConfig};
 use speedate_base::faults::ParseError;
+use speedate_base::util::UnixTime;
 use speedate_civil::datetime::{DateTime, require_standard_date_time};
 use speedate_civil::time::end_fault;
 
@@ -35,10 +40,13 @@ pub struct DateTimeReader {
 
 impl DateTimeReader {
     ghost use Rattle.std.specs.Prelude.{◌≡◌, Err, IfSome, Ok};
-    ghost use Rattle.speedate_base.specs.Config.{time_choices};
+    ghost use Rattle.speedate_base.specs.Config.{choices, time_choices};
     ghost use Rattle.speedate_base.specs.Requirement.{first_fault_or, result_and_then};
+    ghost use Rattle.speedate_base.specs.Timestamp.{IsInYears, unix_instant};
     ghost use Rattle.speedate_civil.specs.DateTime.{
       date_and_time,
+      date_time_at,
+      date_time_by_config,
       date_time_front,
       utc_microsecond,
       ◌gives◌,
@@ -109,6 +117,39 @@ impl DateTimeReader {
         Some(LineFront::refused(LineError::Parse(fault), size))
     }
 
+    /// The number of a line that may be a timestamp, whose instant is counted without the calendar.
+    #[inline(always)]
+    fn number_or_timestamp(&self, line: &[u8], config: &DateTimeConfig) -> Result<i64, LineError>
+        ensures number { result ≡ as_number utc_microsecond (result_and_then
+            (with_offset self.now.assumes_utc) (date_time_by_config config.now line.now)) }
+    {
+        match DateTime::parse_bytes_rfc3339_with_config(line, &config.time_config) {
+            Ok(value) => self.microsecond(&value),
+            Err(fault) => match DateTime::timestamp_instant(line, fault, config) {
+                Ok(time) => self.timestamp_microsecond(time, config),
+                Err(fault) => Err(LineError::Parse(fault)),
+            },
+        }
+    }
+
+    /// The microseconds of a timestamp, with the offset that is attached to it, if it has one or needs none.
+    #[inline(always)]
+    fn timestamp_microsecond(
+        &self,
+        time: UnixTime,
+        config: &DateTimeConfig,
+    ) -> Result<i64, LineError>
+        requires within { IsInYears (unix_instant time) }
+        ensures number { result ≡ as_number utc_microsecond (with_offset self.now.assumes_utc
+            (date_time_at (choices config.now).offset (unix_instant time))) }
+    {
+        let offset = config.time_config.unix_timestamp_offset;
+        if offset.is_none() && !self.assumes_utc {
+            return Err(LineError::Parse(ParseError::TzRequired));
+        }
+        Ok(timestamp_number(time, offset))
+    }
+
     /// The microseconds of a date-time, if it has an offset or needs none.
     #[inline(always)]
     fn microsecond(&self, value: &DateTime) -> Result<i64, LineError>
@@ -130,6 +171,9 @@ impl LineReader for DateTimeReader {
     ghost answer = { date_time_number };
 
     fn number(&self, line: &[u8]) -> Result<i64, LineError> {
+        if let DateTimeParser::OrTimestamp(config) = &self.parser {
+            return self.number_or_timestamp(line, config);
+        }
         match self.date_time(line) {
             Ok(value) => self.microsecond(&value),
             Err(fault) => Err(LineError::Parse(fault)),
@@ -147,6 +191,28 @@ impl LineReader for DateTimeReader {
             Err(fault) => self.refused_front(text, fault),
         }
     }
+}
+
+/// The microseconds of the date-time whose clock shows an instant, and which has this offset.
+#[inline(always)]
+fn timestamp_number(time: UnixTime, offset: Option<i32>) -> i64
+    requires within { IsInYears (unix_instant time) }
+    requires offset { ForSome offset IsOffset }
+    ensures number { result ≡ utc_microsecond (date_time_at offset (unix_instant time)) }
+{
+    1_000_000 * timestamp_second(time, offset) + i64::from(time.microsecond)
+}
+
+/// The second in UTC of the date-time whose clock shows an instant, and which has this offset.
+#[inline(always)]
+fn timestamp_second(time: UnixTime, offset: Option<i32>) -> i64
+    requires within { IsInYears (unix_instant time) }
+    requires offset { ForSome offset IsOffset }
+    ensures second { result ≡ utc_second (date_time_at offset (unix_instant time)) }
+    ensures least { (first_second -ℤ pos 86399) ≤ℤ result }
+    ensures largest { result ≤ℤ (last_second +ℤ pos 86399) }
+{
+    time.second - i64::from(offset.unwrap_or(0))
 }
 
 /// How many bytes at the front of a text show that it is refused as a date-time by this error, whatever
