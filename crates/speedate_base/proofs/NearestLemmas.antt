@@ -5,7 +5,7 @@ use Rattle.std.proofs.lemmas.Nat.{pow-add}
 use Rattle.std.proofs.lemmas.Bool.{cases_lt}
 use Rattle.std.proofs.lemmas.Bool.Decides.{nat_tests}
 use Rattle.std.proofs.lemmas.Int.{ints}
-use Rattle.std.proofs.Math.Nat.{add-mul-div_right, div-div-eq-div-mul, div-eq_of_lt, mul-div-le, one-le-pow}
+use Rattle.std.proofs.Math.Nat.{add-mul-div_right, div-div-eq-div-mul, div-eq_of_lt, mul-div-le, lt-div-mul-add, one-le-pow}
 use Rattle.speedate_base.specs.Numbers.{with_sign}
 use Rattle.speedate_base.specs.Nearest.{IsNearest, nearest, quotient}
 
@@ -125,3 +125,28 @@ nearest_filled negative worth places count value filled few is_worth is =
     sym (pow-add 10 (places - count) count) ∙ ap (λ (n : ℕ). 10 ^ n) sum in
     let product : value * worth ≡ filled * 10 ^ count = rw (is_worth, is) (grind (arith, power)) in
     rw product (sym (nearest-exact negative filled (10 ^ count) (scale-some count)))
+
+-- a larger number has no smaller quotient
+pub quotient-le : (up : Bool) (n m d : ℕ) → 0 < d → n ≤ m → quotient up n d ≤ quotient up m d
+quotient-le false n m d some less =
+    one-between d (m / d) (n / d)
+    (omega (arith, less, mul-div-le n d, lt-div-mul-add {a = m} some))
+quotient-le true n m d some less =
+    one-between d ((m + (d - 1)) / d) ((n + (d - 1)) / d)
+    (omega (arith, less, mul-div-le (n + (d - 1)) d, lt-div-mul-add {a = m + (d - 1)} some))
+
+-- nothing is rounded to nothing
+quotient-none : (up : Bool) (d : ℕ) → 0 < d → quotient up 0 d ≡ 0
+quotient-none false d some = div-eq_of_lt some
+quotient-none true d some =
+    let less : 0 + (d - 1) < d = omega arith in
+    div-eq_of_lt less
+
+-- a fraction in more places has the same quotient
+pub quotient-filled : (up : Bool) (n d k : ℕ) → 0 < d → 0 < k
+    → quotient up (n * k) (k * d) ≡ quotient up n d
+quotient-filled up n d k some_d some_k =
+    let none : 0 + n * k ≡ n * k = omega arith in
+    let same : n + quotient up 0 k ≡ n = omega (arith, quotient-none up k some_k) in
+    ap (λ (size : ℕ). quotient up size (k * d)) (sym none)
+    ∙ sym (quotient-carried up n 0 k d some_k some_d) ∙ ap (λ (size : ℕ). quotient up size d) same

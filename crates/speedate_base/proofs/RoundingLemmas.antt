@@ -1,5 +1,5 @@
 -- A fraction's digits taken in blocks, the last ones first.
-use Rattle.std.proofs.Common.{◌≡◌, ℕ, ◌+◌, ◌-◌, ◌*◌, ◌^◌, ◌<◌, ◌≤◌, ◌&&◌, Bool, true, List, length, take, drop, arith, ap, ◌∙◌, lit<, mul-le-mul_right}
+use Rattle.std.proofs.Common.{◌≡◌, ℕ, ◌+◌, ◌-◌, ◌*◌, ◌^◌, ◌<◌, ◌≤◌, ◌&&◌, Bool, true, false, List, length, take, drop, refl, arith, ap, sym, ◌∙◌, lit<, mul-le-mul_right}
 use Rattle.std.specs.Char.{is_ascii_digit}
 use Rattle.std.specs.List.{list_all}
 use Rattle.std.proofs.lemmas.Bool.{and_parts}
@@ -9,10 +9,10 @@ use Rattle.std.proofs.lemmas.List.Folds.{list_all-append}
 use Rattle.std.proofs.lemmas.Nat.{pow-add}
 use Rattle.std.proofs.Math.Nat.{pow-le-pow_right}
 use Rattle.speedate_base.specs.Digits.{digits_value}
-use Rattle.speedate_base.proofs.BlockLemmas.{is_number}
+use Rattle.speedate_base.proofs.BlockLemmas.{block-more, is_number}
 use Rattle.speedate_base.proofs.DigitRunLemmas.{below-power, digits_value-append, digits_value-lt}
 use Rattle.speedate_base.specs.Nearest.{quotient}
-use Rattle.speedate_base.proofs.NearestLemmas.{scale-some, quotient-carried}
+use Rattle.speedate_base.proofs.NearestLemmas.{part_down, part_up, quotient-carried, quotient-filled, quotient-le, scale-some}
 
 split : (digits : List ℕ) (count : ℕ) → list_all is_ascii_digit digits ≡ true
     → (list_all is_ascii_digit (take count digits) && list_all is_ascii_digit (drop count digits))
@@ -61,6 +61,23 @@ scale-few count few =
     let within : count ≤ 8 = omega arith in
     pow-le-pow_right {n = 10} (lit< tt) within
 
+-- digits with zeros after them, up to eight, are the same fraction
+pub filled-taken : (up : Bool) (unit : ℕ) (digits : List ℕ) (value : ℕ) → length digits ≤ 8
+    → value ≡ digits_value digits * 10 ^ (8 - length digits)
+    → quotient up (2 * (value * unit) + 0) 100000000
+    ≡ quotient up (2 * (digits_value digits * unit)) (10 ^ length digits)
+filled-taken up unit digits value few is =
+    let zeros = 10 ^ (8 - length digits) in
+    let count : 8 - length digits + length digits ≡ 8 = omega arith in
+    let power : zeros * 10 ^ length digits ≡ 100000000 =
+    sym (pow-add 10 (8 - length digits) (length digits)) ∙ ap (λ (n : ℕ). 10 ^ n) count in
+    let sum : 2 * (digits_value digits * unit) * zeros ≡ 2 * (value * unit) + 0 =
+    rw is (grind arith) in
+    ap (λ (size : ℕ). quotient up size 100000000) (sym sum)
+    ∙ ap (λ (scale : ℕ). quotient up (2 * (digits_value digits * unit) * zeros) scale) (sym power)
+    ∙ quotient-filled up (2 * (digits_value digits * unit)) (10 ^ length digits) zeros
+    (scale-some (length digits)) (scale-some (8 - length digits))
+
 pub ruleset last_rules = (is_number, digits_value-lt, scale-few)
 
 -- a block before digits
@@ -90,3 +107,55 @@ block-taken up unit digits place value later twice some within is taken_later ta
     rw (power, ← sum, taken, taken_later)
     (quotient-carried up (2 * (value * unit)) (2 * (digits_value rest * unit)) scale 100000000
     (scale-some (length rest)) (lit< tt))
+
+-- the digits after sixteen are less than one of the last of them
+rest-within : (up : Bool) (unit : ℕ) (digits : List ℕ) → list_all is_ascii_digit digits ≡ true
+    → quotient up (2 * (digits_value digits * unit)) (10 ^ length digits) ≤ 2 * unit
+rest-within false unit digits all =
+    let none : 2 * (digits_value digits * unit) + 0 ≡ 2 * (digits_value digits * unit) =
+    omega arith in
+    rw none at
+    (part_down (digits_value digits) unit 0 (10 ^ length digits) (digits_value-lt digits all)
+    (omega arith))
+rest-within true unit digits all =
+    let none : 2 * (digits_value digits * unit) + 0 ≡ 2 * (digits_value digits * unit) =
+    omega arith in
+    rw none at
+    (part_up (digits_value digits) unit 0 (10 ^ length digits) (digits_value-lt digits all)
+    (omega arith))
+
+-- what sixteen digits spell
+pub sixteen-value : (digits : List ℕ) → 16 ≤ length digits
+    → digits_value (take 16 digits)
+    ≡ digits_value (take 8 digits) * 100000000 + digits_value (take 8 (drop 8 digits))
+sixteen-value digits long = omega (arith, block-more digits 8 long)
+
+-- a fraction whose first sixteen digits are rounded in one way, whatever comes after them, is rounded
+-- so
+pub sixteen-told : (up : Bool) (unit : ℕ) (digits : List ℕ) → 16 ≤ length digits
+    → list_all is_ascii_digit digits ≡ true
+    → quotient up (2 * (digits_value (take 16 digits) * unit)) (10 ^ 16)
+    ≡ quotient up (2 * (digits_value (take 16 digits) * unit) + 2 * unit) (10 ^ 16)
+    → quotient up (2 * (digits_value (take 16 digits) * unit)) (10 ^ 16)
+    ≡ quotient up (2 * (digits_value digits * unit)) (10 ^ length digits)
+sixteen-told up unit digits long all same =
+    let rest : List ℕ = drop 16 digits in
+    let scale = 10 ^ length rest in
+    let size = 2 * (digits_value (take 16 digits) * unit) in
+    let later = quotient up (2 * (digits_value rest * unit)) scale in
+    let whole : digits_value digits ≡ digits_value (take 16 digits) * scale + digits_value rest =
+    grind (arith, take-append-drop 16 digits, digits_value-append (take 16 digits) rest) in
+    let count : length digits ≡ length rest + 16 = omega (arith, length-drop 16 digits) in
+    let power : 10 ^ length digits ≡ scale * 10 ^ 16 =
+    rw (count, pow-add 10 (length rest) 16) refl in
+    let sum : 2 * (digits_value rest * unit) + size * scale ≡ 2 * (digits_value digits * unit) =
+    rw whole (grind arith) in
+    let exact : quotient up (size + later) (10 ^ 16)
+    ≡ quotient up (2 * (digits_value digits * unit)) (10 ^ length digits) =
+    rw (power, ← sum) (quotient-carried up size (2 * (digits_value rest * unit)) scale (10 ^ 16)
+    (scale-some (length rest)) (scale-some 16)) in
+    let few = rest-within up unit rest (rest_all digits 16 all) in
+    let low = quotient-le up size (size + later) (10 ^ 16) (scale-some 16) (omega arith) in
+    let high = quotient-le up (size + later) (size + 2 * unit) (10 ^ 16) (scale-some 16)
+    (omega (arith, few)) in
+    omega (arith, low, high, same, exact)

@@ -1,12 +1,57 @@
 //! Fractions of 0 to 40 digits, compared with a loop over their digits.
 
-use crate::rows::{date_time_config, same};
+use crate::rows::{date_time_config, parsed, quoted, same, value, words};
 use speedate::{DateTime, Duration};
 use std::alloc::{AllocError, Global};
 use std::process::Abort;
 
 /// A unit of timestamps, and of how many digits of a fraction its whole microseconds are.
 const UNITS: [(&str, usize); 3] = [("s truncate", 6), ("ms truncate", 3), ("us truncate", 0)];
+
+/// Digits on both sides of sixteen, and the microseconds of a timestamp with this fraction of a second, and of
+/// its negative: of two that are equally near, the later one.
+const SECONDS: &str = "\
+'<0*16>'             0        0
+'<0*17>'             0        0
+'<9*16>'             1000000  1000000
+'<9*17>'             1000000  1000000
+'0000005<0*9>'       1        0
+'0000005<0*10>'      1        0
+'0000005<0*33>'      1        0
+'0000005<0*8>1'      1        1
+'0000005<0*9>1'      1        1
+'0000005<0*33>1'     1        1
+'0000004<9*9>'       0        0
+'0000004<9*10>'      0        0
+'0000004<9*33>'      0        0
+'1234565<0*9>'       123457   123456
+'1234565<0*10>'      123457   123456
+'1234565<0*9>9'      123457   123457
+'1234564<9*9>8'      123456   123456
+'500000<0*10>1'      500000   500000";
+
+/// Durations whose digits are just below and just above half a microsecond, and the nearest microsecond.
+const HALVES: &str = "\
+'P0.0000000000057870D'                          0
+'P0.0000000000057871D'                          1
+'P0.00000000000578703D'                         0
+'P0.00000000000578704D'                         1
+'P0.00000000000578<703*12>D'                    0
+'P0.00000000000578<703*11>704D'                 1
+'P0.0000000000008267W'                          0
+'P0.0000000000008268W'                          1
+'P0.00000000000082671W'                         0
+'P0.00000000000082672W'                         1
+'P0.0000000000000158Y'                          0
+'P0.0000000000000159Y'                          1
+'P0.00000000000001585Y'                         0
+'P0.00000000000001586Y'                         1
+'PT0.0000005<0*9>S'                             1
+'PT0.0000004<9*9>S'                             0
+'PT0.0000005<0*10>S'                            1
+'PT0.0000004<9*10>S'                            0
+'-PT0.0000005<0*10>S'                           -1
+'-PT0.0000004<9*10>S'                           0";
 
 /// By which each drawn number follows from the one before.
 const FACTOR: u64 = 6_364_136_223_846_793_005;
@@ -111,4 +156,22 @@ fn fractions(rt: HostRuntime) -> Result<(), AllocError> {
         }
     }
     Ok(())
+}
+
+#[test]
+fn sixteen_digits(rt: HostRuntime) {
+    for row in SECONDS.lines() {
+        let (_, digits, sizes) = quoted(&rt, row);
+        let [size, below, ..] = words(sizes);
+        let want = microseconds(3, value(&rt, size));
+        same(&rt, timestamp(&rt, "3.", &digits, "s truncate"), want, row);
+        let want = microseconds(3, value(&rt, below)).saturating_mul(-1);
+        same(&rt, timestamp(&rt, "-3.", &digits, "s truncate"), want, row);
+    }
+    for row in HALVES.lines() {
+        let (_, text, want) = quoted(&rt, row);
+        let read: Duration = parsed(&rt, &text);
+        same(&rt, read.signed_total_seconds(), 0, row);
+        same(&rt, read.signed_microseconds(), value(&rt, want), row);
+    }
 }

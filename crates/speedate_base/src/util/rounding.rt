@@ -1,10 +1,10 @@
 //! Fractions of a unit of time, rounded by their digits.
 
-ghost use Rattle.std.specs.Prelude.{◌≡◌, ℤ, ◌+◌, ◌-◌, ◌*◌, ◌^◌, ◌<◌, ◌≤◌, length, IsTrue};
+ghost use Rattle.std.specs.Prelude.{◌≡◌, ℤ, ◌+◌, ◌-◌, ◌*◌, ◌^◌, ◌<◌, ◌≤◌, length, IsTrue, IfSome, Some, None, if◌then◌else◌};
 ghost use Rattle.std.specs.Char.{is_ascii_digit};
 ghost use Rattle.std.specs.List.{list_all};
 ghost use Rattle.speedate_base.specs.Digits.{digits_value};
-ghost use Rattle.speedate_base.specs.Nearest.{IsNearest, nearest, quotient};
+ghost use Rattle.speedate_base.specs.Nearest.{IsNearest, nearest, quotient, told_by_sixteen};
 ghost use Rattle.speedate_base.specs.Numbers.{with_sign};
 
 use crate::numbers::digits::one_by_one;
@@ -15,6 +15,12 @@ use std::simd::prelude::*;
 pub const LARGEST_UNIT_MICROSECONDS: u64 = 31_536_000_000_000;
 
 const _: () = prove!(LARGEST_UNIT_MICROSECONDS == 365 * 86_400 * 1_000_000);
+
+/// The microseconds of a day.
+const DAY_MICROSECONDS: u64 = 86_400_000_000;
+
+/// How many digits of a fraction are read first.
+const SIXTEEN: usize = 2 * LANES;
 
 /// The nearest microseconds of a fraction of a unit: 500,000 for the digit `5` of a second. The unit is
 /// given by its microseconds. A tie goes to the later microsecond: to the smaller number if the
@@ -36,10 +42,65 @@ pub fn nearest_microseconds(digits: &[u8], unit: u64, negative: bool) -> u64
 
 /// Twice the microseconds of a fraction of a unit, rounded down, or up: 1 and 2 for the digits
 /// `00000075` of a second. The unit is given by its microseconds.
+pub fn twice_microseconds(digits: &[u8], unit: u64, up: bool) -> u64
+    requires digits { IsTrue (list_all is_ascii_digit digits.now) }
+    requires unit { unit ≤ LARGEST_UNIT_MICROSECONDS }
+    ensures twice { result
+        ≡ quotient up (2 * (digits_value digits.now * unit)) (10 ^ length digits.now) }
+    ensures within { result ≤ 2 * unit }
+{
+    // Sixteen digits nearly always tell, however many more there are.
+    if digits.len() > SIXTEEN && unit <= DAY_MICROSECONDS {
+        if let Some(twice) = told_by_sixteen(digits, unit, up) {
+            return twice;
+        }
+    }
+    taken_by_eights(digits, unit, up)
+}
+
+/// Twice the microseconds of a fraction, if its first sixteen digits tell them: 1 for
+/// `b"00000075000000009"` of a second, rounded down. `None` if they depend on the digits after
+/// those, as for `b"00000050000000001"`, rounded up.
+///
+/// The digits after sixteen are less than one of the last of these. So the microseconds lie between
+/// those for a rest of nothing and those for a rest of a whole unit.
+fn told_by_sixteen(digits: &[u8], unit: u64, up: bool) -> Option<u64>
+    requires long { SIXTEEN ≤ length digits.now }
+    requires digits { IsTrue (list_all is_ascii_digit digits.now) }
+    requires unit { unit ≤ DAY_MICROSECONDS }
+    ensures told { result ≡ (if told_by_sixteen up unit digits.now
+        then Some (quotient up (2 * (digits_value digits.now * unit)) (10 ^ length digits.now))
+        else None) }
+    ensures within { IfSome result (λ twice. twice ≤ 2 * unit) }
+{
+    let first = eight_digits(u8x8::from_slice(digits));
+    let second = eight_digits(u8x8::from_slice(&digits[LANES..]));
+    let least = sixteen_taken(first, second, 0, unit, up);
+    let most = sixteen_taken(first, second, 2 * unit, unit, up);
+    if least == most { Some(least) } else { None }
+}
+
+/// Twice the microseconds of sixteen digits, given by the numbers that the first eight and the other
+/// eight spell. `rest` is that of the digits after them.
+#[inline(always)]
+fn sixteen_taken(first: u64, second: u64, rest: u64, unit: u64, up: bool) -> u64
+    requires first { first < 100000000 }
+    requires second { second < 100000000 }
+    requires rest { rest ≤ 2 * unit }
+    requires unit { unit ≤ DAY_MICROSECONDS }
+    ensures twice { result
+        ≡ quotient up (2 * ((first * 100000000 + second) * unit) + rest) (10 ^ SIXTEEN) }
+    ensures within { result ≤ 2 * unit }
+{
+    let later = digits_taken(second, rest, unit, 100_000_000, up);
+    digits_taken(first, later, unit, 100_000_000, up)
+}
+
+/// Twice the microseconds of a fraction of a unit, from all of its digits.
 ///
 /// A step takes eight digits, the last ones first, and rounds. What is rounded so early is less than
 /// one of what is counted next, so the whole is rounded once.
-pub fn twice_microseconds(digits: &[u8], unit: u64, up: bool) -> u64
+fn taken_by_eights(digits: &[u8], unit: u64, up: bool) -> u64
     requires digits { IsTrue (list_all is_ascii_digit digits.now) }
     requires unit { unit ≤ LARGEST_UNIT_MICROSECONDS }
     ensures twice { result
@@ -66,6 +127,10 @@ fn last_digits_taken(digits: &[u8], unit: u64, up: bool) -> u64
         ≡ quotient up (2 * (digits_value digits.now * unit)) (10 ^ length digits.now) }
     ensures within { result ≤ 2 * unit }
 {
+    // With zeros after the digits the divisor is a constant, and the division a multiplication.
+    if unit <= DAY_MICROSECONDS {
+        return digits_taken(number_to_places(digits, LANES), 0, unit, 100_000_000, up);
+    }
     let value = one_by_one(digits).unwrap();
     digits_taken(value, 0, unit, power_of_ten(digits.len()), up)
 }
@@ -102,7 +167,7 @@ pub(super) fn power_of_ten(exponent: usize) -> u64
 }
 
 /// Twice the microseconds of digits that spell a value below the scale, where `rest` is that of the
-/// digits after them. Numbers of 128 bits hold it before it is divided.
+/// digits after them.
 #[inline(always)]
 #[tactic(auto, using(crate::proofs::NearestLemmas::part_rules))]
 fn digits_taken(value: u64, rest: u64, unit: u64, scale: u64, up: bool) -> u64
@@ -113,6 +178,15 @@ fn digits_taken(value: u64, rest: u64, unit: u64, scale: u64, up: bool) -> u64
     ensures twice { result ≡ quotient up (2 * (value * unit) + rest) scale }
     ensures within { result ≤ 2 * unit }
 {
+    // Up to a unit of a day the sum fits 64 bits. Above it needs 128, whose division is slow.
+    if unit <= DAY_MICROSECONDS {
+        let sum = 2 * (value * unit) + rest;
+        return if up {
+            (sum + (scale - 1)) / scale
+        } else {
+            sum / scale
+        };
+    }
     let scale = u128::from(scale);
     let sum = 2 * (u128::from(value) * u128::from(unit)) + u128::from(rest);
     if up {

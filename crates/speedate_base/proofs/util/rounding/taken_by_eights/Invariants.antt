@@ -1,7 +1,7 @@
 use Rattle.std.proofs.Common.{◌≡◌, ◌*◌, ◌%◌, ◌^◌, ◌≤◌, length, drop}
 use Rattle.speedate_base.specs.Digits.{digits_value}
 use Rattle.speedate_base.specs.Nearest.{quotient}
-use Rattle.speedate_base.proofs.util.rounding.twice_microseconds.Given as goal
+use Rattle.speedate_base.proofs.util.rounding.taken_by_eights.Given as goal
 
 abbrev pub invariant-loop-place : goal.invariant-loop-place
 invariant-loop-place l = record {

@@ -1,7 +1,7 @@
 use Rattle.std.proofs.Common.{◌≡◌, ◌-◌, drop, arith}
 use Rattle.std.proofs.lemmas.List.{take_rest, length-drop}
 use Rattle.speedate_base.proofs.RoundingLemmas.{front_all, rest_all, block-taken}
-use Rattle.speedate_base.proofs.util.rounding.twice_microseconds.Goals as goal
+use Rattle.speedate_base.proofs.util.rounding.taken_by_eights.Goals as goal
 
 pub last_digits_taken-twice-requires-clause-digits
     : goal.last_digits_taken-twice-requires-clause-digits
