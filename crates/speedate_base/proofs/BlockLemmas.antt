@@ -22,14 +22,20 @@ pub block-all : (bytes : List ℕ) (place count : ℕ) → place + 8 ≤ length 
     → list_all is_ascii_digit (block bytes place) ≡ true
 block-all bytes place count within is full = search rules
 
+-- a run goes on after digits
+pub digits_on : (bytes : List ℕ) (place count : ℕ) → place + count ≤ length bytes
+    → list_all is_ascii_digit (take count (drop place bytes)) ≡ true
+    → run_length bytes place ≡ count + run_length bytes (place + count)
+digits_on bytes place count within all =
+    run-on (drop place bytes) count (omega (arith, length-drop place bytes, within)) all
+    ∙ ap (λ (rest : List ℕ). count + prefix_len is_ascii_digit rest) (drop-drop count place bytes)
+
 -- and the run goes on after them
 pub block_on : (bytes : List ℕ) (place count : ℕ) → place + 8 ≤ length bytes
     → count ≡ prefix_len is_ascii_digit (block bytes place) → 8 ≤ count
     → run_length bytes place ≡ 8 + run_length bytes (place + 8)
 block_on bytes place count within is full =
-    run-on (drop place bytes) 8 (omega (arith, length-drop place bytes, within))
-    (block-all bytes place count within is full)
-    ∙ ap (λ (rest : List ℕ). 8 + prefix_len is_ascii_digit rest) (drop-drop 8 place bytes)
+    digits_on bytes place 8 within (block-all bytes place count within is full)
 
 -- where fewer do, the run ends there
 pub block-ends : (bytes : List ℕ) (place count : ℕ) → place + 8 ≤ length bytes

@@ -10,4 +10,5 @@ pub mod PatternLemmas
 mod RoundingLemmas
 mod DecimalLemmas
 mod ScaledLemmas
+mod ZeroLemmas
 mod FaultLemmas

@@ -54,6 +54,14 @@ run_length text place = prefix_len is_ascii_digit (drop place text)
 abbrev pub run_digits : List ℕ → ℕ → List ℕ
 run_digits text place = take (run_length text place) (drop place text)
 
+-- a byte is the digit 0
+abbrev pub is_digit_zero : ℕ → Bool
+is_digit_zero byte = byte == digit_zero
+
+-- how many zeros stand at the front of a text
+abbrev pub zeros_length : List ℕ → ℕ
+zeros_length text = prefix_len is_digit_zero text
+
 -- the number that digits spell in base ten: 0 for none
 abbrev pub digits_value : List ℕ → ℕ
 digits_value [] = 0

@@ -8,21 +8,37 @@ use std::process::Abort;
 
 /// Texts, and the whole number that each is.
 const WHOLE: &str = "\
-'-123'                   -123
-'+123'                   123
-'1585201087123789'       1585201087123789
-'00000000000000000001'   1
-'<0*40>1'                1
-'-09223372036854775808'  -9223372036854775808
-'9223372036854775808'    none
-'18446744073709551616'   none
-'18446745728355951616'   none
-'20000000000000000000'   none
-'92233720368547758089'   none
-''                       none
-'+'                      none
-'--1'                    none
-'xxx'                    none";
+'-123'                         -123
+'+123'                         123
+'1585201087123789'             1585201087123789
+'00000000000000000001'         1
+'<0*40>1'                      1
+'<0*20>'                       0
+'<0*21>'                       0
+'<0*16>12'                     12
+'<0*19>12'                     12
+'-<0*32>12'                    -12
+'<0*31>9223372036854775807'    9223372036854775807
+'-<0*48>9223372036854775808'   -9223372036854775808
+'<0*48>9223372036854775808'    none
+'<0*16>18446744073709551616'   none
+'<0*16>92233720368547758070'   none
+'<0*16>100000000000000000000'  none
+'99999999999999999999'         none
+'<9*21>'                       none
+'<9*48>'                       none
+'<0*20>x'                      none
+'<9*32>x'                      none
+'-09223372036854775808'        -9223372036854775808
+'9223372036854775808'          none
+'18446744073709551616'         none
+'18446745728355951616'         none
+'20000000000000000000'         none
+'92233720368547758089'         none
+''                             none
+'+'                            none
+'--1'                          none
+'xxx'                          none";
 
 /// Texts, and the whole number, or the decimal by its sign and digits, that each is.
 const NUMBERS: &str = "\
@@ -56,6 +72,14 @@ const SCALED: &str = "\
 2           '12.345'                   none
 2           '12.34<0*40>'              1234
 2           '12.34<0*40>1'             none
+2           '12.34<0*15>'              1234
+2           '12.34<0*16>'              1234
+2           '12.34<0*17>'              1234
+2           '12.34<0*14>1'             none
+2           '12.34<0*15>1'             none
+2           '12.34<0*16>1'             none
+2           '-12.341<0*16>'            none
+2           '<0*32>12.34'              1234
 1           '1.500000000000000000000'  15
 3           '1.5'                      1500
 2           '-0.05'                    -5
@@ -86,6 +110,45 @@ fn whole_numbers(rt: HostRuntime) {
         let want = want.parse().ok();
         same(&rt, int_parse_str(&text), want, row);
         same(&rt, int_parse_bytes(text.as_bytes()), want, row);
+    }
+}
+
+/// Texts of one digit over and over with a point, and with a letter, at each place.
+#[test]
+fn one_other_byte_among_digits(rt: HostRuntime) {
+    for digit in [b'0', b'7'] {
+        for length in 1..50usize {
+            for place in 0..length {
+                let mut text = [digit; 50];
+                text[place] = b'x';
+                same(&rt, int_parse_bytes(&text[..length]), None, place);
+                same(
+                    &rt,
+                    float_parse_bytes(&text[..length]).is_err(),
+                    true,
+                    place,
+                );
+                assert!(rt; Decimal::new(false, b"1", &text[..length]).is_none());
+                text[place] = b'.';
+                expect_split(&rt, float_parse_bytes(&text[..length]), place, length);
+            }
+        }
+    }
+}
+
+/// A decimal is to have so many bytes, of which one is a point at this place. A lone point is none.
+fn expect_split<R: Abort>(rt: &R, read: IntFloat<'_>, place: usize, length: usize) {
+    match read {
+        IntFloat::Float(decimal) => {
+            same(rt, decimal.whole.len(), place, length);
+            same(
+                rt,
+                decimal.fraction.len(),
+                length.saturating_sub(place).saturating_sub(1),
+                place,
+            );
+        }
+        IntFloat::Int(_) | IntFloat::Err => same(rt, length, 1, place),
     }
 }
 

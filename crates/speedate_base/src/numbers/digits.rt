@@ -11,9 +11,12 @@ ghost use Rattle.speedate_base.specs.Digits.{
   run_length,
   run_value,
   digits_value,
+  zeros_length,
 };
 
-use super::lanes::{LANES, digits_in_front, eight_digits};
+use super::lanes::{
+    LANES, MANY_LANES, are_sixteen_digits, are_sixteen_zeros, digits_in_front, eight_digits,
+};
 use std::simd::prelude::*;
 
 /// A run of digits: how many they are, and the number that they spell. [`digit_run`] returns it.
@@ -27,6 +30,9 @@ pub struct DigitRun {
 
 /// How many digits are read one by one on the way to their end.
 const FEW: usize = 6;
+
+/// How many digits `u64::MAX` has.
+const MOST_DIGITS: usize = 20;
 
 /// The run of digits at the front of bytes: 3 digits that spell 120 for `b"120.5"`, none for `b".5"`.
 #[inline(always)]
@@ -88,6 +94,9 @@ pub fn run_end(bytes: &[u8], place: usize) -> usize
     ensures within { result ≤ length bytes.now }
 {
     let mut end = place;
+    while bytes.len() - end >= MANY_LANES && are_sixteen_digits(u8x16::from_slice(&bytes[end..])) {
+        end += MANY_LANES;
+    }
     while end < bytes.len() {
         if bytes.len() - end < LANES {
             if !bytes[end].is_ascii_digit() {
@@ -118,6 +127,62 @@ pub(crate) fn digits_number(digits: &[u8]) -> u64
 /// error, the place of the first byte that is no digit. It is 120 for `b"120"`, 0 for no bytes, and
 /// place 2 for `b"12.0"`.
 pub(crate) fn spelled_number(digits: &[u8]) -> Result<u64, usize>
+    ensures answer { result ≡ (if run_length digits.now 0 == length digits.now
+        then Ok (min (digits_value digits.now) (2 ^ 64 - 1)) else Err (run_length digits.now 0)) }
+{
+    if digits.len() > MOST_DIGITS {
+        return long_number(digits);
+    }
+    number_by_eights(digits)
+}
+
+/// The number of [`spelled_number`], for more digits than `u64::MAX` has: without the zeros at their
+/// front they are few, or spell a larger number.
+fn long_number(digits: &[u8]) -> Result<u64, usize>
+    ensures answer { result ≡ (if run_length digits.now 0 == length digits.now
+        then Ok (min (digits_value digits.now) (2 ^ 64 - 1)) else Err (run_length digits.now 0)) }
+{
+    let zeros = zeros_in_front(digits);
+    let end = run_end(digits, zeros);
+    if end < digits.len() {
+        return Err(end);
+    }
+    if end - zeros > MOST_DIGITS {
+        return Ok(u64::MAX);
+    }
+    number_by_eights(&digits[zeros..])
+}
+
+/// Whether digits are all zeros, so that they spell 0: true for `b"000"` and for no digits, false for
+/// `b"001"`.
+#[tactic(auto, using(crate::proofs::ZeroLemmas::zero_tests))]
+pub(crate) fn are_zeros(digits: &[u8]) -> bool
+    requires { IsTrue (list_all is_ascii_digit digits.now) }
+    ensures { result ≡ (digits_value digits.now == 0) }
+{
+    zeros_in_front(digits) == digits.len()
+}
+
+/// How many zeros stand at the front of bytes: 3 for `b"00012"`.
+fn zeros_in_front(bytes: &[u8]) -> usize
+    ensures count { result ≡ zeros_length bytes.now }
+    ensures within { result ≤ length bytes.now }
+{
+    let mut count = 0;
+    while bytes.len() - count >= MANY_LANES
+        && are_sixteen_zeros(u8x16::from_slice(&bytes[count..]))
+    {
+        count += MANY_LANES;
+    }
+    while count < bytes.len() && bytes[count] == b'0' {
+        count += 1;
+    }
+    count
+}
+
+/// The number of [`spelled_number`], from eight bytes at a time.
+#[inline(always)]
+fn number_by_eights(digits: &[u8]) -> Result<u64, usize>
     ensures answer { result ≡ (if run_length digits.now 0 == length digits.now
         then Ok (min (digits_value digits.now) (2 ^ 64 - 1)) else Err (run_length digits.now 0)) }
 {

@@ -5,6 +5,7 @@ ghost use Rattle.std.specs.Char.{is_ascii_digit};
 ghost use Rattle.std.specs.List.{list_all, prefix_len};
 ghost use Rattle.speedate_base.specs.Digits.{
   digits_value,
+  is_digit_zero,
   eight_at,
   fit_length,
   fit_digits,
@@ -16,6 +17,9 @@ use std::simd::prelude::*;
 
 /// How many bytes are looked at together.
 pub const LANES: usize = 8;
+
+/// How many are looked at together in a long text.
+pub(crate) const MANY_LANES: usize = 16;
 
 /// The eight bytes from `place` on, with 0 for those after the end: `b"7.5\0\0\0\0\0"` for
 /// `b"12:13:07.5"` at place 7. The place is at most the length.
@@ -109,6 +113,23 @@ pub(crate) fn digits_in_front(lanes: u8x8) -> usize
     ensures count { result ≡ prefix_len is_ascii_digit lanes }
 {
     fit_length(lanes, u8x8::splat(b'0'))
+}
+
+/// Whether sixteen bytes are digits.
+#[inline(always)]
+pub(crate) fn are_sixteen_digits(lanes: u8x16) -> bool
+    ensures { result ≡ list_all is_ascii_digit lanes }
+{
+    let others = (lanes - u8x16::splat(b'0')).simd_gt(u8x16::splat(9));
+    others.to_bitmask() == 0
+}
+
+/// Whether sixteen bytes are the digit 0.
+#[inline(always)]
+pub(crate) fn are_sixteen_zeros(lanes: u8x16) -> bool
+    ensures { result ≡ list_all is_digit_zero lanes }
+{
+    lanes.simd_ne(u8x16::splat(b'0')).to_bitmask() == 0
 }
 
 /// The number that eight digits spell: 12,000,034 for `b"12000034"`.

@@ -27,7 +27,7 @@ use super::unix_time::{MICROSECOND, MILLISECOND, SECOND};
 use super::{INFERRED_SECONDS_MAX, UnixTime, UnixUnit};
 use crate::config::TimestampUnit;
 use crate::faults::ParseError;
-use crate::numbers::digits::digits_number;
+use crate::numbers::digits::{are_zeros, digits_number};
 use crate::numbers::{Decimal, with_sign};
 
 /// This many microseconds before 1970 lie before the year 0000, and this many after it after the year 9999.
@@ -65,7 +65,7 @@ fn is_inferred_seconds(decimal: Decimal<'_>) -> bool
     }
     let whole = digits_number(decimal.whole);
     if whole == INFERRED_SECONDS_MAX {
-        return digits_number(decimal.fraction) == 0;
+        return are_zeros(decimal.fraction);
     }
     whole < INFERRED_SECONDS_MAX
 }

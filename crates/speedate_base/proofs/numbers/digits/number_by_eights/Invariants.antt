@@ -2,7 +2,7 @@ use Rattle.std.proofs.Common.{◌≡◌, ◌-◌, ◌%◌, ◌^◌, ◌≤◌, t
 use Rattle.std.specs.List.{list_all}
 use Rattle.std.specs.Char.{is_ascii_digit}
 use Rattle.speedate_base.specs.Digits.{digits_value}
-use Rattle.speedate_base.proofs.numbers.digits.spelled_number.Given as goal
+use Rattle.speedate_base.proofs.numbers.digits.number_by_eights.Given as goal
 
 abbrev pub invariant-loop-place : goal.invariant-loop-place
 invariant-loop-place l = record {

@@ -12,7 +12,7 @@ use Rattle.speedate_base.proofs.BlockLemmas.{
   from-number,
   from-place,
 }
-use Rattle.speedate_base.proofs.numbers.digits.spelled_number.Goals as goal
+use Rattle.speedate_base.proofs.numbers.digits.number_by_eights.Goals as goal
 
 pub returns-in_err-value : goal.returns-in_err-value
 returns-in_err-value c =

@@ -1,0 +1,131 @@
+-- Zeros at the front of digits: they spell nothing, and many digits after them a large number.
+use Rattle.std.proofs.Common.{◌≡◌, ℕ, zero, suc, ◌+◌, ◌-◌, ◌*◌, ◌^◌, ◌<◌, ◌≤◌, ◌==◌, true, List, [], ◌∷◌, length, take, drop, min, Ok, refl, arith, ap, ◌∙◌, lit<, mul-le-mul_right}
+use Rattle.std.specs.Char.{is_ascii_digit}
+use Rattle.std.specs.List.{list_all}
+use Rattle.std.proofs.lemmas.Bool.{and_parts, cases_lt}
+use Rattle.std.proofs.lemmas.Bool.Decides.{nat_tests}
+use Rattle.std.proofs.lemmas.List.{take-append-drop, drop-drop, length-drop}
+use Rattle.std.proofs.lemmas.List.Sums.{take_while-cons, prefix_len_stops, prefix_len-drop_no, prefix_len-drop_all}
+use Rattle.std.proofs.Math.Nat.{pow-le-pow_right}
+use Rattle.speedate_base.specs.Digits.{
+  one_digit_value,
+  is_digit_zero,
+  zeros_length,
+  run_length,
+  digits_value,
+}
+use Rattle.speedate_base.proofs.DigitRunLemmas.{run-on, run-whole, digits_value-append}
+use Rattle.speedate_base.proofs.BlockLemmas.{number_or_place}
+use Rattle.speedate_base.proofs.NearestLemmas.{scale-some}
+
+-- where the first bytes are zeros, the zeros go on after them
+zeros-front : (bytes : List ℕ) (count : ℕ) → count ≤ length bytes
+    → list_all is_digit_zero (take count bytes) ≡ true
+    → zeros_length bytes ≡ count + zeros_length (drop count bytes)
+zeros-front bytes zero within all = omega arith
+zeros-front [] (suc count) within all = absurd (omega arith)
+zeros-front (byte ∷ bytes) (suc count) within all =
+    let parts = and_parts (is_digit_zero byte) _ all in
+    grind (arith, nat_tests, parts.0, zeros-front bytes count (omega arith) parts.1)
+
+pub zeros_on : (bytes : List ℕ) (place count : ℕ) → place + count ≤ length bytes
+    → list_all is_digit_zero (take count (drop place bytes)) ≡ true
+    → zeros_length (drop place bytes) ≡ count + zeros_length (drop (place + count) bytes)
+zeros_on bytes place count within all =
+    zeros-front (drop place bytes) count (omega (arith, length-drop place bytes, within)) all
+    ∙ ap (λ (rest : List ℕ). count + zeros_length rest) (drop-drop count place bytes)
+
+-- zeros are digits
+zeros-digits : (bytes : List ℕ)
+    → list_all is_ascii_digit (take (zeros_length bytes) bytes) ≡ true
+zeros-digits [] = refl
+zeros-digits (byte ∷ bytes) =
+    grind (arith, nat_tests, take_while-cons is_digit_zero byte bytes, zeros-digits bytes)
+
+-- so a run goes on after them
+pub zeros-run : (bytes : List ℕ) → zeros_length bytes ≤ length bytes
+    → run_length bytes 0 ≡ zeros_length bytes + run_length bytes (zeros_length bytes)
+zeros-run bytes within =
+    run-on bytes (zeros_length bytes) within (zeros-digits bytes)
+
+-- they spell nothing
+zeros-spell : (bytes : List ℕ) → digits_value (take (zeros_length bytes) bytes) ≡ 0
+zeros-spell [] = refl
+zeros-spell (byte ∷ bytes) =
+    grind (arith, nat_tests, take_while-cons is_digit_zero byte bytes, zeros-spell bytes)
+
+pub zeros-value : (bytes : List ℕ)
+    → digits_value (drop (zeros_length bytes) bytes) ≡ digits_value bytes
+zeros-value bytes =
+    let count = zeros_length bytes in
+    grind (
+      arith,
+      take-append-drop count bytes,
+      digits_value-append (take count bytes) (drop count bytes),
+      zeros-spell bytes,
+    )
+
+-- no zero comes next
+zeros-none : (bytes : List ℕ) → zeros_length (drop (zeros_length bytes) bytes) ≡ 0
+zeros-none bytes =
+    grind (
+      arith,
+      nat_tests,
+      cases_lt (zeros_length bytes) (length bytes),
+      prefix_len_stops is_digit_zero bytes 0,
+      prefix_len-drop_no is_digit_zero bytes (zeros_length bytes) 0,
+      prefix_len-drop_all is_digit_zero bytes (zeros_length bytes),
+    )
+
+-- digits of which the first is not 0 spell a large number
+large-digits : (digits : List ℕ) → list_all is_ascii_digit digits ≡ true
+    → zeros_length digits ≡ 0 → 20 < length digits → 2 ^ 64 ≤ digits_value digits
+large-digits [] all none many = absurd (omega arith)
+large-digits (digit ∷ digits) all none many =
+    let parts = and_parts (is_ascii_digit digit) _ all in
+    let more : 1 ≤ one_digit_value digit = grind (arith, nat_tests, parts.0, none) in
+    let rest : 20 ≤ length digits = omega arith in
+    let power : 10 ^ 20 ≤ 10 ^ length digits = pow-le-pow_right {n = 10} (lit< tt) rest in
+    omega (arith, mul-le-mul_right (10 ^ length digits) more, power)
+
+-- so after zeros at the front many digits spell a number that is capped
+pub long-capped : (digits : List ℕ) → zeros_length digits ≤ length digits
+    → run_length digits (zeros_length digits) + zeros_length digits ≡ length digits
+    → 20 < length digits - zeros_length digits
+    → Ok (2 ^ 64 - 1) ≡ number_or_place digits (min (digits_value digits) (2 ^ 64 - 1))
+long-capped digits within ends many =
+    let rest : List ℕ = drop (zeros_length digits) digits in
+    let run = zeros-run digits within in
+    let all : list_all is_ascii_digit rest ≡ true =
+    grind (arith, nat_tests, run-whole rest, length-drop (zeros_length digits) digits) in
+    let large = large-digits rest all (zeros-none digits)
+    (omega (arith, length-drop (zeros_length digits) digits)) in
+    grind (arith, nat_tests, run, large, zeros-value digits)
+
+-- and few digits the same number with the zeros and without
+pub few-left : (digits : List ℕ) → zeros_length digits ≤ length digits
+    → run_length digits (zeros_length digits) + zeros_length digits ≡ length digits
+    → number_or_place (drop (zeros_length digits) digits)
+    (min (digits_value (drop (zeros_length digits) digits)) (2 ^ 64 - 1))
+    ≡ number_or_place digits (min (digits_value digits) (2 ^ 64 - 1))
+few-left digits within ends =
+    grind (
+      arith,
+      nat_tests,
+      zeros-run digits within,
+      zeros-value digits,
+      length-drop (zeros_length digits) digits,
+    )
+
+-- digits spell 0 if and only if all are zeros
+pub zeros-whole : (digits : List ℕ) → list_all is_ascii_digit digits ≡ true
+    → (zeros_length digits == length digits) ≡ (digits_value digits == 0)
+zeros-whole [] all = refl
+zeros-whole (digit ∷ digits) all =
+    let parts = and_parts (is_ascii_digit digit) _ all in
+    let scale = 10 ^ length digits in
+    let more : 1 ≤ one_digit_value digit → 1 * scale ≤ one_digit_value digit * scale =
+    mul-le-mul_right scale in
+    grind (arith, nat_tests, parts.0, more, scale-some (length digits), zeros-whole digits parts.1)
+
+pub ruleset zero_tests = (nat_tests, zeros-whole)
