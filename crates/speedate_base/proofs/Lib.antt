@@ -11,4 +11,5 @@ mod RoundingLemmas
 mod DecimalLemmas
 mod ScaledLemmas
 mod ZeroLemmas
+mod PairLemmas
 mod FaultLemmas

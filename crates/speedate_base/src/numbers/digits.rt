@@ -1,6 +1,6 @@
 //! Digits and bytes at places of a text, and digits in runs.
 
-ghost use Rattle.std.specs.Prelude.{◌≡◌, ◌+◌, ◌-◌, ◌^◌, ◌<◌, ◌≤◌, length, min, nat_le, ◌==◌, slice_index, IsTrue, IfSome, Some, None, Ok, Err, if◌then◌else◌};
+ghost use Rattle.std.specs.Prelude.{◌≡◌, ◌+◌, ◌-◌, ◌*◌, ◌^◌, ◌<◌, ◌≤◌, length, min, nat_le, ◌==◌, slice_index, IsTrue, IfSome, Some, None, Ok, Err, if◌then◌else◌};
 ghost use Rattle.std.specs.Char.{is_ascii_digit};
 ghost use Rattle.std.specs.List.{list_all};
 ghost use Rattle.speedate_base.specs.Digits.{
@@ -15,7 +15,8 @@ ghost use Rattle.speedate_base.specs.Digits.{
 };
 
 use super::lanes::{
-    LANES, MANY_LANES, are_sixteen_digits, are_sixteen_zeros, digits_in_front, eight_digits,
+    LANES, MANY_LANES, are_digits, are_sixteen_digits, are_sixteen_zeros, digits_in_front,
+    eight_digits, front_number,
 };
 use std::simd::prelude::*;
 
@@ -77,7 +78,7 @@ fn long_run(bytes: &[u8]) -> DigitRun
     ensures length { result.length ≡ run_length bytes.now 0 }
     ensures value { result.value ≡ min (run_value bytes.now 0) (2 ^ 64 - 1) }
 {
-    let length = run_end(bytes, 0);
+    let length = long_run_end(bytes, 0);
     DigitRun {
         length,
         value: digits_number(&bytes[..length]),
@@ -94,9 +95,6 @@ pub fn run_end(bytes: &[u8], place: usize) -> usize
     ensures within { result ≤ length bytes.now }
 {
     let mut end = place;
-    while bytes.len() - end >= MANY_LANES && are_sixteen_digits(u8x16::from_slice(&bytes[end..])) {
-        end += MANY_LANES;
-    }
     while end < bytes.len() {
         if bytes.len() - end < LANES {
             if !bytes[end].is_ascii_digit() {
@@ -114,6 +112,19 @@ pub fn run_end(bytes: &[u8], place: usize) -> usize
     end
 }
 
+/// What [`run_end`] finds, for a run that may be long: sixteen digits at a time.
+pub(crate) fn long_run_end(bytes: &[u8], place: usize) -> usize
+    requires { place ≤ length bytes.now }
+    ensures end { result ≡ place + run_length bytes.now place }
+    ensures within { result ≤ length bytes.now }
+{
+    let mut end = place;
+    while bytes.len() - end >= MANY_LANES && are_sixteen_digits(u8x16::from_slice(&bytes[end..])) {
+        end += MANY_LANES;
+    }
+    run_end(bytes, end)
+}
+
 /// The number that digits spell, or `u64::MAX` if it is larger: 120 for `b"120"`.
 #[tactic(auto, using(crate::proofs::BlockLemmas::is_number))]
 pub(crate) fn digits_number(digits: &[u8]) -> u64
@@ -126,6 +137,7 @@ pub(crate) fn digits_number(digits: &[u8]) -> u64
 /// The number that bytes spell if they are digits, or `u64::MAX` if it is larger; otherwise, as an
 /// error, the place of the first byte that is no digit. It is 120 for `b"120"`, 0 for no bytes, and
 /// place 2 for `b"12.0"`.
+#[inline(always)]
 pub(crate) fn spelled_number(digits: &[u8]) -> Result<u64, usize>
     ensures answer { result ≡ (if run_length digits.now 0 == length digits.now
         then Ok (min (digits_value digits.now) (2 ^ 64 - 1)) else Err (run_length digits.now 0)) }
@@ -133,7 +145,31 @@ pub(crate) fn spelled_number(digits: &[u8]) -> Result<u64, usize>
     if digits.len() > MOST_DIGITS {
         return long_number(digits);
     }
+    if LANES < digits.len() && digits.len() <= 2 * LANES {
+        return number_by_two_loads(digits);
+    }
     number_by_eights(digits)
+}
+
+/// The number of [`spelled_number`], for nine to sixteen bytes: the first eight and the last eight are
+/// read at once, and what both have counts once.
+#[inline(always)]
+fn number_by_two_loads(digits: &[u8]) -> Result<u64, usize>
+    requires { (LANES < length digits.now) × (length digits.now ≤ 2 * LANES) }
+    ensures answer { result ≡ (if run_length digits.now 0 == length digits.now
+        then Ok (min (digits_value digits.now) (2 ^ 64 - 1)) else Err (run_length digits.now 0)) }
+{
+    let count = digits.len() - LANES;
+    let first = u8x8::from_slice(digits);
+    let last = u8x8::from_slice(&digits[count..]);
+    if are_digits(first, last) {
+        return Ok(100_000_000 * front_number(first, count) + eight_digits(last));
+    }
+    let front = digits_in_front(first);
+    if front < LANES {
+        return Err(front);
+    }
+    Err(count + digits_in_front(last))
 }
 
 /// The number of [`spelled_number`], for more digits than `u64::MAX` has: without the zeros at their
@@ -143,7 +179,7 @@ fn long_number(digits: &[u8]) -> Result<u64, usize>
         then Ok (min (digits_value digits.now) (2 ^ 64 - 1)) else Err (run_length digits.now 0)) }
 {
     let zeros = zeros_in_front(digits);
-    let end = run_end(digits, zeros);
+    let end = long_run_end(digits, zeros);
     if end < digits.len() {
         return Err(end);
     }

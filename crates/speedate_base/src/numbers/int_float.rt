@@ -5,7 +5,7 @@ ghost use Rattle.std.specs.Char.{is_ascii_digit};
 ghost use Rattle.std.specs.List.{list_all};
 
 use super::checked_with_sign;
-use super::digits::{are_zeros, digits_number, run_end};
+use super::digits::{are_zeros, digits_number, long_run_end};
 
 /// A decimal of any length: its sign, and the digits before and after its point, borrowed from a text.
 /// The decimal of `"-1.50"` is negative, and has the digits `1` and `50`.
@@ -74,7 +74,7 @@ impl<'a> Decimal<'a> {
 fn are_digits(bytes: &[u8]) -> bool
     ensures { result ≡ list_all is_ascii_digit bytes.now }
 {
-    run_end(bytes, 0) == bytes.len()
+    long_run_end(bytes, 0) == bytes.len()
 }
 
 /// What [`float_parse_str`](super::float_parse_str) returns: `Int(12)` from `"12"`.

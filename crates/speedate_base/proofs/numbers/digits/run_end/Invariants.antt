@@ -10,12 +10,3 @@ invariant-loop-end l = record {
 
 abbrev pub decreases-loop-end : goal.decreases-loop-end
 decreases-loop-end l = length l.bytes - l.end
-
-abbrev pub invariant-loop-end-2 : goal.invariant-loop-end-2
-invariant-loop-end-2 l = record {
-  within : l.end ≤ length l.bytes;
-  run : l.place + run_length l.bytes l.place ≡ l.end + run_length l.bytes l.end;
-}
-
-abbrev pub decreases-loop-end-2 : goal.decreases-loop-end-2
-decreases-loop-end-2 l = length l.bytes - l.end
