@@ -89,6 +89,10 @@ pub fn fit_length(lanes: u8x8, pattern: u8x8) -> usize
     let digits = pattern.simd_eq(u8x8::splat(b'0'));
     let largest = digits.select(u8x8::splat(9), u8x8::splat(0));
     let others = (lanes - pattern).simd_gt(largest);
+    // Most texts fit, and then the test alone tells the count.
+    if !others.any() {
+        return LANES;
+    }
     (others.to_bitmask().trailing_zeros() as usize).min(LANES)
 }
 
