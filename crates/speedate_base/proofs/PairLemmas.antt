@@ -8,7 +8,13 @@ use Rattle.std.proofs.lemmas.List.{take-append-drop, length-drop, length-take-le
 use Rattle.std.proofs.lemmas.List.Sums.{prefix_len-le-length}
 use Rattle.std.proofs.lemmas.List.Folds.{list_all-append}
 use Rattle.speedate_base.specs.Digits.{digits_value}
-use Rattle.speedate_base.proofs.DigitRunLemmas.{digits_value-append, digits_value-fits, run-front, run-on, run-whole}
+use Rattle.speedate_base.proofs.DigitRunLemmas.{
+  digits_value-append,
+  digits_value-fits,
+  run-front,
+  run-on,
+  run-whole,
+}
 use Rattle.speedate_base.proofs.BlockLemmas.{number_or_place}
 use Rattle.speedate_base.proofs.RoundingLemmas.{front_all, rest_all}
 
@@ -19,7 +25,8 @@ first-ones digits count few = take-take count 8 digits few
 
 -- where both eights are digits, all are
 pub pair-all : (digits : List ℕ) (count : ℕ) → count ≤ 8
-    → (list_all is_ascii_digit (take 8 digits) && list_all is_ascii_digit (drop count digits)) ≡ true
+    → (list_all is_ascii_digit (take 8 digits) && list_all is_ascii_digit (drop count digits))
+    ≡ true
     → list_all is_ascii_digit digits ≡ true
 pair-all digits count few both =
     let parts = and_parts (list_all is_ascii_digit (take 8 digits)) _ both in
@@ -34,7 +41,8 @@ pair-all digits count few both =
 
 -- and where one is not, not all are
 pub pair-other : (digits : List ℕ) (count : ℕ)
-    → (list_all is_ascii_digit (take 8 digits) && list_all is_ascii_digit (drop count digits)) ≡ false
+    → (list_all is_ascii_digit (take 8 digits) && list_all is_ascii_digit (drop count digits))
+    ≡ false
     → list_all is_ascii_digit digits ≡ false
 pair-other digits count other =
     false_from_ne_true _ (λ all. false≢true (sym other
@@ -52,8 +60,10 @@ pair-value digits count few long =
 
 -- so they are the answer, since few digits fit 64 bits
 pub pair-number : (digits : List ℕ) (count value : ℕ) → count ≤ 8 → count + 8 ≡ length digits
-    → (list_all is_ascii_digit (take 8 digits) && list_all is_ascii_digit (drop count digits)) ≡ true
-    → value ≡ 100000000 * digits_value (take count (take 8 digits)) + digits_value (drop count digits)
+    → (list_all is_ascii_digit (take 8 digits) && list_all is_ascii_digit (drop count digits))
+    ≡ true
+    → value
+    ≡ 100000000 * digits_value (take count (take 8 digits)) + digits_value (drop count digits)
     → Ok value ≡ number_or_place digits (min (digits_value digits) (2 ^ 64 - 1))
 pair-number digits count value few long both is =
     let all = pair-all digits count few both in
@@ -68,7 +78,8 @@ pair-number digits count value few long both is =
 
 -- where the first eight are not all digits, the run ends among them
 pub pair-front : (digits : List ℕ) (count front number : ℕ) → 8 ≤ length digits
-    → (list_all is_ascii_digit (take 8 digits) && list_all is_ascii_digit (drop count digits)) ≡ false
+    → (list_all is_ascii_digit (take 8 digits) && list_all is_ascii_digit (drop count digits))
+    ≡ false
     → front ≡ prefix_len is_ascii_digit (take 8 digits) → front < 8
     → Err front ≡ number_or_place digits number
 pair-front digits count front number enough other is less =
@@ -84,7 +95,8 @@ pair-front digits count front number enough other is less =
 -- otherwise among the last
 pub pair-back : (digits : List ℕ) (count front back number : ℕ) → count ≤ 8
     → count + 8 ≡ length digits
-    → (list_all is_ascii_digit (take 8 digits) && list_all is_ascii_digit (drop count digits)) ≡ false
+    → (list_all is_ascii_digit (take 8 digits) && list_all is_ascii_digit (drop count digits))
+    ≡ false
     → front ≡ prefix_len is_ascii_digit (take 8 digits) → 8 ≤ front
     → back ≡ prefix_len is_ascii_digit (drop count digits)
     → Err (count + back) ≡ number_or_place digits number

@@ -12,7 +12,14 @@ use Rattle.speedate_base.specs.Digits.{digits_value}
 use Rattle.speedate_base.proofs.BlockLemmas.{block-more, is_number}
 use Rattle.speedate_base.proofs.DigitRunLemmas.{below-power, digits_value-append, digits_value-lt}
 use Rattle.speedate_base.specs.Nearest.{quotient}
-use Rattle.speedate_base.proofs.NearestLemmas.{part_down, part_up, quotient-carried, quotient-filled, quotient-le, scale-some}
+use Rattle.speedate_base.proofs.NearestLemmas.{
+  part_down,
+  part_up,
+  quotient-carried,
+  quotient-filled,
+  quotient-le,
+  scale-some,
+}
 
 split : (digits : List ℕ) (count : ℕ) → list_all is_ascii_digit digits ≡ true
     → (list_all is_ascii_digit (take count digits) && list_all is_ascii_digit (drop count digits))
@@ -130,8 +137,8 @@ pub sixteen-value : (digits : List ℕ) → 16 ≤ length digits
     ≡ digits_value (take 8 digits) * 100000000 + digits_value (take 8 (drop 8 digits))
 sixteen-value digits long = omega (arith, block-more digits 8 long)
 
--- a fraction whose first sixteen digits are rounded in one way, whatever comes after them, is rounded
--- so
+-- a fraction whose first sixteen digits are rounded in one way, whatever comes after them, is
+-- rounded so
 pub sixteen-told : (up : Bool) (unit : ℕ) (digits : List ℕ) → 16 ≤ length digits
     → list_all is_ascii_digit digits ≡ true
     → quotient up (2 * (digits_value (take 16 digits) * unit)) (10 ^ 16)

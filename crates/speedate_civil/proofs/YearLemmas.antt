@@ -45,7 +45,8 @@ march_day-late years day first late =
     let length = year_length-is year in
     let ordinal : IsOrdinal year (day + 59 + leap_day year) (long_month (day + 61))
     (day_in_month (day + 61)) =
-    ordinal-at year (day + 59 + leap_day year) (day + 61) (omega arith) (grind (arith, nat_tests)) in
+    ordinal-at year (day + 59 + leap_day year) (day + 61) (omega arith)
+    (grind (arith, nat_tests)) in
     omega (arith, days_before_march year, ordinal.ordinal, ordinal.day_in_range.0)
 
 -- in January and February, of the next year

@@ -38,11 +38,19 @@ returns c =
     let one : length first ≡ 8 =
     omega (arith, length-zip2 less c.args.first (replicate 8 48) c.fits-first.0, c.fits-first.0) in
     let two : length second ≡ 8 =
-    omega (arith, length-zip2 less c.args.second (replicate 8 48) c.fits-second.0, c.fits-second.0) in
+    omega (
+      arith,
+      length-zip2 less c.args.second (replicate 8 48) c.fits-second.0,
+      c.fits-second.0,
+    ) in
     let tests : length (zip2 ltb first second) ≡ 8 =
     omega (arith, length-zip2 ltb first second (omega arith), one) in
     let large : length (larger first second) ≡ 8 =
-    omega (arith, length-sel_l (zip2 ltb first second) second first (omega arith) (omega arith), tests) in
+    omega (
+      arith,
+      length-sel_l (zip2 ltb first second) second first (omega arith) (omega arith),
+      tests,
+    ) in
     let compares : length (zip2 ltb (replicate 8 9) (larger first second)) ≡ 8 =
     length-zip2 ltb (replicate 8 9) (larger first second) (omega arith) in
     rw (

@@ -28,10 +28,10 @@ moved (suc (suc (suc (suc (suc zero))))) a b c d e f g h some few sa sb sc sd se
     search rules
 moved (suc (suc (suc (suc (suc (suc zero)))))) a b c d e f g h some few sa sb sc sd se sf sg sh =
     search rules
-moved (suc (suc (suc (suc (suc (suc (suc zero))))))) a b c d e f g h some few sa sb sc sd se sf sg sh =
-    search rules
-moved (suc (suc (suc (suc (suc (suc (suc (suc zero)))))))) a b c d e f g h some few sa sb sc sd se sf sg sh =
-    search rules
+moved (suc (suc (suc (suc (suc (suc (suc zero))))))) a b c d e f g h some few
+    sa sb sc sd se sf sg sh = search rules
+moved (suc (suc (suc (suc (suc (suc (suc (suc zero)))))))) a b c d e f g h some few
+    sa sb sc sd se sf sg sh = search rules
 moved (suc (suc (suc (suc (suc (suc (suc (suc (suc more)))))))))
     a b c d e f g h some few sa sb sc sd se sf sg sh = absurd (omega arith)
 
@@ -40,7 +40,10 @@ record Stands (byte : ℕ) : Type 0 where
   same : less byte 48 + 48 ≡ byte
 
 stands : (byte : ℕ) → is_ascii_digit byte ≡ true → Stands byte
-stands byte is = record { small = grind (arith, nat_tests, is); same = grind (arith, nat_tests, is) }
+stands byte is = record {
+  small = grind (arith, nat_tests, is);
+  same = grind (arith, nat_tests, is);
+}
 
 eight_moved : (bytes : List ℕ) → length bytes ≡ 8 → list_all is_ascii_digit bytes ≡ true
     → (count : ℕ) → 1 ≤ count → count ≤ 8
@@ -48,7 +51,8 @@ eight_moved : (bytes : List ℕ) → length bytes ≡ 8 → list_all is_ascii_di
     (8 * (8 - count)) % 18446744073709551616 + 0))
     ≡ replicate (8 - count) 48 ++ take count bytes
 eight_moved =
-    by_eight (λ (bytes : List ℕ). list_all is_ascii_digit bytes ≡ true → (count : ℕ) → 1 ≤ count → count ≤ 8
+    by_eight (λ (bytes : List ℕ). list_all is_ascii_digit bytes ≡ true
+    → (count : ℕ) → 1 ≤ count → count ≤ 8
     → map back (digits_l 256 8 (number_l 256 (zip2 less bytes (replicate 8 48)) * 2 ^
     (8 * (8 - count)) % 18446744073709551616 + 0))
     ≡ replicate (8 - count) 48 ++ take count bytes)
@@ -84,5 +88,6 @@ returns c =
     (length-zip2 less lanes (replicate 8 48) c.fits-lanes.0 ∙ c.fits-lanes.0) in
     record {
       lanes = rw number
-          (eight_moved lanes c.fits-lanes.0 c.requires.digits c.args.count c.requires.some c.requires.few);
+          (eight_moved lanes c.fits-lanes.0 c.requires.digits c.args.count c.requires.some
+          c.requires.few);
     }
