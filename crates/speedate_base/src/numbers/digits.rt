@@ -72,7 +72,7 @@ pub fn few_digits(bytes: &[u8]) -> Option<(u32, usize)>
     Some((value, size))
 }
 
-/// The run of digits at the front of bytes, of any length: eight digits at a time.
+/// The run of digits at the front of bytes, of any length: sixteen digits at a time.
 #[tactic(auto, using(crate::proofs::NumberLemmas::front_digits))]
 fn long_run(bytes: &[u8]) -> DigitRun
     ensures length { result.length ≡ run_length bytes.now 0 }

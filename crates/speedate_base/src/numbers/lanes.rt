@@ -1,4 +1,4 @@
-//! Texts of a fixed form, eight bytes at a time.
+//! Texts of a fixed form, and digits, eight or sixteen bytes at a time.
 
 ghost use Rattle.std.specs.Prelude.{◌≡◌, ℕ, ◌+◌, ◌-◌, ◌*◌, ◌^◌, ◌<◌, ◌≤◌, ◌&&◌, ◌++◌, IsTrue, length, take, drop, replicate, slice_index};
 ghost use Rattle.speedate_base.specs.Ascii.{digit_zero};
