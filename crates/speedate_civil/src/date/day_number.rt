@@ -24,8 +24,8 @@ use super::{Date, is_leap_year, month_length};
 /// The day number of 9999-12-31.
 const LAST_DAY_NUMBER: u32 = 3_652_424;
 
-/// The days before the year 0 from 1 March of the year -400 on, from which years of March are counted: a
-/// 29 February then is the last day of its year, of its four years, and of its 400 years.
+/// The days before the year 0 from 1 March of the year -400 on, from which years of March are counted: the
+/// day that a leap year has more is then the last one of its year, and of the years that are counted so far.
 const DAYS_BEFORE_YEAR_0: u32 = 146_037;
 
 /// The days of 400 years, after which the calendar repeats.
@@ -134,7 +134,11 @@ impl Date {
         let days = before_year
             + u32::from(long_days_before_month(self.month))
             + u32::from(self.day);
-        days - if is_early { 145_732 } else { 146_099 }
+        days - if is_early {
+            DAYS_BEFORE_YEAR_0 + 1 - JANUARY_START
+        } else {
+            DAYS_BEFORE_YEAR_0 + 62
+        }
     }
 
     /// The date of a day number: 0000-02-29 for 59. It is the date that many days after 0000-01-01.
