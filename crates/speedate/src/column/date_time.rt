@@ -41,7 +41,7 @@ pub struct DateTimeReader {
 impl DateTimeReader {
     ghost use Rattle.std.specs.Prelude.{◌≡◌, Err, IfSome, Ok};
     ghost use Rattle.speedate_base.specs.Config.{choices, time_choices};
-    ghost use Rattle.speedate_base.specs.Requirement.{first_fault_or, result_and_then};
+    ghost use Rattle.speedate_base.specs.Requirement.{first_fault_or, result_and_then, result_map};
     ghost use Rattle.speedate_base.specs.Timestamp.{IsInYears, unix_instant};
     ghost use Rattle.speedate_civil.specs.DateTime.{
       date_and_time,
@@ -49,29 +49,25 @@ impl DateTimeReader {
       date_time_by_config,
       date_time_front,
       utc_microsecond,
-      ◌gives◌,
     };
     ghost use Rattle.speedate.specs.Column.{
       IsFront,
       as_number,
       date_time_number,
-      date_time_of_line,
       text_behavior,
       text_table,
       with_offset,
     };
 
-    /// The date-time of a line.
+    /// The number of a line by its date-time, or by the error of a line that is none.
     #[inline(always)]
-    fn date_time(&self, line: &[u8]) -> Result<DateTime, ParseError>
-        ensures answer { result gives date_time_of_line self.now.parser line.now }
+    fn number_of(&self, read: Result<DateTime, ParseError>) -> Result<i64, LineError>
+        ensures number { result ≡ as_number utc_microsecond (result_and_then
+            (with_offset self.now.assumes_utc) (result_map date_and_time read)) }
     {
-        match &self.parser {
-            DateTimeParser::Rfc3339(config) => {
-                DateTime::parse_bytes_rfc3339_with_config(line, config)
-            }
-            DateTimeParser::OrTimestamp(config) => DateTime::parse_bytes_with_config(line, config),
-            DateTimeParser::Strict(behavior) => DateTime::parse_bytes_strict(line, *behavior),
+        match read {
+            Ok(value) => self.microsecond(&value),
+            Err(fault) => Err(LineError::Parse(fault)),
         }
     }
 
@@ -171,12 +167,14 @@ impl LineReader for DateTimeReader {
     ghost answer = { date_time_number };
 
     fn number(&self, line: &[u8]) -> Result<i64, LineError> {
-        if let DateTimeParser::OrTimestamp(config) = &self.parser {
-            return self.number_or_timestamp(line, config);
-        }
-        match self.date_time(line) {
-            Ok(value) => self.microsecond(&value),
-            Err(fault) => Err(LineError::Parse(fault)),
+        match &self.parser {
+            DateTimeParser::Rfc3339(config) => {
+                self.number_of(DateTime::parse_bytes_rfc3339_with_config(line, config))
+            }
+            DateTimeParser::OrTimestamp(config) => self.number_or_timestamp(line, config),
+            DateTimeParser::Strict(behavior) => {
+                self.number_of(DateTime::parse_bytes_strict(line, *behavior))
+            }
         }
     }
 
