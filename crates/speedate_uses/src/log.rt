@@ -81,10 +81,13 @@ pub fn is_between(line: &[u8], config: &TimeConfig, first: &DateTime, last: &Dat
     ensures kept { result ≡ is_between (time_choices config.now).behavior
         (date_and_time first.now) (date_and_time last.now) line.now }
 {
-    lies_between(line, config, &Moments::of(first), &Moments::of(last))
+    match DateTime::parse_front(line, config) {
+        Ok((value, _)) => first.cmp_instant(&value).is_le() && value.cmp_instant(last).is_le(),
+        Err(_) => false,
+    }
 }
 
-/// Whether a line begins with a date-time between two others.
+/// The answer of [`is_between`], by bounds whose instants are calculated.
 #[inline(always)]
 fn lies_between(line: &[u8], config: &TimeConfig, first: &Moments, last: &Moments) -> bool
     ensures kept { result ≡ is_between (time_choices config.now).behavior
@@ -133,8 +136,8 @@ pub fn sort_by_instant<A: Allocator>(alloc: A, times: &mut [DateTime]) -> Result
         times.old times.new }
     ensures err { OnErr result (times.new ≡ times.old) }
 {
-    // So few are sorted without memory.
-    if times.len() <= FEW {
+    // So few are sorted without memory, and so are those that are in order.
+    if times.len() <= FEW || times.is_sorted_by_key(|time| instant_key(time)) {
         return times.sort_by_key(alloc, |time| instant_key(time));
     }
     times.sort_by_cached_key(alloc, |time| instant_key(time))

@@ -72,8 +72,8 @@ fn next_multiple(gone: i128, every: i128) -> i128
     }
 }
 
-/// The first positive multiple of `every` that is larger than `gone`, in 64 bits, which nearly always do:
-/// a division of 128 bits is a call.
+/// The first positive multiple of `every` that is larger than `gone`, in 64 bits, which are nearly always
+/// enough: a division of 128 bits is a call.
 fn next_short_multiple(gone: i64, every: i64) -> i128
     requires positive { pos 0 <ℤ every }
     ensures { result ≡ pos (next_count (unsigned_abs every) gone * unsigned_abs every) }

@@ -40,3 +40,35 @@ fn date_times_by_instant(rt: HostRuntime) {
     let sorted = sort_by_instant(rt.alloc(), &mut times);
     assert!(rt; sorted.is_ok() && times == [east, noon, later]);
 }
+
+/// More date-times than are sorted without memory, at two offsets: mixed, in order, falling, and all at
+/// one instant. A sort that calculates each key at each comparison is to give the same.
+#[test]
+fn many_date_times_by_instant(rt: HostRuntime) {
+    let noon: DateTime = value(&rt, "2026-11-22T12:00:00Z");
+    for step in [29, 1, 47, 0] {
+        let mut times = [noon; 48];
+        for place in 0..48 {
+            times[place] = moved(&noon, place * step % 48, place % 2);
+        }
+        let mut model = times;
+        let by_key = model.sort_by_key(rt.alloc(), |time| {
+            (time.timestamp_tz(), time.time.microsecond)
+        });
+        let sorted = sort_by_instant(rt.alloc(), &mut times);
+        assert!(rt;
+            by_key.is_ok() && sorted.is_ok() && times == model,
+            "step {step}"
+        );
+    }
+}
+
+/// A date-time so many seconds later, as a clock so many hours east of UTC shows it.
+fn moved(start: &DateTime, seconds: usize, hours: usize) -> DateTime {
+    let second = start.timestamp_tz() + seconds as i64 % 48;
+    let value = DateTime::from_timestamp(second, 0).unwrap_or(*start);
+    let value = value.with_timezone_offset(Some(0)).unwrap_or(value);
+    value
+        .in_timezone(if hours == 0 { 0 } else { 3_600 })
+        .unwrap_or(value)
+}
