@@ -48,8 +48,8 @@ fn many_date_times_by_instant(rt: HostRuntime) {
     let noon: DateTime = value(&rt, "2026-11-22T12:00:00Z");
     for step in [29, 1, 47, 0] {
         let mut times = [noon; 48];
-        for place in 0..48 {
-            times[place] = moved(&noon, place * step % 48, place % 2);
+        for place in 0..48_u32 {
+            times[place as usize] = moved(&noon, place * step % 48, place % 2);
         }
         let mut model = times;
         let by_key = model.sort_by_key(rt.alloc(), |time| {
@@ -64,8 +64,8 @@ fn many_date_times_by_instant(rt: HostRuntime) {
 }
 
 /// A date-time so many seconds later, as a clock so many hours east of UTC shows it.
-fn moved(start: &DateTime, seconds: usize, hours: usize) -> DateTime {
-    let second = start.timestamp_tz() + seconds as i64 % 48;
+fn moved(start: &DateTime, seconds: u32, hours: u32) -> DateTime {
+    let second = start.timestamp_tz() + i64::from(seconds);
     let value = DateTime::from_timestamp(second, 0).unwrap_or(*start);
     let value = value.with_timezone_offset(Some(0)).unwrap_or(value);
     value

@@ -126,24 +126,31 @@ fn whole_numbers(rt: HostRuntime) {
 /// Texts of one digit over and over with a point, and with a letter, at each place.
 #[test]
 fn one_other_byte_among_digits(rt: HostRuntime) {
-    for digit in [b'0', b'7'] {
-        for length in 1..50usize {
-            for place in 0..length {
-                let mut text = [digit; 50];
-                text[place] = b'x';
-                same(&rt, int_parse_bytes(&text[..length]), None, place);
-                same(
-                    &rt,
-                    float_parse_bytes(&text[..length]).is_err(),
-                    true,
-                    place,
-                );
-                assert!(rt; Decimal::new(false, b"1", &text[..length]).is_none());
-                text[place] = b'.';
-                expect_split(&rt, float_parse_bytes(&text[..length]), place, length);
-            }
+    for length in 1..50usize {
+        for place in 0..length {
+            expect_other_byte(&rt, b'0', place, length);
+            expect_other_byte(&rt, b'7', place, length);
         }
     }
+}
+
+/// A text of so many bytes, one digit over and over, with a letter at a place, and then with a point.
+fn expect_other_byte<R: Abort>(rt: &R, digit: u8, place: usize, length: usize) {
+    let mut text = [digit; 50];
+    if place >= length || length > 50 {
+        return;
+    }
+    text[place] = b'x';
+    same(rt, int_parse_bytes(&text[..length]), None, place);
+    same(rt, float_parse_bytes(&text[..length]).is_err(), true, place);
+    same(
+        rt,
+        Decimal::new(false, b"1", &text[..length]).is_none(),
+        true,
+        place,
+    );
+    text[place] = b'.';
+    expect_split(rt, float_parse_bytes(&text[..length]), place, length);
 }
 
 /// A decimal is to have so many bytes, of which one is a point at this place. A lone point is none.
