@@ -178,7 +178,7 @@ fn digits_taken(value: u64, rest: u64, unit: u64, scale: u64, up: bool) -> u64
     ensures twice { result ≡ quotient up (2 * (value * unit) + rest) scale }
     ensures within { result ≤ 2 * unit }
 {
-    // Up to a unit of a day the sum fits 64 bits. Above it needs 128, whose division is slow.
+    // Up to a unit of a day the sum fits 64 bits; above that it needs 128, whose division is a call.
     if unit <= DAY_MICROSECONDS {
         let sum = 2 * (value * unit) + rest;
         return if up {
