@@ -10,17 +10,17 @@ use Rattle.speedate.specs.Lines.{is_line_feed, IsOneLine, IsLineEnd}
 use Rattle.speedate.proofs.LineLemmas.{EndsNoLine, IsFree, joined_one_line}
 
 -- the marks of a part of a text
-abbrev pub marks_at : List ℕ → ℕ → ℕ → ℕ
-marks_at text place lanes = mask_l (map is_line_feed (chunk place lanes text))
+abbrev pub marks_at : List ℕ → ℕ → ℕ
+marks_at text place = mask_l (map is_line_feed (chunk place 16 text))
 
 -- where no byte is marked, no line ends
-pub IsOneLine-from_marks : (lanes : ℕ) (text : List ℕ) (from place marks : ℕ)
-    → place + lanes ≤ length text → IsOneLine text from place
-    → marks ≡ marks_at text place lanes → marks ≡ 0 → IsOneLine text from (place + lanes)
-IsOneLine-from_marks lanes text from place marks room before is none =
-    joined_one_line text from place (place + lanes) before
+pub IsOneLine-from_marks : (text : List ℕ) (from place marks : ℕ) → place + 16 ≤ length text
+    → IsOneLine text from place
+    → marks ≡ marks_at text place → marks ≡ 0 → IsOneLine text from (place + 16)
+IsOneLine-from_marks text from place marks room before is none =
+    joined_one_line text from place (place + 16) before
     (λ k after below. eqb-false (get_or text k 0) line_feed
-    (none_from_empty_mask is_line_feed text place lanes 0 room (sym is ∙ none) k after below))
+    (none_from_empty_mask is_line_feed text place 16 0 room (sym is ∙ none) k after below))
 
 marks-free : (bytes : List ℕ) → IsFree bytes → mask_l (map is_line_feed bytes) ≡ 0
 marks-free [] free = refl
@@ -31,33 +31,33 @@ marks-free (byte ∷ bytes) free =
     ) refl
 
 -- the lowest mark is at the first end of a line
-pub IsLineEnd-from_marks : (lanes : ℕ) (text : List ℕ) (from place marks : ℕ) → lanes ≤ 32
-    → from ≤ place → place + lanes ≤ length text → IsOneLine text from place
-    → marks ≡ marks_at text place lanes → 0 < marks
+pub IsLineEnd-from_marks : (text : List ℕ) (from place marks : ℕ) → from ≤ place
+    → place + 16 ≤ length text → IsOneLine text from place
+    → marks ≡ marks_at text place → 0 < marks
     → IsLineEnd text from (place + count_trailing_zeros 64 marks)
-IsLineEnd-from_marks lanes text from place marks few ordered room before is some =
-    let part = chunk place lanes text in
-    let long = length-chunk place lanes text room in
+IsLineEnd-from_marks text from place marks ordered room before is some =
+    let part = chunk place 16 text in
+    let long = length-chunk place 16 text room in
     let first = count_trailing_zeros 64 marks in
     let counted =
     ap (count_trailing_zeros 64) is
     ∙ trailing_mask_l is_line_feed 64 part (omega (arith, long)) (omega (arith, is)) in
     let clear : IsOneLine text place (place + first) = λ k after below.
     eqb-false (get_or text k 0) line_feed
-    (run_in_chunk_fails is_line_feed text place lanes first 0 room counted k after below) in
-    let within : first < lanes = elim (cases_lt first lanes) [
+    (run_in_chunk_fails is_line_feed text place 16 first 0 room counted k after below) in
+    let within : first < 16 = elim (cases_lt first 16) [
       | inl below ↦ below
       | inr above ↦
           let free = All-from_get_or EndsNoLine part 0 (λ k below same.
-          let inside : k < lanes = omega (arith, long) in
+          let inside : k < 16 = omega (arith, long) in
           clear (place + k) (omega arith) (omega arith)
-          (sym (get_or-chunk place lanes text k 0 inside) ∙ same)) in
+          (sym (get_or-chunk place 16 text k 0 inside) ∙ same)) in
           absurd (omega (arith, is, marks-free part free))
     ] in
     record {
       after = omega arith;
       within = omega arith;
       ends = eqb-true (get_or text (place + first) 0) line_feed
-          (run_in_chunk_stops is_line_feed text place lanes first 0 room counted within);
+          (run_in_chunk_stops is_line_feed text place 16 first 0 room counted within);
       first = joined_one_line text from place (place + first) before clear;
     }

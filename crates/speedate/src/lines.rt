@@ -1,6 +1,6 @@
 //! The lines of a text.
 
-ghost use Rattle.std.specs.Prelude.{◌≡◌, ◌+◌, ◌≤◌, length, map, MatchOption};
+ghost use Rattle.std.specs.Prelude.{◌≡◌, ◌≤◌, length, map, MatchOption};
 ghost use Rattle.std.specs.Simd.Lanes.{mask_l};
 ghost use Rattle.speedate.specs.Lines.{is_line_feed, IsLineEnd, IsOneLine, without_return};
 
@@ -8,10 +8,7 @@ use speedate_base::numbers::byte_at;
 use std::simd::prelude::*;
 
 /// How many bytes are looked at together.
-const LANES: usize = 32;
-
-/// How many bytes are looked at together where there are fewer.
-const HALF_LANES: usize = 16;
+const LANES: usize = 16;
 
 /// The place of the first line feed at `from` or after it: 3 for `b"abc\ndef"` and 0. `None` if there
 /// is none.
@@ -22,7 +19,7 @@ pub fn line_end(text: &[u8], from: usize) -> Option<usize>
 {
     let mut place = from;
     while text.len() - place >= LANES {
-        let marks = line_feeds(u8x32::from_slice(&text[place..]));
+        let marks = line_feeds(u8x16::from_slice(&text[place..]));
         if marks != 0 {
             return Some(place + marks.trailing_zeros() as usize);
         }
@@ -31,34 +28,8 @@ pub fn line_end(text: &[u8], from: usize) -> Option<usize>
     line_end_in_rest(text, place)
 }
 
-/// The place of the first line feed at `from` or after it: for bytes that do not fill a whole vector.
-fn line_end_in_rest(text: &[u8], from: usize) -> Option<usize>
-    requires { from ≤ length text.now }
-    ensures found { MatchOption result (IsOneLine text.now from (length text.now))
-        (IsLineEnd text.now from) }
-{
-    if text.len() - from < HALF_LANES {
-        return line_end_by_bytes(text, from);
-    }
-    let marks = line_feeds_in_half(u8x16::from_slice(&text[from..]));
-    if marks != 0 {
-        return Some(from + marks.trailing_zeros() as usize);
-    }
-    line_end_after_half(text, from)
-}
-
-/// The place of the first line feed at `from` or after it, if none is among the first 16 bytes there.
-fn line_end_after_half(text: &[u8], from: usize) -> Option<usize>
-    requires room { from + HALF_LANES ≤ length text.now }
-    requires one_line { IsOneLine text.now from (from + HALF_LANES) }
-    ensures found { MatchOption result (IsOneLine text.now from (length text.now))
-        (IsLineEnd text.now from) }
-{
-    line_end_by_bytes(text, from + HALF_LANES)
-}
-
 /// The place of the first line feed at `from` or after it, byte by byte: for bytes that fill no vector.
-fn line_end_by_bytes(text: &[u8], from: usize) -> Option<usize>
+fn line_end_in_rest(text: &[u8], from: usize) -> Option<usize>
     requires { from ≤ length text.now }
     ensures found { MatchOption result (IsOneLine text.now from (length text.now))
         (IsLineEnd text.now from) }
@@ -73,15 +44,7 @@ fn line_end_by_bytes(text: &[u8], from: usize) -> Option<usize>
 
 /// Bit k tells whether lane k is a line feed.
 #[inline(always)]
-fn line_feeds(lanes: u8x32) -> u64
-    ensures marks { result ≡ mask_l (map is_line_feed lanes) }
-{
-    lanes.simd_eq(u8x32::splat(b'\n')).to_bitmask()
-}
-
-/// Bit k tells whether lane k of half as many is a line feed.
-#[inline(always)]
-fn line_feeds_in_half(lanes: u8x16) -> u64
+fn line_feeds(lanes: u8x16) -> u64
     ensures marks { result ≡ mask_l (map is_line_feed lanes) }
 {
     lanes.simd_eq(u8x16::splat(b'\n')).to_bitmask()

@@ -7,9 +7,9 @@ returns-then-marks-ne0 c =
     let before = c.loop-place.invariant in
     let marks = c.line_feeds-marks.ensures.marks in
     record {
-      found = IsLineEnd-from_marks 32 c.args.text.now c.args.from c.loop-place.place _ (omega arith)
-          before.after (omega (arith, before.within)) before.one_line marks (omega arith);
+      found = IsLineEnd-from_marks c.args.text.now c.args.from c.loop-place.place _ before.after
+          (omega (arith, before.within)) before.one_line marks (omega arith);
     }
 
 pub loop-place-preserved : goal.loop-place-preserved
-loop-place-preserved c = search (rules, IsOneLine-from_marks 32)
+loop-place-preserved c = search (rules, IsOneLine-from_marks)

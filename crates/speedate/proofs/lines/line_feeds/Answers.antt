@@ -3,4 +3,4 @@ use Rattle.std.proofs.lemmas.Simd.{bitmask_splat}
 use Rattle.speedate.proofs.lines.line_feeds.Goals as goal
 
 pub returns : goal.returns
-returns c = record { marks = bitmask_splat w8 nat_eq c.args.lanes 32 10 c.fits-lanes.0 (lit≤ tt) }
+returns c = record { marks = bitmask_splat w8 nat_eq c.args.lanes 16 10 c.fits-lanes.0 (lit≤ tt) }
