@@ -11,5 +11,4 @@ mod RoundingLemmas
 mod DecimalLemmas
 mod ScaledLemmas
 mod ZeroLemmas
-mod PairLemmas
 mod FaultLemmas

@@ -1,5 +1,5 @@
 -- Zeros at the front of digits: they spell nothing, and many digits after them a large number.
-use Rattle.std.proofs.Common.{◌≡◌, ℕ, zero, suc, ◌+◌, ◌-◌, ◌*◌, ◌^◌, ◌<◌, ◌≤◌, ◌==◌, true, List, [], ◌∷◌, ◌++◌, replicate, length, take, drop, min, Ok, refl, arith, rules, ap, ◌∙◌, lit<, mul-le-mul_right}
+use Rattle.std.proofs.Common.{◌≡◌, ℕ, zero, suc, ◌+◌, ◌-◌, ◌*◌, ◌^◌, ◌<◌, ◌≤◌, ◌==◌, true, List, [], ◌∷◌, length, take, drop, min, Ok, refl, arith, ap, ◌∙◌, lit<, mul-le-mul_right}
 use Rattle.std.specs.Char.{is_ascii_digit}
 use Rattle.std.specs.List.{list_all}
 use Rattle.std.proofs.lemmas.Bool.{and_parts, cases_lt}
@@ -7,7 +7,6 @@ use Rattle.std.proofs.lemmas.Bool.Decides.{nat_tests}
 use Rattle.std.proofs.lemmas.List.{take-append-drop, drop-drop, length-drop}
 use Rattle.std.proofs.lemmas.List.Sums.{take_while-cons, prefix_len_stops, prefix_len-drop_no, prefix_len-drop_all}
 use Rattle.std.proofs.Math.Nat.{pow-le-pow_right}
-use Rattle.speedate_base.specs.Ascii.{digit_zero}
 use Rattle.speedate_base.specs.Digits.{
   one_digit_value,
   is_digit_zero,
@@ -130,15 +129,3 @@ zeros-whole (digit ∷ digits) all =
     grind (arith, nat_tests, parts.0, more, scale-some (length digits), zeros-whole digits parts.1)
 
 pub ruleset zero_tests = (nat_tests, zeros-whole)
-
--- zeros before digits change neither what they are
-pub zeros-before-all : (count : ℕ) (digits : List ℕ) → list_all is_ascii_digit digits ≡ true
-    → list_all is_ascii_digit (replicate count digit_zero ++ digits) ≡ true
-zeros-before-all zero digits all = all
-zeros-before-all (suc count) digits all = search (rules, zeros-before-all count digits all)
-
--- nor what they spell
-pub zeros-before : (count : ℕ) (digits : List ℕ)
-    → digits_value (replicate count digit_zero ++ digits) ≡ digits_value digits
-zeros-before zero digits = refl
-zeros-before (suc count) digits = omega (arith, zeros-before count digits)

@@ -1,6 +1,6 @@
 //! Digits and bytes at places of a text, and digits in runs.
 
-ghost use Rattle.std.specs.Prelude.{◌≡◌, ◌+◌, ◌-◌, ◌*◌, ◌^◌, ◌<◌, ◌≤◌, length, min, nat_le, ◌==◌, slice_index, IsTrue, IfSome, Some, None, Ok, Err, if◌then◌else◌};
+ghost use Rattle.std.specs.Prelude.{◌≡◌, ◌+◌, ◌-◌, ◌^◌, ◌<◌, ◌≤◌, length, drop, min, nat_le, ◌==◌, slice_index, IsTrue, IfSome, Some, None, Ok, Err, if◌then◌else◌};
 ghost use Rattle.std.specs.Char.{is_ascii_digit};
 ghost use Rattle.std.specs.List.{list_all};
 ghost use Rattle.speedate_base.specs.Digits.{
@@ -15,8 +15,7 @@ ghost use Rattle.speedate_base.specs.Digits.{
 };
 
 use super::lanes::{
-    LANES, MANY_LANES, are_digits, are_sixteen_digits, are_sixteen_zeros, digits_in_front,
-    eight_digits, front_number,
+    LANES, MANY_LANES, are_sixteen_digits, are_sixteen_zeros, digits_in_front, eight_digits,
 };
 use std::simd::prelude::*;
 
@@ -145,31 +144,7 @@ pub(crate) fn spelled_number(digits: &[u8]) -> Result<u64, usize>
     if digits.len() > MOST_DIGITS {
         return long_number(digits);
     }
-    if LANES < digits.len() && digits.len() <= 2 * LANES {
-        return number_by_two_loads(digits);
-    }
     number_by_eights(digits)
-}
-
-/// The number of [`spelled_number`], for nine to sixteen bytes: the first eight and the last eight are
-/// read at once, and what both have counts once.
-#[inline(always)]
-fn number_by_two_loads(digits: &[u8]) -> Result<u64, usize>
-    requires { (LANES < length digits.now) × (length digits.now ≤ 2 * LANES) }
-    ensures answer { result ≡ (if run_length digits.now 0 == length digits.now
-        then Ok (min (digits_value digits.now) (2 ^ 64 - 1)) else Err (run_length digits.now 0)) }
-{
-    let count = digits.len() - LANES;
-    let first = u8x8::from_slice(digits);
-    let last = u8x8::from_slice(&digits[count..]);
-    if are_digits(first, last) {
-        return Ok(100_000_000 * front_number(first, count) + eight_digits(last));
-    }
-    let front = digits_in_front(first);
-    if front < LANES {
-        return Err(front);
-    }
-    Err(count + digits_in_front(last))
 }
 
 /// The number of [`spelled_number`], for more digits than `u64::MAX` has: without the zeros at their
@@ -210,10 +185,20 @@ fn zeros_in_front(bytes: &[u8]) -> usize
     {
         count += MANY_LANES;
     }
-    while count < bytes.len() && bytes[count] == b'0' {
-        count += 1;
+    zeros_end(bytes, count)
+}
+
+/// Where the zeros from `place` on end, byte by byte: at place 3 for `b"x0012"` and place 1.
+fn zeros_end(bytes: &[u8], place: usize) -> usize
+    requires { place ≤ length bytes.now }
+    ensures end { result ≡ place + zeros_length (drop place bytes.now) }
+    ensures within { result ≤ length bytes.now }
+{
+    let mut end = place;
+    while end < bytes.len() && bytes[end] == b'0' {
+        end += 1;
     }
-    count
+    end
 }
 
 /// The number of [`spelled_number`], from eight bytes at a time.

@@ -1,7 +1,6 @@
 //! Texts of a fixed form, and digits, eight or sixteen bytes at a time.
 
-ghost use Rattle.std.specs.Prelude.{◌≡◌, ℕ, ◌+◌, ◌-◌, ◌*◌, ◌^◌, ◌<◌, ◌≤◌, ◌&&◌, ◌++◌, IsTrue, length, take, drop, replicate, slice_index};
-ghost use Rattle.speedate_base.specs.Ascii.{digit_zero};
+ghost use Rattle.std.specs.Prelude.{◌≡◌, ℕ, ◌+◌, ◌-◌, ◌*◌, ◌^◌, ◌<◌, ◌≤◌, IsTrue, length, drop, slice_index};
 ghost use Rattle.std.specs.Char.{is_ascii_digit};
 ghost use Rattle.std.specs.List.{list_all, prefix_len};
 ghost use Rattle.speedate_base.specs.Digits.{
@@ -89,10 +88,6 @@ pub fn fit_length(lanes: u8x8, pattern: u8x8) -> usize
     let digits = pattern.simd_eq(u8x8::splat(b'0'));
     let largest = digits.select(u8x8::splat(9), u8x8::splat(0));
     let others = (lanes - pattern).simd_gt(largest);
-    // Most texts fit, and then the test alone tells the count.
-    if !others.any() {
-        return LANES;
-    }
     (others.to_bitmask().trailing_zeros() as usize).min(LANES)
 }
 
@@ -118,41 +113,6 @@ pub(crate) fn digits_in_front(lanes: u8x8) -> usize
     ensures count { result ≡ prefix_len is_ascii_digit lanes }
 {
     fit_length(lanes, u8x8::splat(b'0'))
-}
-
-/// The first `count` of eight digits, with zeros before them: `b"00000120"` for three of
-/// `b"12056789"`.
-#[inline(always)]
-fn moved_back(lanes: u8x8, count: usize) -> u8x8
-    requires some { 1 ≤ count }
-    requires few { count ≤ LANES }
-    requires digits { IsTrue (list_all is_ascii_digit lanes) }
-    ensures lanes { result ≡ replicate (LANES - count) digit_zero ++ take count lanes }
-{
-    let word = u64::from_le_bytes((lanes - u8x8::splat(b'0')).to_array());
-    u64x1::splat(word << (8 * (LANES - count))).to_le_bytes() + u8x8::splat(b'0')
-}
-
-/// The number that the first `count` of eight digits spell: 120 for three of `b"12056789"`.
-#[inline(always)]
-pub(crate) fn front_number(lanes: u8x8, count: usize) -> u64
-    requires some { 1 ≤ count }
-    requires few { count ≤ LANES }
-    requires digits { IsTrue (list_all is_ascii_digit lanes) }
-    ensures value { result ≡ digits_value (take count lanes) }
-    ensures small { result < 100000000 }
-{
-    eight_digits(moved_back(lanes, count))
-}
-
-/// Whether twice eight bytes are digits.
-#[inline(always)]
-pub(crate) fn are_digits(first: u8x8, second: u8x8) -> bool
-    ensures { result ≡ (list_all is_ascii_digit first && list_all is_ascii_digit second) }
-{
-    let zeros = u8x8::splat(b'0');
-    let largest = (first - zeros).simd_max(second - zeros);
-    largest.simd_gt(u8x8::splat(9)).to_bitmask() == 0
 }
 
 /// Whether sixteen bytes are digits.

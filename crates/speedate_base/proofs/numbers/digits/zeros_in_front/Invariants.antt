@@ -10,12 +10,3 @@ invariant-loop-count l = record {
 
 abbrev pub decreases-loop-count : goal.decreases-loop-count
 decreases-loop-count l = length l.bytes - l.count
-
-abbrev pub invariant-loop-count-2 : goal.invariant-loop-count-2
-invariant-loop-count-2 l = record {
-  within : l.count ≤ length l.bytes;
-  zeros : zeros_length l.bytes ≡ l.count + zeros_length (drop l.count l.bytes);
-}
-
-abbrev pub decreases-loop-count-2 : goal.decreases-loop-count-2
-decreases-loop-count-2 l = length l.bytes - l.count

@@ -42,48 +42,21 @@ lowest tests long =
     (first_set_mask_l (λ (test : Bool). test) tests 8 long (omega arith)) in
     grind (arith, nat_tests, first, no_bit, mask_l-mod tests 64, prefix_len-le-length not tests)
 
--- so a mask without a bit has it at 8
-no-others : (tests : List Bool) → length tests ≡ 8
-    → mask_l tests % 18446744073709551616 ≡ 0 → 8 ≡ prefix_len not tests
-no-others tests long none =
-    let place = rw none at (lowest tests long) in
-    rw no_bit at place
-
--- how many comparisons there are
-compares : (forms lanes : List ℕ) → length forms ≡ 8 → length lanes ≡ 8
-    → length (zip2 ltb (map largest forms) (zip2 less lanes forms)) ≡ 8
-compares forms lanes long eight =
-    grind (
-      arith,
-      length-zip2 ltb (map largest forms) (zip2 less lanes forms),
-      length-map forms largest,
-      length-zip2 less lanes forms,
-    )
-
-pub returns-then-not-others : goal.returns-then-not-others
-returns-then-not-others c =
-    let forms = c.args.pattern in
-    let lanes = c.args.lanes in
-    let long = c.fits-pattern.0 in
-    let differences : List ℕ = zip2 less lanes forms in
-    let none = rw (
-      tops_compared w8 eqb forms (replicate 8 48),
-      zip2_splat eqb forms 8 48 long,
-      selected forms 8 long,
-      tops_compared w8 ltb (map largest forms) differences,
-    ) at c.if-not-others.true in
-    record {
-      count = no-others (zip2 ltb (map largest forms) differences)
-          (compares forms lanes long c.fits-lanes.0) none
-          ∙ run forms lanes c.fits-pattern.1 c.fits-lanes.1;
-    }
-
 pub returns : goal.returns
 returns c =
     let forms = c.args.pattern in
     let lanes = c.args.lanes in
     let long = c.fits-pattern.0 in
     let differences : List ℕ = zip2 less lanes forms in
+    let compares : length (zip2 ltb (map largest forms) differences) ≡ 8 =
+    grind (
+      arith,
+      length-zip2 ltb (map largest forms) differences,
+      length-map forms largest,
+      length-zip2 less lanes forms,
+      long,
+      c.fits-lanes.0,
+    ) in
     record {
       count = rw (
         c.min.ensures,
@@ -92,7 +65,6 @@ returns c =
         selected forms 8 long,
         tops_compared w8 ltb (map largest forms) differences,
       )
-          (lowest (zip2 ltb (map largest forms) differences)
-          (compares forms lanes long c.fits-lanes.0)
+          (lowest (zip2 ltb (map largest forms) differences) compares
           ∙ run forms lanes c.fits-pattern.1 c.fits-lanes.1);
     }
