@@ -1,5 +1,5 @@
 -- A fraction's digits taken in blocks, the last ones first.
-use Rattle.std.proofs.Common.{◌≡◌, ℕ, ◌+◌, ◌-◌, ◌*◌, ◌^◌, ◌<◌, ◌≤◌, ◌&&◌, Bool, true, false, List, length, take, drop, refl, arith, ap, sym, ◌∙◌, lit<, mul-le-mul_right}
+use Rattle.std.proofs.Common.{◌≡◌, ℕ, ◌+◌, ◌-◌, ◌*◌, ◌/◌, ◌%◌, ◌^◌, ◌<◌, ◌≤◌, ◌&&◌, Bool, true, false, List, length, take, drop, refl, arith, ap, sym, ◌∙◌, lit<, mul-le-mul_right}
 use Rattle.std.specs.Char.{is_ascii_digit}
 use Rattle.std.specs.List.{list_all}
 use Rattle.std.proofs.lemmas.Bool.{and_parts}
@@ -7,7 +7,6 @@ use Rattle.std.proofs.lemmas.Bool.Decides.{nat_tests}
 use Rattle.std.proofs.lemmas.List.{take-append-drop, drop-drop, length-drop}
 use Rattle.std.proofs.lemmas.List.Folds.{list_all-append}
 use Rattle.std.proofs.lemmas.Nat.{pow-add}
-use Rattle.std.proofs.Math.Nat.{pow-le-pow_right}
 use Rattle.speedate_base.specs.Digits.{digits_value}
 use Rattle.speedate_base.proofs.BlockLemmas.{block-more, is_number}
 use Rattle.speedate_base.proofs.DigitRunLemmas.{below-power, digits_value-append, digits_value-lt}
@@ -62,12 +61,6 @@ filled-fits digits count few small all =
 
 pub ruleset filled_rules = (is_number, filled-small, filled-fits)
 
--- fewer than eight digits spell less than their scale
-pub scale-few : (count : ℕ) → count < 8 → 10 ^ count ≤ 100000000
-scale-few count few =
-    let within : count ≤ 8 = omega arith in
-    pow-le-pow_right {n = 10} (lit< tt) within
-
 -- digits with zeros after them, up to eight, are the same fraction
 pub filled-taken : (up : Bool) (unit : ℕ) (digits : List ℕ) (value : ℕ) → length digits ≤ 8
     → value ≡ digits_value digits * 10 ^ (8 - length digits)
@@ -85,7 +78,20 @@ filled-taken up unit digits value few is =
     ∙ quotient-filled up (2 * (digits_value digits * unit)) (10 ^ length digits) zeros
     (scale-some (length digits)) (scale-some (8 - length digits))
 
-pub ruleset last_rules = (is_number, digits_value-lt, scale-few)
+-- eight digits are taken as twice four
+pub halves-taken : (up : Bool) (value rest unit : ℕ)
+    → quotient up (2 * (value / 10000 * unit)
+    + quotient up (2 * (value % 10000 * unit) + rest) 10000) 10000
+    ≡ quotient up (2 * (value * unit) + rest) 100000000
+halves-taken up value rest unit =
+    let high = value / 10000 in
+    let low = value % 10000 in
+    let whole : value ≡ high * 10000 + low = omega arith in
+    let sum : 2 * (low * unit) + rest + 2 * (high * unit) * 10000 ≡ 2 * (value * unit) + rest =
+    grind (arith, ap (λ (n : ℕ). n * unit) whole) in
+    quotient-carried up (2 * (high * unit)) (2 * (low * unit) + rest) 10000 10000 (lit< tt)
+    (lit< tt)
+    ∙ ap (λ (size : ℕ). quotient up size 100000000) sum
 
 -- a block before digits
 pub block-taken : (up : Bool) (unit : ℕ) (digits : List ℕ) (place value later twice : ℕ)
@@ -115,7 +121,7 @@ block-taken up unit digits place value later twice some within is taken_later ta
     (quotient-carried up (2 * (value * unit)) (2 * (digits_value rest * unit)) scale 100000000
     (scale-some (length rest)) (lit< tt))
 
--- the digits after sixteen are less than one of the last of them
+-- the microseconds of digits are at most those of a unit
 rest-within : (up : Bool) (unit : ℕ) (digits : List ℕ) → list_all is_ascii_digit digits ≡ true
     → quotient up (2 * (digits_value digits * unit)) (10 ^ length digits) ≤ 2 * unit
 rest-within false unit digits all =

@@ -30,7 +30,8 @@ const SECONDS: &str = "\
 '1234564<9*9>8'      123456   123456
 '500000<0*10>1'      500000   500000";
 
-/// Durations whose digits are just below and just above half a microsecond, and the nearest microsecond.
+/// Durations about half a microsecond long, below it, above it and just that, and a few longer ones, and
+/// the nearest microsecond: digits on both sides of sixteen tell it.
 const HALVES: &str = "\
 'P0.0000000000057870D'                          0
 'P0.0000000000057871D'                          1
@@ -46,6 +47,15 @@ const HALVES: &str = "\
 'P0.0000000000000159Y'                          1
 'P0.00000000000001585Y'                         0
 'P0.00000000000001586Y'                         1
+'P0.0000000000000158548959918822Y'              0
+'P0.0000000000000158548959918823Y'              1
+'-P0.0000000000000158548959918822Y'             0
+'-P0.0000000000000158548959918823Y'             -1
+'P0.0000000000001<0*30>Y'                       3
+'P0.0000000000009<9*30>Y'                       32
+'P0.000000000000826719576719576W'               0
+'P0.000000000000826719576719577W'               1
+'P0.00000000001<0*30>W'                         6
 'PT0.0000005<0*9>S'                             1
 'PT0.0000004<9*9>S'                             0
 'PT0.0000005<0*10>S'                            1

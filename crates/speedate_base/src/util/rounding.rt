@@ -50,7 +50,7 @@ pub fn twice_microseconds(digits: &[u8], unit: u64, up: bool) -> u64
     ensures within { result ≤ 2 * unit }
 {
     // Sixteen digits nearly always tell, however many more there are.
-    if digits.len() > SIXTEEN && unit <= DAY_MICROSECONDS {
+    if digits.len() > SIXTEEN {
         if let Some(twice) = told_by_sixteen(digits, unit, up) {
             return twice;
         }
@@ -67,7 +67,7 @@ pub fn twice_microseconds(digits: &[u8], unit: u64, up: bool) -> u64
 fn told_by_sixteen(digits: &[u8], unit: u64, up: bool) -> Option<u64>
     requires long { SIXTEEN ≤ length digits.now }
     requires digits { IsTrue (list_all is_ascii_digit digits.now) }
-    requires unit { unit ≤ DAY_MICROSECONDS }
+    requires unit { unit ≤ LARGEST_UNIT_MICROSECONDS }
     ensures told { result ≡ (if told_by_sixteen up unit digits.now
         then Some (quotient up (2 * (digits_value digits.now * unit)) (10 ^ length digits.now))
         else None) }
@@ -87,13 +87,13 @@ fn sixteen_taken(first: u64, second: u64, rest: u64, unit: u64, up: bool) -> u64
     requires first { first < 100000000 }
     requires second { second < 100000000 }
     requires rest { rest ≤ 2 * unit }
-    requires unit { unit ≤ DAY_MICROSECONDS }
+    requires unit { unit ≤ LARGEST_UNIT_MICROSECONDS }
     ensures twice { result
         ≡ quotient up (2 * ((first * 100000000 + second) * unit) + rest) (10 ^ SIXTEEN) }
     ensures within { result ≤ 2 * unit }
 {
-    let later = digits_taken(second, rest, unit, 100_000_000, up);
-    digits_taken(first, later, unit, 100_000_000, up)
+    let later = digits_taken(second, rest, unit, up);
+    digits_taken(first, later, unit, up)
 }
 
 /// Twice the microseconds of a fraction of a unit, from all of its digits.
@@ -112,13 +112,13 @@ fn taken_by_eights(digits: &[u8], unit: u64, up: bool) -> u64
     while place > 0 {
         place -= LANES;
         let value = eight_digits(u8x8::from_slice(&digits[place..]));
-        twice = digits_taken(value, twice, unit, 100_000_000, up);
+        twice = digits_taken(value, twice, unit, up);
     }
     twice
 }
 
-/// Twice the microseconds of fewer than eight digits, the last ones.
-#[tactic(auto, using(crate::proofs::RoundingLemmas::last_rules))]
+/// Twice the microseconds of fewer than eight digits, the last ones: with zeros after them they are
+/// eight.
 fn last_digits_taken(digits: &[u8], unit: u64, up: bool) -> u64
     requires short { length digits.now < LANES }
     requires digits { IsTrue (list_all is_ascii_digit digits.now) }
@@ -127,12 +127,7 @@ fn last_digits_taken(digits: &[u8], unit: u64, up: bool) -> u64
         ≡ quotient up (2 * (digits_value digits.now * unit)) (10 ^ length digits.now) }
     ensures within { result ≤ 2 * unit }
 {
-    // With zeros after the digits the divisor is a constant, and the division a multiplication.
-    if unit <= DAY_MICROSECONDS {
-        return digits_taken(number_to_places(digits, LANES), 0, unit, 100_000_000, up);
-    }
-    let value = one_by_one(digits).unwrap();
-    digits_taken(value, 0, unit, power_of_ten(digits.len()), up)
+    digits_taken(number_to_places(digits, LANES), 0, unit, up)
 }
 
 /// What fewer than eight digits spell, with zeros after them up to a number of places: 120,000 for
@@ -166,32 +161,39 @@ pub(super) fn power_of_ten(exponent: usize) -> u64
     }
 }
 
+/// Twice the microseconds of eight digits that spell a value, where `rest` is that of the digits after
+/// them.
+#[inline(always)]
+fn digits_taken(value: u64, rest: u64, unit: u64, up: bool) -> u64
+    requires value { value < 100000000 }
+    requires rest { rest ≤ 2 * unit }
+    requires unit { unit ≤ LARGEST_UNIT_MICROSECONDS }
+    ensures twice { result ≡ quotient up (2 * (value * unit) + rest) 100000000 }
+    ensures within { result ≤ 2 * unit }
+{
+    // Up to a unit of a day eight digits are taken at once in 64 bits, and above that four.
+    if unit <= DAY_MICROSECONDS {
+        return part_taken(value, rest, unit, 100_000_000, up);
+    }
+    let later = part_taken(value % 10_000, rest, unit, 10_000, up);
+    part_taken(value / 10_000, later, unit, 10_000, up)
+}
+
 /// Twice the microseconds of digits that spell a value below the scale, where `rest` is that of the
 /// digits after them.
 #[inline(always)]
 #[tactic(auto, using(crate::proofs::NearestLemmas::part_rules))]
-fn digits_taken(value: u64, rest: u64, unit: u64, scale: u64, up: bool) -> u64
+fn part_taken(value: u64, rest: u64, unit: u64, scale: u64, up: bool) -> u64
     requires value { value < scale }
-    requires scale { scale ≤ 100000000 }
     requires rest { rest ≤ 2 * unit }
-    requires unit { unit ≤ LARGEST_UNIT_MICROSECONDS }
+    requires fits { 2 * (scale * unit) + scale < 2 ^ 64 }
     ensures twice { result ≡ quotient up (2 * (value * unit) + rest) scale }
     ensures within { result ≤ 2 * unit }
 {
-    // Up to a unit of a day the sum fits 64 bits; above that it needs 128, whose division is a call.
-    if unit <= DAY_MICROSECONDS {
-        let sum = 2 * (value * unit) + rest;
-        return if up {
-            (sum + (scale - 1)) / scale
-        } else {
-            sum / scale
-        };
-    }
-    let scale = u128::from(scale);
-    let sum = 2 * (u128::from(value) * u128::from(unit)) + u128::from(rest);
+    let sum = 2 * (value * unit) + rest;
     if up {
-        ((sum + (scale - 1)) / scale) as u64
+        (sum + (scale - 1)) / scale
     } else {
-        (sum / scale) as u64
+        sum / scale
     }
 }

@@ -2,9 +2,8 @@ use Rattle.std.proofs.Common.{◌≤◌, length, arith}
 use Rattle.speedate_base.proofs.RoundingLemmas.{filled-taken}
 use Rattle.speedate_base.proofs.util.rounding.last_digits_taken.Goals as goal
 
-pub returns-then-unit-le-DAY_MICROSECONDS-clause-twice
-    : goal.returns-then-unit-le-DAY_MICROSECONDS-clause-twice
-returns-then-unit-le-DAY_MICROSECONDS-clause-twice c =
+pub returns-clause-twice : goal.returns-clause-twice
+returns-clause-twice c =
     let few : length c.args.digits.now ≤ 8 = omega arith in
     grind (
       arith,
