@@ -68,9 +68,6 @@ pub record IsOrdinal (year day month day_of_month : ℕ) : Type 0 where
   pub day_in_range : IsInRange 1 (month_length year month) day_of_month
   pub ordinal : days_of_months year (month - 1) + day_of_month ≡ day + 1
 
-pub long_day-small : (year day : ℕ) → day < year_length year → long_day year day ≤ 366
-long_day-small year day few = grind (arith, year_length-is)
-
 -- in January and February the line through the months has what the months have
 ordinal-early : (year day : ℕ) → day < 31 + february_length year
     → IsOrdinal year day (long_month day) (day_in_month day)

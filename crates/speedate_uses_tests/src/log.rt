@@ -46,10 +46,10 @@ fn date_times_by_instant(rt: HostRuntime) {
 #[test]
 fn many_date_times_by_instant(rt: HostRuntime) {
     let noon: DateTime = value(&rt, "2026-11-22T12:00:00Z");
-    for step in [29, 1, 47, 0] {
+    for (first, step) in [(0, 29), (0, 1), (47, 47), (0, 0)] {
         let mut times = [noon; 48];
         for place in 0..48_u32 {
-            times[place as usize] = moved(&noon, place * step % 48, place % 2);
+            times[place as usize] = moved(&noon, (first + place * step) % 48, place % 2);
         }
         let mut model = times;
         let by_key = model.sort_by_key(rt.alloc(), |time| {

@@ -24,8 +24,8 @@ use super::{Date, is_leap_year, month_length};
 /// The day number of 9999-12-31.
 const LAST_DAY_NUMBER: u32 = 3_652_424;
 
-/// The days before the year 0 from 1 March of the year -400 on, from which years of March are counted: the
-/// day that a leap year has more is then the last one of its year, and of the years that are counted so far.
+/// The days from 1 March of the year -400 to the year 0. Years of March are counted from there: the day that
+/// a leap year has more is then the last one of its year, and of the years that are counted so far.
 const DAYS_BEFORE_YEAR_0: u32 = 146_037;
 
 /// The days of 400 years, after which the calendar repeats.

@@ -16,7 +16,7 @@ use std::cmp::Ordering;
 impl Date {
     /// A number by which dates are compared at once: the year, the month and the day one after another.
     #[inline(always)]
-    fn order_number(&self) -> u32
+    fn order_key(&self) -> u32
         ensures { result ≡ 65536 * self.now.year + 256 * self.now.month + self.now.day }
     {
         65_536 * u32::from(self.year) + 256 * u32::from(self.month) + u32::from(self.day)
@@ -41,7 +41,7 @@ impl Ord for Date {
         ensures day_order { result
             ≡ nat_cmp (day_number (ymd self.now)) (day_number (ymd other.now)) }
     {
-        self.order_number().cmp(&other.order_number())
+        self.order_key().cmp(&other.order_key())
     }
 }
 

@@ -314,8 +314,8 @@ impl DateTime {
     }
 
     /// The instant of the timestamp that the bytes are, as the clock of its date-time shows it: second 1 for
-    /// `b"1"`, whatever the offset is. The bytes are refused as a date-time by this error, which is a
-    /// condition on the caller.
+    /// `b"1"` in seconds, whatever the offset is. The bytes are refused as a date-time by this error, which
+    /// is a condition on the caller.
     ///
     /// # Errors
     ///
