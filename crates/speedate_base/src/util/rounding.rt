@@ -92,8 +92,8 @@ fn sixteen_taken(first: u64, second: u64, rest: u64, unit: u64, up: bool) -> u64
         ≡ quotient up (2 * ((first * 100000000 + second) * unit) + rest) (10 ^ SIXTEEN) }
     ensures within { result ≤ 2 * unit }
 {
-    let later = digits_taken(second, rest, unit, up);
-    digits_taken(first, later, unit, up)
+    let later = halves_taken(second, rest, unit, up);
+    halves_taken(first, later, unit, up)
 }
 
 /// Twice the microseconds of a fraction of a unit, from all of its digits.
@@ -164,6 +164,7 @@ pub(super) fn power_of_ten(exponent: usize) -> u64
 /// Twice the microseconds of eight digits that spell a value, where `rest` is that of the digits after
 /// them.
 #[inline(always)]
+#[tactic(auto, using(crate::proofs::NearestLemmas::part_rules))]
 fn digits_taken(value: u64, rest: u64, unit: u64, up: bool) -> u64
     requires value { value < 100000000 }
     requires rest { rest ≤ 2 * unit }
@@ -171,10 +172,27 @@ fn digits_taken(value: u64, rest: u64, unit: u64, up: bool) -> u64
     ensures twice { result ≡ quotient up (2 * (value * unit) + rest) 100000000 }
     ensures within { result ≤ 2 * unit }
 {
-    // Up to a unit of a day eight digits are taken at once in 64 bits, and above that four.
+    // Up to a unit of a day the sum fits 64 bits; above that it needs 128, whose division is a call.
     if unit <= DAY_MICROSECONDS {
         return part_taken(value, rest, unit, 100_000_000, up);
     }
+    let sum = 2 * (u128::from(value) * u128::from(unit)) + u128::from(rest);
+    if up {
+        ((sum + 99_999_999) / 100_000_000) as u64
+    } else {
+        (sum / 100_000_000) as u64
+    }
+}
+
+/// What [`digits_taken`] returns, in 64 bits for all units: a step for each four of the eight digits.
+#[inline(always)]
+fn halves_taken(value: u64, rest: u64, unit: u64, up: bool) -> u64
+    requires value { value < 100000000 }
+    requires rest { rest ≤ 2 * unit }
+    requires unit { unit ≤ LARGEST_UNIT_MICROSECONDS }
+    ensures twice { result ≡ quotient up (2 * (value * unit) + rest) 100000000 }
+    ensures within { result ≤ 2 * unit }
+{
     let later = part_taken(value % 10_000, rest, unit, 10_000, up);
     part_taken(value / 10_000, later, unit, 10_000, up)
 }

@@ -1,6 +1,6 @@
 use Rattle.speedate_base.proofs.RoundingLemmas.{halves-taken}
 use Rattle.std.proofs.Common.{arith}
-use Rattle.speedate_base.proofs.util.rounding.digits_taken.Goals as goal
+use Rattle.speedate_base.proofs.util.rounding.halves_taken.Goals as goal
 
 pub returns-clause-twice : goal.returns-clause-twice
 returns-clause-twice c =
