@@ -99,6 +99,26 @@ part_up value unit rest scale some few =
 
 pub ruleset part_rules = (part_down, part_up)
 
+-- a part of a unit, rounded down, is less than a whole one
+pub part_below : (value unit scale : ℕ) → value < scale → 0 < unit
+    → 2 * (value * unit) / scale ≤ 2 * unit - 1
+part_below value unit scale some has =
+    let sum = 2 * (value * unit) in
+    let last = 2 * unit - 1 in
+    let less : value + 1 ≤ scale = omega arith in
+    let whole : last + 1 ≡ 2 * unit = omega arith in
+    let below : sum < scale * (last + 1) = rw whole (grind (arith, mul-le-mul_right unit less)) in
+    one-between scale last (sum / scale) (grind (arith, below, mul-div-le sum scale))
+
+-- and rounded up it is more than nothing
+pub part_some : (value unit scale : ℕ) → 0 < value → 0 < scale → 0 < unit
+    → 1 ≤ (2 * (value * unit) + (scale - 1)) / scale
+part_some value unit scale some_value some_scale has =
+    let sum = 2 * (value * unit) + (scale - 1) in
+    let more : scale ≤ sum = grind (arith, mul-le-mul_right unit some_value) in
+    let below = lt-div-mul-add {a = sum} some_scale in
+    one-between scale (sum / scale) 1 (omega (arith, more, below))
+
 -- whole numbers beside a fraction are not rounded
 pub quotient-whole : (up : Bool) (a n d : ℕ) → 0 < d
     → quotient up (n + a * d) d ≡ quotient up n d + a
@@ -136,7 +156,7 @@ quotient-le true n m d some less =
     (omega (arith, less, mul-div-le (n + (d - 1)) d, lt-div-mul-add {a = m + (d - 1)} some))
 
 -- nothing is rounded to nothing
-quotient-none : (up : Bool) (d : ℕ) → 0 < d → quotient up 0 d ≡ 0
+pub quotient-none : (up : Bool) (d : ℕ) → 0 < d → quotient up 0 d ≡ 0
 quotient-none false d some = div-eq_of_lt some
 quotient-none true d some =
     let less : 0 + (d - 1) < d = omega arith in

@@ -1,8 +1,9 @@
 -- A fraction's digits taken in blocks, the last ones first.
-use Rattle.std.proofs.Common.{◌≡◌, ℕ, ◌+◌, ◌-◌, ◌*◌, ◌/◌, ◌%◌, ◌^◌, ◌<◌, ◌≤◌, ◌&&◌, Bool, true, false, List, length, take, drop, refl, arith, ap, sym, ◌∙◌, lit<, mul-le-mul_right}
+use Rattle.std.proofs.Common.{◌≡◌, ℕ, ◌+◌, ◌-◌, ◌*◌, ◌/◌, ◌%◌, ◌^◌, ◌<◌, ◌≤◌, ◌&&◌, Bool, true, false, min, List, length, take, drop, refl, arith, ap, sym, ◌∙◌, inl, inr, lit<, mul-le-mul_right}
 use Rattle.std.specs.Char.{is_ascii_digit}
 use Rattle.std.specs.List.{list_all}
-use Rattle.std.proofs.lemmas.Bool.{and_parts}
+use Rattle.std.proofs.lemmas.Bool.{and_parts, cases_lt}
+use Rattle.std.proofs.Math.Nat.{div-eq_of_lt}
 use Rattle.std.proofs.lemmas.Bool.Decides.{nat_tests}
 use Rattle.std.proofs.lemmas.List.{take-append-drop, drop-drop, length-drop}
 use Rattle.std.proofs.lemmas.List.Folds.{list_all-append}
@@ -12,11 +13,14 @@ use Rattle.speedate_base.proofs.BlockLemmas.{block-more, is_number}
 use Rattle.speedate_base.proofs.DigitRunLemmas.{below-power, digits_value-append, digits_value-lt}
 use Rattle.speedate_base.specs.Nearest.{quotient}
 use Rattle.speedate_base.proofs.NearestLemmas.{
+  part_below,
   part_down,
+  part_some,
   part_up,
   quotient-carried,
   quotient-filled,
   quotient-le,
+  quotient-none,
   scale-some,
 }
 
@@ -122,7 +126,7 @@ block-taken up unit digits place value later twice some within is taken_later ta
     (scale-some (length rest)) (lit< tt))
 
 -- the microseconds of digits are at most those of a unit
-rest-within : (up : Bool) (unit : ℕ) (digits : List ℕ) → list_all is_ascii_digit digits ≡ true
+pub rest-within : (up : Bool) (unit : ℕ) (digits : List ℕ) → list_all is_ascii_digit digits ≡ true
     → quotient up (2 * (digits_value digits * unit)) (10 ^ length digits) ≤ 2 * unit
 rest-within false unit digits all =
     let none : 2 * (digits_value digits * unit) + 0 ≡ 2 * (digits_value digits * unit) =
@@ -137,27 +141,56 @@ rest-within true unit digits all =
     (part_up (digits_value digits) unit 0 (10 ^ length digits) (digits_value-lt digits all)
     (omega arith))
 
+pub rest-below : (unit : ℕ) (digits : List ℕ) → list_all is_ascii_digit digits ≡ true
+    → quotient false (2 * (digits_value digits * unit)) (10 ^ length digits) ≤ 2 * unit - 1
+rest-below unit digits all = elim (cases_lt 0 unit) [
+  | inl has ↦ part_below (digits_value digits) unit (10 ^ length digits) (digits_value-lt digits all)
+      has
+  | inr none ↦ grind (arith, scale-some (length digits), div-eq_of_lt)
+]
+
+pub rest-some : (unit : ℕ) (digits : List ℕ) → (digits_value digits ≡ 0 → ⊥)
+    → min unit 1 ≤ quotient true (2 * (digits_value digits * unit)) (10 ^ length digits)
+rest-some unit digits other = elim (cases_lt 0 unit) [
+  | inl has ↦
+      omega (
+        arith,
+        part_some (digits_value digits) unit (10 ^ length digits) (omega arith)
+            (scale-some (length digits)) has,
+      )
+  | inr none ↦ omega arith
+]
+
+pub rest-none : (unit : ℕ) (digits : List ℕ) → digits_value digits ≡ 0
+    → quotient true (2 * (digits_value digits * unit)) (10 ^ length digits) ≡ 0
+rest-none unit digits none = grind (arith, none, quotient-none true _ (scale-some (length digits)))
+
+pub ruleset rest_rules = (nat_tests, rest-within, rest-below, rest-some, rest-none)
+
 -- what sixteen digits spell
 pub sixteen-value : (digits : List ℕ) → 16 ≤ length digits
     → digits_value (take 16 digits)
     ≡ digits_value (take 8 digits) * 100000000 + digits_value (take 8 (drop 8 digits))
 sixteen-value digits long = omega (arith, block-more digits 8 long)
 
--- a fraction whose first sixteen digits are rounded in one way, whatever comes after them, is
--- rounded so
-pub sixteen-told : (up : Bool) (unit : ℕ) (digits : List ℕ) → 16 ≤ length digits
-    → list_all is_ascii_digit digits ≡ true
-    → quotient up (2 * (digits_value (take 16 digits) * unit)) (10 ^ 16)
-    ≡ quotient up (2 * (digits_value (take 16 digits) * unit) + 2 * unit) (10 ^ 16)
-    → quotient up (2 * (digits_value (take 16 digits) * unit)) (10 ^ 16)
-    ≡ quotient up (2 * (digits_value digits * unit)) (10 ^ length digits)
-sixteen-told up unit digits long all same =
+-- a fraction whose first sixteen digits are rounded in one way, for both bounds of the digits after
+-- them, is rounded so
+pub sixteen-told : (up : Bool) (unit : ℕ) (digits : List ℕ) (value smallest largest least most : ℕ)
+    → 16 ≤ length digits
+    → value ≡ digits_value (take 16 digits)
+    → smallest ≤ quotient up (2 * (digits_value (drop 16 digits) * unit)) (10 ^ length (drop 16 digits))
+    → quotient up (2 * (digits_value (drop 16 digits) * unit)) (10 ^ length (drop 16 digits)) ≤ largest
+    → least ≡ quotient up (2 * (value * unit) + smallest) (10 ^ 16)
+    → most ≡ quotient up (2 * (value * unit) + largest) (10 ^ 16)
+    → least ≡ most
+    → least ≡ quotient up (2 * (digits_value digits * unit)) (10 ^ length digits)
+sixteen-told up unit digits value smallest largest least most long is more less is_least is_most same =
     let rest : List ℕ = drop 16 digits in
     let scale = 10 ^ length rest in
-    let size = 2 * (digits_value (take 16 digits) * unit) in
+    let size = 2 * (value * unit) in
     let later = quotient up (2 * (digits_value rest * unit)) scale in
-    let whole : digits_value digits ≡ digits_value (take 16 digits) * scale + digits_value rest =
-    grind (arith, take-append-drop 16 digits, digits_value-append (take 16 digits) rest) in
+    let whole : digits_value digits ≡ value * scale + digits_value rest =
+    grind (arith, is, take-append-drop 16 digits, digits_value-append (take 16 digits) rest) in
     let count : length digits ≡ length rest + 16 = omega (arith, length-drop 16 digits) in
     let power : 10 ^ length digits ≡ scale * 10 ^ 16 =
     rw (count, pow-add 10 (length rest) 16) refl in
@@ -167,8 +200,8 @@ sixteen-told up unit digits long all same =
     ≡ quotient up (2 * (digits_value digits * unit)) (10 ^ length digits) =
     rw (power, ← sum) (quotient-carried up size (2 * (digits_value rest * unit)) scale (10 ^ 16)
     (scale-some (length rest)) (scale-some 16)) in
-    let few = rest-within up unit rest (rest_all digits 16 all) in
-    let low = quotient-le up size (size + later) (10 ^ 16) (scale-some 16) (omega arith) in
-    let high = quotient-le up (size + later) (size + 2 * unit) (10 ^ 16) (scale-some 16)
-    (omega (arith, few)) in
-    omega (arith, low, high, same, exact)
+    let low = quotient-le up (size + smallest) (size + later) (10 ^ 16) (scale-some 16)
+    (omega (arith, more)) in
+    let high = quotient-le up (size + later) (size + largest) (10 ^ 16) (scale-some 16)
+    (omega (arith, less)) in
+    omega (arith, low, high, is_least, is_most, same, exact)

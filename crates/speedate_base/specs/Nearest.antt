@@ -1,7 +1,6 @@
 -- Rounding: the whole number that is nearest to a fraction.
-use Rattle.std.specs.Prelude.{ℕ, ◌+◌, ◌-◌, ◌*◌, ◌/◌, ◌^◌, ◌==◌, Bool, IsTrue, List, take, if◌then◌else◌, ℤ, pos, ◌+ℤ◌, ◌-ℤ◌, ◌*ℤ◌, int_le, int_lt}
+use Rattle.std.specs.Prelude.{ℕ, ◌+◌, ◌-◌, ◌*◌, ◌/◌, Bool, IsTrue, if◌then◌else◌, ℤ, pos, ◌+ℤ◌, ◌-ℤ◌, ◌*ℤ◌, int_le, int_lt}
 use Rattle.std.specs.Int.{int_div_euclid}
-use Rattle.speedate_base.specs.Digits.{digits_value}
 
 -- m is nearest to n / d: at most a half above it, and less than a half below it; so a tie goes to
 -- the greater number
@@ -17,10 +16,3 @@ nearest n d = int_div_euclid (pos 2 *ℤ n +ℤ pos d) (pos (2 * d))
 -- n / d rounded down, or rounded up
 abbrev pub quotient : Bool → ℕ → ℕ → ℕ
 quotient up n d = if up then (n + (d - 1)) / d else n / d
-
--- twice the unit times the fraction that sixteen digits are, rounded, is the same for a rest of
--- nothing and for a rest of a whole unit in the last place
-abbrev pub told_by_sixteen : Bool → ℕ → List ℕ → Bool
-told_by_sixteen up unit digits =
-    let size = 2 * (digits_value (take 16 digits) * unit) in
-    quotient up size (10 ^ 16) == quotient up (size + 2 * unit) (10 ^ 16)

@@ -34,6 +34,9 @@ const FEW: usize = 6;
 /// How many digits `u64::MAX` has.
 const MOST_DIGITS: usize = 20;
 
+/// How many bytes are parsed as a number eight at a time, whatever they begin with.
+const MOST_BY_EIGHTS: usize = 32;
+
 /// The run of digits at the front of bytes: 3 digits that spell 120 for `b"120.5"`, none for `b".5"`.
 #[inline(always)]
 pub fn digit_run(bytes: &[u8]) -> DigitRun
@@ -136,19 +139,18 @@ pub(crate) fn digits_number(digits: &[u8]) -> u64
 /// The number that bytes spell if they are digits, or `u64::MAX` if it is larger; otherwise, as an
 /// error, the place of the first byte that is no digit. It is 120 for `b"120"`, 0 for no bytes, and
 /// place 2 for `b"12.0"`.
-#[inline(always)]
 pub(crate) fn spelled_number(digits: &[u8]) -> Result<u64, usize>
     ensures answer { result ≡ (if run_length digits.now 0 == length digits.now
         then Ok (min (digits_value digits.now) (2 ^ 64 - 1)) else Err (run_length digits.now 0)) }
 {
-    if digits.len() > MOST_DIGITS {
+    if digits.len() > MOST_BY_EIGHTS {
         return long_number(digits);
     }
     number_by_eights(digits)
 }
 
-/// The number of [`spelled_number`], for more digits than `u64::MAX` has: without the zeros at their
-/// front they are few, or spell a larger number.
+/// The number of [`spelled_number`], for many bytes: digits without the zeros at their front are few, or
+/// spell a larger number than `u64::MAX`.
 fn long_number(digits: &[u8]) -> Result<u64, usize>
     ensures answer { result ≡ (if run_length digits.now 0 == length digits.now
         then Ok (min (digits_value digits.now) (2 ^ 64 - 1)) else Err (run_length digits.now 0)) }

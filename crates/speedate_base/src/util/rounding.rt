@@ -1,13 +1,13 @@
 //! Fractions of a unit of time, rounded by their digits.
 
-ghost use Rattle.std.specs.Prelude.{◌≡◌, ℤ, ◌+◌, ◌-◌, ◌*◌, ◌^◌, ◌<◌, ◌≤◌, length, IsTrue, IfSome, Some, None, if◌then◌else◌};
+ghost use Rattle.std.specs.Prelude.{◌≡◌, ℤ, ◌+◌, ◌-◌, ◌*◌, ◌^◌, ◌<◌, ◌≤◌, length, IsTrue, IfSome};
 ghost use Rattle.std.specs.Char.{is_ascii_digit};
 ghost use Rattle.std.specs.List.{list_all};
 ghost use Rattle.speedate_base.specs.Digits.{digits_value};
-ghost use Rattle.speedate_base.specs.Nearest.{IsNearest, nearest, quotient, told_by_sixteen};
+ghost use Rattle.speedate_base.specs.Nearest.{IsNearest, nearest, quotient};
 ghost use Rattle.speedate_base.specs.Numbers.{with_sign};
 
-use crate::numbers::digits::one_by_one;
+use crate::numbers::digits::{are_zeros, one_by_one};
 use crate::numbers::lanes::{LANES, eight_digits};
 use std::simd::prelude::*;
 
@@ -60,24 +60,43 @@ pub fn twice_microseconds(digits: &[u8], unit: u64, up: bool) -> u64
 
 /// Twice the microseconds of a fraction, if its first sixteen digits tell them: 1 for
 /// `b"00000075000000009"` of a second, rounded down. `None` if they depend on the digits after
-/// those, as for `b"00000050000000001"`, rounded up.
-///
-/// The digits after sixteen are less than one of the last of these. So the microseconds lie between
-/// those for a rest of nothing and those for a rest of a whole unit.
+/// those, as for `b"33333333333333333"` of three seconds.
 fn told_by_sixteen(digits: &[u8], unit: u64, up: bool) -> Option<u64>
     requires long { SIXTEEN ≤ length digits.now }
     requires digits { IsTrue (list_all is_ascii_digit digits.now) }
     requires unit { unit ≤ LARGEST_UNIT_MICROSECONDS }
-    ensures told { result ≡ (if told_by_sixteen up unit digits.now
-        then Some (quotient up (2 * (digits_value digits.now * unit)) (10 ^ length digits.now))
-        else None) }
+    ensures told { IfSome result (λ twice. twice
+        ≡ quotient up (2 * (digits_value digits.now * unit)) (10 ^ length digits.now)) }
     ensures within { IfSome result (λ twice. twice ≤ 2 * unit) }
 {
     let first = eight_digits(u8x8::from_slice(digits));
     let second = eight_digits(u8x8::from_slice(&digits[LANES..]));
-    let least = sixteen_taken(first, second, 0, unit, up);
-    let most = sixteen_taken(first, second, 2 * unit, unit, up);
+    let (smallest, largest) = rest_bounds(&digits[SIXTEEN..], unit, up);
+    let least = sixteen_taken(first, second, smallest, unit, up);
+    let most = sixteen_taken(first, second, largest, unit, up);
     if least == most { Some(least) } else { None }
+}
+
+/// Bounds of twice the microseconds of digits, as far as whether they are all zeros tells them: 0 and
+/// 1,999,999 for `b"25"` of a second, rounded down, and 1 and 2,000,000, rounded up.
+#[tactic(auto, using(crate::proofs::RoundingLemmas::rest_rules))]
+fn rest_bounds(digits: &[u8], unit: u64, up: bool) -> (u64, u64)
+    requires digits { IsTrue (list_all is_ascii_digit digits.now) }
+    requires unit { unit ≤ LARGEST_UNIT_MICROSECONDS }
+    ensures smallest { result.0
+        ≤ quotient up (2 * (digits_value digits.now * unit)) (10 ^ length digits.now) }
+    ensures largest { quotient up (2 * (digits_value digits.now * unit)) (10 ^ length digits.now)
+        ≤ result.1 }
+    ensures within { result.1 ≤ 2 * unit }
+{
+    // Digits are less than a whole unit.
+    if !up {
+        return (0, (2 * unit).saturating_sub(1));
+    }
+    if are_zeros(digits) {
+        return (0, 0);
+    }
+    (unit.min(1), 2 * unit)
 }
 
 /// Twice the microseconds of sixteen digits, given by the numbers that the first eight and the other
@@ -92,8 +111,8 @@ fn sixteen_taken(first: u64, second: u64, rest: u64, unit: u64, up: bool) -> u64
         ≡ quotient up (2 * ((first * 100000000 + second) * unit) + rest) (10 ^ SIXTEEN) }
     ensures within { result ≤ 2 * unit }
 {
-    let later = halves_taken(second, rest, unit, up);
-    halves_taken(first, later, unit, up)
+    let later = digits_taken(second, rest, unit, up);
+    digits_taken(first, later, unit, up)
 }
 
 /// Twice the microseconds of a fraction of a unit, from all of its digits.
@@ -164,7 +183,6 @@ pub(super) fn power_of_ten(exponent: usize) -> u64
 /// Twice the microseconds of eight digits that spell a value, where `rest` is that of the digits after
 /// them.
 #[inline(always)]
-#[tactic(auto, using(crate::proofs::NearestLemmas::part_rules))]
 fn digits_taken(value: u64, rest: u64, unit: u64, up: bool) -> u64
     requires value { value < 100000000 }
     requires rest { rest ≤ 2 * unit }
@@ -172,19 +190,15 @@ fn digits_taken(value: u64, rest: u64, unit: u64, up: bool) -> u64
     ensures twice { result ≡ quotient up (2 * (value * unit) + rest) 100000000 }
     ensures within { result ≤ 2 * unit }
 {
-    // Up to a unit of a day the sum fits 64 bits; above that it needs 128, whose division is a call.
+    // Up to a unit of a day the sum for all eight digits fits 64 bits.
     if unit <= DAY_MICROSECONDS {
         return part_taken(value, rest, unit, 100_000_000, up);
     }
-    let sum = 2 * (u128::from(value) * u128::from(unit)) + u128::from(rest);
-    if up {
-        ((sum + 99_999_999) / 100_000_000) as u64
-    } else {
-        (sum / 100_000_000) as u64
-    }
+    halves_taken(value, rest, unit, up)
 }
 
-/// What [`digits_taken`] returns, in 64 bits for all units: a step for each four of the eight digits.
+/// What [`digits_taken`] returns, with a sum that fits 64 bits for all units: a step for each four of the
+/// eight digits.
 #[inline(always)]
 fn halves_taken(value: u64, rest: u64, unit: u64, up: bool) -> u64
     requires value { value < 100000000 }
