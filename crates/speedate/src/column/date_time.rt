@@ -11,7 +11,7 @@ use super::{LineError, LineFront, LineReader};
 use speedate_base::config::{DateTimeConfig, MicrosecondsPrecisionOverflowBehavior, TimeConfig};
 use speedate_base::faults::ParseError;
 use speedate_base::util::UnixTime;
-use speedate_civil::datetime::{DateTime, require_standard_date_time};
+use speedate_civil::datetime::{DateTime, require_standard_date_time, timestamp_instant};
 use speedate_civil::time::end_fault;
 
 /// How a column parses its date-times: `DateTimeParser::Rfc3339(TimeConfig::default())` takes
@@ -121,7 +121,7 @@ impl DateTimeReader {
     {
         match DateTime::parse_bytes_rfc3339_with_config(line, &config.time_config) {
             Ok(value) => self.microsecond(&value),
-            Err(fault) => match DateTime::timestamp_instant(line, fault, config) {
+            Err(fault) => match timestamp_instant(line, fault, config) {
                 Ok(time) => self.timestamp_microsecond(time, config),
                 Err(fault) => Err(LineError::Parse(fault)),
             },

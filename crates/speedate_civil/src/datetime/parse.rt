@@ -309,36 +309,8 @@ impl DateTime {
         ensures minutes { IsWholeMinutes (choices config.now).offset
             → IfOk result (λ value. IsWholeMinutes value.time.tz_offset) }
     {
-        let time = Self::timestamp_instant(bytes, fault, config)?;
+        let time = timestamp_instant(bytes, fault, config)?;
         Ok(Self::from_instant(time, config.time_config.unix_timestamp_offset))
-    }
-
-    /// The instant of the timestamp that the bytes are, as the clock of its date-time shows it: second 1 for
-    /// `b"1"` in seconds, whatever the offset is. The bytes are refused as a date-time by this error, which
-    /// is a condition on the caller.
-    ///
-    /// # Errors
-    ///
-    /// This error if they are no number, and otherwise those of
-    /// [this table](docs/GRAMMAR.md#timestamps), in the order of its rows.
-    #[inline(always)]
-    pub fn timestamp_instant(
-        bytes: &[u8],
-        fault: ParseError,
-        config: &DateTimeConfig,
-    ) -> Result<UnixTime, ParseError>
-        requires { date_time_answer
-            (choices config.now).behavior bytes.now ≡ Err fault }
-        ensures answer { result_map (date_time_at (choices config.now).offset)
-            (result_map unix_instant result) ≡ date_time_by_config config.now bytes.now }
-        ensures within { IfOk result (λ time. IsInYears (unix_instant time)) }
-    {
-        if !may_be_number(fault) {
-            return Err(fault);
-        }
-        let behavior = config.time_config.microseconds_precision_overflow_behavior;
-        let time = parse_unix_time(bytes, fault, config.timestamp_unit, behavior)?;
-        Ok(time)
     }
 }
 
@@ -414,6 +386,34 @@ pub(super) fn has_letter_t(text: &[u8]) -> bool
 {
     let byte = byte_at(text, SEPARATOR_PLACE);
     byte == b'T' || byte == b't'
+}
+
+/// The instant of the timestamp that the bytes are, as the clock of its date-time shows it: second 1 for
+/// `b"1"` in seconds, whatever the offset is. The bytes are refused as a date-time by this error, which
+/// is a condition on the caller.
+///
+/// # Errors
+///
+/// This error if they are no number, and otherwise those of
+/// [this table](docs/GRAMMAR.md#timestamps), in the order of its rows.
+#[inline(always)]
+pub fn timestamp_instant(
+    bytes: &[u8],
+    fault: ParseError,
+    config: &DateTimeConfig,
+) -> Result<UnixTime, ParseError>
+    requires { date_time_answer
+        (choices config.now).behavior bytes.now ≡ Err fault }
+    ensures answer { result_map (date_time_at (choices config.now).offset)
+        (result_map unix_instant result) ≡ date_time_by_config config.now bytes.now }
+    ensures within { IfOk result (λ time. IsInYears (unix_instant time)) }
+{
+    if !may_be_number(fault) {
+        return Err(fault);
+    }
+    let behavior = config.time_config.microseconds_precision_overflow_behavior;
+    let time = parse_unix_time(bytes, fault, config.timestamp_unit, behavior)?;
+    Ok(time)
 }
 
 /// Parses the instant of the timestamp that the bytes are. Fails with this error if they are no number.

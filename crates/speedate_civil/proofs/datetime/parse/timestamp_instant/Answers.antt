@@ -10,7 +10,7 @@ use Rattle.speedate_civil.specs.DateTime.{
 }
 use Rattle.speedate_civil.proofs.DateTimeTimestampLemmas.{number_instant-date_time}
 use Rattle.speedate_civil.proofs.NumberTextLemmas.{number_answer-refused}
-use Rattle.speedate_civil.proofs.datetime.DateTime.timestamp_instant.Goals as goal
+use Rattle.speedate_civil.proofs.datetime.parse.timestamp_instant.Goals as goal
 
 pub returns-then-not-may_be_number-clause-answer : goal.returns-then-not-may_be_number-clause-answer
 returns-then-not-may_be_number-clause-answer c =
