@@ -13,6 +13,7 @@ use Rattle.speedate_civil.specs.Time.{
   fraction_text,
   TimeOfDay,
   IsTime,
+  minute_time,
   second_of_day,
   time_text,
   time_instant,
@@ -25,8 +26,14 @@ use Rattle.speedate_civil.specs.DateTime.{
   date_time_instant,
   date_time_instant_order,
 }
-use Rattle.speedate_civil.specs.Instant.{instant_order, by_instant, BothOrNeither, IsNotAfter}
-use Rattle.speedate_civil.specs.Calendar.{date_order}
+use Rattle.speedate_civil.specs.Instant.{
+  instant_order,
+  by_instant,
+  BothOrNeither,
+  IsNotAfter,
+  IsBeforeNextOnly,
+}
+use Rattle.speedate_civil.specs.Calendar.{Ymd, date_order}
 use Rattle.speedate_civil.proofs.DateOrderLemmas.{
   date_order-day_number,
   date_text-front-order,
@@ -136,18 +143,17 @@ module _ {K : Type 0} (offset : K → Option ℤ) (instant : Bool → K → Inst
       chained true false c one two = absurd (cc)
       chained false true c one two = absurd (cc)
 
--- the time of an hour and a minute
-abbrev clock : ℕ → ℕ → Option ℤ → TimeOfDay
-clock hour minute offset =
-    record { hour = hour; minute = minute; second = 0; microsecond = 0; offset = offset }
-
 -- across values with an offset and without it is not transitive: 00:00:00-01:00 is before 00:30:00,
 -- and that is before 01:00:00Z, which is equal to the first
-pub record IsBeforeNextOnly (first second third : TimeOfDay) : Type 0 where
-  first_second : time_instant_order first second ≡ Less
-  second_third : time_instant_order second third ≡ Less
-  first_third : time_instant_order first third ≡ Equal
+pub time_instant_order-across : IsBeforeNextOnly time_instant_order
+    (minute_time 0 0 (Some (neg_ℤ (pos 3600)))) (minute_time 0 30 None)
+    (minute_time 1 0 (Some (pos 0)))
+time_instant_order-across = (refl, refl, refl)
 
-pub time_instant_order-across : IsBeforeNextOnly (clock 0 0 (Some (neg_ℤ (pos 3600))))
-    (clock 0 30 None) (clock 1 0 (Some (pos 0)))
-time_instant_order-across = record { first_second = refl; second_third = refl; first_third = refl }
+-- nor on any date
+pub date_time_instant_order-across : (date : Ymd) → IsBeforeNextOnly date_time_instant_order
+    (record { date = date; time = minute_time 0 0 (Some (neg_ℤ (pos 3600))) })
+    (record { date = date; time = minute_time 0 30 None })
+    (record { date = date; time = minute_time 1 0 (Some (pos 0)) })
+date_time_instant_order-across date =
+    (grind (arith, ints, nat_tests), grind (arith, ints, nat_tests), grind (arith, ints, nat_tests))

@@ -2,6 +2,7 @@
 use Rattle.std.specs.Prelude.{◌≡◌, ◌&&◌, ◌++◌, Bool, IsTrue, List, [], ◌∷◌, Option, Some, ℤ, is_some}
 use Rattle.std.specs.Ordering.{int_cmp, is_le, nat_cmp, on, then_cmp}
 use Rattle.std.specs.declared.cmp.Ordering.{Ordering}
+use Rattle.std.specs.declared.cmp.Ordering.TheVariants.{Equal, Less}
 use Rattle.speedate_base.specs.Offset.{offset_table}
 use Rattle.speedate_base.specs.Requirement.{NumberRow, ◌else_fault◌}
 use Rattle.speedate_base.specs.Timestamp.{Instant}
@@ -30,3 +31,9 @@ BothOrNeither first second = is_some first ≡ is_some second
 -- an order of two values says that the first is not after the second
 abbrev pub IsNotAfter : Ordering → Type 0
 IsNotAfter order = IsTrue (is_le order)
+
+-- by an order the first of three values is before the second, and that before the third, to which
+-- the first is equal all the same
+abbrev pub IsBeforeNextOnly : {K : Type 0} → (K → K → Ordering) → K → K → K → Type 0
+IsBeforeNextOnly order first second third =
+    (order first second ≡ Less) × (order second third ≡ Less) × (order first third ≡ Equal)

@@ -417,3 +417,8 @@ time_instant is_utc time = record {
 -- the order of times by instant
 abbrev pub time_instant_order : TimeOfDay → TimeOfDay → Ordering
 time_instant_order = by_instant (λ time. time.offset) time_instant
+
+-- the time at the beginning of a minute
+abbrev pub minute_time : ℕ → ℕ → Option ℤ → TimeOfDay
+minute_time hour minute offset =
+    record { hour = hour; minute = minute; second = 0; microsecond = 0; offset = offset }

@@ -5,7 +5,7 @@ use speedate_base::util::UnixTime;
 use std::cmp::Ordering;
 
 impl DateTime {
-    ghost use Rattle.std.specs.Prelude.{◌≡◌, None};
+    ghost use Rattle.std.specs.Prelude.{◌≡◌, None, Some, neg_ℤ, pos};
     ghost use Rattle.std.specs.Cmp.Lexicographic.{slice_cmp};
     ghost use Rattle.std.specs.Ordering.{nat_cmp, ordering_reverse};
     ghost use Rattle.speedate_base.specs.Timestamp.{unix_instant};
@@ -16,16 +16,18 @@ impl DateTime {
       date_time_instant_order,
       DateTime,
     };
-    ghost use Rattle.speedate_civil.specs.Instant.{BothOrNeither, IsNotAfter};
+    ghost use Rattle.speedate_civil.specs.Instant.{BothOrNeither, IsBeforeNextOnly, IsNotAfter};
+    ghost use Rattle.speedate_civil.specs.Calendar.{Ymd};
+    ghost use Rattle.speedate_civil.specs.Time.{minute_time};
 
     /// Compares two date-times by instant: in UTC if both have an offset, and otherwise as clocks show
     /// them. So 2022-01-02T01:00:00+03:00 is less than 2022-01-01T23:00:00Z, and 2022-01-01T23:00:00 is
     /// less than 2022-01-02T01:00:00+03:00.
     ///
     /// Date-times without offsets compare as their texts do, as bytes. Date-times that all have an
-    /// offset, or that all have none, can be sorted by it: the order is then transitive. Date-times
-    /// with different offsets can be equal here, while `==` tells them apart: so this is a call, and
-    /// no order trait.
+    /// offset, or that all have none, can be sorted by it: the order is then transitive. Across both it
+    /// is not, as [`Time::cmp_instant`] shows. Date-times with different offsets can be equal here, while
+    /// `==` tells them apart: so this is a call, and no order trait.
     pub fn cmp_instant(&self, other: &DateTime) -> Ordering
         ensures order { result
             ≡ date_time_instant_order (date_and_time self.now) (date_and_time other.now) }
@@ -39,6 +41,10 @@ impl DateTime {
             → BothOrNeither other.now.time.tz_offset third.time.tz_offset → IsNotAfter result
             → IsNotAfter (date_time_instant_order (date_and_time other.now) (date_and_time third))
             → IsNotAfter (date_time_instant_order (date_and_time self.now) (date_and_time third)) }
+        ensures across { (date : Ymd) → IsBeforeNextOnly date_time_instant_order
+            (record { date = date; time = minute_time 0 0 (Some (neg_ℤ (pos 3600))) })
+            (record { date = date; time = minute_time 0 30 None })
+            (record { date = date; time = minute_time 1 0 (Some (pos 0)) }) }
     {
         let is_utc = self.time.tz_offset.is_some() && other.time.tz_offset.is_some();
         self.instant(is_utc).cmp(&other.instant(is_utc))

@@ -5,17 +5,18 @@ use speedate_base::util::UnixTime;
 use std::cmp::Ordering;
 
 impl Time {
-    ghost use Rattle.std.specs.Prelude.{◌≡◌, None};
+    ghost use Rattle.std.specs.Prelude.{◌≡◌, None, Some, neg_ℤ, pos};
     ghost use Rattle.std.specs.Cmp.Lexicographic.{slice_cmp};
     ghost use Rattle.std.specs.Ordering.{nat_cmp, ordering_reverse};
     ghost use Rattle.speedate_base.specs.Timestamp.{unix_instant};
-    ghost use Rattle.speedate_civil.specs.Instant.{BothOrNeither, IsNotAfter};
+    ghost use Rattle.speedate_civil.specs.Instant.{BothOrNeither, IsBeforeNextOnly, IsNotAfter};
     ghost use Rattle.speedate_civil.specs.Time.{
       time_of_day,
       time_text,
       Time,
       time_instant,
       time_instant_order,
+      minute_time,
     };
 
     /// Compares two times by instant: in UTC if both have an offset, and otherwise as clocks show them.
@@ -23,8 +24,10 @@ impl Time {
     /// taken to be one of the same day at its offset.
     ///
     /// Times without offsets compare as their texts do, as bytes. Times that all have an offset, or
-    /// that all have none, can be sorted by it: the order is then transitive. Times with different
-    /// offsets can be equal here, while `==` tells them apart: so this is a call, and no order trait.
+    /// that all have none, can be sorted by it: the order is then transitive. Across both it is not:
+    /// 00:00:00-01:00 is less than 00:30:00, which is less than 01:00:00Z, and the first is equal to the
+    /// last. Times with different offsets can be equal here, while `==` tells them apart: so this is a
+    /// call, and no order trait.
     pub fn cmp_instant(&self, other: &Time) -> Ordering
         ensures order { result ≡ time_instant_order (time_of_day self.now) (time_of_day other.now) }
         ensures text_order { self.now.tz_offset ≡ None → other.now.tz_offset ≡ None
@@ -36,6 +39,9 @@ impl Time {
             → BothOrNeither other.now.tz_offset third.tz_offset → IsNotAfter result
             → IsNotAfter (time_instant_order (time_of_day other.now) (time_of_day third))
             → IsNotAfter (time_instant_order (time_of_day self.now) (time_of_day third)) }
+        ensures across { IsBeforeNextOnly time_instant_order
+            (minute_time 0 0 (Some (neg_ℤ (pos 3600)))) (minute_time 0 30 None)
+            (minute_time 1 0 (Some (pos 0))) }
     {
         let is_utc = self.tz_offset.is_some() && other.tz_offset.is_some();
         self.instant(is_utc).cmp(&other.instant(is_utc))

@@ -6,6 +6,7 @@ use Rattle.speedate_civil.proofs.InstantOrderLemmas.{
   date_time_text-order,
   by_instant-reversed,
   by_instant-transitive,
+  date_time_instant_order-across,
 }
 use Rattle.speedate_civil.proofs.ValueLemmas.{is_date_and_time}
 use Rattle.speedate_civil.proofs.datetime.DateTime.cmp_instant.Goals as goal
@@ -34,3 +35,6 @@ returns-clause-transitive c =
     let order : c.cmp.result ≡ date_time_instant_order first second = search rules in
     λ third one two before. by_instant-transitive (λ value. value.time.offset)
     date_time_instant first second (date_and_time third) one two (subst IsNotAfter order before)
+
+pub returns-clause-across : goal.returns-clause-across
+returns-clause-across c = date_time_instant_order-across

@@ -1,7 +1,7 @@
 use Rattle.std.proofs.Common.{◌≡◌, ◌∙◌, subst, rules}
 use Rattle.speedate_civil.specs.Time.{time_of_day, time_instant, time_instant_order}
 use Rattle.speedate_civil.specs.Instant.{IsNotAfter}
-use Rattle.speedate_civil.proofs.InstantOrderLemmas.{time_text-order, by_instant-transitive}
+use Rattle.speedate_civil.proofs.InstantOrderLemmas.{time_text-order, by_instant-transitive, time_instant_order-across}
 use Rattle.speedate_civil.proofs.ValueLemmas.{is_time}
 use Rattle.speedate_civil.proofs.time.Time.cmp_instant.Goals as goal
 
@@ -21,3 +21,6 @@ returns-clause-transitive c =
     let order : c.cmp.result ≡ time_instant_order first second = search rules in
     λ third one two before. by_instant-transitive (λ value. value.offset) time_instant first second
     (time_of_day third) one two (subst IsNotAfter order before)
+
+pub returns-clause-across : goal.returns-clause-across
+returns-clause-across c = time_instant_order-across
