@@ -1,6 +1,6 @@
 -- Durations by their amounts: their one normal form, amounts with their sign, the duration between
 -- two values, and the value a duration after another.
-use Rattle.std.proofs.Common.{rules, arith, ◌∙◌, ap, sym, ◌≡◌, ℕ, ◌<◌, ◌≤◌, Bool, true, not, ◌||◌, ◌==◌, ℤ, pos, neg_ℤ, ◌+ℤ◌, ◌-ℤ◌, ◌*ℤ◌, ◌≤ℤ◌, Option, Result, Ok, Err, IfOk, unsigned_abs, refl, [], ◌∷◌, if◌then◌else◌, ok_or, unwrap_or, int_cmp}
+use Rattle.std.proofs.Common.{rules, arith, ◌∙◌, ap, sym, subst, ◌≡◌, ℕ, ◌<◌, ◌≤◌, Bool, true, false, not, ◌||◌, ◌==◌, ℤ, pos, neg_ℤ, ◌+ℤ◌, ◌-ℤ◌, ◌*ℤ◌, ◌≤ℤ◌, Option, Some, None, Ordering, IfSome, Result, Ok, Err, IfOk, unsigned_abs, refl, [], ◌∷◌, if◌then◌else◌, ok_or, unwrap_or, int_cmp}
 use Rattle.speedate_civil.specs.Base.{ParseError}
 use Rattle.std.proofs.lemmas.Int.{ints}
 use Rattle.std.proofs.lemmas.Result.{IfOk-weaker}
@@ -49,12 +49,18 @@ use Rattle.speedate.specs.DurationNumbers.{
   signed_seconds,
   signed_microsecond,
 }
-use Rattle.speedate_base.specs.Requirement.{◌else_fault◌}
+use Rattle.speedate_base.specs.Requirement.{◌else_fault◌, first_fault_or, result_map}
 use Rattle.speedate_base.proofs.RequirementLemmas.{first_fault_or-all}
 use Rattle.speedate_civil.specs.declared.date.Date.{Date}
-use Rattle.speedate_civil.specs.Calendar.{Ymd, day_number, date_counted, days_between}
+use Rattle.speedate_civil.specs.Calendar.{
+  Ymd,
+  day_number,
+  date_counted,
+  date_order,
+  days_between,
+}
 use Rattle.speedate_civil.specs.Date.{ymd}
-use Rattle.speedate_civil.proofs.DateOrderLemmas.{date_numbered-is}
+use Rattle.speedate_civil.proofs.DateOrderLemmas.{counted-order, date_numbered-is}
 use Rattle.speedate_civil.proofs.ValueLemmas.{
   is_day,
   is_date_and_time,
@@ -255,3 +261,55 @@ pub turned : (positive : Bool) (day start end : ℕ)
     → pos end -ℤ pos start ≡ with_sign (not (not positive)) day
     → pos start -ℤ pos end ≡ with_sign (not positive) day
 turned positive day start end same = search (rules)
+
+-- dates that follow are in the order of what they are counted by
+later-order : (one two : Bool) (date other : Option Ymd) (fault next : ParseError)
+    (order amounts : Ordering) → order ≡ amounts
+    → IfSome date (λ end. IfSome other (λ last. date_order end last ≡ order))
+    → IfOk (first_fault_or ((one else_fault ParseError.DateNotExact) ∷ []) (ok_or date fault))
+    (λ end. IfOk (first_fault_or ((two else_fault ParseError.DateNotExact) ∷ []) (ok_or other next))
+    (λ last. date_order end last ≡ amounts))
+later-order true true (Some end) (Some last) fault next order amounts same is = is ∙ same
+later-order true true (Some end) None fault next order amounts same is = tt
+later-order true false (Some end) other fault next order amounts same is = tt
+later-order true two None other fault next order amounts same is = tt
+later-order false two date other fault next order amounts same is = tt
+
+-- so the dates after two durations of days are in the order of the days
+pub date_later-order : (one two : DurationNumbers) (start : Ymd)
+    → IfOk (date_later one start) (λ end. IfOk (date_later two start) (λ next.
+    date_order end next ≡ int_cmp (signed_day one) (signed_day two)))
+date_later-order one two start =
+    let days = pos (day_number start) in
+    later-order (is_whole_days one) (is_whole_days two) _ _ _ _ _ _
+    (apart-order (days +ℤ signed_day one) (days +ℤ signed_day two) (signed_day one) (signed_day two)
+    (omega (arith, ints)))
+    (counted-order (days +ℤ signed_day one) (days +ℤ signed_day two))
+
+-- days the other way lie the other way apart
+days-apart : (one two : Bool) (day other : ℕ) (start : ℤ)
+    → (start +ℤ with_sign (not (not one)) day) -ℤ (start +ℤ with_sign (not (not two)) other)
+    ≡ with_sign (not two) other -ℤ with_sign (not one) day
+days-apart true true day other start = omega (arith, ints)
+days-apart true false day other start = omega (arith, ints)
+days-apart false true day other start = omega (arith, ints)
+days-apart false false day other start = omega (arith, ints)
+
+-- and those before them in the other order
+pub date_earlier-order : (one two : DurationNumbers) (start : Ymd)
+    → IfOk (date_later (negated one) start) (λ end. IfOk (date_later (negated two) start) (λ next.
+    date_order end next ≡ int_cmp (signed_day two) (signed_day one)))
+date_earlier-order one two start =
+    let days = pos (day_number start) in
+    later-order (is_whole_days one) (is_whole_days two) _ _ _ _ _ _
+    (apart-order (days +ℤ signed_day (negated one)) (days +ℤ signed_day (negated two))
+    (signed_day two) (signed_day one)
+    (days-apart one.positive two.positive one.day two.day days))
+    (counted-order (days +ℤ signed_day (negated one)) (days +ℤ signed_day (negated two)))
+
+-- what holds of the numbers of a date that is returned
+pub of-date : (result : Result Date ParseError) (answer : Result Ymd ParseError)
+    (P : Ymd → Type 0) → result_map ymd result ≡ answer → IfOk answer P
+    → IfOk result (λ date. P (ymd date))
+of-date (Ok date) answer P same is = subst (λ read. IfOk read P) (sym same) is
+of-date (Err fault) answer P same is = tt

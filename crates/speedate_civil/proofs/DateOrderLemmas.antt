@@ -1,11 +1,18 @@
 -- Laws of the order of dates: it is that of the day numbers, and that of the texts. Each date of
 -- the years to 9999 is the date of its day number, and days are counted as the dates are in order.
-use Rattle.std.proofs.Common.{◌≡◌, ℕ, ◌+◌, ◌-◌, ◌*◌, ◌/◌, ◌%◌, ◌<◌, ◌≤◌, ℤ, pos, ◌+ℤ◌, ◌-ℤ◌, Option, Some, IfSome, int_cmp, List, [], ◌++◌, refl, nat_cmp, Ordering, Equal, rules, arith, ◌∙◌, ap}
+use Rattle.std.proofs.Common.{◌≡◌, ℕ, ◌+◌, ◌-◌, ◌*◌, ◌/◌, ◌%◌, ◌<◌, ◌≤◌, Bool, true, false, if◌then◌else◌, nat_le, ℤ, pos, negsuc, ◌+ℤ◌, ◌-ℤ◌, Option, Some, None, IfSome, int_cmp, List, [], ◌++◌, refl, nat_cmp, Ordering, Equal, rules, arith, ◌∙◌, ap}
 use Rattle.std.specs.Cmp.Lexicographic.{slice_cmp}
 use Rattle.std.specs.Ordering.{ordering_then}
 use Rattle.std.proofs.lemmas.Bool.Decides.{nat_tests}
 use Rattle.speedate_base.specs.Digits.{digit}
-use Rattle.speedate_civil.specs.Calendar.{Ymd, IsDay, date_numbered, date_order, day_number}
+use Rattle.speedate_civil.specs.Calendar.{
+  Ymd,
+  IsDay,
+  date_counted,
+  date_numbered,
+  date_order,
+  day_number,
+}
 use Rattle.speedate_civil.specs.Date.{ymd, date_text, Date}
 unfoldable use Rattle.speedate_civil.specs.Calendar.{
   days_of_months,
@@ -135,3 +142,31 @@ days-counted result first number days sum same = search rules
 pub day-difference-order : (first second : ℕ)
     → int_cmp (pos first -ℤ pos second) (pos 0) ≡ nat_cmp first second
 day-difference-order first second = search rules
+
+number-order : (first second : ℕ) → nat_cmp first second ≡ int_cmp (pos first) (pos second)
+number-order first second = search rules
+
+-- dates that are counted are in the order of their counts
+numbered-order : (first second : ℕ) (one two : Bool)
+    → IfSome (if one then Some (date_of_number first) else None) (λ date.
+    IfSome (if two then Some (date_of_number second) else None) (λ other.
+    date_order date other ≡ int_cmp (pos first) (pos second)))
+numbered-order first second true true =
+    date_order-day_number (date_of_number first) (date_of_number second) (date_of_number-IsDay first)
+    (date_of_number-IsDay second)
+    ∙ rw (day_number-date_of_number first, day_number-date_of_number second)
+    (number-order first second)
+numbered-order first second true false = tt
+numbered-order first second false two = tt
+
+none-after : (date : Option Ymd) → IfSome date (λ found. Unit {0})
+none-after (Some date) = tt
+none-after None = tt
+
+pub counted-order : (first second : ℤ)
+    → IfSome (date_counted first) (λ date. IfSome (date_counted second) (λ other.
+    date_order date other ≡ int_cmp first second))
+counted-order (pos first) (pos second) =
+    numbered-order first second (nat_le first 3652424) (nat_le second 3652424)
+counted-order (pos first) (negsuc second) = none-after (date_numbered first)
+counted-order (negsuc first) second = tt

@@ -4,7 +4,7 @@ ghost use Rattle.std.specs.Prelude.{◌≡◌, ◌<◌, ◌≤◌, ◌+ℤ◌, �
 ghost use Rattle.std.specs.Ordering.{int_cmp};
 ghost use Rattle.speedate_base.specs.Timestamp.{instant_at, unix_instant};
 ghost use Rattle.speedate_civil.specs.DateTime.{local_microsecond, utc_microsecond, date_and_time};
-ghost use Rattle.speedate_civil.specs.Calendar.{days_between};
+ghost use Rattle.speedate_civil.specs.Calendar.{date_order, days_between};
 ghost use Rattle.speedate.specs.Duration.{
   duration_numbers,
   signed_amount,
@@ -225,6 +225,10 @@ impl Duration {
         ensures answer { result gives date_later (duration_numbers self.now) (ymd start.now) }
         ensures days { IfOk result (λ end. days_between (ymd start.now) (ymd end)
             ≡ signed_day (duration_numbers self.now)) }
+        ensures order { (other : Duration) → IfOk result (λ end. IfOk
+            (date_later (duration_numbers other) (ymd start.now))
+            (λ next. date_order (ymd end) next ≡ int_cmp (signed_day (duration_numbers self.now))
+            (signed_day (duration_numbers other)))) }
         ensures leads_back { IfOk result (λ end.
             date_later (negated (duration_numbers self.now)) (ymd end) ≡ Ok (ymd start.now)) }
     {
@@ -252,6 +256,10 @@ impl Duration {
             (ymd start.now) }
         ensures days { IfOk result (λ end. days_between (ymd end) (ymd start.now)
             ≡ signed_day (duration_numbers self.now)) }
+        ensures order { (other : Duration) → IfOk result (λ end. IfOk
+            (date_later (negated (duration_numbers other)) (ymd start.now))
+            (λ next. date_order (ymd end) next ≡ int_cmp (signed_day (duration_numbers other))
+            (signed_day (duration_numbers self.now)))) }
         ensures leads_back { IfOk result (λ end.
             date_later (duration_numbers self.now) (ymd end) ≡ Ok (ymd start.now)) }
     {
