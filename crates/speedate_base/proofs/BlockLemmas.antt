@@ -1,9 +1,10 @@
 -- Eight bytes of a text that are looked at together.
-use Rattle.std.proofs.Common.{◌≡◌, ℕ, ◌+◌, ◌-◌, ◌*◌, ◌<◌, ◌≤◌, ◌==◌, true, if◌then◌else◌, List, length, take, drop, Result, Ok, Err, arith, rules, ap, ◌∙◌, take-add}
+use Rattle.std.proofs.Common.{◌≡◌, ℕ, ◌+◌, ◌-◌, ◌*◌, ◌<◌, ◌≤◌, ◌==◌, Bool, true, if◌then◌else◌, List, length, take, drop, Result, Ok, Err, arith, rules, ap, ◌∙◌, take-add}
 use Rattle.std.specs.Char.{is_ascii_digit}
 use Rattle.std.specs.List.{prefix_len, list_all}
 use Rattle.std.proofs.lemmas.Bool.Decides.{nat_tests}
-use Rattle.std.proofs.lemmas.List.{length-take-le, length-drop, take_rest, drop-drop}
+use Rattle.std.proofs.lemmas.List.{length-take-le, length-drop, take_rest, take-append-drop, drop-drop}
+use Rattle.std.proofs.lemmas.List.Folds.{prefix_len-append}
 use Rattle.std.proofs.lemmas.List.Sums.{prefix_len-le-length}
 use Rattle.speedate_base.specs.Digits.{run_length, digits_value}
 use Rattle.speedate_base.proofs.DigitRunLemmas.{run-front, run-on, digits_value-append, run-whole}
@@ -21,6 +22,36 @@ pub block-all : (bytes : List ℕ) (place count : ℕ) → place + 8 ≤ length 
     → count ≡ prefix_len is_ascii_digit (block bytes place) → 8 ≤ count
     → list_all is_ascii_digit (block bytes place) ≡ true
 block-all bytes place count within is full = search rules
+
+-- bytes that pass a test from a place on, counted in a block of them: fewer than the block end there
+pub prefix_ends : (p : ℕ → Bool) (bytes : List ℕ) (place size count : ℕ)
+    → place + size ≤ length bytes → count ≡ prefix_len p (take size (drop place bytes))
+    → count < size → prefix_len p (drop place bytes) ≡ count
+prefix_ends p bytes place size count within is less =
+    grind (
+      arith,
+      nat_tests,
+      take-append-drop size (drop place bytes),
+      prefix_len-append p (take size (drop place bytes)) (drop size (drop place bytes)),
+      length-take-le size (drop place bytes),
+      length-drop place bytes,
+    )
+
+-- and a whole block goes on after it
+pub prefix_on : (p : ℕ → Bool) (bytes : List ℕ) (place size count : ℕ)
+    → place + size ≤ length bytes → count ≡ prefix_len p (take size (drop place bytes))
+    → size ≤ count → prefix_len p (drop place bytes) ≡ size + prefix_len p (drop (place + size) bytes)
+prefix_on p bytes place size count within is full =
+    grind (
+      arith,
+      nat_tests,
+      take-append-drop size (drop place bytes),
+      prefix_len-append p (take size (drop place bytes)) (drop size (drop place bytes)),
+      prefix_len-le-length p (take size (drop place bytes)),
+      length-take-le size (drop place bytes),
+      length-drop place bytes,
+      drop-drop size place bytes,
+    )
 
 -- a run goes on after digits
 pub digits_on : (bytes : List ℕ) (place count : ℕ) → place + count ≤ length bytes

@@ -1,9 +1,13 @@
 -- What is known of bytes that are as a pattern has them.
-use Rattle.std.proofs.Common.{◌≡◌, ℕ, zero, suc, ◌+◌, ◌-◌, ◌%◌, ◌≤◌, Bool, true, if◌then◌else◌, List, [], ◌∷◌, length, drop, w64, arith, rules}
+use Rattle.std.proofs.Common.{◌≡◌, ℕ, zero, suc, ◌+◌, ◌-◌, ◌%◌, ◌≤◌, Bool, true, not, min, if◌then◌else◌, List, [], ◌∷◌, length, drop, refl, w64, arith, rules}
 use Rattle.std.specs.Int.{from_le_bytes}
-use Rattle.std.proofs.lemmas.List.{get_or-drop}
+use Rattle.std.specs.List.{prefix_len}
+use Rattle.std.proofs.lemmas.List.{get_or-drop, map-id}
+use Rattle.std.proofs.lemmas.List.Sums.{prefix_len-le-length}
+use Rattle.std.proofs.lemmas.Simd.{mask_l-mod, first_set_mask_l}
 use Rattle.std.proofs.lemmas.Bool.Decides.{nat_tests}
-use lib.Lanes.{number_l}
+use lib.Count.{count_trailing_zeros}
+use lib.Lanes.{mask_l, number_l}
 use Rattle.speedate_base.specs.Digits.{eight_at, fits_byte, fit_length}
 
 -- a list of eight is made of eight
@@ -64,3 +68,16 @@ fit_length-all (suc count) (form ∷ forms) (byte ∷ bytes) enough =
 -- eight bytes of a text are the first eight of what begins at their place
 pub eight_at-drop : (place : ℕ) (text : List ℕ) → eight_at text place ≡ eight_at (drop place text) 0
 eight_at-drop place text = search (rules, get_or-drop)
+
+no_bit : count_trailing_zeros 64 0 ≡ 64
+unfolding count_trailing_zeros
+no_bit = refl
+
+-- the place of the lowest bit of a mask, or how many bits it has if none is set
+pub lowest_bit : (tests : List Bool) (count : ℕ) → length tests ≡ count → count ≤ 64
+    → min (count_trailing_zeros 64 (mask_l tests % 18446744073709551616)) count
+    ≡ prefix_len not tests
+lowest_bit tests count long few =
+    let first = rw (map-id tests) at
+    (first_set_mask_l (λ (test : Bool). test) tests count long few) in
+    grind (arith, nat_tests, first, no_bit, mask_l-mod tests 64, prefix_len-le-length not tests)

@@ -15,7 +15,7 @@ ghost use Rattle.speedate_base.specs.Digits.{
 };
 
 use super::lanes::{
-    LANES, MANY_LANES, are_sixteen_digits, are_sixteen_zeros, digits_in_front, eight_digits,
+    LANES, MANY_LANES, digits_in_front, digits_in_sixteen, eight_digits, zeros_in_sixteen,
 };
 use std::simd::prelude::*;
 
@@ -115,13 +115,18 @@ pub fn run_end(bytes: &[u8], place: usize) -> usize
 }
 
 /// What [`run_end`] finds, for a run that may be long: sixteen digits at a time.
+#[inline(always)]
 pub(crate) fn long_run_end(bytes: &[u8], place: usize) -> usize
     requires { place ≤ length bytes.now }
     ensures end { result ≡ place + run_length bytes.now place }
     ensures within { result ≤ length bytes.now }
 {
     let mut end = place;
-    while bytes.len() - end >= MANY_LANES && are_sixteen_digits(u8x16::from_slice(&bytes[end..])) {
+    while bytes.len() - end >= MANY_LANES {
+        let count = digits_in_sixteen(u8x16::from_slice(&bytes[end..]));
+        if count < MANY_LANES {
+            return end + count;
+        }
         end += MANY_LANES;
     }
     run_end(bytes, end)
@@ -139,6 +144,7 @@ pub(crate) fn digits_number(digits: &[u8]) -> u64
 /// The number that bytes spell if they are digits, or `u64::MAX` if it is larger; otherwise, as an
 /// error, the place of the first byte that is no digit. It is 120 for `b"120"`, 0 for no bytes, and
 /// place 2 for `b"12.0"`.
+#[inline(always)]
 pub(crate) fn spelled_number(digits: &[u8]) -> Result<u64, usize>
     ensures answer { result ≡ (if run_length digits.now 0 == length digits.now
         then Ok (min (digits_value digits.now) (2 ^ 64 - 1)) else Err (run_length digits.now 0)) }
@@ -151,6 +157,7 @@ pub(crate) fn spelled_number(digits: &[u8]) -> Result<u64, usize>
 
 /// The number of [`spelled_number`], for many bytes: digits without the zeros at their front are few, or
 /// spell a larger number than `u64::MAX`.
+#[cold]
 fn long_number(digits: &[u8]) -> Result<u64, usize>
     ensures answer { result ≡ (if run_length digits.now 0 == length digits.now
         then Ok (min (digits_value digits.now) (2 ^ 64 - 1)) else Err (run_length digits.now 0)) }
@@ -181,13 +188,15 @@ fn zeros_in_front(bytes: &[u8]) -> usize
     ensures count { result ≡ zeros_length bytes.now }
     ensures within { result ≤ length bytes.now }
 {
-    let mut count = 0;
-    while bytes.len() - count >= MANY_LANES
-        && are_sixteen_zeros(u8x16::from_slice(&bytes[count..]))
-    {
-        count += MANY_LANES;
+    let mut end = 0;
+    while bytes.len() - end >= MANY_LANES {
+        let count = zeros_in_sixteen(u8x16::from_slice(&bytes[end..]));
+        if count < MANY_LANES {
+            return end + count;
+        }
+        end += MANY_LANES;
     }
-    zeros_end(bytes, count)
+    zeros_end(bytes, end)
 }
 
 /// Where the zeros from `place` on end, byte by byte: at place 3 for `b"x0012"` and place 1.

@@ -5,11 +5,11 @@ ghost use Rattle.std.specs.Char.{is_ascii_digit};
 ghost use Rattle.std.specs.List.{list_all, prefix_len};
 ghost use Rattle.speedate_base.specs.Digits.{
   digits_value,
-  is_digit_zero,
   eight_at,
   fit_length,
   fit_digits,
   neighbours,
+  zeros_length,
 };
 
 use super::digits::byte_at;
@@ -115,21 +115,22 @@ pub(crate) fn digits_in_front(lanes: u8x8) -> usize
     fit_length(lanes, u8x8::splat(b'0'))
 }
 
-/// Whether sixteen bytes are digits.
+/// How many digits stand at the front of sixteen bytes: 3 for `b"120.567890123456"`.
 #[inline(always)]
-pub(crate) fn are_sixteen_digits(lanes: u8x16) -> bool
-    ensures { result ≡ list_all is_ascii_digit lanes }
+pub(crate) fn digits_in_sixteen(lanes: u8x16) -> usize
+    ensures count { result ≡ prefix_len is_ascii_digit lanes }
 {
     let others = (lanes - u8x16::splat(b'0')).simd_gt(u8x16::splat(9));
-    others.to_bitmask() == 0
+    (others.to_bitmask().trailing_zeros() as usize).min(MANY_LANES)
 }
 
-/// Whether sixteen bytes are the digit 0.
+/// How many zeros stand at the front of sixteen bytes: 3 for `b"0001234567890123"`.
 #[inline(always)]
-pub(crate) fn are_sixteen_zeros(lanes: u8x16) -> bool
-    ensures { result ≡ list_all is_digit_zero lanes }
+pub(crate) fn zeros_in_sixteen(lanes: u8x16) -> usize
+    ensures count { result ≡ zeros_length lanes }
 {
-    lanes.simd_ne(u8x16::splat(b'0')).to_bitmask() == 0
+    let others = lanes.simd_ne(u8x16::splat(b'0'));
+    (others.to_bitmask().trailing_zeros() as usize).min(MANY_LANES)
 }
 
 /// The number that eight digits spell: 12,000,034 for `b"12000034"`.

@@ -1,13 +1,11 @@
-use Rattle.std.proofs.Common.{◌≡◌, ◌∙◌, ℕ, ◌%◌, eqb, ltb, Bool, not, cond, min, List, [], ◌∷◌, map, length, replicate, refl, arith, rules, Fits, w8}
+use Rattle.std.proofs.Common.{◌≡◌, ◌∙◌, ℕ, eqb, ltb, not, cond, List, [], ◌∷◌, map, length, replicate, refl, arith, rules, Fits, w8}
 use Rattle.std.specs.List.{prefix_len}
 use Rattle.std.proofs.lemmas.Bool.Decides.{nat_tests}
-use Rattle.std.proofs.lemmas.List.{length-map, map-id}
-use Rattle.std.proofs.lemmas.List.Sums.{prefix_len-le-length}
-use Rattle.std.proofs.lemmas.Simd.{zip2_splat, tops_compared, length-zip2, mask_l-mod, first_set_mask_l}
-use lib.Lanes.{Each1, zip2, mask_l, sel_l}
-use lib.Count.{count_trailing_zeros}
+use Rattle.std.proofs.lemmas.List.{length-map}
+use Rattle.std.proofs.lemmas.Simd.{zip2_splat, tops_compared, length-zip2}
+use lib.Lanes.{Each1, zip2, sel_l}
 use Rattle.speedate_base.specs.Digits.{fit_length}
-use Rattle.speedate_base.proofs.PatternLemmas.{less}
+use Rattle.speedate_base.proofs.PatternLemmas.{less, lowest_bit}
 use Rattle.speedate_base.proofs.numbers.lanes.fit_length.Goals as goal
 
 -- how far above the pattern's byte a lane may lie: a digit lies up to nine above `0`, any other
@@ -29,18 +27,6 @@ selected : (forms : List ℕ) (n : ℕ) → length forms ≡ n
     ≡ map largest forms
 selected [] n long = refl
 selected (form ∷ forms) n long = search (rules, selected forms)
-
-no_bit : count_trailing_zeros 64 0 ≡ 64
-unfolding count_trailing_zeros
-no_bit = refl
-
--- the place of the lowest bit of a mask, or 8 where it has none
-lowest : (tests : List Bool) → length tests ≡ 8
-    → min (count_trailing_zeros 64 (mask_l tests % 18446744073709551616)) 8 ≡ prefix_len not tests
-lowest tests long =
-    let first = rw (map-id tests) at
-    (first_set_mask_l (λ (test : Bool). test) tests 8 long (omega arith)) in
-    grind (arith, nat_tests, first, no_bit, mask_l-mod tests 64, prefix_len-le-length not tests)
 
 pub returns : goal.returns
 returns c =
@@ -65,6 +51,6 @@ returns c =
         selected forms 8 long,
         tops_compared w8 ltb (map largest forms) differences,
       )
-          (lowest (zip2 ltb (map largest forms) differences) compares
+          (lowest_bit (zip2 ltb (map largest forms) differences) 8 compares (omega arith)
           ∙ run forms lanes c.fits-pattern.1 c.fits-lanes.1);
     }
