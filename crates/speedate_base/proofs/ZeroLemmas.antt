@@ -117,6 +117,23 @@ few-left digits within ends =
       length-drop (zeros_length digits) digits,
     )
 
+-- bytes are digits if and only if what is left without the zeros at their front is
+pub zeros-left : (bytes : List ℕ) → zeros_length bytes ≤ length bytes
+    → (run_length (drop (zeros_length bytes) bytes) 0 == length (drop (zeros_length bytes) bytes))
+    ≡ (run_length bytes 0 == length bytes)
+zeros-left bytes within =
+    grind (arith, nat_tests, zeros-run bytes within, length-drop (zeros_length bytes) bytes)
+
+-- and many digits that are left spell a large number
+pub zeros-large : (bytes : List ℕ)
+    → run_length (drop (zeros_length bytes) bytes) 0 ≡ length (drop (zeros_length bytes) bytes)
+    → 20 < length (drop (zeros_length bytes) bytes)
+    → 2 ^ 64 ≤ digits_value (drop (zeros_length bytes) bytes)
+zeros-large bytes all many =
+    let rest : List ℕ = drop (zeros_length bytes) bytes in
+    let digits : list_all is_ascii_digit rest ≡ true = grind (arith, nat_tests, run-whole rest) in
+    large-digits rest digits (zeros-none bytes) many
+
 -- digits spell 0 if and only if all are zeros
 pub zeros-whole : (digits : List ℕ) → list_all is_ascii_digit digits ≡ true
     → (zeros_length digits == length digits) ≡ (digits_value digits == 0)

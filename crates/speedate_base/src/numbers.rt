@@ -1,8 +1,7 @@
 //! Whole numbers and decimals, and the digits that they are made of.
 
-ghost use Rattle.std.specs.Prelude.{◌≡◌, ◌==◌, ◌||◌, ◌^◌, ◌<◌, ◌≤◌, length, Some, None};
-ghost use Rattle.std.specs.Char.{is_ascii_digit};
-ghost use Rattle.speedate_base.specs.Ascii.{full_stop};
+ghost use Rattle.std.specs.Prelude.{◌≡◌, ◌==◌, ◌^◌, ◌<◌, ◌≤◌, length, Some, None, if◌then◌else◌};
+ghost use Rattle.speedate_base.specs.Digits.{run_length, digits_value};
 ghost use Rattle.speedate_base.specs.Numbers.{
   has_minus,
   sign_size,
@@ -21,7 +20,7 @@ mod fraction;
 mod int_float;
 pub(crate) mod lanes;
 
-use digits::spelled_number;
+use digits::{MOST_DIGITS, number_by_eights, spelled_number, without_zeros};
 pub use digits::{DigitRun, byte_at, digit_run, few_digits, is_decimal_mark, run_end, two_digits};
 pub use fraction::{Fraction, takes_digits};
 pub use int_float::{Decimal, IntFloat};
@@ -44,11 +43,26 @@ pub fn int_parse_bytes(bytes: &[u8]) -> Option<i64>
     ensures answer { result ≡ whole_number bytes.now }
 {
     let (negative, start) = sign(bytes);
-    // Most texts that are no number show it here.
-    if !byte_at(bytes, start).is_ascii_digit() {
+    let digits = &bytes[start..];
+    if digits.is_empty() {
         return None;
     }
-    match spelled_number(&bytes[start..]) {
+    signed_number(negative, digits)
+}
+
+/// The number that bytes spell if they are digits, with a sign, if it fits an `i64`.
+#[inline(always)]
+fn signed_number(negative: bool, digits: &[u8]) -> Option<i64>
+    ensures value { result ≡ (if run_length digits.now 0 == length digits.now
+        then signed_answer negative (digits_value digits.now) else None) }
+{
+    // Digits of which the first is no zero fit only if they are few. This calls nothing, so that the
+    // registers of short numbers need no room in memory.
+    let digits = without_zeros(digits);
+    if digits.len() > MOST_DIGITS {
+        return None;
+    }
+    match number_by_eights(digits) {
         Ok(size) => checked_with_sign(negative, size),
         Err(_) => None,
     }
@@ -77,25 +91,15 @@ pub fn float_parse_bytes(bytes: &[u8]) -> IntFloat<'_>
     ensures joined { JoinsToFloat result bytes.now }
 {
     let (negative, start) = sign(bytes);
-    // Most texts that are no number show it here.
-    if !begins_digits(byte_at(bytes, start)) {
-        return IntFloat::Err;
-    }
-    match spelled_number(&bytes[start..]) {
-        Ok(size) => match checked_with_sign(negative, size) {
+    let digits = &bytes[start..];
+    match spelled_number(digits) {
+        Ok(size) if !digits.is_empty() => match checked_with_sign(negative, size) {
             Some(number) => IntFloat::Int(number),
             None => IntFloat::Err,
         },
+        Ok(_) => IntFloat::Err,
         Err(count) => decimal(bytes, negative, start, start + count),
     }
-}
-
-/// Whether the digits of a number, or its point before them, may begin with a byte.
-#[inline(always)]
-fn begins_digits(byte: u8) -> bool
-    ensures { result ≡ (is_ascii_digit byte || (byte == full_stop)) }
-{
-    byte.is_ascii_digit() || byte == b'.'
 }
 
 /// The decimal whose digits begin at `start`, and whose point is at `point` if there is one.

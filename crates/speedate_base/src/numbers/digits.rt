@@ -32,9 +32,9 @@ pub struct DigitRun {
 const FEW: usize = 6;
 
 /// How many digits `u64::MAX` has.
-const MOST_DIGITS: usize = 20;
+pub(crate) const MOST_DIGITS: usize = 20;
 
-/// How many bytes are parsed as a number eight at a time, whatever they begin with.
+/// How many bytes are parsed as a number eight at a time, also if zeros are at their front.
 const MOST_BY_EIGHTS: usize = 32;
 
 /// The run of digits at the front of bytes: 3 digits that spell 120 for `b"120.5"`, none for `b".5"`.
@@ -149,7 +149,7 @@ pub(crate) fn spelled_number(digits: &[u8]) -> Result<u64, usize>
     ensures answer { result ≡ (if run_length digits.now 0 == length digits.now
         then Ok (min (digits_value digits.now) (2 ^ 64 - 1)) else Err (run_length digits.now 0)) }
 {
-    if digits.len() > MOST_BY_EIGHTS {
+    if digits.len() > MOST_BY_EIGHTS && digits[0].is_ascii_digit() {
         return long_number(digits);
     }
     number_by_eights(digits)
@@ -173,6 +173,22 @@ fn long_number(digits: &[u8]) -> Result<u64, usize>
     number_by_eights(&digits[zeros..])
 }
 
+/// Bytes without the zeros at their front, if they are more than the digits of `u64::MAX`: `b"12"` for
+/// forty zeros and `12`, and `b"0012"` for itself.
+#[inline(always)]
+pub(crate) fn without_zeros(bytes: &[u8]) -> &[u8]
+    ensures run { (run_length result.now 0 == length result.now)
+        ≡ (run_length bytes.now 0 == length bytes.now) }
+    ensures value { digits_value result.now ≡ digits_value bytes.now }
+    ensures large { run_length result.now 0 ≡ length result.now → MOST_DIGITS < length result.now
+        → 2 ^ 64 ≤ digits_value result.now }
+{
+    if bytes.len() <= MOST_DIGITS {
+        return bytes;
+    }
+    &bytes[zeros_in_front(bytes)..]
+}
+
 /// Whether digits are all zeros, so that they spell 0: true for `b"000"` and for no digits, false for
 /// `b"001"`.
 #[tactic(auto, using(crate::proofs::ZeroLemmas::zero_tests))]
@@ -184,6 +200,7 @@ pub(crate) fn are_zeros(digits: &[u8]) -> bool
 }
 
 /// How many zeros stand at the front of bytes: 3 for `b"00012"`.
+#[inline(always)]
 fn zeros_in_front(bytes: &[u8]) -> usize
     ensures count { result ≡ zeros_length bytes.now }
     ensures within { result ≤ length bytes.now }
@@ -200,6 +217,7 @@ fn zeros_in_front(bytes: &[u8]) -> usize
 }
 
 /// Where the zeros from `place` on end, byte by byte: at place 3 for `b"x0012"` and place 1.
+#[inline(always)]
 fn zeros_end(bytes: &[u8], place: usize) -> usize
     requires { place ≤ length bytes.now }
     ensures end { result ≡ place + zeros_length (drop place bytes.now) }
@@ -214,7 +232,7 @@ fn zeros_end(bytes: &[u8], place: usize) -> usize
 
 /// The number of [`spelled_number`], from eight bytes at a time.
 #[inline(always)]
-fn number_by_eights(digits: &[u8]) -> Result<u64, usize>
+pub(crate) fn number_by_eights(digits: &[u8]) -> Result<u64, usize>
     ensures answer { result ≡ (if run_length digits.now 0 == length digits.now
         then Ok (min (digits_value digits.now) (2 ^ 64 - 1)) else Err (run_length digits.now 0)) }
 {
