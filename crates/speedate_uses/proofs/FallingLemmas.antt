@@ -45,6 +45,7 @@ module _ {X : Type 0} (lt : X → X → Bool) (order : IsStrictWeakOrder lt) whe
           absurd (true≢false (sym tie ∙ ap (λ answer. not answer && not (lt other item)) is))
       by false is = is
 
+  -- what ties with an item does not tie with one that is less
   no-third : (item first next : X) → lt next first ≡ true → ties lt item first ≡ true
       → ties lt item next ≡ false
   no-third item first next less tie = by (lt item next) (lt next item) refl refl
@@ -57,6 +58,7 @@ module _ {X : Type 0} (lt : X → X → Bool) (order : IsStrictWeakOrder lt) whe
           absurd (true≢false (sym less
           ∙ order.chain next item first back (ties-first item first tie)))
 
+  -- so no item after the first of a list that falls ties with what ties with the first
   no-ties : (item first : X) (rest : List X)
       → ((k : ℕ) → k < length rest → lt (slice_index_or rest k first) first ≡ true)
       → ties lt item first ≡ true → filter (ties lt item) rest ≡ []
@@ -89,6 +91,7 @@ module _ {X : Type 0} (lt : X → X → Bool) (order : IsStrictWeakOrder lt) whe
           ∙ append-nil kept
           ∙ ap (λ (answer : Bool). cond answer (first ∷ kept) kept) (sym is)
 
+  -- no two items tie, so none changes its place beside one that it ties with
   pub reversed-stable : (xs : List X) → Falls lt xs → IsStableBy lt xs (reverse xs)
   reversed-stable [] falls item = refl
   reversed-stable (first ∷ rest) falls item =

@@ -4,8 +4,8 @@ use Rattle.std.proofs.lemmas.Cmp.{int_cmp_total, nat_cmp_total, on_total, then_t
 use Rattle.std.proofs.lemmas.List.{get_or_default}
 use Rattle.std.proofs.lemmas.List.Sorted.{ranks_by}
 use Rattle.std.specs.Cmp.{IsStrictWeakOrder, IsTotalOrder}
-use Rattle.std.specs.Ordering.{int_cmp, is_some_and, nat_cmp, ordering_reverse, ordering_then, partial_ordering_then}
 use Rattle.std.specs.List.Sorted.{IsSortedByKey, IsStableByKey}
+use Rattle.std.specs.Ordering.{int_cmp, is_some_and, nat_cmp, ordering_reverse, ordering_then, partial_ordering_then}
 use Rattle.speedate_uses.proofs.FallingLemmas.{Falls, reversed-sorted, reversed-stable}
 use Rattle.speedate_uses.specs.Log.{instant_key_order}
 
@@ -34,6 +34,7 @@ as-order Less micro is = refl
 as-order Equal micro is = sym is
 as-order Greater micro is = absurd (true≢false is)
 
+-- a key that comes after another, or equals it, is not before it
 not-before : (key next : ℤ × ℕ)
     → true ≡ is_some_and is_le (partial_ordering_then (Some (int_cmp key.0 next.0))
     (Some (nat_cmp key.1 next.1)))
@@ -72,12 +73,14 @@ reversed-stable-by key xs reversed falls is =
     (reversed-stable (λ first second. is_lt (instant_key_order (key first) (key second)))
     (order-of key) xs falls)
 
+-- a list that a sort left as it was is where the next sort starts
 pub stable-from : {X : Type 0} (key : X → ℤ × ℕ) (xs start sorted : List X) → start ≡ xs
     → IsStableByKey key instant_key_order start sorted
     → IsStableByKey key instant_key_order xs sorted
 stable-from {X} key xs start sorted same stable =
     subst (λ (items : List X). IsStableByKey key instant_key_order items sorted) same stable
 
+-- what `is_sorted_by_key` answers of a list in order
 pub sorted-from : {X : Type 0} (key : X → ℤ × ℕ) (xs : List X)
     → ((k : ℕ) (d : X) → k + 1 < length xs
     → true ≡ is_some_and is_le
