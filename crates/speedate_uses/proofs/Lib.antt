@@ -1,3 +1,5 @@
-mod LedgerLemmas
+mod FallingLemmas
 mod LengthsLemmas
+mod LogLemmas
+mod OrderLemmas
 mod ScheduleLemmas

@@ -1,7 +1,9 @@
 //! A log: lines that begin with date-times, taken apart and chosen.
 
 ghost use Rattle.std.specs.Prelude.{◌≡◌, ℕ, IfOk, List, OnErr, OnOk, drop, filter};
+ghost use Rattle.std.specs.List.{IsAllAdjacentAnswer};
 ghost use Rattle.std.specs.List.Sorted.{IsPermutation, IsSortedByKey, IsStableByKey};
+ghost use Rattle.std.specs.Ordering.{is_lt};
 ghost use Rattle.speedate.specs.Config.{time_choices};
 ghost use Rattle.speedate.specs.DateTime.{DateAndTime, date_and_time, date_time_front, date_time_instant_order};
 ghost use Rattle.speedate.specs.Requirement.{result_map};
@@ -123,6 +125,26 @@ pub fn lines_between<'a, A: Allocator>(
         .collect(alloc)
 }
 
+/// Whether each date-time of a log is earlier than the one before it, by instant.
+fn fall(times: &[DateTime]) -> bool
+    ensures fall { IsAllAdjacentAnswer (λ time next answer. answer ≡ is_lt
+        (instant_key_order (instant_key (date_and_time next)) (instant_key (date_and_time time))))
+        times.now result }
+{
+    if times.is_empty() {
+        return true;
+    }
+    let mut last = instant_key(&times[0]);
+    for place in 1..times.len() {
+        let next = instant_key(&times[place]);
+        if !next.cmp(&last).is_lt() {
+            return false;
+        }
+        last = next;
+    }
+    true
+}
+
 /// Sorts the date-times of a log by instant, the earliest first; those of one instant stay in their
 /// order. One without an offset is taken to be in UTC.
 ///
@@ -136,9 +158,21 @@ pub fn sort_by_instant<A: Allocator>(alloc: A, times: &mut [DateTime]) -> Result
         times.old times.new }
     ensures err { OnErr result (times.new ≡ times.old) }
 {
-    // So few are sorted without memory, and so are those that are in order.
-    if times.len() <= FEW || times.is_sorted_by_key(|time| instant_key(time)) {
-        return times.sort_by_key(alloc, |time| instant_key(time));
+    if times.len() > FEW {
+        if times.is_sorted_by_key(|time| instant_key(time)) {
+            return Ok(());
+        }
+        if fall(times) {
+            times.reverse();
+            return Ok(());
+        }
+        if times
+            .sort_by_cached_key(&alloc, |time| instant_key(time))
+            .is_ok()
+        {
+            return Ok(());
+        }
     }
-    times.sort_by_cached_key(alloc, |time| instant_key(time))
+    // Few need no memory, and if there is no room for the keys of many, there may be for this.
+    times.sort_by_key(alloc, |time| instant_key(time))
 }

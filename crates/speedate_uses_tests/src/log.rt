@@ -1,6 +1,7 @@
 //! Lines between two date-times, an entry, and date-times by instant.
 
 use crate::checks::{same, value};
+use linked_list_allocator::LocalHeap;
 use speedate::{DateTime, TimeConfig};
 use speedate_uses::log::{lines_between, log_entry, sort_by_instant};
 
@@ -41,25 +42,57 @@ fn date_times_by_instant(rt: HostRuntime) {
     assert!(rt; sorted.is_ok() && times == [east, noon, later]);
 }
 
-/// More date-times than are sorted without memory, at two offsets: mixed, in order, falling, and all at
-/// one instant. A sort that calculates each key at each comparison is to give the same.
+/// Which order a list of date-times has.
+const ORDERS: [&str; 6] = [
+    "rises",
+    "falls",
+    "rises but one",
+    "falls but two at one instant",
+    "at one instant",
+    "mixed",
+];
+
+/// Lists on both sides of twenty date-times, which are sorted without memory, and a longer one, at two
+/// offsets. Each is sorted in heaps of all sizes, so that each request is the first to fail in some of
+/// them. A sort that calculates each key at each comparison makes one request, or none if the list rises
+/// or falls: both are to succeed in the same heaps, and to leave the same list.
 #[test]
 fn many_date_times_by_instant(rt: HostRuntime) {
     let noon: DateTime = value(&rt, "2026-11-22T12:00:00Z");
-    for (first, step) in [(0, 29), (0, 1), (47, 47), (0, 0)] {
+    for order in ORDERS {
         let mut times = [noon; 48];
         for place in 0..48_u32 {
-            times[place as usize] = moved(&noon, (first + place * step) % 48, place % 2);
+            times[place as usize] = moved(&noon, second(order, place), place % 2);
         }
-        let mut model = times;
-        let by_key = model.sort_by_key(rt.alloc(), |time| {
-            (time.timestamp_tz(), time.time.microsecond)
-        });
-        let sorted = sort_by_instant(rt.alloc(), &mut times);
-        assert!(rt;
-            by_key.is_ok() && sorted.is_ok() && times == model,
-            "step {step}"
-        );
+        for size in [19, 20, 21, 22, 48] {
+            for bytes in (0..80 * 48).step_by(16) {
+                let mut model = times;
+                let heap = LocalHeap::new(rt.alloc(), bytes).ok().expect(&rt, order);
+                let by_key = model[..size].sort_by_key(&heap, |time| {
+                    (time.timestamp_tz(), time.time.microsecond)
+                });
+                let mut found = times;
+                let heap = LocalHeap::new(rt.alloc(), bytes).ok().expect(&rt, order);
+                let sorted = sort_by_instant(&heap, &mut found[..size]);
+                assert!(rt;
+                    sorted.is_ok() == by_key.is_ok() && found == model,
+                    "{order}, {size} in {bytes} bytes"
+                );
+            }
+        }
+    }
+}
+
+/// The second of a date-time in a list of such an order.
+fn second(order: &str, place: u32) -> u32 {
+    match order {
+        "rises" => place,
+        "falls" => 48_u32.saturating_sub(place),
+        "rises but one" if place == 9 => 0,
+        "rises but one" => place,
+        "falls but two at one instant" => 48_u32.saturating_sub(place.max(1)),
+        "mixed" => place.wrapping_mul(29) % 48,
+        _ => 0,
     }
 }
 

@@ -2,7 +2,7 @@ use Rattle.std.proofs.Common.{Bor, List, ℕ, arith, sym}
 use Rattle.speedate.specs.Date.{date_front, ymd}
 use Rattle.speedate.specs.Requirement.{result_map, with_size}
 use Rattle.speedate_uses.specs.Ledger.{dates_in_order}
-use Rattle.speedate_uses.proofs.LedgerLemmas.{read-all, read-first, read-next, read-stopped}
+use Rattle.speedate_uses.proofs.OrderLemmas.{read-all, read-first, read-next, read-stopped}
 use Rattle.speedate_uses.proofs.ledger.are_in_order.Goals as goal
 
 pub loop-place-init : goal.loop-place-init

@@ -2,7 +2,7 @@ use Rattle.std.proofs.Common.{Bor, List, ℕ}
 use Rattle.speedate.specs.Date.{date_front, ymd}
 use Rattle.speedate.specs.Requirement.{result_map, with_size}
 use Rattle.speedate_uses.specs.Ledger.{dates_in_order}
-use Rattle.speedate_uses.proofs.LedgerLemmas.{IsReadUpTo}
+use Rattle.speedate_uses.proofs.OrderLemmas.{IsReadUpTo}
 use Rattle.speedate_uses.proofs.ledger.are_in_order.Given as goal
 
 abbrev pub invariant-loop-place : goal.invariant-loop-place

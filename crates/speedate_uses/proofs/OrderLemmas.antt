@@ -1,4 +1,4 @@
--- Fronts of lines, read one after another, are in order up to a line.
+-- What is read of items, one after another, is in order up to an item.
 use Rattle.std.proofs.Common.{◌≡◌, ℕ, ◌+◌, ◌-◌, ◌<◌, ◌≤◌, Bool, true, false, List, arith, ap, inl, inr, length, slice_index_or, sym, ◌∙◌}
 use Rattle.std.proofs.lemmas.Bool.{cases_lt}
 

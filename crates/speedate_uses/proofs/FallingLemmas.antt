@@ -1,0 +1,113 @@
+-- A list of which each item is less than the one before it is sorted if it is turned round.
+use Rattle.std.proofs.Common.{◌≡◌, ◌∙◌, ◌++◌, ◌+◌, ◌-◌, ◌<◌, ◌&&◌, [], ◌∷◌, ℕ, zero, suc, Bool, List, add-one, ap, ap₂, append-nil, arith, cond, false, filter, length, not, refl, reverse, slice_index_or, sym, true, true≢false}
+use Rattle.std.proofs.lemmas.Grind.{reverse_onto}
+use Rattle.std.proofs.lemmas.List.{get_or-reverse, length-reverse}
+use Rattle.std.proofs.lemmas.List.Elements.{filter-append}
+use Rattle.std.specs.Cmp.{IsStrictWeakOrder}
+use Rattle.std.specs.List.{AllAdjacentBelow}
+use Rattle.std.specs.List.Sorted.{IsSortedBy, IsStableBy, ties}
+
+-- each item is less than the one before it
+abbrev pub Falls : {X : Type 0} → (X → X → Bool) → List X → Type 0
+Falls lt xs = AllAdjacentBelow (λ item next. true ≡ lt next item) xs (length xs)
+
+module _ {X : Type 0} (lt : X → X → Bool) (order : IsStrictWeakOrder lt) where
+  less-then : (first second third : X) → lt first second ≡ true → lt third second ≡ false
+      → lt first third ≡ true
+  less-then first second third less least = by (lt first third) refl
+    where
+      by : (answer : Bool) → lt first third ≡ answer → lt first third ≡ true
+      by true is = is
+      by false is = absurd (true≢false (sym less ∙ order.chain first third second is least))
+
+  rest-falls : (first : X) (rest : List X) → Falls lt (first ∷ rest) → Falls lt rest
+  rest-falls first rest falls k d within =
+      falls (suc k) d (omega arith)
+      ∙ ap (λ (place : ℕ). lt (slice_index_or (first ∷ rest) place d) (slice_index_or rest k d))
+      {x = suc k + 1} {y = suc (k + 1)} (omega arith)
+
+  below-first : (first : X) (rest : List X) → Falls lt (first ∷ rest) → (k : ℕ) → k < length rest
+      → lt (slice_index_or rest k first) first ≡ true
+  below-first first rest falls zero within = sym (falls 0 first (omega arith))
+  below-first first rest falls (suc k) within =
+      let next : lt (slice_index_or rest (suc k) first) (slice_index_or rest k first) ≡ true =
+      ap (λ (place : ℕ). lt (slice_index_or (first ∷ rest) place first)
+      (slice_index_or rest k first))
+      (sym (add-one (suc k))) ∙ sym (falls (suc k) first (omega arith)) in
+      less-then _ _ first next
+      (order.one_way _ _ (below-first first rest falls k (omega arith)))
+
+  ties-first : (item other : X) → ties lt item other ≡ true → lt item other ≡ false
+  ties-first item other tie = by (lt item other) refl
+    where
+      by : (answer : Bool) → lt item other ≡ answer → lt item other ≡ false
+      by true is =
+          absurd (true≢false (sym tie ∙ ap (λ answer. not answer && not (lt other item)) is))
+      by false is = is
+
+  -- what ties with an item does not tie with one that is less
+  no-third : (item first next : X) → lt next first ≡ true → ties lt item first ≡ true
+      → ties lt item next ≡ false
+  no-third item first next less tie = by (lt item next) (lt next item) refl refl
+    where
+      by : (before after : Bool) → lt item next ≡ before → lt next item ≡ after
+          → ties lt item next ≡ false
+      by true after is back = ap (λ answer. not answer && not (lt next item)) is
+      by false true is back = (λ i. not (is i) && not (back i))
+      by false false is back =
+          absurd (true≢false (sym less
+          ∙ order.chain next item first back (ties-first item first tie)))
+
+  -- so no item after the first of a list that falls ties with what ties with the first
+  no-ties : (item first : X) (rest : List X)
+      → ((k : ℕ) → k < length rest → lt (slice_index_or rest k first) first ≡ true)
+      → ties lt item first ≡ true → filter (ties lt item) rest ≡ []
+  no-ties item first [] below tie = refl
+  no-ties item first (next ∷ rest) below tie =
+      let tied = no-third item first next (below 0 (omega arith)) tie in
+      ap (λ answer. cond answer (next ∷ filter (ties lt item) rest) (filter (ties lt item) rest))
+      tied
+      ∙ no-ties item first rest (λ k within. below (suc k) (omega arith)) tie
+
+  last-kept : (item first : X) (rest : List X)
+      → (ties lt item first ≡ true → filter (ties lt item) rest ≡ [])
+      → filter (ties lt item) rest ++ filter (ties lt item) (first ∷ [])
+      ≡ filter (ties lt item) (first ∷ rest)
+  last-kept item first rest alone = by (ties lt item first) refl
+    where
+      kept : List X
+      kept = filter (ties lt item) rest
+
+      by : (answer : Bool) → ties lt item first ≡ answer
+          → kept ++ cond (ties lt item first) (first ∷ []) []
+          ≡ cond (ties lt item first) (first ∷ kept) kept
+      by true is =
+          ap (λ (answer : Bool). kept ++ cond answer (first ∷ []) []) is
+          ∙ ap (λ (items : List X). items ++ first ∷ []) (alone is)
+          ∙ ap (λ (items : List X). first ∷ items) (sym (alone is))
+          ∙ ap (λ (answer : Bool). cond answer (first ∷ kept) kept) (sym is)
+      by false is =
+          ap (λ (answer : Bool). kept ++ cond answer (first ∷ []) []) is
+          ∙ append-nil kept
+          ∙ ap (λ (answer : Bool). cond answer (first ∷ kept) kept) (sym is)
+
+  -- no two items tie, so none changes its place beside one that it ties with
+  pub reversed-stable : (xs : List X) → Falls lt xs → IsStableBy lt xs (reverse xs)
+  reversed-stable [] falls item = refl
+  reversed-stable (first ∷ rest) falls item =
+      let keeps = filter (ties lt item) in
+      ap keeps (reverse_onto rest first [])
+      ∙ filter-append (ties lt item) (reverse rest) (first ∷ [])
+      ∙ ap (λ (items : List X). items ++ keeps (first ∷ []))
+      (reversed-stable rest (rest-falls first rest falls) item)
+      ∙ last-kept item first rest
+      (no-ties item first rest (below-first first rest falls))
+
+  pub reversed-sorted : (xs : List X) → Falls lt xs → IsSortedBy lt (reverse xs)
+  reversed-sorted xs falls k d low within =
+      let long : length (reverse xs) ≡ length xs = length-reverse xs in
+      let place = length xs - 1 - (k + 1) in
+      let next : length xs - 1 - k ≡ place + 1 = omega arith in
+      ap₂ lt (get_or-reverse xs (k + 1) d (omega arith))
+      (get_or-reverse xs k d (omega arith) ∙ ap (λ (at : ℕ). slice_index_or xs at d) next)
+      ∙ order.one_way _ _ (sym (falls place d (omega arith)))
