@@ -89,6 +89,12 @@ pub is_number : (digits : List ℕ) (number : ℕ) → list_all is_ascii_digit d
     → number_or_place digits number ≡ Ok number
 is_number digits number all = search (rules, run-whole)
 
+pub whole_run : (digits : List ℕ) → list_all is_ascii_digit digits ≡ true
+    → (run_length digits 0 == length digits) ≡ true
+whole_run digits all = search (rules, run-whole)
+
+pub ruleset number_rules = (nat_tests, is_number, whole_run)
+
 pub is-place : (digits : List ℕ) (number place : ℕ) → run_length digits 0 ≡ place
     → place < length digits → number_or_place digits number ≡ Err place
 is-place digits number place is within = search rules

@@ -1,6 +1,8 @@
 //! Whole numbers and decimals, and the digits that they are made of.
 
-ghost use Rattle.std.specs.Prelude.{◌≡◌, ◌==◌, ◌^◌, ◌<◌, ◌≤◌, length, Some, None, if◌then◌else◌};
+ghost use Rattle.std.specs.Prelude.{◌≡◌, ◌==◌, ◌||◌, ◌^◌, ◌<◌, ◌≤◌, length, Some, None, if◌then◌else◌};
+ghost use Rattle.std.specs.Char.{is_ascii_digit};
+ghost use Rattle.speedate_base.specs.Ascii.{full_stop};
 ghost use Rattle.speedate_base.specs.Digits.{run_length, digits_value};
 ghost use Rattle.speedate_base.specs.Numbers.{
   has_minus,
@@ -43,11 +45,11 @@ pub fn int_parse_bytes(bytes: &[u8]) -> Option<i64>
     ensures answer { result ≡ whole_number bytes.now }
 {
     let (negative, start) = sign(bytes);
-    let digits = &bytes[start..];
-    if digits.is_empty() {
+    // Most texts that are no number show it here.
+    if !byte_at(bytes, start).is_ascii_digit() {
         return None;
     }
-    signed_number(negative, digits)
+    signed_number(negative, &bytes[start..])
 }
 
 /// The number that bytes spell if they are digits, with a sign, if it fits an `i64`.
@@ -91,15 +93,25 @@ pub fn float_parse_bytes(bytes: &[u8]) -> IntFloat<'_>
     ensures joined { JoinsToFloat result bytes.now }
 {
     let (negative, start) = sign(bytes);
-    let digits = &bytes[start..];
-    match spelled_number(digits) {
-        Ok(size) if !digits.is_empty() => match checked_with_sign(negative, size) {
+    // Most texts that are no number show it here.
+    if !begins_digits(byte_at(bytes, start)) {
+        return IntFloat::Err;
+    }
+    match spelled_number(&bytes[start..]) {
+        Ok(size) => match checked_with_sign(negative, size) {
             Some(number) => IntFloat::Int(number),
             None => IntFloat::Err,
         },
-        Ok(_) => IntFloat::Err,
         Err(count) => decimal(bytes, negative, start, start + count),
     }
+}
+
+/// Whether the digits of a number, or its point before them, may begin with a byte.
+#[inline(always)]
+fn begins_digits(byte: u8) -> bool
+    ensures { result ≡ (is_ascii_digit byte || (byte == full_stop)) }
+{
+    byte.is_ascii_digit() || byte == b'.'
 }
 
 /// The decimal whose digits begin at `start`, and whose point is at `point` if there is one.

@@ -35,7 +35,7 @@ const FEW: usize = 6;
 pub(crate) const MOST_DIGITS: usize = 20;
 
 /// How many bytes are parsed as a number eight at a time, also if zeros are at their front.
-const MOST_BY_EIGHTS: usize = 32;
+const MOST_BY_EIGHTS: usize = 40;
 
 /// The run of digits at the front of bytes: 3 digits that spell 120 for `b"120.5"`, none for `b".5"`.
 #[inline(always)]
@@ -133,12 +133,17 @@ pub(crate) fn long_run_end(bytes: &[u8], place: usize) -> usize
 }
 
 /// The number that digits spell, or `u64::MAX` if it is larger: 120 for `b"120"`.
-#[tactic(auto, using(crate::proofs::BlockLemmas::is_number))]
+#[inline(always)]
+#[tactic(auto, using(crate::proofs::BlockLemmas::number_rules))]
 pub(crate) fn digits_number(digits: &[u8]) -> u64
     requires { IsTrue (list_all is_ascii_digit digits.now) }
     ensures value { result ≡ min (digits_value digits.now) (2 ^ 64 - 1) }
 {
-    spelled_number(digits).unwrap()
+    let digits = without_zeros(digits);
+    if digits.len() > MOST_DIGITS {
+        return u64::MAX;
+    }
+    number_by_eights(digits).unwrap()
 }
 
 /// The number that bytes spell if they are digits, or `u64::MAX` if it is larger; otherwise, as an
@@ -149,7 +154,7 @@ pub(crate) fn spelled_number(digits: &[u8]) -> Result<u64, usize>
     ensures answer { result ≡ (if run_length digits.now 0 == length digits.now
         then Ok (min (digits_value digits.now) (2 ^ 64 - 1)) else Err (run_length digits.now 0)) }
 {
-    if digits.len() > MOST_BY_EIGHTS && digits[0].is_ascii_digit() {
+    if digits.len() > MOST_BY_EIGHTS {
         return long_number(digits);
     }
     number_by_eights(digits)
