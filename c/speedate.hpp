@@ -3,8 +3,8 @@
  * Copyright (c) 2026 the speedate for Rattle authors */
 /* speedate.hpp: the calls of speedate.h for C++17 and later, as values, results and chrono.
  *
- * speedate.h says what each call does, and which codes it returns: Date::parse here is speedate_date_parse there, and so
- * on. Here is what C++ adds:
+ * speedate.h says what each call does, and which codes it returns: Date::parse here is speedate_date_parse there, and
+ * so on. Here is what C++ adds:
  *
  * - A Date, Time, DateTime or Duration is always in range. `of` makes one of numbers, and refuses those that are not.
  * - A call that can refuse returns a Result, which has a value or an Error. A call that cannot returns its value.
@@ -32,7 +32,8 @@
 #if __cplusplus >= 202002L
 #include <compare>
 /* Libraries that have the calendar of C++20 say so only once they have its time zones too. */
-#if __cpp_lib_chrono >= 201907L || _GLIBCXX_RELEASE >= 11 || _LIBCPP_VERSION >= 8000
+#if (defined(__cpp_lib_chrono) && __cpp_lib_chrono >= 201907L) ||                                                      \
+    (defined(_GLIBCXX_RELEASE) && _GLIBCXX_RELEASE >= 11) || (defined(_LIBCPP_VERSION) && _LIBCPP_VERSION >= 8000)
 #define SPEEDATE_HAS_CALENDAR
 #endif
 #endif
@@ -79,7 +80,8 @@ class Failure : public std::runtime_error {
     Error error_;
 };
 
-/* A value, or the error for which there is none: if (auto date = Date::parse(text)) use(*date); else log(date.error()); */
+/* A value, or the error for which there is none: if (auto date = Date::parse(text)) use(*date); else log(date.error());
+ */
 template <class T> class [[nodiscard]] Result {
   public:
     Result(const T &value) : value_(value) {}
@@ -295,14 +297,16 @@ class Date : public detail::Ordered<Date> {
             [&](auto *out) { return speedate_date_error_place(text.data(), text.size(), config.c(), out); });
     }
     static std::optional<std::size_t> error_place_rfc3339(std::string_view text) {
-        return detail::place([&](auto *out) { return speedate_date_error_place_rfc3339(text.data(), text.size(), out); });
+        return detail::place(
+            [&](auto *out) { return speedate_date_error_place_rfc3339(text.data(), text.size(), out); });
     }
     static std::optional<std::size_t> error_place_front(std::string_view text) {
         return detail::place([&](auto *out) { return speedate_date_error_place_front(text.data(), text.size(), out); });
     }
 
     static Result<Date> from_timestamp(std::int64_t timestamp, bool require_exact, const Config &config = {}) {
-        return from_c([&](auto *out) { return speedate_date_from_timestamp(timestamp, require_exact, config.c(), out); });
+        return from_c(
+            [&](auto *out) { return speedate_date_from_timestamp(timestamp, require_exact, config.c(), out); });
     }
     static Result<Date> from_day_number(std::uint32_t number) {
         return from_c([&](auto *out) { return speedate_date_from_day_number(number, out); });
@@ -362,14 +366,14 @@ class Date : public detail::Ordered<Date> {
 
 /* ---- Times ---- */
 
-/* A time of day, with an offset from UTC or without one. `==` compares clocks and offsets. Times have no order with which
- * they can be sorted in any mixture: compare_instants says more. */
+/* A time of day, with an offset from UTC or without one. `==` compares clocks and offsets. Times have no order with
+ * which they can be sorted in any mixture: compare_instants says more. */
 class Time : public detail::Equal<Time> {
   public:
     /* The time of its numbers, or SPEEDATE_OUT_OF_RANGE_HOUR, _MINUTE or _SECOND, SPEEDATE_TIME_TOO_LARGE for the
      * microsecond, or SPEEDATE_OUT_OF_RANGE_TZ. */
-    static Result<Time> of(std::uint8_t hour, std::uint8_t minute, std::uint8_t second = 0, std::uint32_t microsecond = 0,
-                           std::optional<std::int32_t> offset = std::nullopt) {
+    static Result<Time> of(std::uint8_t hour, std::uint8_t minute, std::uint8_t second = 0,
+                           std::uint32_t microsecond = 0, std::optional<std::int32_t> offset = std::nullopt) {
         return of(SpeedateTime{hour, minute, second, offset.has_value(), microsecond, offset.value_or(0)});
     }
     static Result<Time> of(SpeedateTime time) {
@@ -473,10 +477,12 @@ class DateTime : public detail::Equal<DateTime> {
         return from_c([&](auto *out) { return speedate_datetime_parse(text.data(), text.size(), config.c(), out); });
     }
     static Result<DateTime> parse_rfc3339(std::string_view text, const Config &config = {}) {
-        return from_c([&](auto *out) { return speedate_datetime_parse_rfc3339(text.data(), text.size(), config.c(), out); });
+        return from_c(
+            [&](auto *out) { return speedate_datetime_parse_rfc3339(text.data(), text.size(), config.c(), out); });
     }
     static Result<DateTime> parse_strict(std::string_view text, const Config &config = {}) {
-        return from_c([&](auto *out) { return speedate_datetime_parse_strict(text.data(), text.size(), config.c(), out); });
+        return from_c(
+            [&](auto *out) { return speedate_datetime_parse_strict(text.data(), text.size(), config.c(), out); });
     }
     static Result<Front<DateTime>> parse_front(std::string_view text, const Config &config = {}) {
         return detail::front<DateTime, SpeedateDateTime>(
@@ -489,8 +495,9 @@ class DateTime : public detail::Equal<DateTime> {
             [&](auto *out) { return speedate_datetime_error_place(text.data(), text.size(), config.c(), out); });
     }
     static std::optional<std::size_t> error_place_rfc3339(std::string_view text, const Config &config = {}) {
-        return detail::place(
-            [&](auto *out) { return speedate_datetime_error_place_rfc3339(text.data(), text.size(), config.c(), out); });
+        return detail::place([&](auto *out) {
+            return speedate_datetime_error_place_rfc3339(text.data(), text.size(), config.c(), out);
+        });
     }
     static std::optional<std::size_t> error_place_strict(std::string_view text, const Config &config = {}) {
         return detail::place(
@@ -501,8 +508,10 @@ class DateTime : public detail::Equal<DateTime> {
             [&](auto *out) { return speedate_datetime_error_place_front(text.data(), text.size(), config.c(), out); });
     }
 
-    static Result<DateTime> from_timestamp(std::int64_t timestamp, std::uint32_t microsecond, const Config &config = {}) {
-        return from_c([&](auto *out) { return speedate_datetime_from_timestamp(timestamp, microsecond, config.c(), out); });
+    static Result<DateTime> from_timestamp(std::int64_t timestamp, std::uint32_t microsecond,
+                                           const Config &config = {}) {
+        return from_c(
+            [&](auto *out) { return speedate_datetime_from_timestamp(timestamp, microsecond, config.c(), out); });
     }
 
     std::string to_text() const { return detail::text<SPEEDATE_DATETIME_TEXT_SIZE>(speedate_datetime_to_text, c_); }
@@ -538,7 +547,8 @@ class DateTime : public detail::Equal<DateTime> {
 
     /* As speedate_datetime_compare says: 0 if both are the same instant. */
     friend int compare_instants(const DateTime &first, const DateTime &second) noexcept {
-        return detail::sure<std::int32_t>([&](auto *out) { return speedate_datetime_compare(first.c_, second.c_, out); });
+        return detail::sure<std::int32_t>(
+            [&](auto *out) { return speedate_datetime_compare(first.c_, second.c_, out); });
     }
     friend std::ostream &operator<<(std::ostream &to, const DateTime &value) { return to << value.to_text(); }
 
@@ -560,7 +570,8 @@ class DateTime : public detail::Equal<DateTime> {
 class Duration : public detail::Ordered<Duration> {
   public:
     /* The duration of numbers of any size, as speedate_duration_normalize says. */
-    static Result<Duration> of(bool negative, std::uint32_t day, std::uint32_t second = 0, std::uint32_t microsecond = 0) {
+    static Result<Duration> of(bool negative, std::uint32_t day, std::uint32_t second = 0,
+                               std::uint32_t microsecond = 0) {
         return of(SpeedateDuration{negative, day, second, microsecond});
     }
     static Result<Duration> of(SpeedateDuration numbers) {
@@ -633,7 +644,8 @@ class Duration : public detail::Ordered<Duration> {
 
     /* Negative if the first is the smaller one, 0 if they are equal, otherwise positive. */
     friend int compare(const Duration &first, const Duration &second) noexcept {
-        return detail::sure<std::int32_t>([&](auto *out) { return speedate_duration_compare(first.c_, second.c_, out); });
+        return detail::sure<std::int32_t>(
+            [&](auto *out) { return speedate_duration_compare(first.c_, second.c_, out); });
     }
     friend std::ostream &operator<<(std::ostream &to, const Duration &duration) { return to << duration.to_text(); }
 
@@ -649,8 +661,8 @@ class Duration : public detail::Ordered<Duration> {
 
 /* ---- Columns ---- */
 
-/* How far a column has come: how many lines have a number in it, how many bytes they take, and the error of the next line,
- * if that is refused and ends the column. */
+/* How far a column has come: how many lines have a number in it, how many bytes they take, and the error of the next
+ * line, if that is refused and ends the column. */
 struct Progress {
     explicit Progress(const SpeedateProgress &from)
         : lines(from.lines), bytes(from.bytes),
@@ -667,9 +679,9 @@ template <class Call> Result<Progress> column(Call call) { return written<Progre
 
 } // namespace detail
 
-/* Read the lines of a text as numbers, as many as there is room for in `out`, an array, a std::vector or another container
- * with contiguous numbers: std::int32_t for dates, otherwise std::int64_t. The calls with errors write the code of each
- * line into a container of std::uint8_t. */
+/* Read the lines of a text as numbers, as many as there is room for in `out`, an array, a std::vector or another
+ * container with contiguous numbers: std::int32_t for dates, otherwise std::int64_t. The calls with errors write the
+ * code of each line into a container of std::uint8_t. */
 template <class Numbers>
 Result<Progress> date_column(std::string_view text, Numbers &out, const Config &config = {},
                              const ColumnConfig &column = {}) {
@@ -682,16 +694,16 @@ template <class Numbers>
 Result<Progress> datetime_column(std::string_view text, Numbers &out, const Config &config = {},
                                  const ColumnConfig &column = {}) {
     return detail::column([&](auto *progress) {
-        return speedate_datetime_column(text.data(), text.size(), config.c(), column.c(), std::data(out), std::size(out),
-                                        progress);
+        return speedate_datetime_column(text.data(), text.size(), config.c(), column.c(), std::data(out),
+                                        std::size(out), progress);
     });
 }
 template <class Numbers>
 Result<Progress> duration_column(std::string_view text, Numbers &out, const Config &config = {},
                                  const ColumnConfig &column = {}) {
     return detail::column([&](auto *progress) {
-        return speedate_duration_column(text.data(), text.size(), config.c(), column.c(), std::data(out), std::size(out),
-                                        progress);
+        return speedate_duration_column(text.data(), text.size(), config.c(), column.c(), std::data(out),
+                                        std::size(out), progress);
     });
 }
 template <class Numbers, class Codes>

@@ -79,16 +79,20 @@ static void dates() {
     CHECK(at(Date::error_place("86400", microseconds)) == 0);
     CHECK(at(Date::error_place("x", with(Unit::Infer, Overflow::Error, Order::Lax, 86400))) == -1);
     CHECK(at(Date::error_place_rfc3339("2020-01-01T12:13")) == 10 && at(Date::error_place_front("2026-11-2")) == 9);
-    CHECK(said(Date::from_timestamp(86401, false)) == "1970-01-02" && said(Date::from_timestamp(86401, true)) == "date_not_exact");
+    CHECK(said(Date::from_timestamp(86401, false)) == "1970-01-02" &&
+          said(Date::from_timestamp(86401, true)) == "date_not_exact");
     CHECK(said(Date::from_timestamp(86400000000, true, microseconds)) == "1970-01-02");
-    CHECK(said(Date::from_day_number(737790)) == "2020-01-01" && said(Date::from_day_number(3652425)) == "no_such_date");
+    CHECK(said(Date::from_day_number(737790)) == "2020-01-01" &&
+          said(Date::from_day_number(3652425)) == "no_such_date");
     CHECK(date("1970-01-02").timestamp() == 86400 && date("1970-01-02").timestamp_ms() == 86400000);
     CHECK(date("2020-01-01").day_number() == 737790 && date("2020-12-31").ordinal_day() == 366);
-    CHECK(said(date("2020-02-28").add_days(2)) == "2020-03-01" && said(date("9999-12-31").add_days(1)) == "no_such_date");
+    CHECK(said(date("2020-02-28").add_days(2)) == "2020-03-01" &&
+          said(date("9999-12-31").add_days(1)) == "no_such_date");
     CHECK(date("2020-03-01").days_since(date("2020-02-28")) == 2);
     const Date early = date("2020-02-29"), late = date("2020-03-01");
     CHECK(early < late && late > early && early <= late && late >= early && early <= early && early >= early);
-    CHECK(!(late < early) && !(early > late) && early == early && early != late && !(early == late) && !(early != early));
+    CHECK(!(late < early) && !(early > late) && early == early && early != late && !(early == late) &&
+          !(early != early));
     CHECK(compare(early, late) < 0 && compare(late, early) > 0 && compare(early, early) == 0);
     std::vector<Date> sorted = {late, early};
     std::sort(sorted.begin(), sorted.end());
@@ -103,18 +107,23 @@ static void times() {
     CHECK(time.offset() == 5400 && !time_of("12:13").offset());
     CHECK(said(Time::of(12, 60)) == "out_of_range_minute" && said(Time::of(12, 0, 0, 0, 86400)) == "out_of_range_tz");
     CHECK(Time::of(SpeedateTime{12, 13, 0, 0, 0, 7}).value() == time_of("12:13"));
-    CHECK(said(Time::parse("12:13:14.1234567", cut)) == "12:13:14.123456" && said(Time::parse("24:00")) == "out_of_range_hour");
-    CHECK(said(Time::parse_strict("12:13:14Z")) == "12:13:14Z" && said(Time::parse_strict("12:13:14")) == "tz_required");
+    CHECK(said(Time::parse("12:13:14.1234567", cut)) == "12:13:14.123456" &&
+          said(Time::parse("24:00")) == "out_of_range_hour");
+    CHECK(said(Time::parse_strict("12:13:14Z")) == "12:13:14Z" &&
+          said(Time::parse_strict("12:13:14")) == "tz_required");
     CHECK(said(Time::parse_strict("12:13:14.1234567Z", cut)) == "12:13:14.123456Z");
     CHECK(said(Time::parse_front("12:13:14.1234567Z GET /", cut)) == "12:13:14.123456Z 17");
     CHECK(at(Time::error_place("12:13:60")) == 6 && at(Time::error_place("12:13:14.1234567", cut)) == -1);
     CHECK(at(Time::error_place_strict("12:13")) == 5 && at(Time::error_place_strict("12:13:14.1234567Z", cut)) == -1);
-    CHECK(at(Time::error_place_front("12:00:00-ERROR")) == 9 && at(Time::error_place_front("12:13:14.1234567", cut)) == -1);
-    CHECK(said(Time::from_timestamp(36005, 1500000)) == "10:00:06.500000" && said(Time::from_timestamp(86400, 0)) == "time_too_large");
+    CHECK(at(Time::error_place_front("12:00:00-ERROR")) == 9 &&
+          at(Time::error_place_front("12:13:14.1234567", cut)) == -1);
+    CHECK(said(Time::from_timestamp(36005, 1500000)) == "10:00:06.500000" &&
+          said(Time::from_timestamp(86400, 0)) == "time_too_large");
     CHECK(said(Time::from_timestamp(1, 0, with(Unit::Infer, Overflow::Error, Order::Lax, 60))) == "00:00:01+00:01");
     CHECK(time.total_seconds() == 43994 && time.total_ms() == 43994500);
     CHECK(said(time.in_timezone(0)) == "10:43:14.500000Z" && said(time_of("12:13").in_timezone(0)) == "tz_required");
-    CHECK(compare_instants(time_of("12:00Z"), time_of("13:00+01:00")) == 0 && time_of("12:00Z") != time_of("13:00+01:00"));
+    CHECK(compare_instants(time_of("12:00Z"), time_of("13:00+01:00")) == 0 &&
+          time_of("12:00Z") != time_of("13:00+01:00"));
     CHECK(compare_instants(time_of("12:00Z"), time_of("12:00+01:00")) > 0);
 }
 
@@ -130,8 +139,10 @@ static void date_times() {
     CHECK(said(DateTime::parse_rfc3339("2020-02-29 12:13:14.1234567", unix_time)) == "2020-02-29T12:13:14.123456");
     CHECK(said(DateTime::parse_strict("2020-02-29T12:13:14.1234567Z", unix_time)) == "2020-02-29T12:13:14.123456Z");
     CHECK(said(DateTime::parse_strict("2020-02-29 12:13:14Z")) == "invalid_char_date_time_sep");
-    CHECK(said(DateTime::parse_front("2026-11-22T12:13:14.1234567Z GET /", unix_time)) == "2026-11-22T12:13:14.123456Z 28");
-    CHECK(at(DateTime::error_place("2020-02-29T12:13:60")) == 17 && at(DateTime::error_place("1.0000000", unix_time)) == -1);
+    CHECK(said(DateTime::parse_front("2026-11-22T12:13:14.1234567Z GET /", unix_time)) ==
+          "2026-11-22T12:13:14.123456Z 28");
+    CHECK(at(DateTime::error_place("2020-02-29T12:13:60")) == 17 &&
+          at(DateTime::error_place("1.0000000", unix_time)) == -1);
     CHECK(at(DateTime::error_place_rfc3339("2020-02-29")) == 10);
     CHECK(at(DateTime::error_place_rfc3339("2020-02-29T12:13:14.1234567", unix_time)) == -1);
     CHECK(at(DateTime::error_place_strict("2020-02-29T12:13:14")) == 19);
@@ -143,7 +154,8 @@ static void date_times() {
     const DateTime zoned = moment("1970-01-01T01:00:01.5+01:00");
     CHECK(zoned.timestamp() == 3601 && zoned.timestamp_ms() == 3601500 && zoned.timestamp_tz() == 1);
     CHECK(zoned.timestamp_tz_ms() == 1500 && zoned.timestamp_tz_us() == 1500000);
-    CHECK(said(zoned.in_timezone(0)) == "1970-01-01T00:00:01.500000Z" && said(zoned.in_timezone(86400)) == "out_of_range_tz");
+    CHECK(said(zoned.in_timezone(0)) == "1970-01-01T00:00:01.500000Z" &&
+          said(zoned.in_timezone(86400)) == "out_of_range_tz");
     CHECK(compare_instants(zoned, zoned.in_timezone(0).value()) == 0 && zoned != zoned.in_timezone(0).value());
     CHECK(compare_instants(moment("1970-01-01T00:00Z"), zoned) < 0);
 }
@@ -152,22 +164,27 @@ static void durations() {
     const Duration duration = length("-P1DT2.000003S");
     CHECK(duration == Duration::of(true, 1, 2, 3).value() && duration != Duration::of(false, 1, 2, 3).value());
     CHECK(duration.negative() && duration.day() == 1 && duration.second() == 2 && duration.microsecond() == 3);
-    CHECK(said(Duration::of(false, 1, 86500, 1000123)) == "P2DT1M41.000123S" && said(Duration::of(false, 1000000000)) == "duration_days_too_large");
+    CHECK(said(Duration::of(false, 1, 86500, 1000123)) == "P2DT1M41.000123S" &&
+          said(Duration::of(false, 1000000000)) == "duration_days_too_large");
     CHECK(Duration::checked(duration.c()).value() == duration);
     CHECK(said(Duration::checked(SpeedateDuration{0, 0, 86400, 0})) == "duration_value_too_large");
     CHECK(said(Duration::parse("P1D1Y")) == "P1Y1D" && at(Duration::error_place("P1D1Q")) == 4);
     const Config strict = with(Unit::Infer, Overflow::Error, Order::Strict);
-    CHECK(said(Duration::parse("P1D1Y", strict)) == "duration_unit_order" && at(Duration::error_place("P1D1Y", strict)) == 4);
+    CHECK(said(Duration::parse("P1D1Y", strict)) == "duration_unit_order" &&
+          at(Duration::error_place("P1D1Y", strict)) == 4);
     CHECK(duration.signed_total_seconds() == std::chrono::seconds(-86402));
     CHECK(duration.signed_total_ms() == std::chrono::milliseconds(-86402000));
     CHECK(duration.signed_microseconds() == std::chrono::microseconds(-3));
     CHECK((-duration).to_text() == "P1DT2.000003S");
     const DateTime start = moment("2020-02-29T23:00Z"), end = moment("2020-03-01T00:30Z");
-    CHECK(Duration::between(start, end).to_text() == "PT1H30M" && Duration::between(end, start).to_text() == "-PT1H30M");
+    CHECK(Duration::between(start, end).to_text() == "PT1H30M" &&
+          Duration::between(end, start).to_text() == "-PT1H30M");
     CHECK(Duration::between(start.date(), end.date()).to_text() == "P1D");
     CHECK(length("PT90M").after(start).value() == end && length("PT90M").before(end).value() == start);
-    CHECK(length("P1D").after(start.date()).value() == end.date() && length("P1D").before(end.date()).value() == start.date());
-    CHECK(said(length("PT1H").after(start.date())) == "date_not_exact" && said(length("P9999Y").before(end)) == "date_too_small");
+    CHECK(length("P1D").after(start.date()).value() == end.date() &&
+          length("P1D").before(end.date()).value() == start.date());
+    CHECK(said(length("PT1H").after(start.date())) == "date_not_exact" &&
+          said(length("P9999Y").before(end)) == "date_too_small");
     const Duration less = length("-PT0S"), more = length("PT0S");
     CHECK(less < more && more > less && less <= more && more >= less && less != more && compare(less, more) < 0);
 }
@@ -196,10 +213,12 @@ static void columns() {
     column.assumes_utc = true;
     CHECK(datetime_column("1970-01-01T00:00:02", numbers, {}, column).value().lines == 1 && numbers[0] == 2000000);
     column.form = Form::Strict;
-    CHECK(said(date_column("", days, {}, column).has_value() ? Result<Date>(date("2020-02-29")) : Error(SPEEDATE_CONFIG_OUT_OF_RANGE)) ==
-          "config_out_of_range");
+    CHECK(said(date_column("", days, {}, column).has_value()
+                   ? Result<Date>(date("2020-02-29"))
+                   : Error(SPEEDATE_CONFIG_OUT_OF_RANGE)) == "config_out_of_range");
     read = datetime_column_with_errors("1970-01-01T00:00Z\n24:00\n1970-01-01T00:00Z", numbers, errors).value();
-    CHECK(read.lines == 2 && numbers[0] == 0 && numbers[1] == INT64_MIN && errors[0] == 0 && errors[1] == SPEEDATE_TOO_SHORT);
+    CHECK(read.lines == 2 && numbers[0] == 0 && numbers[1] == INT64_MIN && errors[0] == 0 &&
+          errors[1] == SPEEDATE_TOO_SHORT);
     read = date_column_with_errors("1970-01-03\nx", days, errors).value();
     CHECK(read.lines == 2 && days[0] == 2 && days[1] == INT32_MIN && errors[1] == SPEEDATE_TOO_SHORT);
     read = duration_column_with_errors("PT2S\nP999999999D", numbers, errors).value();
@@ -215,8 +234,10 @@ static void chrono() {
 #ifdef SPEEDATE_HAS_CALENDAR
     using namespace std::chrono;
     CHECK(date("2020-02-29").year_month_day() == 2020y / February / 29d);
-    CHECK(said(Date::of(2020y / February / 29d)) == "2020-02-29" && said(Date::of(2021y / February / 29d)) == "out_of_range_day");
-    CHECK(said(Date::of(year(-1) / December / 31d)) == "date_too_small" && said(Date::of(year(10000) / 1 / 1)) == "date_too_large");
+    CHECK(said(Date::of(2020y / February / 29d)) == "2020-02-29" &&
+          said(Date::of(2021y / February / 29d)) == "out_of_range_day");
+    CHECK(said(Date::of(year(-1) / December / 31d)) == "date_too_small" &&
+          said(Date::of(year(10000) / 1 / 1)) == "date_too_large");
     CHECK(sys_days(date("1970-01-02").year_month_day()) == sys_days(days(1)));
     const sys_time<microseconds> moment_of_20 = value.sys_time();
     CHECK(DateTime::of(moment_of_20).value() == value.in_timezone(0).value());
