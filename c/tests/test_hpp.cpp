@@ -205,8 +205,8 @@ static void columns() {
     column.more_follows = true;
     column.drops_returns = true;
     column.form = Form::Timestamp;
-    read = date_column("1970-01-02\r\n86400\r\n1970-01-0", days, {}, column).value();
-    CHECK(read.lines == 2 && read.bytes == 19 && !read.error && days[0] == 1 && days[1] == 1);
+    read = date_column("86400\r\n1970-01-0", days, {}, column).value();
+    CHECK(read.lines == 1 && read.bytes == 7 && !read.error && days[0] == 1 && days[1] == 7);
     read = duration_column("PT1.5S\n-00:01:00\n", numbers).value();
     CHECK(read.lines == 2 && numbers[0] == 1500000 && numbers[1] == -60000000);
     column = ColumnConfig();
@@ -217,12 +217,29 @@ static void columns() {
                    ? Result<Date>(date("2020-02-29"))
                    : Error(SPEEDATE_CONFIG_OUT_OF_RANGE)) == "config_out_of_range");
     read = datetime_column_with_errors("1970-01-01T00:00Z\n24:00\n1970-01-01T00:00Z", numbers, errors).value();
-    CHECK(read.lines == 2 && numbers[0] == 0 && numbers[1] == INT64_MIN && errors[0] == 0 &&
-          errors[1] == SPEEDATE_TOO_SHORT);
+    CHECK(read.lines == 2 && numbers[0] == 0 && numbers[1] == INT64_MIN);
+    CHECK(errors[0] == 0 && errors[1] == SPEEDATE_TOO_SHORT);
     read = date_column_with_errors("1970-01-03\nx", days, errors).value();
     CHECK(read.lines == 2 && days[0] == 2 && days[1] == INT32_MIN && errors[1] == SPEEDATE_TOO_SHORT);
     read = duration_column_with_errors("PT2S\nP999999999D", numbers, errors).value();
     CHECK(read.lines == 2 && numbers[0] == 2000000 && errors[1] == SPEEDATE_NUMBER_TOO_LARGE);
+
+    // Each call hands on both configurations: by the first the line is read, or refused, and by the second it is cut.
+    const Config config = with(Unit::Microsecond, Overflow::Error, Order::Strict);
+    column = ColumnConfig();
+    column.form = Form::Timestamp;
+    column.drops_returns = true;
+    column.assumes_utc = true;
+    CHECK(date_column("86400000000\r\n", days, config, column).value().lines == 1 && days[0] == 1);
+    CHECK(datetime_column("5\r\n", numbers, config, column).value().lines == 1 && numbers[0] == 5);
+    CHECK(duration_column("PT3S\r\n", numbers, config, column).value().lines == 1 && numbers[0] == 3000000);
+    CHECK(duration_column("PT1S1M", numbers, config, column).value().error == Error(SPEEDATE_DURATION_UNIT_ORDER));
+    CHECK(date_column_with_errors("172800000000\r\n", days, errors, config, column).value().lines == 1);
+    CHECK(days[0] == 2 && errors[0] == 0);
+    CHECK(datetime_column_with_errors("7\r\n", numbers, errors, config, column).value().lines == 1);
+    CHECK(numbers[0] == 7 && errors[0] == 0);
+    CHECK(duration_column_with_errors("PT4S\r\nPT1S1M", numbers, errors, config, column).value().lines == 2);
+    CHECK(numbers[0] == 4000000 && errors[0] == 0 && errors[1] == SPEEDATE_DURATION_UNIT_ORDER);
 }
 
 static void chrono() {
