@@ -73,17 +73,19 @@ impl Installed {
         for variable in [&*of_target, "SPEEDATE_DIR"] {
             if let Some(prefix) = prefix_by(variable)? {
                 let of_several = format!("lib/{}-linux-gnu", processor.name);
-                let mut rooms = ["lib", "lib64", &of_several].map(|it| prefix.join(it));
+                let mut rooms = vec![prefix.join("lib"), prefix.join("lib64"), prefix.join(of_several)];
+                let files = fs::read_to_string(prefix.join("share/doc/speedate/FILES")).unwrap_or_default();
+                let listed = files.lines().filter_map(|it| it.strip_suffix("/libspeedate.a"));
+                rooms.extend(listed.map(|it| prefix.join(it)));
                 // First those that have an archive for the target, then those that have another one.
                 rooms.sort_by_key(|it| {
                     let bytes = fs::read(archive_of(it));
                     (bytes.is_err(), bytes.ok().and_then(|it| processor_of(&it)) != Some(processor.number))
                 });
-                let [libraries, ..] = &rooms;
-                if !archive_of(libraries).is_file() {
+                if !archive_of(&rooms[0]).is_file() {
                     return Err(missing(&rooms, &processor));
                 }
-                return Ok(Self { libraries: libraries.clone(), headers: prefix.join("include"), processor });
+                return Ok(Self { libraries: rooms.swap_remove(0), headers: prefix.join("include"), processor });
             }
         }
         let is_here = env::var("HOST").is_ok_and(|host| host == target);
