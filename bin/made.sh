@@ -32,17 +32,29 @@ find_kit() {
     kit=${kit%/bin/rt}
 }
 
-# sum_of CRATE..: one sum for all that crates are made from: their sources, whatever their dates, and the kit. No other
-# crate is part of it.
-sum_of() {
+# Prints what tells the kit from others.
+show_kit() {
     find_kit
-    # KIT-ID is what `rt version` prints, which alone would take longer than all the rest here.
-    identity=$(cat "$kit/KIT-ID" 2>/dev/null) || identity=$(rt version </dev/null) || fail 'rt version failed'
+    # KIT-ID is what `rt version` prints, which alone would take longer than a sum.
+    cat "$kit/KIT-ID" 2>/dev/null || rt version </dev/null || fail 'rt version failed'
+}
+
+# sum_by KIT CRATE..: one sum for all that crates are made from: their sources, whatever their dates, and the kit that
+# show_kit has printed. No other crate is part of it.
+sum_by() {
+    identity=$1
+    shift
     sources=$(cd "$root/crates" && find ../crates.txt "$@" \( -name out -o -name must-fail \) -prune -o \
         -type f -exec sha256sum {} +) || fail 'the sources cannot be read'
     inputs=$(printf '%s\n' "$identity" "$sources" | LC_ALL=C sort) || fail 'sort failed'
     sum=$(printf '%s\n' "$inputs" | sha256sum) || fail 'sha256sum failed'
     echo "${sum%% *}"
+}
+
+# sum_of CRATE..: the same by the kit on the PATH.
+sum_of() {
+    by=$(show_kit) || exit 3
+    sum_by "$by" "$@"
 }
 
 # keep FILE NAME: keeps a file in out/ under a name with a sum after its last hyphen. It gets the name last and whole,
@@ -128,11 +140,26 @@ find_cpu() {
 }
 
 # build_archive TRIPLE: leaves the static library of these sources and this kit in out/, and sets `archive` to its path.
+# Where there is no kit it takes the one of these sources that is there, by whichever kit.
 build_archive() {
     triple=$1
+    if ! command -v rt >/dev/null && find_archive; then
+        return
+    fi
     archive_sum=$(sum_of $libraries speedate_c) || exit 3
     archive=$root/out/speedate_c-$triple-$archive_sum.a
     make_once "$archive" make_archive
+    [ -f "$archive.kit" ] || show_kit | put /dev/stdin "$archive.kit" 644
+}
+
+# Sets `archive` to the static library of these sources. The kit that built it stands in a file beside it.
+find_archive() {
+    for it in "$root/out/speedate_c-$triple"-*.a.kit; do
+        archive=${it%.kit}
+        by=$(cat "$it" 2>/dev/null) && archive_sum=$(sum_by "$by" $libraries speedate_c) && [ -f "$archive" ] &&
+            [ "$archive" = "$root/out/speedate_c-$triple-$archive_sum.a" ] && return
+    done
+    false
 }
 
 make_archive() {

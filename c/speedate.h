@@ -1,4 +1,6 @@
-/* SPDX-License-Identifier: MIT */
+/* SPDX-License-Identifier: MIT
+ * Copyright (c) 2022 Samuel Colvin
+ * Copyright (c) 2026 the speedate for Rattle authors */
 /* speedate.h: exact dates, times of day, date-times and durations, parsed from texts and printed.
  *
  * What holds for every call:

@@ -5,60 +5,110 @@ use std::env;
 use std::fs;
 use std::path::{Path, PathBuf};
 use std::process::Command;
+use std::slice;
 
 /// The version of `speedate.h` that `src/ffi.rs` calls, and the first minor version that has its calls.
 const VERSION: u32 = 1;
 const VERSION_MINOR: u32 = 0;
 
 fn main() {
-    match Installed::found().and_then(Installed::checked) {
+    let target = env::var("TARGET").expect("cargo sets TARGET");
+    let Some(processor) = Processor::of_target() else {
+        let only = "the library is built for Linux on x86-64 and 64-bit ARM alone";
+        return println!("cargo::error={only}, and the target is {target}");
+    };
+    let refused = match Installed::found(&target, processor).and_then(Installed::checked) {
         Ok(Installed { libraries, .. }) => {
             println!("cargo::rustc-link-search=native={}", libraries.display());
             println!("cargo::rustc-link-lib=static=speedate");
+            String::new()
         }
-        Err(why) => println!("cargo::error={why}"),
-    }
+        Err(why) => {
+            // There is no such file, so the next build looks for the library again.
+            println!("cargo::rerun-if-changed=refused");
+            why
+        }
+    };
+    // `src/ffi.rs` fails with it where code is made: checks and documentation need no library.
+    println!("cargo::rustc-env=SPEEDATE_REFUSED={refused}");
 }
 
 /// The folders in which the library and its header are installed.
 struct Installed {
     libraries: PathBuf,
     headers: PathBuf,
-    /// The command that installs both.
-    made_by: String,
+    processor: Processor,
+}
+
+/// A processor for which the library is built, by its number in ELF and its name in Cargo and in folders of libraries.
+struct Processor {
+    number: u16,
+    name: &'static str,
+    /// The command that installs the library for it.
+    made_by: &'static str,
+}
+
+const PROCESSORS: [Processor; 2] = [
+    Processor { number: 62, name: "x86_64", made_by: "`bin/build_c --prefix DIR` of the repository installs it" },
+    Processor {
+        number: 183,
+        name: "aarch64",
+        made_by: "`bin/build_c --target aarch64 --prefix DIR` of the repository installs it",
+    },
+];
+
+impl Processor {
+    /// That of the target, if it is known.
+    fn of_target() -> Option<Self> {
+        let [system, name, bits, endian] = ["OS", "ARCH", "POINTER_WIDTH", "ENDIAN"]
+            .map(|it| env::var(format!("CARGO_CFG_TARGET_{it}")).unwrap_or_default());
+        let is_known = [&*system, &*bits, &*endian] == ["linux", "64", "little"];
+        PROCESSORS.into_iter().find(|it| is_known && it.name == name)
+    }
 }
 
 impl Installed {
-    fn found() -> Result<Self, String> {
-        let target = env::var("TARGET").expect("cargo sets TARGET");
-        let [system, processor] =
-            ["OS", "ARCH"].map(|it| env::var(format!("CARGO_CFG_TARGET_{it}")).unwrap_or_default());
-        if system != "linux" || !["x86_64", "aarch64"].contains(&&*processor) {
-            return Err(format!(
-                "the library is built for Linux on x86-64 and 64-bit ARM alone, and the target is {target}"
-            ));
-        }
-        let flag = if processor == "aarch64" { "--target aarch64 " } else { "" };
-        let made_by = format!("`bin/build_c {flag}--prefix DIR` of the repository installs it");
+    fn found(target: &str, processor: Processor) -> Result<Self, String> {
         let of_target = format!("SPEEDATE_DIR_{}", target.replace('-', "_"));
         for variable in [&*of_target, "SPEEDATE_DIR"] {
             if let Some(prefix) = prefix_by(variable)? {
-                return Ok(Self { libraries: prefix.join("lib"), headers: prefix.join("include"), made_by });
+                let of_several = format!("lib/{}-linux-gnu", processor.name);
+                let mut rooms = vec![prefix.join("lib"), prefix.join("lib64"), prefix.join(of_several)];
+                let files = fs::read_to_string(prefix.join("share/doc/speedate/FILES")).unwrap_or_default();
+                let listed = files.lines().filter_map(|it| it.strip_suffix("/libspeedate.a"));
+                rooms.extend(listed.map(|it| prefix.join(it)));
+                // First those that have an archive for the target, then those that have another one.
+                rooms.sort_by_key(|it| {
+                    let bytes = fs::read(archive_of(it));
+                    (bytes.is_err(), bytes.ok().and_then(|it| processor_of(&it)) != Some(processor.number))
+                });
+                if !archive_of(&rooms[0]).is_file() {
+                    return Err(missing(&rooms, &processor));
+                }
+                return Ok(Self { libraries: rooms.swap_remove(0), headers: prefix.join("include"), processor });
             }
         }
         let is_here = env::var("HOST").is_ok_and(|host| host == target);
         match (folder_by_pkg_config("libdir"), folder_by_pkg_config("includedir")) {
-            (Some(libraries), Some(headers)) if is_here => Ok(Self { libraries, headers, made_by }),
-            _ => Err(format!("neither {of_target} nor SPEEDATE_DIR names DIR, the library's prefix; {made_by}")),
+            (Some(libraries), Some(headers)) if is_here => Ok(Self { libraries, headers, processor }),
+            _ => {
+                let made_by = processor.made_by;
+                Err(format!("neither {of_target} nor SPEEDATE_DIR names DIR, the library's prefix; {made_by}"))
+            }
         }
     }
 
     /// The same, if the library is one for which the package was written, as far as its header tells.
     fn checked(self) -> Result<Self, String> {
-        let Self { made_by, .. } = &self;
-        let library = self.libraries.join("libspeedate.a");
-        if !library.is_file() {
-            return Err(format!("there is no {}; {made_by}", library.display()));
+        let Processor { number: wanted, made_by, .. } = self.processor;
+        let library = archive_of(&self.libraries);
+        println!("cargo::rerun-if-changed={}", library.display());
+        let bytes = fs::read(&library).map_err(|_| missing(slice::from_ref(&self.libraries), &self.processor))?;
+        if processor_of(&bytes) != Some(wanted) {
+            let is_for = PROCESSORS.iter().find(|it| processor_of(&bytes) == Some(it.number));
+            let other = is_for.map_or("not for it".to_owned(), |it| format!("for {}", it.name));
+            let (path, name) = (library.display(), self.processor.name);
+            return Err(format!("the target has the processor {name}, and {path} is {other}; {made_by}"));
         }
         let path = self.headers.join("speedate.h");
         let header = read(&path).ok_or_else(|| format!("there is no {}; {made_by}", path.display()))?;
@@ -74,8 +124,37 @@ impl Installed {
             let (has, wanted) = (path.display(), of_checkout.display());
             return Err(format!("the library is of another state of the repository: {has} is not {wanted}; {made_by}"));
         }
-        println!("cargo::rerun-if-changed={}", library.display());
         Ok(self)
+    }
+}
+
+fn archive_of(folder: &Path) -> PathBuf {
+    folder.join("libspeedate.a")
+}
+
+fn missing(folders: &[PathBuf], processor: &Processor) -> String {
+    let places: Vec<_> = folders.iter().map(|it| archive_of(it).display().to_string()).collect();
+    format!("there is no {}; {}", places.join(" and no "), processor.made_by)
+}
+
+/// The number of the processor for which the first object of an archive is, if that is an object of 64 bits.
+fn processor_of(archive: &[u8]) -> Option<u16> {
+    /// What begins an object of 64 bits in the order of bytes that both processors have.
+    const OBJECT: &[u8] = b"\x7fELF\x02\x01";
+    let mut rest = archive.strip_prefix(b"!<arch>\n")?;
+    loop {
+        // Of a member 60 bytes come first, with its name, which begins with `/` if it is no object, and its size.
+        let (head, follows) = rest.split_at_checked(60)?;
+        let size: usize = std::str::from_utf8(&head[48..58]).ok()?.trim_end().parse().ok()?;
+        let (member, follows) = follows.split_at_checked(size)?;
+        if member.starts_with(OBJECT) {
+            return Some(u16::from_le_bytes([*member.get(18)?, *member.get(19)?]));
+        }
+        if head[0] != b'/' {
+            return None;
+        }
+        // A member begins at an even place.
+        rest = follows.get(size % 2..)?;
     }
 }
 

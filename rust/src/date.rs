@@ -137,12 +137,14 @@ impl Date {
 
     /// The second at which the date begins, counted from 1970-01-01. It panics if the date is out of range.
     #[must_use]
+    #[track_caller]
     pub fn timestamp(&self) -> i64 {
         self.total(ffi::speedate_date_timestamp(self))
     }
 
     /// The millisecond at which the date begins, counted from 1970-01-01. It panics if the date is out of range.
     #[must_use]
+    #[track_caller]
     pub fn timestamp_ms(&self) -> i64 {
         self.total(ffi::speedate_date_timestamp_ms(self))
     }
@@ -161,6 +163,7 @@ impl Date {
 
     /// The day of the year, 1 to 366. It panics if the date is out of range.
     #[must_use]
+    #[track_caller]
     pub fn ordinal_day(&self) -> u16 {
         self.total(ffi::speedate_date_ordinal_day(self))
     }
@@ -180,6 +183,7 @@ impl Date {
     /// assert_eq!(date.days_since(&earlier), 2);
     /// ```
     #[must_use]
+    #[track_caller]
     pub fn days_since(&self, earlier: &Self) -> i32 {
         (self, earlier).total(ffi::speedate_date_days_since(self, earlier))
     }

@@ -273,12 +273,14 @@ impl DateTime {
 
     /// The seconds since 1970-01-01T00:00:00, as if the clock were in UTC. It panics if the date-time is out of range.
     #[must_use]
+    #[track_caller]
     pub fn timestamp(&self) -> i64 {
         self.total(ffi::speedate_datetime_timestamp(self))
     }
 
     /// [`timestamp`](Self::timestamp) in milliseconds, rounded down.
     #[must_use]
+    #[track_caller]
     pub fn timestamp_ms(&self) -> i64 {
         self.total(ffi::speedate_datetime_timestamp_ms(self))
     }
@@ -290,18 +292,21 @@ impl DateTime {
     /// assert_eq!(speedate::DateTime::parse_str("1970-01-02T00:00+01:00").unwrap().timestamp_tz(), 82_800);
     /// ```
     #[must_use]
+    #[track_caller]
     pub fn timestamp_tz(&self) -> i64 {
         self.total(ffi::speedate_datetime_timestamp_tz(self))
     }
 
     /// [`timestamp_tz`](Self::timestamp_tz) in milliseconds, rounded down.
     #[must_use]
+    #[track_caller]
     pub fn timestamp_tz_ms(&self) -> i64 {
         self.total(ffi::speedate_datetime_timestamp_tz_ms(self))
     }
 
     /// [`timestamp_tz`](Self::timestamp_tz) in microseconds. The crate has no such call.
     #[must_use]
+    #[track_caller]
     pub fn timestamp_tz_us(&self) -> i64 {
         self.total(ffi::speedate_datetime_timestamp_tz_us(self))
     }

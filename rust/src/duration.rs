@@ -111,6 +111,7 @@ impl Duration {
     /// assert_eq!(Duration::between(&start, &end).to_string(), "PT1H30M");
     /// ```
     #[must_use]
+    #[track_caller]
     pub fn between(earlier: &DateTime, later: &DateTime) -> Self {
         (earlier, later).total(ffi::speedate_duration_between(earlier, later))
     }
@@ -145,18 +146,21 @@ impl Duration {
 
     /// The whole seconds, cut toward zero, with the sign. It panics if the duration is out of range.
     #[must_use]
+    #[track_caller]
     pub fn signed_total_seconds(&self) -> i64 {
         self.total(ffi::speedate_duration_signed_total_seconds(self))
     }
 
     /// The whole milliseconds, cut toward zero, with the sign. It panics if the duration is out of range.
     #[must_use]
+    #[track_caller]
     pub fn signed_total_ms(&self) -> i64 {
         self.total(ffi::speedate_duration_signed_total_ms(self))
     }
 
     /// The microseconds that the whole seconds leave, with the sign. It panics if the duration is out of range.
     #[must_use]
+    #[track_caller]
     pub fn signed_microseconds(&self) -> i32 {
         self.total(ffi::speedate_duration_signed_microseconds(self))
     }

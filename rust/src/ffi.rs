@@ -215,9 +215,15 @@ impl From<CProgress> for Progress {
     }
 }
 
+/// Fails, where code is made for it, if the build script has refused the library: checks and documentation make none.
+fn assert_linked() {
+    const { assert!(env!("SPEEDATE_REFUSED").is_empty(), "{}", env!("SPEEDATE_REFUSED")) }
+}
+
 /// What a call writes, if it returns 0.
 #[inline(always)]
 fn written<C: Written, T: From<C>>(call: impl FnOnce(*mut C) -> c_int) -> Result<T, Code> {
+    assert_linked();
     let mut out = MaybeUninit::<C>::uninit();
     match call(out.as_mut_ptr()) {
         // SAFETY: a call that returns 0 has written all of its output.

@@ -156,12 +156,14 @@ impl Time {
 
     /// The seconds since midnight, whatever the offset. It panics if the time is out of range.
     #[must_use]
+    #[track_caller]
     pub fn total_seconds(&self) -> u32 {
         self.total(ffi::speedate_time_total_seconds(self))
     }
 
     /// The milliseconds since midnight, rounded down, whatever the offset. It panics if the time is out of range.
     #[must_use]
+    #[track_caller]
     pub fn total_ms(&self) -> u32 {
         self.total(ffi::speedate_time_total_ms(self))
     }

@@ -32,8 +32,12 @@ pub(crate) trait Value: Debug {
     }
 
     /// The answer of a call that refuses nothing but a value out of range.
+    #[track_caller]
     fn total<T>(&self, answer: Result<T, Code>) -> T {
-        answer.unwrap_or_else(|_| out_of_range(self))
+        match answer {
+            Ok(it) => it,
+            Err(_) => out_of_range(self),
+        }
     }
 }
 
@@ -45,6 +49,7 @@ impl<A: Value, B: Value> Value for (&A, &B) {
 }
 
 #[cold]
+#[track_caller]
 fn out_of_range<V: Value + ?Sized>(value: &V) -> ! {
     let field = value.check().err().map_or("a field", |error| value.field(&error));
     panic!("`{field}` is out of range in {value:?}")

@@ -1,6 +1,8 @@
 //! Values whose fields are out of range, and configured offsets of a day or more.
 
-use std::panic::catch_unwind;
+use std::cell::RefCell;
+use std::panic::{catch_unwind, set_hook, take_hook};
+use std::sync::Once;
 
 use speedate::{
     read_column, read_column_with_errors, Date, DateTime, DateTimeConfig, DateTimeParser, DateTimeReader, Duration,
@@ -41,12 +43,32 @@ const DURATIONS: [(Duration, ParseError, &str); 5] = [
     (Duration { day: 1_000_000_000, second: 86_400, ..DURATION }, ParseError::DurationDaysTooLarge, "day"),
 ];
 
-/// Asserts that each call panics, and names the field.
+thread_local! {
+    /// The file that the last panic has named.
+    static FILE: RefCell<String> = const { RefCell::new(String::new()) };
+}
+
+/// Has each panic leave the file that it names.
+fn keep_files() {
+    static KEPT: Once = Once::new();
+    KEPT.call_once(|| {
+        let show = take_hook();
+        set_hook(Box::new(move |panic| {
+            FILE.set(panic.location().map_or_else(String::new, |it| it.file().to_owned()));
+            show(panic);
+        }));
+    });
+}
+
+/// Asserts that each call panics, and names the field and, but from Display, the caller's file.
 macro_rules! assert_panics {
     ($field:expr; $($call:expr),*) => {$(
+        keep_files();
         let panic = catch_unwind(|| $call).err().expect(stringify!($call));
         let said = panic.downcast_ref::<String>().expect("a panic says why");
         assert!(said.starts_with(&format!("`{}` is out of range in ", $field)), "{said}");
+        let file = FILE.take();
+        assert!(file == file!() || stringify!($call).ends_with("to_string()"), "{} panics in {file}", stringify!($call));
     )*};
 }
 

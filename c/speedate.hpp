@@ -1,0 +1,747 @@
+/* SPDX-License-Identifier: MIT
+ * Copyright (c) 2022 Samuel Colvin
+ * Copyright (c) 2026 the speedate for Rattle authors */
+/* speedate.hpp: the calls of speedate.h for C++17 and later, as values, results and chrono.
+ *
+ * speedate.h says what each call does, and which codes it returns: Date::parse here is speedate_date_parse there, and
+ * so on. Here is what C++ adds:
+ *
+ * - A Date, Time, DateTime or Duration is always in range. `of` makes one of numbers, and refuses those that are not.
+ * - A call that can refuse returns a Result, which has a value or an Error. A call that cannot returns its value.
+ * - A text is a std::string_view, and what is printed a std::string. Nothing else allocates memory.
+ * - No call throws but Result::value, where there are exceptions, and what std::string throws.
+ *
+ * It translates, and computes nothing of dates: link libspeedate as a program in C does.
+ */
+#ifndef SPEEDATE_HPP
+#define SPEEDATE_HPP
+
+#include "speedate.h"
+
+#include <chrono>
+#include <cstddef>
+#include <cstdint>
+#include <cstdlib>
+#include <cstring>
+#include <iterator>
+#include <optional>
+#include <ostream>
+#include <stdexcept>
+#include <string>
+#include <string_view>
+#if __cplusplus >= 202002L
+#include <compare>
+/* Libraries that have the calendar of C++20 say so only once they have its time zones too. */
+#if (defined(__cpp_lib_chrono) && __cpp_lib_chrono >= 201907L) ||                                                      \
+    (defined(_GLIBCXX_RELEASE) && _GLIBCXX_RELEASE >= 11) || (defined(_LIBCPP_VERSION) && _LIBCPP_VERSION >= 8000)
+#define SPEEDATE_HAS_CALENDAR
+#endif
+#endif
+
+namespace speedate {
+
+/* ---- Errors and results ---- */
+
+/* Why a call refuses: a code of speedate.h other than SPEEDATE_OK. */
+class Error {
+  public:
+    explicit Error(int code) noexcept : code_(code) {}
+
+    /* A number of SpeedateCode: error.code() == SPEEDATE_OUT_OF_RANGE_DAY. */
+    int code() const noexcept { return code_; }
+
+    /* "out_of_range_day". It is "unknown code" for a code that the library does not know. */
+    std::string name() const { return printed(speedate_code_name); }
+
+    /* "day value is outside expected range". */
+    std::string documentation() const { return printed(speedate_code_documentation); }
+
+    friend bool operator==(Error first, Error second) noexcept { return first.code_ == second.code_; }
+    friend bool operator!=(Error first, Error second) noexcept { return first.code_ != second.code_; }
+    friend std::ostream &operator<<(std::ostream &to, Error error) { return to << error.name(); }
+
+  private:
+    std::string printed(int (*call)(int, char *, std::size_t, std::size_t *)) const {
+        char text[SPEEDATE_CODE_TEXT_SIZE];
+        std::size_t length;
+        return call(code_, text, sizeof text, &length) == SPEEDATE_OK ? std::string(text, length) : "unknown code";
+    }
+
+    int code_;
+};
+
+/* What Result::value throws if there is none. */
+class Failure : public std::runtime_error {
+  public:
+    explicit Failure(Error error) : std::runtime_error(error.name()), error_(error) {}
+    Error error() const noexcept { return error_; }
+
+  private:
+    Error error_;
+};
+
+/* A value, or the error for which there is none: if (auto date = Date::parse(text)) use(*date); else log(date.error());
+ */
+template <class T> class [[nodiscard]] Result {
+  public:
+    Result(const T &value) : value_(value) {}
+    Result(Error error) noexcept : error_(error) {}
+
+    bool has_value() const noexcept { return value_.has_value(); }
+    explicit operator bool() const noexcept { return has_value(); }
+
+    /* The value. As of a std::optional, they may be called only if there is one. */
+    const T &operator*() const noexcept { return *value_; }
+    const T *operator->() const noexcept { return &*value_; }
+
+    /* The value. If there is none it throws a Failure, or, compiled without exceptions, ends the program. */
+    const T &value() const {
+        if (!value_) {
+#ifdef __cpp_exceptions
+            throw Failure(error_);
+#else
+            std::abort();
+#endif
+        }
+        return *value_;
+    }
+
+    T value_or(const T &other) const { return value_ ? *value_ : other; }
+
+    /* The error, which may be called only if there is no value. */
+    Error error() const noexcept { return error_; }
+
+  private:
+    std::optional<T> value_;
+    Error error_{SPEEDATE_OK};
+};
+
+/* A value at the front of a text, and how many bytes of the text it takes. */
+template <class T> struct Front {
+    T value;
+    std::size_t size;
+};
+
+/* ---- Configurations ---- */
+
+/* The unit of timestamps: SPEEDATE_UNIT_INFER and so on. */
+enum class Unit : std::uint8_t {
+    Infer = SPEEDATE_UNIT_INFER,
+    Second = SPEEDATE_UNIT_SECOND,
+    Millisecond = SPEEDATE_UNIT_MILLISECOND,
+    Microsecond = SPEEDATE_UNIT_MICROSECOND
+};
+
+/* What happens to digits past the microsecond: SPEEDATE_OVERFLOW_ERROR and so on. */
+enum class Overflow : std::uint8_t { Error = SPEEDATE_OVERFLOW_ERROR, Truncate = SPEEDATE_OVERFLOW_TRUNCATE };
+
+/* The order of the components of an ISO 8601 duration: SPEEDATE_ORDER_LAX and so on. */
+enum class Order : std::uint8_t { Lax = SPEEDATE_ORDER_LAX, Strict = SPEEDATE_ORDER_STRICT };
+
+/* What a line of a column may be: SPEEDATE_FORM_TEXT and so on. */
+enum class Form : std::uint8_t {
+    Text = SPEEDATE_FORM_TEXT,
+    Timestamp = SPEEDATE_FORM_TIMESTAMP,
+    Strict = SPEEDATE_FORM_STRICT
+};
+
+/* How texts and timestamps are parsed, as SpeedateConfig says. Config() is the default. */
+struct Config {
+    std::optional<std::int32_t> timestamp_offset = std::nullopt;
+    Unit timestamp_unit = Unit::Infer;
+    Overflow overflow = Overflow::Error;
+    Order iso_order = Order::Lax;
+
+    SpeedateConfig c() const noexcept {
+        SpeedateConfig to = SPEEDATE_CONFIG_DEFAULT;
+        to.timestamp_offset = timestamp_offset.value_or(0);
+        to.has_timestamp_offset = timestamp_offset.has_value();
+        to.timestamp_unit = static_cast<std::uint8_t>(timestamp_unit);
+        to.overflow_behavior = static_cast<std::uint8_t>(overflow);
+        to.iso_order = static_cast<std::uint8_t>(iso_order);
+        return to;
+    }
+};
+
+/* How a column is read, as SpeedateColumnConfig says. ColumnConfig() is the default. */
+struct ColumnConfig {
+    bool more_follows = false;
+    bool drops_returns = false;
+    Form form = Form::Text;
+    bool assumes_utc = false;
+    bool goes_on = false;
+
+    SpeedateColumnConfig c() const noexcept {
+        SpeedateColumnConfig to = SPEEDATE_COLUMN_CONFIG_DEFAULT;
+        to.more_follows = more_follows;
+        to.drops_returns = drops_returns;
+        to.form = static_cast<std::uint8_t>(form);
+        to.assumes_utc = assumes_utc;
+        to.goes_on = goes_on;
+        return to;
+    }
+};
+
+/* ---- What the calls below have in common ---- */
+
+namespace detail {
+
+/* Ends the program if a call refuses that cannot, since its values are in range: then the library is another one. */
+inline void must(int code) noexcept {
+    if (code != SPEEDATE_OK)
+        std::abort();
+}
+
+/* The value that a call writes, in the type of C++ that stands for it. */
+template <class T, class C, class Call> Result<T> written(Call call) {
+    C out;
+    const int code = call(&out);
+    if (code != SPEEDATE_OK)
+        return Error(code);
+    return T(out);
+}
+
+/* The same for a value of which C++ has no type of its own. */
+template <class T, class Call> Result<T> number(Call call) { return written<T, T>(call); }
+
+/* The value of a call that cannot refuse. */
+template <class T, class Call> T sure(Call call) noexcept {
+    T out;
+    must(call(&out));
+    return out;
+}
+
+template <class T, class C, class Call> Result<Front<T>> front(Call call) {
+    C out;
+    std::size_t taken;
+    const int code = call(&out, &taken);
+    if (code != SPEEDATE_OK)
+        return Error(code);
+    return Front<T>{T(out), taken};
+}
+
+/* The place of a fault of a text, whose codes are the first ones. */
+template <class Call> std::optional<std::size_t> place(Call call) {
+    std::size_t out = 0;
+    const int code = call(&out);
+    if (code == SPEEDATE_OK || code >= SPEEDATE_VALUE_OUT_OF_RANGE)
+        return std::nullopt;
+    return out;
+}
+
+template <std::size_t Size, class C> std::string text(int (*call)(C, char *, std::size_t, std::size_t *), C value) {
+    char text[Size];
+    std::size_t length;
+    must(call(value, text, sizeof text, &length));
+    return std::string(text, length);
+}
+
+/* Equality, and the order of a type that has one. A struct of C that calls have written has one form for each value. */
+template <class T> struct Equal {
+    friend bool operator==(const T &first, const T &second) noexcept {
+        return std::memcmp(&first.c(), &second.c(), sizeof first.c()) == 0;
+    }
+    friend bool operator!=(const T &first, const T &second) noexcept { return !(first == second); }
+};
+
+template <class T> struct Ordered : Equal<T> {
+#if defined(__cpp_impl_three_way_comparison) && defined(__cpp_lib_three_way_comparison)
+    friend std::strong_ordering operator<=>(const T &first, const T &second) noexcept {
+        return compare(first, second) <=> 0;
+    }
+#else
+    friend bool operator<(const T &first, const T &second) noexcept { return compare(first, second) < 0; }
+    friend bool operator>(const T &first, const T &second) noexcept { return compare(first, second) > 0; }
+    friend bool operator<=(const T &first, const T &second) noexcept { return compare(first, second) <= 0; }
+    friend bool operator>=(const T &first, const T &second) noexcept { return compare(first, second) >= 0; }
+#endif
+};
+
+} // namespace detail
+
+/* ---- Dates ---- */
+
+/* A day of the Gregorian calendar, from 0000-01-01 to 9999-12-31. Dates are ordered. */
+class Date : public detail::Ordered<Date> {
+  public:
+    /* The date of its numbers, or SPEEDATE_DATE_TOO_LARGE, SPEEDATE_OUT_OF_RANGE_MONTH or SPEEDATE_OUT_OF_RANGE_DAY. */
+    static Result<Date> of(std::uint16_t year, std::uint8_t month, std::uint8_t day) {
+        return of(SpeedateDate{year, month, day});
+    }
+    static Result<Date> of(SpeedateDate date) {
+        const int code = speedate_date_check(date);
+        if (code != SPEEDATE_OK)
+            return Error(code);
+        return Date(date);
+    }
+
+    std::uint16_t year() const noexcept { return c_.year; }
+    std::uint8_t month() const noexcept { return c_.month; }
+    std::uint8_t day() const noexcept { return c_.day; }
+    const SpeedateDate &c() const noexcept { return c_; }
+
+    static Result<Date> parse(std::string_view text, const Config &config = {}) {
+        return from_c([&](auto *out) { return speedate_date_parse(text.data(), text.size(), config.c(), out); });
+    }
+    static Result<Date> parse_rfc3339(std::string_view text) {
+        return from_c([&](auto *out) { return speedate_date_parse_rfc3339(text.data(), text.size(), out); });
+    }
+    static Result<Front<Date>> parse_front(std::string_view text) {
+        return detail::front<Date, SpeedateDate>(
+            [&](auto... out) { return speedate_date_parse_front(text.data(), text.size(), out...); });
+    }
+
+    /* Where a text is wrong for the parser of that name; nothing if it is accepted. */
+    static std::optional<std::size_t> error_place(std::string_view text, const Config &config = {}) {
+        return detail::place(
+            [&](auto *out) { return speedate_date_error_place(text.data(), text.size(), config.c(), out); });
+    }
+    static std::optional<std::size_t> error_place_rfc3339(std::string_view text) {
+        return detail::place(
+            [&](auto *out) { return speedate_date_error_place_rfc3339(text.data(), text.size(), out); });
+    }
+    static std::optional<std::size_t> error_place_front(std::string_view text) {
+        return detail::place([&](auto *out) { return speedate_date_error_place_front(text.data(), text.size(), out); });
+    }
+
+    static Result<Date> from_timestamp(std::int64_t timestamp, bool require_exact, const Config &config = {}) {
+        return from_c(
+            [&](auto *out) { return speedate_date_from_timestamp(timestamp, require_exact, config.c(), out); });
+    }
+    static Result<Date> from_day_number(std::uint32_t number) {
+        return from_c([&](auto *out) { return speedate_date_from_day_number(number, out); });
+    }
+
+    std::string to_text() const { return detail::text<SPEEDATE_DATE_TEXT_SIZE>(speedate_date_to_text, c_); }
+    std::int64_t timestamp() const noexcept {
+        return detail::sure<std::int64_t>([&](auto *out) { return speedate_date_timestamp(c_, out); });
+    }
+    std::int64_t timestamp_ms() const noexcept {
+        return detail::sure<std::int64_t>([&](auto *out) { return speedate_date_timestamp_ms(c_, out); });
+    }
+    std::uint32_t day_number() const noexcept {
+        return detail::sure<std::uint32_t>([&](auto *out) { return speedate_date_day_number(c_, out); });
+    }
+    std::uint16_t ordinal_day() const noexcept {
+        return detail::sure<std::uint16_t>([&](auto *out) { return speedate_date_ordinal_day(c_, out); });
+    }
+    Result<Date> add_days(std::int32_t days) const {
+        return from_c([&](auto *out) { return speedate_date_add_days(c_, days, out); });
+    }
+    std::int32_t days_since(const Date &earlier) const noexcept {
+        return detail::sure<std::int32_t>([&](auto *out) { return speedate_date_days_since(c_, earlier.c_, out); });
+    }
+
+    /* Negative if the first is the earlier one, 0 if they are equal, otherwise positive. */
+    friend int compare(const Date &first, const Date &second) noexcept {
+        return detail::sure<std::int32_t>([&](auto *out) { return speedate_date_compare(first.c_, second.c_, out); });
+    }
+    friend std::ostream &operator<<(std::ostream &to, const Date &date) { return to << date.to_text(); }
+
+#ifdef SPEEDATE_HAS_CALENDAR
+    /* The date of a calendar date of chrono. One that is not in the calendar is refused as its numbers are, and a year
+     * before 0000 with SPEEDATE_DATE_TOO_SMALL. */
+    static Result<Date> of(std::chrono::year_month_day date) {
+        const int year = static_cast<int>(date.year());
+        if (year < 0)
+            return Error(SPEEDATE_DATE_TOO_SMALL);
+        return of(static_cast<std::uint16_t>(year), static_cast<std::uint8_t>(static_cast<unsigned>(date.month())),
+                  static_cast<std::uint8_t>(static_cast<unsigned>(date.day())));
+    }
+    std::chrono::year_month_day year_month_day() const noexcept {
+        return std::chrono::year(year()) / std::chrono::month(month()) / std::chrono::day(day());
+    }
+#endif
+
+  private:
+    template <class T, class C, class Call> friend Result<T> detail::written(Call);
+    template <class T, class C, class Call> friend Result<Front<T>> detail::front(Call);
+    friend class DateTime;
+    friend class Duration;
+    explicit Date(SpeedateDate date) noexcept : c_(date) {}
+    template <class Call> static Result<Date> from_c(Call call) { return detail::written<Date, SpeedateDate>(call); }
+
+    SpeedateDate c_;
+};
+
+/* ---- Times ---- */
+
+/* A time of day, with an offset from UTC or without one. `==` compares clocks and offsets. Times have no order with
+ * which they can be sorted in any mixture: compare_instants says more. */
+class Time : public detail::Equal<Time> {
+  public:
+    /* The time of its numbers, or SPEEDATE_OUT_OF_RANGE_HOUR, _MINUTE or _SECOND, SPEEDATE_TIME_TOO_LARGE for the
+     * microsecond, or SPEEDATE_OUT_OF_RANGE_TZ. */
+    static Result<Time> of(std::uint8_t hour, std::uint8_t minute, std::uint8_t second = 0,
+                           std::uint32_t microsecond = 0, std::optional<std::int32_t> offset = std::nullopt) {
+        return of(SpeedateTime{hour, minute, second, offset.has_value(), microsecond, offset.value_or(0)});
+    }
+    static Result<Time> of(SpeedateTime time) {
+        const int code = speedate_time_check(time);
+        if (code != SPEEDATE_OK)
+            return Error(code);
+        if (!time.has_offset)
+            time.offset = 0;
+        return Time(time);
+    }
+
+    std::uint8_t hour() const noexcept { return c_.hour; }
+    std::uint8_t minute() const noexcept { return c_.minute; }
+    std::uint8_t second() const noexcept { return c_.second; }
+    std::uint32_t microsecond() const noexcept { return c_.microsecond; }
+    /* In seconds, positive east of UTC. */
+    std::optional<std::int32_t> offset() const noexcept {
+        return c_.has_offset ? std::optional<std::int32_t>(c_.offset) : std::nullopt;
+    }
+    const SpeedateTime &c() const noexcept { return c_; }
+
+    static Result<Time> parse(std::string_view text, const Config &config = {}) {
+        return from_c([&](auto *out) { return speedate_time_parse(text.data(), text.size(), config.c(), out); });
+    }
+    static Result<Time> parse_strict(std::string_view text, const Config &config = {}) {
+        return from_c([&](auto *out) { return speedate_time_parse_strict(text.data(), text.size(), config.c(), out); });
+    }
+    static Result<Front<Time>> parse_front(std::string_view text, const Config &config = {}) {
+        return detail::front<Time, SpeedateTime>(
+            [&](auto... out) { return speedate_time_parse_front(text.data(), text.size(), config.c(), out...); });
+    }
+
+    /* Where a text is wrong for the parser of that name; nothing if it is accepted. */
+    static std::optional<std::size_t> error_place(std::string_view text, const Config &config = {}) {
+        return detail::place(
+            [&](auto *out) { return speedate_time_error_place(text.data(), text.size(), config.c(), out); });
+    }
+    static std::optional<std::size_t> error_place_strict(std::string_view text, const Config &config = {}) {
+        return detail::place(
+            [&](auto *out) { return speedate_time_error_place_strict(text.data(), text.size(), config.c(), out); });
+    }
+    static std::optional<std::size_t> error_place_front(std::string_view text, const Config &config = {}) {
+        return detail::place(
+            [&](auto *out) { return speedate_time_error_place_front(text.data(), text.size(), config.c(), out); });
+    }
+
+    static Result<Time> from_timestamp(std::uint32_t second, std::uint32_t microsecond, const Config &config = {}) {
+        return from_c([&](auto *out) { return speedate_time_from_timestamp(second, microsecond, config.c(), out); });
+    }
+
+    std::string to_text() const { return detail::text<SPEEDATE_TIME_TEXT_SIZE>(speedate_time_to_text, c_); }
+    std::uint32_t total_seconds() const noexcept {
+        return detail::sure<std::uint32_t>([&](auto *out) { return speedate_time_total_seconds(c_, out); });
+    }
+    std::uint32_t total_ms() const noexcept {
+        return detail::sure<std::uint32_t>([&](auto *out) { return speedate_time_total_ms(c_, out); });
+    }
+    Result<Time> in_timezone(std::int32_t offset) const {
+        return from_c([&](auto *out) { return speedate_time_in_timezone(c_, offset, out); });
+    }
+
+    /* As speedate_time_compare says: 0 if both are the same instant. */
+    friend int compare_instants(const Time &first, const Time &second) noexcept {
+        return detail::sure<std::int32_t>([&](auto *out) { return speedate_time_compare(first.c_, second.c_, out); });
+    }
+    friend std::ostream &operator<<(std::ostream &to, const Time &time) { return to << time.to_text(); }
+
+  private:
+    template <class T, class C, class Call> friend Result<T> detail::written(Call);
+    template <class T, class C, class Call> friend Result<Front<T>> detail::front(Call);
+    friend class DateTime;
+    explicit Time(SpeedateTime time) noexcept : c_(time) {}
+    template <class Call> static Result<Time> from_c(Call call) { return detail::written<Time, SpeedateTime>(call); }
+
+    SpeedateTime c_;
+};
+
+/* ---- Date-times ---- */
+
+/* A moment of std::chrono. C++20 calls it std::chrono::sys_time<std::chrono::microseconds>. */
+using SysTime = std::chrono::time_point<std::chrono::system_clock, std::chrono::microseconds>;
+
+/* A date and a time of day. What is said of the order of times holds here too. */
+class DateTime : public detail::Equal<DateTime> {
+  public:
+    DateTime(const Date &date, const Time &time) noexcept : c_{date.c(), time.c()} {}
+    static Result<DateTime> of(SpeedateDateTime value) {
+        const int code = speedate_datetime_check(value);
+        if (code != SPEEDATE_OK)
+            return Error(code);
+        if (!value.time.has_offset)
+            value.time.offset = 0;
+        return DateTime(value);
+    }
+
+    Date date() const noexcept { return Date(c_.date); }
+    Time time() const noexcept { return Time(c_.time); }
+    const SpeedateDateTime &c() const noexcept { return c_; }
+
+    static Result<DateTime> parse(std::string_view text, const Config &config = {}) {
+        return from_c([&](auto *out) { return speedate_datetime_parse(text.data(), text.size(), config.c(), out); });
+    }
+    static Result<DateTime> parse_rfc3339(std::string_view text, const Config &config = {}) {
+        return from_c(
+            [&](auto *out) { return speedate_datetime_parse_rfc3339(text.data(), text.size(), config.c(), out); });
+    }
+    static Result<DateTime> parse_strict(std::string_view text, const Config &config = {}) {
+        return from_c(
+            [&](auto *out) { return speedate_datetime_parse_strict(text.data(), text.size(), config.c(), out); });
+    }
+    static Result<Front<DateTime>> parse_front(std::string_view text, const Config &config = {}) {
+        return detail::front<DateTime, SpeedateDateTime>(
+            [&](auto... out) { return speedate_datetime_parse_front(text.data(), text.size(), config.c(), out...); });
+    }
+
+    /* Where a text is wrong for the parser of that name; nothing if it is accepted. */
+    static std::optional<std::size_t> error_place(std::string_view text, const Config &config = {}) {
+        return detail::place(
+            [&](auto *out) { return speedate_datetime_error_place(text.data(), text.size(), config.c(), out); });
+    }
+    static std::optional<std::size_t> error_place_rfc3339(std::string_view text, const Config &config = {}) {
+        return detail::place([&](auto *out) {
+            return speedate_datetime_error_place_rfc3339(text.data(), text.size(), config.c(), out);
+        });
+    }
+    static std::optional<std::size_t> error_place_strict(std::string_view text, const Config &config = {}) {
+        return detail::place(
+            [&](auto *out) { return speedate_datetime_error_place_strict(text.data(), text.size(), config.c(), out); });
+    }
+    static std::optional<std::size_t> error_place_front(std::string_view text, const Config &config = {}) {
+        return detail::place(
+            [&](auto *out) { return speedate_datetime_error_place_front(text.data(), text.size(), config.c(), out); });
+    }
+
+    static Result<DateTime> from_timestamp(std::int64_t timestamp, std::uint32_t microsecond,
+                                           const Config &config = {}) {
+        return from_c(
+            [&](auto *out) { return speedate_datetime_from_timestamp(timestamp, microsecond, config.c(), out); });
+    }
+
+    std::string to_text() const { return detail::text<SPEEDATE_DATETIME_TEXT_SIZE>(speedate_datetime_to_text, c_); }
+    std::int64_t timestamp() const noexcept {
+        return detail::sure<std::int64_t>([&](auto *out) { return speedate_datetime_timestamp(c_, out); });
+    }
+    std::int64_t timestamp_ms() const noexcept {
+        return detail::sure<std::int64_t>([&](auto *out) { return speedate_datetime_timestamp_ms(c_, out); });
+    }
+    std::int64_t timestamp_tz() const noexcept {
+        return detail::sure<std::int64_t>([&](auto *out) { return speedate_datetime_timestamp_tz(c_, out); });
+    }
+    std::int64_t timestamp_tz_ms() const noexcept {
+        return detail::sure<std::int64_t>([&](auto *out) { return speedate_datetime_timestamp_tz_ms(c_, out); });
+    }
+    std::int64_t timestamp_tz_us() const noexcept {
+        return detail::sure<std::int64_t>([&](auto *out) { return speedate_datetime_timestamp_tz_us(c_, out); });
+    }
+    Result<DateTime> in_timezone(std::int32_t offset) const {
+        return from_c([&](auto *out) { return speedate_datetime_in_timezone(c_, offset, out); });
+    }
+
+    /* The moment of a date-time. One without an offset is taken to be in UTC. */
+    SysTime sys_time() const noexcept { return SysTime(std::chrono::microseconds(timestamp_tz_us())); }
+    /* The date-time of a moment, in UTC. It fails with SPEEDATE_DATE_TOO_SMALL or SPEEDATE_DATE_TOO_LARGE outside the
+     * years 0000 to 9999. */
+    static Result<DateTime> of(SysTime moment) {
+        Config config;
+        config.timestamp_offset = 0;
+        config.timestamp_unit = Unit::Microsecond;
+        return from_timestamp(moment.time_since_epoch().count(), 0, config);
+    }
+
+    /* As speedate_datetime_compare says: 0 if both are the same instant. */
+    friend int compare_instants(const DateTime &first, const DateTime &second) noexcept {
+        return detail::sure<std::int32_t>(
+            [&](auto *out) { return speedate_datetime_compare(first.c_, second.c_, out); });
+    }
+    friend std::ostream &operator<<(std::ostream &to, const DateTime &value) { return to << value.to_text(); }
+
+  private:
+    template <class T, class C, class Call> friend Result<T> detail::written(Call);
+    template <class T, class C, class Call> friend Result<Front<T>> detail::front(Call);
+    friend class Duration;
+    explicit DateTime(SpeedateDateTime value) noexcept : c_(value) {}
+    template <class Call> static Result<DateTime> from_c(Call call) {
+        return detail::written<DateTime, SpeedateDateTime>(call);
+    }
+
+    SpeedateDateTime c_;
+};
+
+/* ---- Durations ---- */
+
+/* A length of time, with a sign, which zero may have too. Durations are ordered; negative zero is smaller than zero. */
+class Duration : public detail::Ordered<Duration> {
+  public:
+    /* The duration of numbers of any size, as speedate_duration_normalize says. */
+    static Result<Duration> of(bool negative, std::uint32_t day, std::uint32_t second = 0,
+                               std::uint32_t microsecond = 0) {
+        return of(SpeedateDuration{negative, day, second, microsecond});
+    }
+    static Result<Duration> of(SpeedateDuration numbers) {
+        return from_c([&](auto *out) { return speedate_duration_normalize(numbers, out); });
+    }
+    /* The duration of numbers that are in range, as speedate_duration_check says. */
+    static Result<Duration> checked(SpeedateDuration duration) {
+        const int code = speedate_duration_check(duration);
+        if (code != SPEEDATE_OK)
+            return Error(code);
+        return Duration(duration);
+    }
+
+    bool negative() const noexcept { return c_.negative; }
+    std::uint32_t day() const noexcept { return c_.day; }
+    std::uint32_t second() const noexcept { return c_.second; }
+    std::uint32_t microsecond() const noexcept { return c_.microsecond; }
+    const SpeedateDuration &c() const noexcept { return c_; }
+
+    static Result<Duration> parse(std::string_view text, const Config &config = {}) {
+        return from_c([&](auto *out) { return speedate_duration_parse(text.data(), text.size(), config.c(), out); });
+    }
+    /* Where a text is wrong; nothing if it is accepted. */
+    static std::optional<std::size_t> error_place(std::string_view text, const Config &config = {}) {
+        return detail::place(
+            [&](auto *out) { return speedate_duration_error_place(text.data(), text.size(), config.c(), out); });
+    }
+
+    std::string to_text() const { return detail::text<SPEEDATE_DURATION_TEXT_SIZE>(speedate_duration_to_text, c_); }
+    /* The whole seconds, and the whole milliseconds, cut toward zero, and the microseconds beyond the whole seconds. */
+    std::chrono::seconds signed_total_seconds() const noexcept {
+        return std::chrono::seconds(
+            detail::sure<std::int64_t>([&](auto *out) { return speedate_duration_signed_total_seconds(c_, out); }));
+    }
+    std::chrono::milliseconds signed_total_ms() const noexcept {
+        return std::chrono::milliseconds(
+            detail::sure<std::int64_t>([&](auto *out) { return speedate_duration_signed_total_ms(c_, out); }));
+    }
+    std::chrono::microseconds signed_microseconds() const noexcept {
+        return std::chrono::microseconds(
+            detail::sure<std::int32_t>([&](auto *out) { return speedate_duration_signed_microseconds(c_, out); }));
+    }
+    Duration operator-() const noexcept {
+        return Duration(detail::sure<SpeedateDuration>([&](auto *out) { return speedate_duration_negate(c_, out); }));
+    }
+
+    /* The duration from one value to another, which is negative if `later` is the earlier one. */
+    static Duration between(const DateTime &earlier, const DateTime &later) noexcept {
+        return Duration(detail::sure<SpeedateDuration>(
+            [&](auto *out) { return speedate_duration_between(earlier.c(), later.c(), out); }));
+    }
+    static Duration between(const Date &earlier, const Date &later) noexcept {
+        return Duration(detail::sure<SpeedateDuration>(
+            [&](auto *out) { return speedate_duration_between_dates(earlier.c(), later.c(), out); }));
+    }
+
+    /* What is this duration after a value, or before it. */
+    Result<DateTime> after(const DateTime &start) const {
+        return DateTime::from_c([&](auto *out) { return speedate_duration_after(c_, start.c(), out); });
+    }
+    Result<DateTime> before(const DateTime &start) const {
+        return DateTime::from_c([&](auto *out) { return speedate_duration_before(c_, start.c(), out); });
+    }
+    Result<Date> after(const Date &start) const {
+        return Date::from_c([&](auto *out) { return speedate_duration_after_date(c_, start.c(), out); });
+    }
+    Result<Date> before(const Date &start) const {
+        return Date::from_c([&](auto *out) { return speedate_duration_before_date(c_, start.c(), out); });
+    }
+
+    /* Negative if the first is the smaller one, 0 if they are equal, otherwise positive. */
+    friend int compare(const Duration &first, const Duration &second) noexcept {
+        return detail::sure<std::int32_t>(
+            [&](auto *out) { return speedate_duration_compare(first.c_, second.c_, out); });
+    }
+    friend std::ostream &operator<<(std::ostream &to, const Duration &duration) { return to << duration.to_text(); }
+
+  private:
+    template <class T, class C, class Call> friend Result<T> detail::written(Call);
+    explicit Duration(SpeedateDuration duration) noexcept : c_(duration) {}
+    template <class Call> static Result<Duration> from_c(Call call) {
+        return detail::written<Duration, SpeedateDuration>(call);
+    }
+
+    SpeedateDuration c_;
+};
+
+/* ---- Columns ---- */
+
+/* How far a column has come: how many lines have a number in it, how many bytes they take, and the error of the next
+ * line, if that is refused and ends the column. */
+struct Progress {
+    explicit Progress(const SpeedateProgress &from)
+        : lines(from.lines), bytes(from.bytes),
+          error(from.error == SPEEDATE_OK ? std::nullopt : std::optional<Error>(Error(from.error))) {}
+
+    std::size_t lines;
+    std::size_t bytes;
+    std::optional<Error> error;
+};
+
+namespace detail {
+
+template <class Call> Result<Progress> column(Call call) { return written<Progress, SpeedateProgress>(call); }
+
+} // namespace detail
+
+/* Read the lines of a text as numbers, as many as there is room for in `out`, an array, a std::vector or another
+ * container with contiguous numbers: std::int32_t for dates, otherwise std::int64_t. The calls with errors write the
+ * code of each line into a container of std::uint8_t. */
+template <class Numbers>
+Result<Progress> date_column(std::string_view text, Numbers &out, const Config &config = {},
+                             const ColumnConfig &column = {}) {
+    return detail::column([&](auto *progress) {
+        return speedate_date_column(text.data(), text.size(), config.c(), column.c(), std::data(out), std::size(out),
+                                    progress);
+    });
+}
+template <class Numbers>
+Result<Progress> datetime_column(std::string_view text, Numbers &out, const Config &config = {},
+                                 const ColumnConfig &column = {}) {
+    return detail::column([&](auto *progress) {
+        return speedate_datetime_column(text.data(), text.size(), config.c(), column.c(), std::data(out),
+                                        std::size(out), progress);
+    });
+}
+template <class Numbers>
+Result<Progress> duration_column(std::string_view text, Numbers &out, const Config &config = {},
+                                 const ColumnConfig &column = {}) {
+    return detail::column([&](auto *progress) {
+        return speedate_duration_column(text.data(), text.size(), config.c(), column.c(), std::data(out),
+                                        std::size(out), progress);
+    });
+}
+template <class Numbers, class Codes>
+Result<Progress> date_column_with_errors(std::string_view text, Numbers &out, Codes &errors, const Config &config = {},
+                                         const ColumnConfig &column = {}) {
+    return detail::column([&](auto *progress) {
+        return speedate_date_column_with_errors(text.data(), text.size(), config.c(), column.c(), std::data(out),
+                                                std::size(out), std::data(errors), std::size(errors), progress);
+    });
+}
+template <class Numbers, class Codes>
+Result<Progress> datetime_column_with_errors(std::string_view text, Numbers &out, Codes &errors,
+                                             const Config &config = {}, const ColumnConfig &column = {}) {
+    return detail::column([&](auto *progress) {
+        return speedate_datetime_column_with_errors(text.data(), text.size(), config.c(), column.c(), std::data(out),
+                                                    std::size(out), std::data(errors), std::size(errors), progress);
+    });
+}
+template <class Numbers, class Codes>
+Result<Progress> duration_column_with_errors(std::string_view text, Numbers &out, Codes &errors,
+                                             const Config &config = {}, const ColumnConfig &column = {}) {
+    return detail::column([&](auto *progress) {
+        return speedate_duration_column_with_errors(text.data(), text.size(), config.c(), column.c(), std::data(out),
+                                                    std::size(out), std::data(errors), std::size(errors), progress);
+    });
+}
+
+/* ---- Numbers and versions ---- */
+
+/* The whole number of a text. */
+inline Result<std::int64_t> int_parse(std::string_view text) {
+    return detail::number<std::int64_t>([&](auto *out) { return speedate_int_parse(text.data(), text.size(), out); });
+}
+
+/* The version and the minor version of the library that is called. */
+inline int version() noexcept { return speedate_version(); }
+inline int version_minor() noexcept { return speedate_version_minor(); }
+
+} // namespace speedate
+
+#endif

@@ -1,0 +1,276 @@
+// Tries every call of speedate.hpp: that it is the call of speedate.h that it says, with its arguments in their order.
+#include "speedate.hpp"
+
+#include <algorithm>
+#include <array>
+#include <iostream>
+#include <sstream>
+#include <vector>
+
+using namespace speedate;
+
+static int failures = 0;
+
+#define CHECK(condition)                                                                                               \
+    do {                                                                                                               \
+        if (!(condition)) {                                                                                            \
+            std::cerr << __FILE__ << ':' << __LINE__ << ": " << #condition << '\n';                                    \
+            failures++;                                                                                                \
+        }                                                                                                              \
+    } while (0)
+
+// What a result has: the text of its value, or the name of its error.
+template <class T> static std::string said(const Result<T> &result) {
+    std::ostringstream to;
+    if (result)
+        to << *result;
+    else
+        to << result.error();
+    return to.str();
+}
+template <class T> static std::string said(const Result<Front<T>> &result) {
+    return result ? result->value.to_text() + " " + std::to_string(result->size) : result.error().name();
+}
+// A place of an error, or -1.
+static int at(std::optional<std::size_t> place) { return place ? static_cast<int>(*place) : -1; }
+
+static Date date(const char *text) { return Date::parse(text).value(); }
+static Time time_of(const char *text) { return Time::parse(text).value(); }
+static DateTime moment(const char *text) { return DateTime::parse(text).value(); }
+static Duration length(const char *text) { return Duration::parse(text).value(); }
+
+static Config with(Unit unit, Overflow overflow, Order order, std::optional<std::int32_t> offset = std::nullopt) {
+    Config config;
+    config.timestamp_offset = offset;
+    config.timestamp_unit = unit;
+    config.overflow = overflow;
+    config.iso_order = order;
+    return config;
+}
+
+static void results() {
+    const Result<Date> good = Date::parse("2020-02-29"), bad = Date::parse("2021-02-29");
+    CHECK(good && good.has_value() && good->day() == 29 && good.value() == *good);
+    CHECK(!bad && !bad.has_value() && bad.error() == Error(SPEEDATE_OUT_OF_RANGE_DAY));
+    CHECK(bad.error().code() == SPEEDATE_OUT_OF_RANGE_DAY && bad.error() != Error(SPEEDATE_TOO_SHORT));
+    CHECK(bad.error().name() == "out_of_range_day" && Error(1000).name() == "unknown code");
+    CHECK(bad.error().documentation() == "day value is outside expected range");
+    CHECK(bad.value_or(*good) == *good && good.value_or(date("2020-03-01")) == *good);
+    bool throws = false;
+    try {
+        static_cast<void>(bad.value());
+    } catch (const Failure &failure) {
+        throws = failure.error() == bad.error() && failure.what() == std::string("out_of_range_day");
+    }
+    CHECK(throws);
+    CHECK(version() == SPEEDATE_VERSION && version_minor() >= SPEEDATE_VERSION_MINOR);
+    CHECK(int_parse("-012").value() == -12 && int_parse("1.5").error() == Error(SPEEDATE_INVALID_INTEGER));
+}
+
+static void dates() {
+    const Config microseconds = with(Unit::Microsecond, Overflow::Error, Order::Lax);
+    CHECK(said(Date::of(2020, 2, 29)) == "2020-02-29" && said(Date::of(2021, 2, 29)) == "out_of_range_day");
+    CHECK(said(Date::of(SpeedateDate{10000, 13, 1})) == "date_too_large");
+    CHECK(date("2020-02-29").year() == 2020 && date("2020-02-29").month() == 2 && date("2020-02-29").day() == 29);
+    CHECK(said(Date::parse("86400000000", microseconds)) == "1970-01-02" && said(Date::parse("")) == "too_short");
+    CHECK(said(Date::parse_rfc3339("2020-02-29")) == "2020-02-29" && !Date::parse_rfc3339("1582934400"));
+    CHECK(said(Date::parse_front("2020-02-29 opening balance")) == "2020-02-29 10");
+    CHECK(said(Date::parse_front("2020-02-2")) == "too_short");
+    CHECK(at(Date::error_place("2020-13-01")) == 5 && at(Date::error_place("86400")) == -1);
+    CHECK(at(Date::error_place("86400", microseconds)) == 0);
+    CHECK(at(Date::error_place("x", with(Unit::Infer, Overflow::Error, Order::Lax, 86400))) == -1);
+    CHECK(at(Date::error_place_rfc3339("2020-01-01T12:13")) == 10 && at(Date::error_place_front("2026-11-2")) == 9);
+    CHECK(said(Date::from_timestamp(86401, false)) == "1970-01-02" &&
+          said(Date::from_timestamp(86401, true)) == "date_not_exact");
+    CHECK(said(Date::from_timestamp(86400000000, true, microseconds)) == "1970-01-02");
+    CHECK(said(Date::from_day_number(737790)) == "2020-01-01" &&
+          said(Date::from_day_number(3652425)) == "no_such_date");
+    CHECK(date("1970-01-02").timestamp() == 86400 && date("1970-01-02").timestamp_ms() == 86400000);
+    CHECK(date("2020-01-01").day_number() == 737790 && date("2020-12-31").ordinal_day() == 366);
+    CHECK(said(date("2020-02-28").add_days(2)) == "2020-03-01" &&
+          said(date("9999-12-31").add_days(1)) == "no_such_date");
+    CHECK(date("2020-03-01").days_since(date("2020-02-28")) == 2);
+    const Date early = date("2020-02-29"), late = date("2020-03-01");
+    CHECK(early < late && late > early && early <= late && late >= early && early <= early && early >= early);
+    CHECK(!(late < early) && !(early > late) && early == early && early != late && !(early == late) &&
+          !(early != early));
+    CHECK(compare(early, late) < 0 && compare(late, early) > 0 && compare(early, early) == 0);
+    std::vector<Date> sorted = {late, early};
+    std::sort(sorted.begin(), sorted.end());
+    CHECK(sorted[0] == early);
+}
+
+static void times() {
+    const Config cut = with(Unit::Infer, Overflow::Truncate, Order::Lax);
+    const Time time = time_of("12:13:14.5+01:30");
+    CHECK(time == Time::of(12, 13, 14, 500000, 5400).value() && time != Time::of(12, 13, 14, 500000).value());
+    CHECK(time.hour() == 12 && time.minute() == 13 && time.second() == 14 && time.microsecond() == 500000);
+    CHECK(time.offset() == 5400 && !time_of("12:13").offset());
+    CHECK(said(Time::of(12, 60)) == "out_of_range_minute" && said(Time::of(12, 0, 0, 0, 86400)) == "out_of_range_tz");
+    CHECK(Time::of(SpeedateTime{12, 13, 0, 0, 0, 7}).value() == time_of("12:13"));
+    CHECK(said(Time::parse("12:13:14.1234567", cut)) == "12:13:14.123456" &&
+          said(Time::parse("24:00")) == "out_of_range_hour");
+    CHECK(said(Time::parse_strict("12:13:14Z")) == "12:13:14Z" &&
+          said(Time::parse_strict("12:13:14")) == "tz_required");
+    CHECK(said(Time::parse_strict("12:13:14.1234567Z", cut)) == "12:13:14.123456Z");
+    CHECK(said(Time::parse_front("12:13:14.1234567Z GET /", cut)) == "12:13:14.123456Z 17");
+    CHECK(at(Time::error_place("12:13:60")) == 6 && at(Time::error_place("12:13:14.1234567", cut)) == -1);
+    CHECK(at(Time::error_place_strict("12:13")) == 5 && at(Time::error_place_strict("12:13:14.1234567Z", cut)) == -1);
+    CHECK(at(Time::error_place_front("12:00:00-ERROR")) == 9 &&
+          at(Time::error_place_front("12:13:14.1234567", cut)) == -1);
+    CHECK(said(Time::from_timestamp(36005, 1500000)) == "10:00:06.500000" &&
+          said(Time::from_timestamp(86400, 0)) == "time_too_large");
+    CHECK(said(Time::from_timestamp(1, 0, with(Unit::Infer, Overflow::Error, Order::Lax, 60))) == "00:00:01+00:01");
+    CHECK(time.total_seconds() == 43994 && time.total_ms() == 43994500);
+    CHECK(said(time.in_timezone(0)) == "10:43:14.500000Z" && said(time_of("12:13").in_timezone(0)) == "tz_required");
+    CHECK(compare_instants(time_of("12:00Z"), time_of("13:00+01:00")) == 0 &&
+          time_of("12:00Z") != time_of("13:00+01:00"));
+    CHECK(compare_instants(time_of("12:00Z"), time_of("12:00+01:00")) > 0);
+}
+
+static void date_times() {
+    const Config unix_time = with(Unit::Second, Overflow::Truncate, Order::Lax, 0);
+    const DateTime value = moment("2020-02-29T12:13:14.5+01:30");
+    CHECK(value == DateTime(date("2020-02-29"), time_of("12:13:14.5+01:30")) && value.date() == date("2020-02-29"));
+    CHECK(value.time() == time_of("12:13:14.5+01:30") && value != moment("2020-02-29T12:13:14.5"));
+    CHECK(DateTime::of(value.c()).value() == value && said(DateTime::of(SpeedateDateTime{})) == "out_of_range_month");
+    CHECK(DateTime::of(SpeedateDateTime{{2020, 2, 29}, {12, 13, 0, 0, 0, 7}}).value() == moment("2020-02-29T12:13"));
+    CHECK(said(DateTime::parse("20000000001", unix_time)) == "2603-10-11T11:33:21Z");
+    CHECK(said(DateTime::parse_rfc3339("2020-02-29 12:13")) == "2020-02-29T12:13:00" && !DateTime::parse_rfc3339("1"));
+    CHECK(said(DateTime::parse_rfc3339("2020-02-29 12:13:14.1234567", unix_time)) == "2020-02-29T12:13:14.123456");
+    CHECK(said(DateTime::parse_strict("2020-02-29T12:13:14.1234567Z", unix_time)) == "2020-02-29T12:13:14.123456Z");
+    CHECK(said(DateTime::parse_strict("2020-02-29 12:13:14Z")) == "invalid_char_date_time_sep");
+    CHECK(said(DateTime::parse_front("2026-11-22T12:13:14.1234567Z GET /", unix_time)) ==
+          "2026-11-22T12:13:14.123456Z 28");
+    CHECK(at(DateTime::error_place("2020-02-29T12:13:60")) == 17 &&
+          at(DateTime::error_place("1.0000000", unix_time)) == -1);
+    CHECK(at(DateTime::error_place_rfc3339("2020-02-29")) == 10);
+    CHECK(at(DateTime::error_place_rfc3339("2020-02-29T12:13:14.1234567", unix_time)) == -1);
+    CHECK(at(DateTime::error_place_strict("2020-02-29T12:13:14")) == 19);
+    CHECK(at(DateTime::error_place_strict("2020-02-29T12:13:14.1234567Z", unix_time)) == -1);
+    CHECK(at(DateTime::error_place_front("2026-11-22T12:00:00-ERROR")) == 20);
+    CHECK(at(DateTime::error_place_front("2026-11-22T12:00:00.1234567", unix_time)) == -1);
+    CHECK(said(DateTime::from_timestamp(1, 2)) == "1970-01-01T00:00:01.000002");
+    CHECK(said(DateTime::from_timestamp(20000000001, 0, unix_time)) == "2603-10-11T11:33:21Z");
+    const DateTime zoned = moment("1970-01-01T01:00:01.5+01:00");
+    CHECK(zoned.timestamp() == 3601 && zoned.timestamp_ms() == 3601500 && zoned.timestamp_tz() == 1);
+    CHECK(zoned.timestamp_tz_ms() == 1500 && zoned.timestamp_tz_us() == 1500000);
+    CHECK(said(zoned.in_timezone(0)) == "1970-01-01T00:00:01.500000Z" &&
+          said(zoned.in_timezone(86400)) == "out_of_range_tz");
+    CHECK(compare_instants(zoned, zoned.in_timezone(0).value()) == 0 && zoned != zoned.in_timezone(0).value());
+    CHECK(compare_instants(moment("1970-01-01T00:00Z"), zoned) < 0);
+}
+
+static void durations() {
+    const Duration duration = length("-P1DT2.000003S");
+    CHECK(duration == Duration::of(true, 1, 2, 3).value() && duration != Duration::of(false, 1, 2, 3).value());
+    CHECK(duration.negative() && duration.day() == 1 && duration.second() == 2 && duration.microsecond() == 3);
+    CHECK(said(Duration::of(false, 1, 86500, 1000123)) == "P2DT1M41.000123S" &&
+          said(Duration::of(false, 1000000000)) == "duration_days_too_large");
+    CHECK(Duration::checked(duration.c()).value() == duration);
+    CHECK(said(Duration::checked(SpeedateDuration{0, 0, 86400, 0})) == "duration_value_too_large");
+    CHECK(said(Duration::parse("P1D1Y")) == "P1Y1D" && at(Duration::error_place("P1D1Q")) == 4);
+    const Config strict = with(Unit::Infer, Overflow::Error, Order::Strict);
+    CHECK(said(Duration::parse("P1D1Y", strict)) == "duration_unit_order" &&
+          at(Duration::error_place("P1D1Y", strict)) == 4);
+    CHECK(duration.signed_total_seconds() == std::chrono::seconds(-86402));
+    CHECK(duration.signed_total_ms() == std::chrono::milliseconds(-86402000));
+    CHECK(duration.signed_microseconds() == std::chrono::microseconds(-3));
+    CHECK((-duration).to_text() == "P1DT2.000003S");
+    const DateTime start = moment("2020-02-29T23:00Z"), end = moment("2020-03-01T00:30Z");
+    CHECK(Duration::between(start, end).to_text() == "PT1H30M" &&
+          Duration::between(end, start).to_text() == "-PT1H30M");
+    CHECK(Duration::between(start.date(), end.date()).to_text() == "P1D");
+    CHECK(length("PT90M").after(start).value() == end && length("PT90M").before(end).value() == start);
+    CHECK(length("P1D").after(start.date()).value() == end.date() &&
+          length("P1D").before(end.date()).value() == start.date());
+    CHECK(said(length("PT1H").after(start.date())) == "date_not_exact" &&
+          said(length("P9999Y").before(end)) == "date_too_small");
+    const Duration less = length("-PT0S"), more = length("PT0S");
+    CHECK(less < more && more > less && less <= more && more >= less && less != more && compare(less, more) < 0);
+}
+
+static void columns() {
+    std::vector<std::int64_t> numbers(3, 7);
+    std::array<std::uint8_t, 2> errors = {7, 7};
+    std::int32_t days[2] = {7, 7};
+    ColumnConfig column;
+    const std::string_view moments = "1970-01-01T00:00:01Z\n1970-01-01T01:00+01:00\nago\n";
+    Progress read = datetime_column(moments, numbers).value();
+    CHECK(read.lines == 2 && read.bytes == moments.size() - 4 && read.error == Error(SPEEDATE_TOO_SHORT));
+    CHECK(numbers == std::vector<std::int64_t>({1000000, 0, 7}));
+    column.goes_on = true;
+    read = datetime_column(moments, numbers, {}, column).value();
+    CHECK(read.lines == 3 && !read.error && numbers[2] == INT64_MIN);
+    column = ColumnConfig();
+    column.more_follows = true;
+    column.drops_returns = true;
+    column.form = Form::Timestamp;
+    read = date_column("86400\r\n1970-01-0", days, {}, column).value();
+    CHECK(read.lines == 1 && read.bytes == 7 && !read.error && days[0] == 1 && days[1] == 7);
+    read = duration_column("PT1.5S\n-00:01:00\n", numbers).value();
+    CHECK(read.lines == 2 && numbers[0] == 1500000 && numbers[1] == -60000000);
+    column = ColumnConfig();
+    column.assumes_utc = true;
+    CHECK(datetime_column("1970-01-01T00:00:02", numbers, {}, column).value().lines == 1 && numbers[0] == 2000000);
+    column.form = Form::Strict;
+    CHECK(said(date_column("", days, {}, column).has_value()
+                   ? Result<Date>(date("2020-02-29"))
+                   : Error(SPEEDATE_CONFIG_OUT_OF_RANGE)) == "config_out_of_range");
+    read = datetime_column_with_errors("1970-01-01T00:00Z\n24:00\n1970-01-01T00:00Z", numbers, errors).value();
+    CHECK(read.lines == 2 && numbers[0] == 0 && numbers[1] == INT64_MIN);
+    CHECK(errors[0] == 0 && errors[1] == SPEEDATE_TOO_SHORT);
+    read = date_column_with_errors("1970-01-03\nx", days, errors).value();
+    CHECK(read.lines == 2 && days[0] == 2 && days[1] == INT32_MIN && errors[1] == SPEEDATE_TOO_SHORT);
+    read = duration_column_with_errors("PT2S\nP999999999D", numbers, errors).value();
+    CHECK(read.lines == 2 && numbers[0] == 2000000 && errors[1] == SPEEDATE_NUMBER_TOO_LARGE);
+
+    // Each call hands on both configurations: by the first the line is read, or refused, and by the second it is cut.
+    const Config config = with(Unit::Microsecond, Overflow::Error, Order::Strict);
+    column = ColumnConfig();
+    column.form = Form::Timestamp;
+    column.drops_returns = true;
+    column.assumes_utc = true;
+    CHECK(date_column("86400000000\r\n", days, config, column).value().lines == 1 && days[0] == 1);
+    CHECK(datetime_column("5\r\n", numbers, config, column).value().lines == 1 && numbers[0] == 5);
+    CHECK(duration_column("PT3S\r\n", numbers, config, column).value().lines == 1 && numbers[0] == 3000000);
+    CHECK(duration_column("PT1S1M", numbers, config, column).value().error == Error(SPEEDATE_DURATION_UNIT_ORDER));
+    CHECK(date_column_with_errors("172800000000\r\n", days, errors, config, column).value().lines == 1);
+    CHECK(days[0] == 2 && errors[0] == 0);
+    CHECK(datetime_column_with_errors("7\r\n", numbers, errors, config, column).value().lines == 1);
+    CHECK(numbers[0] == 7 && errors[0] == 0);
+    CHECK(duration_column_with_errors("PT4S\r\nPT1S1M", numbers, errors, config, column).value().lines == 2);
+    CHECK(numbers[0] == 4000000 && errors[0] == 0 && errors[1] == SPEEDATE_DURATION_UNIT_ORDER);
+}
+
+static void chrono() {
+    const DateTime value = moment("2020-02-29T12:13:14.5+01:30");
+    const SysTime point(std::chrono::microseconds(1582972994500000));
+    CHECK(value.sys_time() == point && said(DateTime::of(point)) == "2020-02-29T10:43:14.500000Z");
+    CHECK(said(DateTime::of(SysTime(std::chrono::microseconds(INT64_MAX)))) == "date_too_large");
+    CHECK(said(DateTime::of(SysTime(std::chrono::microseconds(-1)))) == "1969-12-31T23:59:59.999999Z");
+#ifdef SPEEDATE_HAS_CALENDAR
+    using namespace std::chrono;
+    CHECK(date("2020-02-29").year_month_day() == 2020y / February / 29d);
+    CHECK(said(Date::of(2020y / February / 29d)) == "2020-02-29" &&
+          said(Date::of(2021y / February / 29d)) == "out_of_range_day");
+    CHECK(said(Date::of(year(-1) / December / 31d)) == "date_too_small" &&
+          said(Date::of(year(10000) / 1 / 1)) == "date_too_large");
+    CHECK(sys_days(date("1970-01-02").year_month_day()) == sys_days(days(1)));
+    const sys_time<microseconds> moment_of_20 = value.sys_time();
+    CHECK(DateTime::of(moment_of_20).value() == value.in_timezone(0).value());
+#elif __cplusplus >= 202002L
+    std::cout << "not tried: year_month_day, since this library of C++ has no calendar\n";
+#endif
+}
+
+int main() {
+    results();
+    dates();
+    times();
+    date_times();
+    durations();
+    columns();
+    chrono();
+    return failures != 0;
+}
