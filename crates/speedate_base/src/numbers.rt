@@ -1,9 +1,8 @@
 //! Whole numbers and decimals, and the digits that they are made of.
 
-ghost use Rattle.std.specs.Prelude.{◌≡◌, ◌==◌, ◌||◌, ◌^◌, ◌<◌, ◌≤◌, length, Some, None, if◌then◌else◌};
-ghost use Rattle.std.specs.Char.{is_ascii_digit};
+ghost use Rattle.std.specs.Prelude.{◌≡◌, ◌==◌, ◌&&◌, ◌^◌, ◌<◌, ◌≤◌, length, nat_le, Some, None, if◌then◌else◌};
 ghost use Rattle.speedate_base.specs.Ascii.{full_stop};
-ghost use Rattle.speedate_base.specs.Digits.{run_length, digits_value};
+ghost use Rattle.speedate_base.specs.Digits.{digit, run_length, digits_value};
 ghost use Rattle.speedate_base.specs.Numbers.{
   has_minus,
   sign_size,
@@ -94,7 +93,7 @@ pub fn float_parse_bytes(bytes: &[u8]) -> IntFloat<'_>
 {
     let (negative, start) = sign(bytes);
     // Most texts that are no number show it here.
-    if !begins_digits(byte_at(bytes, start)) {
+    if !may_begin_digits(byte_at(bytes, start)) {
         return IntFloat::Err;
     }
     match spelled_number(&bytes[start..]) {
@@ -106,12 +105,13 @@ pub fn float_parse_bytes(bytes: &[u8]) -> IntFloat<'_>
     }
 }
 
-/// Whether the digits of a number, or its point before them, may begin with a byte.
+/// Whether the digits of a number, or its point before them, may begin with a byte. So may `/`, which
+/// stands between the point and the digits: one comparison tells these from all others.
 #[inline(always)]
-fn begins_digits(byte: u8) -> bool
-    ensures { result ≡ (is_ascii_digit byte || (byte == full_stop)) }
+fn may_begin_digits(byte: u8) -> bool
+    ensures { result ≡ (nat_le full_stop byte && nat_le byte (digit 9)) }
 {
-    byte.is_ascii_digit() || byte == b'.'
+    byte >= b'.' && byte <= b'9'
 }
 
 /// The decimal whose digits begin at `start`, and whose point is at `point` if there is one.
