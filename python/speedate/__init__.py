@@ -30,13 +30,6 @@ __all__ = [
     "date_time", "date_time_column", "date_time_from_timestamp", "date_time_front", "date_time_strict", "duration",
     "duration_column", "text", "time_from_timestamp", "time_front", "time_strict"]
 
-
-def __getattr__(name):
-    if name == "datetime":
-        raise AttributeError("module 'speedate' has no attribute 'datetime': the call is date_time")
-    raise AttributeError(f"module {__name__!r} has no attribute {name!r}")
-
-
 for _call in (time, *map(globals().get, __all__)):
     if isinstance(_call, type(text)):
         _call.__module__ = __name__

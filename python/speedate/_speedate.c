@@ -111,11 +111,23 @@ static PyObject *raise_fault(const State *state, int code) {
     return raise_error(PyObject_CallFunction(state->held[FAULT], "i", code));
 }
 
+/* The bytes of a text, and the object that has them, if it has to be kept alive. */
+typedef struct {
+    const char *bytes;
+    size_t size;
+    PyObject *owner;
+} Text;
+
+/* What no one can write of a text, and may be kept: a str, or the bytes that were read. */
+static inline PyObject *source_of(PyObject *object, const Text *text) {
+    return text->owner && !PyUnicode_Check(object) ? text->owner : object;
+}
+
 /* Raises an Unrepresentable, which keeps its text as a Fault does, if it is of one. */
-static PyObject *raise_unrepresentable(const State *state, const char *name, PyObject *source) {
+static PyObject *raise_unrepresentable(const State *state, const char *name, PyObject *object, const Text *text) {
     PyObject *error = PyObject_CallFunction(state->held[UNREPRESENTABLE], "s", name);
-    if (error && source &&
-        (PyObject_SetAttrString(error, slot_names[SOURCE], source) < 0 ||
+    if (error && object &&
+        (PyObject_SetAttrString(error, slot_names[SOURCE], source_of(object, text)) < 0 ||
          PyObject_SetAttrString(error, slot_names[CALL_NUMBER], Py_None) < 0))
         Py_CLEAR(error);
     return raise_error(error);
@@ -151,17 +163,17 @@ static inline PyObject *zone_of(const State *state, const SpeedateTime *time) {
     return zone;
 }
 
-/* What makes a value is given its text too, or NULL: an error keeps it. */
+/* What makes a value is given its text too, if it is of one. */
 
-static PyObject *make_date(const State *state, const Value *value, PyObject *source) {
+static PyObject *make_date(const State *state, const Value *value, PyObject *object, const Text *text) {
     SpeedateDate it = value->date;
     if (it.year == 0)
-        return raise_unrepresentable(state, "year_zero", source);
+        return raise_unrepresentable(state, "year_zero", object, text);
     return state->datetime->Date_FromDate(it.year, it.month, it.day, state->datetime->DateType);
 }
 
-static PyObject *make_time(const State *state, const Value *value, PyObject *source) {
-    (void)source;
+static PyObject *make_time(const State *state, const Value *value, PyObject *object, const Text *text) {
+    (void)object, (void)text;
     PyDateTime_CAPI *api = state->datetime;
     SpeedateTime it = value->time;
     PyObject *made = NULL, *zone = zone_of(state, &it);
@@ -172,12 +184,12 @@ static PyObject *make_time(const State *state, const Value *value, PyObject *sou
     return made;
 }
 
-static PyObject *make_date_time(const State *state, const Value *value, PyObject *source) {
+static PyObject *make_date_time(const State *state, const Value *value, PyObject *object, const Text *text) {
     PyDateTime_CAPI *api = state->datetime;
     SpeedateDate day = value->date_time.date;
     SpeedateTime it = value->date_time.time;
     if (day.year == 0)
-        return raise_unrepresentable(state, "year_zero", source);
+        return raise_unrepresentable(state, "year_zero", object, text);
     PyObject *zone = zone_of(state, &it);
     if (!zone)
         return NULL;
@@ -187,7 +199,7 @@ static PyObject *make_date_time(const State *state, const Value *value, PyObject
     return made;
 }
 
-static PyObject *make_duration(const State *state, const Value *value, PyObject *source) {
+static PyObject *make_duration(const State *state, const Value *value, PyObject *object, const Text *text) {
     PyDateTime_CAPI *api = state->datetime;
     SpeedateDuration it = value->duration;
     int sign = it.negative ? -1 : 1;
@@ -195,7 +207,7 @@ static PyObject *make_duration(const State *state, const Value *value, PyObject 
                                           api->DeltaType);
     if (!made && PyErr_ExceptionMatches(PyExc_OverflowError)) {
         PyErr_Clear();
-        return raise_unrepresentable(state, "duration_too_small", source);
+        return raise_unrepresentable(state, "duration_too_small", object, text);
     }
     return made;
 }
@@ -251,13 +263,6 @@ static inline int bind(const Signature *signature, PyObject *const *arguments, P
                           signature->parameters[0]);
     return 0;
 }
-
-/* The bytes of a text, and the object that has them, if it has to be kept alive. */
-typedef struct {
-    const char *bytes;
-    size_t size;
-    PyObject *owner;
-} Text;
 
 static inline int give_bytes(const char *bytes, Py_ssize_t size, PyObject *owner, Text *text) {
     *text = (Text){bytes, (size_t)size, owner};
@@ -322,11 +327,6 @@ static int take_other_text(PyObject *object, Py_ssize_t index, Text *text) {
     if (PyByteArray_Check(object))
         return give_made(PyBytes_FromStringAndSize(PyByteArray_AS_STRING(object), PyByteArray_GET_SIZE(object)), text);
     return PyMemoryView_Check(object) ? take_memoryview(object, index, text) : wrong_text(index, object);
-}
-
-/* What no one can write of a text, and may be kept: a str, or the bytes that were read. */
-static inline PyObject *source_of(PyObject *object, const Text *text) {
-    return text->owner && !PyUnicode_Check(object) ? text->owner : object;
 }
 
 /* Takes the bytes of a text: its index in a column is negative outside of one. */
@@ -453,7 +453,7 @@ FIND_PLACE(place_of_date_time_strict, speedate_datetime_error_place_strict(BYTES
 FIND_PLACE(place_of_date_time_front, speedate_datetime_error_place_front(BYTES, config, place))
 FIND_PLACE(place_of_duration, speedate_duration_error_place(BYTES, config, place))
 
-/* The calls whose faults have places. */
+/* The parsers, whose faults have places. */
 enum {
     NO_PLACE,
     DATE,
@@ -469,25 +469,27 @@ enum {
     DURATION,
     ALL_PLACES
 };
-static FindPlace *const find_place[ALL_PLACES] = {
-    [DATE] = place_of_date,
-    [DATE_OR_TIMESTAMP] = place_of_date_or_timestamp,
-    [DATE_FRONT] = place_of_date_front,
-    [TIME] = place_of_time,
-    [TIME_STRICT] = place_of_time_strict,
-    [TIME_FRONT] = place_of_time_front,
-    [DATE_TIME] = place_of_date_time,
-    [DATE_TIME_OR_TIMESTAMP] = place_of_date_time_or_timestamp,
-    [DATE_TIME_STRICT] = place_of_date_time_strict,
-    [DATE_TIME_FRONT] = place_of_date_time_front,
-    [DURATION] = place_of_duration,
+static const struct {
+    Parse *parse;
+    FindPlace *find_place;
+} parsers[ALL_PLACES] = {
+    [DATE] = {parse_date, place_of_date},
+    [DATE_OR_TIMESTAMP] = {parse_date_or_timestamp, place_of_date_or_timestamp},
+    [DATE_FRONT] = {parse_date_front, place_of_date_front},
+    [TIME] = {parse_time, place_of_time},
+    [TIME_STRICT] = {parse_time_strict, place_of_time_strict},
+    [TIME_FRONT] = {parse_time_front, place_of_time_front},
+    [DATE_TIME] = {parse_date_time, place_of_date_time},
+    [DATE_TIME_OR_TIMESTAMP] = {parse_date_time_or_timestamp, place_of_date_time_or_timestamp},
+    [DATE_TIME_STRICT] = {parse_date_time_strict, place_of_date_time_strict},
+    [DATE_TIME_FRONT] = {parse_date_time_front, place_of_date_time_front},
+    [DURATION] = {parse_duration, place_of_duration},
 };
 
 typedef struct {
     Signature signature;
-    PyObject *(*make)(const State *state, const Value *value, PyObject *source);
-    Parse *parse, *parse_timestamp; /* the second with timestamps=True */
-    int place, place_timestamp;     /* the same, of the calls above */
+    PyObject *(*make)(const State *state, const Value *value, PyObject *object, const Text *text);
+    int parser, timestamp_parser; /* of those above: the second with timestamps=True, or NO_PLACE */
 } Reader;
 
 /* One number for a call and what its faults depend on of a configuration, less than 256, so that Python has it ready. */
@@ -502,13 +504,13 @@ static inline void keep(const State *state, PyObject *fault, int slot, PyObject 
     *(PyObject **)((char *)fault + state->offsets[slot]) = object;
 }
 
-/* Cuts off a byte order mark, and tells whether there was one. */
-static bool cut_mark(Text *text) {
-    if (text->size < 3 || memcmp(text->bytes, "\xef\xbb\xbf", 3) != 0)
-        return false;
-    text->bytes += 3;
-    text->size -= 3;
-    return true;
+static inline bool has_mark(const Text *text) {
+    return text->size >= 3 && memcmp(text->bytes, "\xef\xbb\xbf", 3) == 0;
+}
+
+/* The text after a byte order mark. */
+static Text after_mark(const Text *text) {
+    return (Text){text->bytes + 3, text->size - 3, NULL};
 }
 
 /* Gives a Fault, if it could be made, the words of a hint, if it has one. */
@@ -519,7 +521,7 @@ static PyObject *with_hint(const State *state, PyObject *fault, int hint) {
 }
 
 /* Raises the Fault of a text, which it keeps. */
-static PyObject *refuse(const State *state, int code, PyObject *object, const Text *text, Parse *parse, int call,
+static PyObject *refuse(const State *state, int code, PyObject *object, const Text *text, int call,
                         SpeedateConfig config) {
     if (call == NO_PLACE || code < 1 || code > SPEEDATE_LAST_FAULT)
         return raise_fault(state, code);
@@ -530,11 +532,13 @@ static PyObject *refuse(const State *state, int code, PyObject *object, const Te
         keep(state, fault, CALL_NUMBER, number);
     }
     Py_XDECREF(number);
-    Text rest = *text;
-    Value value;
-    size_t taken;
-    if (cut_mark(&rest) && parse(&rest, config, &value, &taken) == SPEEDATE_OK)
-        fault = with_hint(state, fault, BYTE_ORDER_MARK);
+    if (has_mark(text)) {
+        Value value;
+        size_t taken;
+        Text rest = after_mark(text);
+        if (parsers[call].parse(&rest, config, &value, &taken) == SPEEDATE_OK)
+            fault = with_hint(state, fault, BYTE_ORDER_MARK);
+    }
     return raise_error(fault);
 }
 
@@ -547,16 +551,15 @@ static inline PyObject *read_text(const Reader *reader, GIVEN) {
     Value value;
     if (bind(&reader->signature, arguments, count, keywords, bound) < 0)
         return NULL;
-    if (reader->parse_timestamp && take_flag("timestamps", bound[2], &timestamps) < 0)
+    if (reader->timestamp_parser != NO_PLACE && take_flag("timestamps", bound[2], &timestamps) < 0)
         return NULL;
     if (take_text(bound[0], -1, &text) < 0)
         return NULL;
     if (take_config(state, bound[1], timestamps ? READS_ALL : READS_NONE, &config) == 0) {
-        Parse *parse = timestamps ? reader->parse_timestamp : reader->parse;
-        int code = parse(&text, config, &value, NULL);
-        int place = timestamps ? reader->place_timestamp : reader->place;
-        made = code == SPEEDATE_OK ? reader->make(state, &value, source_of(bound[0], &text))
-                                   : refuse(state, code, bound[0], &text, parse, place, config);
+        int parser = timestamps ? reader->timestamp_parser : reader->parser;
+        int code = parsers[parser].parse(&text, config, &value, NULL);
+        made = code == SPEEDATE_OK ? reader->make(state, &value, bound[0], &text)
+                                   : refuse(state, code, bound[0], &text, parser, config);
     }
     Py_XDECREF(text.owner);
     return made;
@@ -584,13 +587,10 @@ static PyObject *with_size(PyObject *made, Py_ssize_t size) {
 #define FRONT 256 /* characters that are looked at of a long text at first */
 #define BEYOND 64 /* bytes after a value or a fault, of which none changes it */
 
-/* Takes so many characters of a str, if it has more and would have to be encoded, and otherwise the whole text. */
+/* Takes so many characters of a str, and tells whether these are all that it has. */
 static int take_front(PyObject *object, Py_ssize_t size, Text *text, bool *whole) {
-    Py_ssize_t length = PyUnicode_Check(object) ? PyUnicode_GetLength(object) : 0;
-    *whole = length <= size || PyUnicode_IS_ASCII(object);
-    if (*whole)
-        return take_text(object, -1, text);
     PyObject *front = PyUnicode_Substring(object, 0, size);
+    *whole = PyUnicode_GET_LENGTH(object) <= size;
     int status = front ? take_text(front, -1, text) : -1;
     if (status == 0 && !text->owner)
         text->owner = front;
@@ -599,18 +599,23 @@ static int take_front(PyObject *object, Py_ssize_t size, Text *text, bool *whole
     return status;
 }
 
-/* Parses the front of a text. More of it is taken as long as that could change what is found. */
-static int parse_front(const Reader *reader, PyObject *object, SpeedateConfig config, Text *text, Value *value,
+/* Whether not all of a text is encoded, if its front alone is read. */
+static inline bool is_long(PyObject *object) {
+    return PyUnicode_Check(object) && !PyUnicode_IS_COMPACT_ASCII(object) && PyUnicode_GetLength(object) > FRONT;
+}
+
+/* Parses the front of a long text. More of it is taken as long as that could change what is found. */
+static int parse_long_front(const Reader *reader, PyObject *object, SpeedateConfig config, Text *text, Value *value,
                        size_t *taken, int *code) {
     for (Py_ssize_t size = FRONT;; size *= 8) {
         bool whole;
         size_t end;
         if (take_front(object, size, text, &whole) < 0)
             return -1;
-        *code = reader->parse(text, config, value, taken);
+        *code = parsers[reader->parser].parse(text, config, value, taken);
         if (whole)
             return 0;
-        int again = *code == SPEEDATE_OK ? (end = *taken, SPEEDATE_OK) : find_place[reader->place](text, config, &end);
+        int again = *code == SPEEDATE_OK ? (end = *taken, SPEEDATE_OK) : parsers[reader->parser].find_place(text, config, &end);
         if (again == *code && end + BEYOND <= text->size)
             return 0;
         Py_XDECREF(text->owner);
@@ -626,53 +631,35 @@ static inline PyObject *read_front(const Reader *reader, GIVEN) {
     size_t taken;
     int code;
     if (bind(&reader->signature, arguments, count, keywords, bound) < 0 ||
-        take_config(state, bound[1], READS_NONE, &config) < 0 ||
-        parse_front(reader, bound[0], config, &text, &value, &taken, &code) < 0)
+        take_config(state, bound[1], READS_NONE, &config) < 0)
         return NULL;
-    PyObject *pair = code == SPEEDATE_OK ? with_size(reader->make(state, &value, source_of(bound[0], &text)),
+    if (is_long(bound[0])) {
+        if (parse_long_front(reader, bound[0], config, &text, &value, &taken, &code) < 0)
+            return NULL;
+    } else {
+        if (take_text(bound[0], -1, &text) < 0)
+            return NULL;
+        code = parsers[reader->parser].parse(&text, config, &value, &taken);
+    }
+    PyObject *pair = code == SPEEDATE_OK ? with_size(reader->make(state, &value, bound[0], &text),
                                                      size_in(bound[0], &text, taken))
-                                         : refuse(state, code, bound[0], &text, reader->parse, reader->place, config);
+                                         : refuse(state, code, bound[0], &text, reader->parser, config);
     Py_XDECREF(text.owner);
     return pair;
 }
 
-static const Reader date_reader = {
-    {"date", {"text", "config", "timestamps"}, 2},
-    make_date,
-    parse_date,
-    parse_date_or_timestamp,
-    DATE,
-    DATE_OR_TIMESTAMP};
-static const Reader time_reader = {{"time", {"text", "config"}, 2}, make_time, parse_time, NULL, TIME, NO_PLACE};
+static const Reader date_reader = {{"date", {"text", "config", "timestamps"}, 2}, make_date, DATE, DATE_OR_TIMESTAMP};
+static const Reader time_reader = {{"time", {"text", "config"}, 2}, make_time, TIME, NO_PLACE};
 static const Reader date_time_reader = {
-    {"date_time", {"text", "config", "timestamps"}, 2},
-    make_date_time,
-    parse_date_time,
-    parse_date_time_or_timestamp,
-    DATE_TIME,
-    DATE_TIME_OR_TIMESTAMP};
-static const Reader duration_reader = {
-    {"duration", {"text", "config"}, 2}, make_duration, parse_duration, NULL, DURATION, NO_PLACE};
-static const Reader time_strict_reader = {
-    {"time_strict", {"text", "config"}, 2}, make_time, parse_time_strict, NULL, TIME_STRICT, NO_PLACE};
+    {"date_time", {"text", "config", "timestamps"}, 2}, make_date_time, DATE_TIME, DATE_TIME_OR_TIMESTAMP};
+static const Reader duration_reader = {{"duration", {"text", "config"}, 2}, make_duration, DURATION, NO_PLACE};
+static const Reader time_strict_reader = {{"time_strict", {"text", "config"}, 2}, make_time, TIME_STRICT, NO_PLACE};
 static const Reader date_time_strict_reader = {
-    {"date_time_strict", {"text", "config"}, 2},
-    make_date_time,
-    parse_date_time_strict,
-    NULL,
-    DATE_TIME_STRICT,
-    NO_PLACE};
-static const Reader date_front_reader = {
-    {"date_front", {"text"}, 1}, make_date, parse_date_front, NULL, DATE_FRONT, NO_PLACE};
-static const Reader time_front_reader = {
-    {"time_front", {"text", "config"}, 2}, make_time, parse_time_front, NULL, TIME_FRONT, NO_PLACE};
+    {"date_time_strict", {"text", "config"}, 2}, make_date_time, DATE_TIME_STRICT, NO_PLACE};
+static const Reader date_front_reader = {{"date_front", {"text"}, 1}, make_date, DATE_FRONT, NO_PLACE};
+static const Reader time_front_reader = {{"time_front", {"text", "config"}, 2}, make_time, TIME_FRONT, NO_PLACE};
 static const Reader date_time_front_reader = {
-    {"date_time_front", {"text", "config"}, 2},
-    make_date_time,
-    parse_date_time_front,
-    NULL,
-    DATE_TIME_FRONT,
-    NO_PLACE};
+    {"date_time_front", {"text", "config"}, 2}, make_date_time, DATE_TIME_FRONT, NO_PLACE};
 
 #define CALL(name, read) \
     static PyObject *call_##name(GIVEN) { \
@@ -702,28 +689,26 @@ static Py_ssize_t place_in(PyObject *object, const Text *text, size_t place) {
  * which is missing at its end, and a duration that is too large as a whole. */
 static Py_ssize_t place_in_column(int call, SpeedateConfig config, PyObject *object, const Text *text) {
     size_t place = text->size;
-    int code = find_place[call](text, config, &place);
+    int code = parsers[call].find_place(text, config, &place);
     return code == SPEEDATE_OK && call == DURATION ? -1 : place_in(object, text, place);
 }
 
 /* The code by which a call refuses a text, and the place of the error in it. */
 static int find_error(int call, SpeedateConfig config, PyObject *object, Py_ssize_t *place) {
-    bool front = call == DATE_FRONT || call == TIME_FRONT || call == DATE_TIME_FRONT, found;
-    int code;
-    Text text;
-    Py_ssize_t size = front ? FRONT : PY_SSIZE_T_MAX;
-    do {
+    bool front = (call == DATE_FRONT || call == TIME_FRONT || call == DATE_TIME_FRONT) && is_long(object), whole = true;
+    for (Py_ssize_t size = FRONT;; size *= 8) {
+        Text text;
         size_t at = 0;
-        if (take_front(object, size, &text, &found) < 0)
+        if ((front ? take_front(object, size, &text, &whole) : take_text(object, -1, &text)) < 0)
             return -1;
-        code = find_place[call](&text, config, &at);
-        found = found || (code != SPEEDATE_OK && at + BEYOND <= text.size);
+        int code = parsers[call].find_place(&text, config, &at);
+        bool found = whole || (code != SPEEDATE_OK && at + BEYOND <= text.size);
         if (found)
             *place = place_in(object, &text, at);
         Py_XDECREF(text.owner);
-        size *= 8;
-    } while (!found);
-    return code;
+        if (found)
+            return code;
+    }
 }
 
 /* The place of an error, from what a Fault keeps. */
@@ -769,7 +754,7 @@ static PyObject *call_date_from_timestamp(GIVEN) {
         take_flag("exact", bound[2], &exact) < 0 || take_config(state, bound[1], READS_ALL, &config) < 0)
         return NULL;
     int code = speedate_date_from_timestamp(timestamp, exact, config, &value.date);
-    return code == SPEEDATE_OK ? make_date(state, &value, NULL) : raise_fault(state, code);
+    return code == SPEEDATE_OK ? make_date(state, &value, NULL, NULL) : raise_fault(state, code);
 }
 
 static PyObject *call_time_from_timestamp(GIVEN) {
@@ -785,7 +770,7 @@ static PyObject *call_time_from_timestamp(GIVEN) {
         take_config(state, bound[2], READS_OFFSET, &config) < 0)
         return NULL;
     int code = speedate_time_from_timestamp((uint32_t)second, (uint32_t)microsecond, config, &value.time);
-    return code == SPEEDATE_OK ? make_time(state, &value, NULL) : raise_fault(state, code);
+    return code == SPEEDATE_OK ? make_time(state, &value, NULL, NULL) : raise_fault(state, code);
 }
 
 static PyObject *call_date_time_from_timestamp(GIVEN) {
@@ -801,7 +786,7 @@ static PyObject *call_date_time_from_timestamp(GIVEN) {
         take_config(state, bound[2], READS_ALL, &config) < 0)
         return NULL;
     int code = speedate_datetime_from_timestamp(timestamp, (uint32_t)microsecond, config, &value.date_time);
-    return code == SPEEDATE_OK ? make_date_time(state, &value, NULL) : raise_fault(state, code);
+    return code == SPEEDATE_OK ? make_date_time(state, &value, NULL, NULL) : raise_fault(state, code);
 }
 
 /* ---- Columns ---- */
@@ -844,9 +829,8 @@ typedef struct ColumnReader ColumnReader;
 typedef int NumberOf(const ColumnReader *reader, const Text *text, const Value *value, int64_t *number);
 struct ColumnReader {
     ReadLines *read;
-    Parse *parse;
     NumberOf *number_of;
-    int place; /* of the calls whose faults have places */
+    int parser; /* of a text of a list */
     SpeedateConfig config;
     SpeedateColumnConfig lines;
     bool empty_is_nat, items_are_lines;
@@ -880,7 +864,7 @@ static int number_of_duration(const ColumnReader *reader, const Text *text, cons
 /* The number of a text, or its code, with NOT_A_TIME. */
 static inline int read_number(const ColumnReader *reader, const Text *text, int64_t *number) {
     Value value;
-    int code = reader->parse(text, reader->config, &value, NULL);
+    int code = parsers[reader->parser].parse(text, reader->config, &value, NULL);
     if (code == SPEEDATE_OK)
         code = reader->number_of(reader, text, &value, number);
     if (code != SPEEDATE_OK)
@@ -1011,7 +995,7 @@ static int add_row(Column *column, int code, Py_ssize_t index, PyObject *item, c
     Table *table = column->table;
     table->indices[table->count] = index;
     table->codes[table->count] = (uint8_t)code;
-    table->places[table->count] = place_in_column(reader->place, reader->config, item, text);
+    table->places[table->count] = place_in_column(reader->parser, reader->config, item, text);
     return ++table->count < ROWS ? 0 : end_rows(column->state, table);
 }
 
@@ -1028,9 +1012,9 @@ static PyObject *kept_text(PyObject *item, const Text *text, size_t cut) {
 
 /* What a text has that alone refuses it. What ends a line is looked for in an item that may not have it. */
 static int hint_of(const ColumnReader *reader, const Text *text, bool is_line) {
-    Text rest = *text;
+    Text rest = has_mark(text) ? after_mark(text) : *text;
     int64_t number;
-    int hint = cut_mark(&rest) ? BYTE_ORDER_MARK : NO_HINT;
+    int hint = has_mark(text) ? BYTE_ORDER_MARK : NO_HINT;
     size_t size = rest.size;
     if (!is_line)
         cut_line_end(reader, &rest);
@@ -1048,7 +1032,7 @@ static PyObject *fault_of_text(Column *column, int code, Py_ssize_t index, PyObj
     if (!fault || code > LAST_OF_TEXTS || !PyObject_TypeCheck(fault, (PyTypeObject *)state->held[FAULT]))
         return fault;
     if (!column->call)
-        column->call = PyLong_FromLong(call_number(reader->place, reader->config) + OF_COLUMN);
+        column->call = PyLong_FromLong(call_number(reader->parser, reader->config) + OF_COLUMN);
     PyObject *source = column->call ? kept_text(item, text, cut) : NULL;
     if (!source) {
         Py_DECREF(fault);
@@ -1341,15 +1325,14 @@ static int take_naive(const State *state, PyObject *value, bool *out) {
     return *out ? 0 : take_choice(state, "naive", value, "error", "utc", out);
 }
 
-/* A call on columns. Its parameters stand in the order in which all have them, and its functions in that of the forms. */
+/* A call on columns. Its parameters stand in the order in which all have them, and its parsers in that of the forms. */
 enum { TEXTS, CONFIGURATION, FAULTS, NEWLINE, EMPTY, LINES, TIMESTAMPS, STRICT, NAIVE };
 #define OTHERS "config", "faults", "newline", "empty", "lines"
 typedef struct {
     Signature signature;
     ReadLines *read;
     NumberOf *number_of;
-    Parse *parse[SPEEDATE_FORM_STRICT + 1];
-    int place[SPEEDATE_FORM_STRICT + 1];
+    int parser[SPEEDATE_FORM_STRICT + 1];
 } ColumnCall;
 
 static PyObject *read_column(const ColumnCall *call, GIVEN) {
@@ -1376,9 +1359,8 @@ static PyObject *read_column(const ColumnCall *call, GIVEN) {
     reader->lines.drops_returns = !return_is_text;
     reader->lines.goes_on = nat;
     reader->read = call->read;
-    reader->parse = call->parse[reader->lines.form];
     reader->number_of = call->number_of;
-    reader->place = call->place[reader->lines.form];
+    reader->parser = call->parser[reader->lines.form];
     return column_of(&column, bound[TEXTS]);
 }
 
@@ -1386,19 +1368,16 @@ static const ColumnCall date_time_column_reader = {
     {"date_time_column", {"texts", OTHERS, "timestamps", "strict", "naive"}, 2},
     read_date_times,
     number_of_date_time,
-    {parse_date_time, parse_date_time_or_timestamp, parse_date_time_strict},
     {DATE_TIME, DATE_TIME_OR_TIMESTAMP, DATE_TIME_STRICT}};
 static const ColumnCall date_column_reader = {
     {"date_column", {"texts", OTHERS, "timestamps"}, 2},
     read_dates,
     number_of_date,
-    {parse_date, parse_date_or_timestamp, NULL},
     {DATE, DATE_OR_TIMESTAMP, NO_PLACE}};
 static const ColumnCall duration_column_reader = {
     {"duration_column", {"texts", OTHERS}, 2},
     read_durations,
     number_of_duration,
-    {parse_duration, NULL, NULL},
     {DURATION, NO_PLACE, NO_PLACE}};
 
 CALL(date_time_column, read_column)

@@ -214,8 +214,7 @@ Unrepresentable.__mro__[1:3], Fault.__mro__[1:3] -> ((<class 'speedate.Refusal'>
 listed(["x", "1970-01-01T00:00", None, "1970-01-01T00:00Z", b"2020-02-30T00:00Z"]) -> ([0, 1, 4], [1, 19, 22], [1, 16, 8])
 listed(b"x\n1970-01-01T00:00\n1970-01-01T00:00Z\n\n2020-02-30T00:00Z") -> ([0, 1, 3, 4], [1, 19, 1, 22], [1, 16, 0, 8])
 listed(b"PT1S\nP106751992D\nP1D1Q\n", duration_column), listed(["1970-01-01"], date_column) -> (([1, 2], [97, 33], [-1, 4]), ([], [], []))
-speedate.datetime -> AttributeError: module 'speedate' has no attribute 'datetime': the call is date_time
-speedate.other -> AttributeError: module 'speedate' has no attribute 'other'
+speedate.datetime -> AttributeError: module 'speedate' has no attribute 'datetime'
 text(datetime.timedelta(days=400)) -> 'P1Y35D'
 date_time_column(["13000000000", "20200229121314"], timestamps=True, naive="utc") -> array('q', [13000000000000000, 20200229121314000])
 Fault(1).place, Fault(1, 0).place, copy.copy(Fault(1)).place -> (None, None, None)
@@ -540,6 +539,9 @@ class Speedate(unittest.TestCase):
         self.assertEqual([name for name in speedate.__all__ if not hasattr(speedate, name)], [])
         # No other name is public, nor is a module, and a module that was imported before keeps its name.
         self.assertEqual({name for name in vars(speedate) if not name.startswith("_")}, {"time", *speedate.__all__} - {"__version__"})
+        if sys.version_info >= (3, 10):
+            run = subprocess.run([sys.executable, "-c", "import speedate; speedate.datetime('2020-02-29T12:13')"], stderr=subprocess.PIPE, universal_newlines=True)
+            self.assertIn("Did you mean: 'date_time'?", run.stderr)
         names = {}
         exec("import time, datetime; from speedate import *; time.sleep(0); datetime.date; date('2020-02-29')", names)
 
