@@ -21,8 +21,8 @@
 enum { NO_HINT, BYTE_ORDER_MARK, LINE_END, BOTH_HINTS };
 static const char *const hint_words[BOTH_HINTS + 1] = {
     [BYTE_ORDER_MARK] = "it begins with a byte order mark",
-    [LINE_END] = "it ends in what ends a line, which lines=True drops",
-    [BOTH_HINTS] = "it begins with a byte order mark, and ends in what ends a line",
+    [LINE_END] = "it has a line ending, which lines=True drops",
+    [BOTH_HINTS] = "it begins with a byte order mark, and has a line ending",
 };
 
 /* The places of the objects that are held from the import on. Nothing is added afterwards. */
@@ -1010,7 +1010,7 @@ static PyObject *kept_text(PyObject *item, const Text *text, size_t cut) {
     return source;
 }
 
-/* What a text has that alone refuses it. What ends a line is looked for in an item that may not have it. */
+/* What a text has that alone refuses it. A line ending is looked for in an item that may not have one. */
 static int hint_of(const ColumnReader *reader, const Text *text, bool is_line) {
     Text rest = has_mark(text) ? after_mark(text) : *text;
     int64_t number;

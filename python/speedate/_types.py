@@ -61,7 +61,7 @@ class Fault(Refusal):
     """Why the library refuses a text, or a number: the `name` of the fault, its `code` in C, and its `documentation`.
 
     Its `text`, `place` and `index` are those of a `Refusal`. Its `str` tells the index too, and its `hint`. This is `None`,
-    or says what alone refuses the text: a byte order mark, or what ends a line.
+    or says what alone refuses the text: a byte order mark, or a line ending.
 
     >>> try:
     ...     time("12:13:60")
@@ -72,7 +72,7 @@ class Fault(Refusal):
     (<Fault out_of_range_hour>, <Fault out_of_range_hour in text 1000>)
     >>> date_column(["1970-01-01\\n"])
     Traceback (most recent call last):
-    speedate.Fault: extra_characters in text 0: it ends in what ends a line, which lines=True drops
+    speedate.Fault: extra_characters in text 0: it has a line ending, which lines=True drops
     """
 
     __module__ = "speedate"

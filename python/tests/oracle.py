@@ -17,8 +17,8 @@ from speedate._types import _FIELDS, _choice, _integer, _items, _missing, _plain
 
 
 HINTS = {
-    (True, False): "it begins with a byte order mark", (False, True): "it ends in what ends a line, which lines=True drops",
-    (True, True): "it begins with a byte order mark, and ends in what ends a line"}
+    (True, False): "it begins with a byte order mark", (False, True): "it has a line ending, which lines=True drops",
+    (True, True): "it begins with a byte order mark, and has a line ending"}
 MARK = b"\xef\xbb\xbf"
 
 

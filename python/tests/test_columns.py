@@ -353,7 +353,7 @@ class Refusals(unittest.TestCase):
                     faults = []
                     with open(path, mode, **options) as file:
                         self.assertEqual(column(make(file), faults=faults), [NAT] * 3)
-                    self.assertEqual([it.hint for it in faults], ["it ends in what ends a line, which lines=True drops", None, "it ends in what ends a line, which lines=True drops"])
+                    self.assertEqual([it.hint for it in faults], ["it has a line ending, which lines=True drops", None, "it has a line ending, which lines=True drops"])
             with open(path, "w+") as file:
                 file.write(f"{SECOND}\n")
                 self.assertEqual(column(file), [])

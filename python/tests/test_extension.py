@@ -524,7 +524,8 @@ class Extension(unittest.TestCase):
         sources = [lambda: texts, lambda: iter(texts), lambda: lines, lambda: bytearray(lines), lambda: memoryview(lines), lambda: array.array("B", lines),
                    lambda: io.BytesIO(lines), lambda: memoryview(lines)[::2], lambda: [*texts, 5], lambda: {}, lambda: long, lambda: [None] * 1_000]
         for make in sources:
-            for faults in (lambda: "raise", lambda: "nat", list, dict):
+            # A dict gets arrays, whatever the texts are.
+            for faults in (lambda: "raise", lambda: "nat", list, *[dict] * (make in sources[:3] or make is sources[8])):
                 once = lambda: outcome(speedate, name, [anew(make)], {"faults": anew(faults), "lines": same(True)})
                 self.assertLess(growth(once, 20), 0.5, (make(), faults))
 

@@ -71,15 +71,15 @@ date_time_column(b"1970-01-01T00:00Z\r", newline="\n") -> Fault: extra_character
 date_time_column(b"1970-01-01T00:00Z\r\r") -> Fault: extra_characters in text 0
 date_time_column(b"1970-01-01T00:00Z\r\r\n") -> Fault: extra_characters in text 0
 date_time_column(b"1970-01-01T00:00Z\n\r\n") -> Fault: too_short in text 1
-date_time_column(["1970-01-01T00:00Z\n"]) -> Fault: extra_characters in text 0: it ends in what ends a line, which lines=True drops
+date_time_column(["1970-01-01T00:00Z\n"]) -> Fault: extra_characters in text 0: it has a line ending, which lines=True drops
 date_time_column(["1970-01-01T00:00Z\n", "1970-01-01T00:00:01Z\r\n", b"1970-01-01T00:00:02Z\r"], lines=True) -> array('q', [0, 1000000, 2000000])
 date_time_column(["1970-01-01T00:00Z\r\n"], lines=True, newline="\n") -> Fault: extra_characters in text 0
 date_time_column(["1970-01-01T00:00\n"]) -> Fault: invalid_char_tz_sign in text 0
-date_time_column(["1970-01-01T00:00\n"], naive="UTC") -> Fault: invalid_char_tz_sign in text 0: it ends in what ends a line, which lines=True drops
+date_time_column(["1970-01-01T00:00\n"], naive="UTC") -> Fault: invalid_char_tz_sign in text 0: it has a line ending, which lines=True drops
 date_time_column([], lines=1) -> TypeError: lines has to be bool, not int
 date_time_column(["\ufeff1970-01-01T00:00Z"]) -> Fault: invalid_char_year in text 0: it begins with a byte order mark
 date_time_column(b"\xef\xbb\xbf1970-01-01T00:00Z\n1970-01-01T00:00Z\n") -> Fault: invalid_char_year in text 0: it begins with a byte order mark
-date_time_column(["\ufeff1970-01-01T00:00Z\n"]) -> Fault: invalid_char_year in text 0: it begins with a byte order mark, and ends in what ends a line
+date_time_column(["\ufeff1970-01-01T00:00Z\n"]) -> Fault: invalid_char_year in text 0: it begins with a byte order mark, and has a line ending
 date_time_column(["\ufeff1970-01-01T00:00Z\n"], lines=True) -> Fault: invalid_char_year in text 0: it begins with a byte order mark
 date_time_column(["\ufeff1970-01-01"]) -> Fault: invalid_char_year in text 0
 date_time_column(["1970-01-01T00:00"], naive="UTC") -> array('q', [0])
@@ -125,7 +125,7 @@ date_column(["1970-01-02", b"0000-01-01", None, "9999-12-31"]) -> array('q', [1,
 date_column(b"1970-01-02\r\n1969-12-31\n1970-01-01") -> array('q', [1, -1, 0])
 date_column(b"1970-01-02\n1970-01-01\r") -> array('q', [1, 0])
 date_column(b"1970-01-02\r\n", newline="\n") -> Fault: extra_characters in text 0
-date_column(["1970-01-02\n"]) -> Fault: extra_characters in text 0: it ends in what ends a line, which lines=True drops
+date_column(["1970-01-02\n"]) -> Fault: extra_characters in text 0: it has a line ending, which lines=True drops
 date_column(["1970-01-02\n", ""], lines=True, empty="nat"), date_column(b"1970-01-02\n\n", empty="nat") -> (array('q', [1, -9223372036854775808]), array('q', [1, -9223372036854775808]))
 date_column(["0000-01-01"]), date_time_column(["0000-01-01T00:00Z"]) -> (array('q', [-719528]), array('q', [-62167219200000000]))
 date_column([""], faults="nat"), date_column(b"\n", faults="nat") -> (array('q', [-9223372036854775808]), array('q', [-9223372036854775808]))
@@ -142,7 +142,7 @@ duration_column(b"PT1.5S\r\n-00:01:00\n1 day") -> array('q', [1500000, -60000000
 duration_column(["P106751991DT4H54.775807S"]) -> array('q', [9223372036854775807])
 duration_column(["-P106751991DT4H54.775808S"]) -> Fault: number_too_large in text 0
 duration_column(b"PT0S\nP106751992D") -> Fault: number_too_large in text 1
-duration_column(["PT0S\n"]) -> Fault: duration_invalid_number in text 0: it ends in what ends a line, which lines=True drops
+duration_column(["PT0S\n"]) -> Fault: duration_invalid_number in text 0: it has a line ending, which lines=True drops
 duration_column(["PT1S\n", ""], lines=True, empty="nat"), duration_column(b"PT1S\n\n", empty="nat") -> (array('q', [1000000, -9223372036854775808]), array('q', [1000000, -9223372036854775808]))
 duration_column([text(datetime.timedelta(seconds=-1)), str(datetime.timedelta(seconds=-1))]) -> array('q', [-1000000, -172799000000])
 duration_column(b"P1D1Y\nPT1S", Config(iso_order="strict"), faults="nat") -> array('q', [-9223372036854775808, 1000000])
