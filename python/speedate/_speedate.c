@@ -496,7 +496,7 @@ typedef struct {
 static long call_number(int call, SpeedateConfig config) {
     return call | config.timestamp_unit << 4 | config.overflow_behavior << 6 | config.iso_order << 7;
 }
-#define OF_COLUMN 256 /* more than the number of any call: added to that of a column's */
+#define OF_COLUMN 256 /* added to the number of a call, all of which are less, if it is one on a column */
 
 /* Puts an object into a slot of a Fault that has just been made. */
 static inline void keep(const State *state, PyObject *fault, int slot, PyObject *object) {
@@ -605,18 +605,17 @@ static inline bool is_long(PyObject *object) {
 }
 
 /* Parses the front of a long text. More of it is taken as long as that could change what is found. */
-static int parse_long_front(const Reader *reader, PyObject *object, SpeedateConfig config, Text *text, Value *value,
-                       size_t *taken, int *code) {
+static int parse_long_front(int parser, PyObject *object, SpeedateConfig config, Text *text, Value *value,
+                            size_t *taken, int *code) {
     for (Py_ssize_t size = FRONT;; size *= 8) {
         bool whole;
-        size_t end;
         if (take_front(object, size, text, &whole) < 0)
             return -1;
-        *code = parsers[reader->parser].parse(text, config, value, taken);
-        if (whole)
-            return 0;
-        int again = *code == SPEEDATE_OK ? (end = *taken, SPEEDATE_OK) : parsers[reader->parser].find_place(text, config, &end);
-        if (again == *code && end + BEYOND <= text->size)
+        *code = parsers[parser].parse(text, config, value, taken);
+        size_t end = *taken;
+        if (*code != SPEEDATE_OK)
+            parsers[parser].find_place(text, config, &end);
+        if (whole || end + BEYOND <= text->size)
             return 0;
         Py_XDECREF(text->owner);
     }
@@ -628,13 +627,13 @@ static inline PyObject *read_front(const Reader *reader, GIVEN) {
     SpeedateConfig config;
     Text text;
     Value value;
-    size_t taken;
+    size_t taken = 0;
     int code;
     if (bind(&reader->signature, arguments, count, keywords, bound) < 0 ||
         take_config(state, bound[1], READS_NONE, &config) < 0)
         return NULL;
     if (is_long(bound[0])) {
-        if (parse_long_front(reader, bound[0], config, &text, &value, &taken, &code) < 0)
+        if (parse_long_front(reader->parser, bound[0], config, &text, &value, &taken, &code) < 0)
             return NULL;
     } else {
         if (take_text(bound[0], -1, &text) < 0)
