@@ -1068,10 +1068,10 @@ typedef struct {
     Text text;
 } Refused;
 
-/* What has been read of lines: those that are refused among them, how many there are, and the bytes that they take. */
+/* How many lines have been read, and those of them that are refused. */
 typedef struct {
     Refused refused[REFUSED];
-    size_t count, lines, bytes;
+    size_t count, lines;
 } Read;
 
 /* Reads the next line, which is refused. An empty one may be no fault. */
@@ -1093,13 +1093,14 @@ static int read_refused(const Column *column, Text *rest, SpeedateColumnConfig l
     return SPEEDATE_OK;
 }
 
-/* Reads lines into the block, and leaves what follows them in the text. It needs no lock: what has the bytes keeps them as
- * they are. */
+/* Reads lines into the block, and leaves what follows them in the text. It needs no lock: what has the bytes keeps them
+ * as they are. */
 static int read_lines(const Column *column, Text *rest, SpeedateColumnConfig lines, Read *read) {
     const ColumnReader *reader = &column->reader;
     SpeedateProgress progress = {0, 0, SPEEDATE_OK};
-    int code = SPEEDATE_OK;
-    /* Lines that are refused are told one by one, if anyone wants to know. */
+    size_t most = reader->lines.goes_on ? REFUSED : 1;
+    int code;
+    /* The library ends at each line that is refused, if anyone wants to know of it. */
     lines.goes_on = reader->lines.goes_on && !column->faults;
     do {
         size_t place = column->count + read->lines;
@@ -1111,7 +1112,7 @@ static int read_lines(const Column *column, Text *rest, SpeedateColumnConfig lin
         read->lines += progress.lines;
         if (progress.error != SPEEDATE_OK)
             code = read_refused(column, rest, lines, progress.error, read);
-    } while (code == SPEEDATE_OK && progress.error != SPEEDATE_OK && read->count < (reader->lines.goes_on ? REFUSED : 1) &&
+    } while (code == SPEEDATE_OK && progress.error != SPEEDATE_OK && read->count < most &&
              column->count + read->lines < column->room);
     return code;
 }
